@@ -1,0 +1,99 @@
+use super::*;
+use std::alloc::Global;
+use std::test::Fail;
+
+fn write(alloc: Global, table: u8, key: u64, text: &[u8]) -> Result<RowWrite, OutOfMemory> {
+    Ok(RowWrite {
+        id: RowId { table, key },
+        bytes: RowBytes::copied(alloc, text)?,
+    })
+}
+
+#[test]
+fn fields(rt: HostRuntime) {
+    // 0x0102 = 1 * 256 + 2
+    assert_eq!(rt; take_u16(&[1, 2]), Some((258, [].as_slice())));
+    assert_eq!(rt;
+        take_u16(&[0xff, 0xfe, 7, 8]),
+        Some((65534, [7, 8].as_slice()))
+    );
+    assert_eq!(rt; take_u16(&[1]), None);
+    assert_eq!(rt; take_u16(&[]), None);
+    // 0x01020304 = 16777216 + 2 * 65536 + 3 * 256 + 4
+    assert_eq!(rt;
+        take_u32(&[1, 2, 3, 4, 5]),
+        Some((16909060, [5].as_slice()))
+    );
+    assert_eq!(rt; take_u32(&[1, 2, 3]), None);
+    // the third byte of eight counts 256^5 = 1099511627776, and 0x2a = 42
+    assert_eq!(rt;
+        take_u64(&[0, 0, 1, 0, 0, 0, 0, 0x2a]),
+        Some((1099511627818, [].as_slice()))
+    );
+    assert_eq!(rt; take_u64(&[0, 0, 1, 0, 0, 0, 0]), None);
+}
+
+#[test]
+fn lists(rt: HostRuntime) -> Result<(), Fail> {
+    let alloc = rt.alloc();
+    let mut path = PathList::new(alloc);
+    assert!(rt; path.is_empty() && path.len() == 0);
+    path.push(ComponentNo(3))?;
+    path.push(ComponentNo(1))?;
+    assert_eq!(rt;
+        path.as_slice(),
+        [ComponentNo(3), ComponentNo(1)].as_slice()
+    );
+    assert!(rt; !path.is_empty() && path.len() == 2);
+    let mut bytes = PageText::from_vec(vec![in alloc; 104u8, 105]?);
+    bytes.push(33)?;
+    assert_eq!(rt; bytes.into_vec().as_slice(), b"hi!".as_slice());
+    let row = write(alloc, 40, 7, b"ab")?;
+    let copy = row.copied(alloc)?;
+    assert_eq!(rt; copy.id, RowId { table: 40, key: 7 });
+    assert_eq!(rt; copy.bytes.as_slice(), b"ab".as_slice());
+    let session = SessionBytes::from_vec(vec![in alloc; 0u8, 255]?);
+    assert_eq!(rt; session.as_slice(), [0, 255].as_slice());
+    let plan = FaultPlan {
+        component: ComponentNo(2),
+        after: 5,
+        kind: FaultKind::Hang,
+        cured_by: Level::App,
+    };
+    let faults = FaultList::from_vec(vec![in alloc; plan]?);
+    assert_eq!(rt; faults.as_slice(), [plan].as_slice());
+    Ok(())
+}
+
+#[test]
+fn latest_rows(rt: HostRuntime) -> Result<(), Fail> {
+    let alloc = rt.alloc();
+    let mut writes = WriteList::new(alloc);
+    // the first row, one behind it, one before it, another table with a lesser key, and two in place of earlier ones
+    for (table, key, text) in [
+        (2, 5, b"a"),
+        (2, 9, b"b"),
+        (2, 1, b"c"),
+        (3, 0, b"d"),
+        (2, 5, b"e"),
+        (3, 0, b"f"),
+    ] {
+        writes.push(write(alloc, table, key, text.as_slice())?)?;
+    }
+    let want = [(2, 1, b"c"), (2, 5, b"e"), (2, 9, b"b"), (3, 0, b"f")];
+    let mut one_by_one = LatestRows::new(alloc);
+    assert!(rt; one_by_one.is_empty());
+    for row in writes.as_slice() {
+        one_by_one.put(row)?;
+    }
+    let mut at_once = LatestRows::new(alloc);
+    at_once.put_all(writes.as_slice())?;
+    for rows in [&one_by_one, &at_once] {
+        assert_eq!(rt; rows.len(), 4);
+        for (row, (table, key, text)) in rows.as_slice().iter().zip(want) {
+            assert_eq!(rt; row.id, RowId { table, key });
+            assert_eq!(rt; row.bytes.as_slice(), text.as_slice());
+        }
+    }
+    Ok(())
+}
