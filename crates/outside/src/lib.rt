@@ -1,0 +1,55 @@
+//! What reaches outside: where bytes come from, where bytes go, and what keeps rows.
+//!
+//! A program is written over the traits `Source`, `Sink` and `Keeper`, and is handed an object of
+//! each when it runs:
+//!
+//! ```text
+//! fn copy<S: Source, T: Sink>(alloc: Global, from: &mut S, to: &mut T) -> Result<bool, InputRefusal> {
+//!     let bytes = read_to_end(alloc, from, 65536)?;
+//!     Ok(write_all(to, bytes.as_slice()).is_ok())
+//! }
+//! ```
+//!
+//! What an object tells of itself is a ghost member, an `Option`: the bytes that are left or that
+//! were written, or the rows; None tells nothing, as of a real stream. Each object counts its faults,
+//! and answers `Failed` only where that count rose (or stands at 2^64 - 1). So an object whose count
+//! is as it was, and below that, has answered no `Failed` since.
+//!
+//! Kinds in memory fail by a list of call numbers (`BytesSource`, `BytesSink`) or never
+//! (`SureSource`, `SureSink`, `SureKeeper`), and their contracts say exactly what each call answers
+//! and leaves. `InputSource` and `OutputSink` are adapters over the standard streams.
+#![tactic(auto)]
+
+mod bytes_sink;
+mod bytes_source;
+mod failed;
+mod feed;
+mod input;
+mod input_source;
+mod keeper;
+mod laws;
+mod lists;
+mod output_sink;
+mod sink;
+mod source;
+mod sure_keeper;
+mod sure_sink;
+mod sure_source;
+
+pub use bytes_sink::BytesSink;
+pub use bytes_source::BytesSource;
+pub use failed::Failed;
+pub use input::{InputRefusal, read_to_end};
+pub use input_source::InputSource;
+pub use keeper::{Keeper, KeeperFault};
+pub use laws::{fronts_join, pieces_join, telling_goes_back};
+pub use lists::{CallList, SizeList};
+pub use output_sink::OutputSink;
+pub use sink::{Sink, write_all};
+pub use source::Source;
+pub use sure_keeper::SureKeeper;
+pub use sure_sink::SureSink;
+pub use sure_source::SureSource;
+
+#[cfg(test)]
+mod tests;
