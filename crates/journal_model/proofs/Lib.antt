@@ -1,0 +1,5 @@
+pub mod Writes
+pub mod Growing
+pub mod Adding
+pub mod Replacing
+pub mod Fitting

@@ -1,0 +1,26 @@
+-- Which journals are legal.
+use Rattle.std.specs.Prelude.{◌≡◌, ℕ, List, take, Some, All, slice_get}
+use Rattle.crash_base.specs.declared.rows.RowWrite.{RowWrite}
+use Rattle.journal_model.specs.declared.entry.CommitEntry.{CommitEntry}
+use Rattle.journal_model.specs.declared.entry.Entry.{Entry}
+use Rattle.journal_model.specs.declared.entry.Entry.TheVariants.{Commit, Down, Up}
+use Rattle.journal_model.specs.Fits.{IsWrite, AreApart}
+
+-- A commit is whole: its rows may be written, and no two of them are one row.
+pub record IsWhole (e : CommitEntry) : Type 0 where
+  pub writes : All IsWrite e.writes
+  pub apart : AreApart e.writes
+
+-- a commit may come after these entries over this base
+pub record MayCommit (base : List RowWrite) (es : List Entry) (e : CommitEntry) : Type 0 where
+  pub whole : IsWhole e
+
+-- an entry may come after these entries over this base
+abbrev pub MayCome : List RowWrite → List Entry → Entry → Type 0
+MayCome base es (Commit e) = MayCommit base es e
+MayCome base es (Down s) = Unit {0}
+MayCome base es (Up s) = Unit {0}
+
+-- A journal is legal where each entry might come where it stands.
+pub record IsLegal (base : List RowWrite) (es : List Entry) : Type 0 where
+  pub each : (i : ℕ) (e : Entry) → slice_get es i ≡ Some e → MayCome base (take i es) e

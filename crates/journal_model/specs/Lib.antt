@@ -1,0 +1,5 @@
+pub mod Rows
+pub mod Reboots
+pub mod Calls
+pub mod Fits
+pub mod Legal
