@@ -1,0 +1,6 @@
+pub mod Cuts
+pub mod Forms
+pub mod Words
+pub mod Splits
+pub mod Hexadecimal
+pub mod Spelled

@@ -1,0 +1,5 @@
+pub mod Fields
+pub mod Lines
+pub mod Cutting
+pub mod Texts
+pub mod Spelling

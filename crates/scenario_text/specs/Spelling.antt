@@ -1,0 +1,68 @@
+-- What spells a line, in the words of the scenario's grammar.
+use Rattle.std.specs.Prelude.{◌≡◌, ◌≢◌, ℕ, ◌^◌, ◌<◌, ◌≤◌, ◌⊎◌, List, [], ◌∷◌, length, All, codes}
+use Rattle.std.specs.Fmt.{decimal}
+use Rattle.std.specs.List.{join_with_byte}
+use Rattle.scenario_text.specs.declared.line.Line.{Line}
+use Rattle.scenario_text.specs.declared.line.Line.TheVariants.{Pass, Component, Owns, Begin, Enter, Put, Commit, Table}
+use Rattle.scenario_text.specs.Texts.{hex_text}
+
+-- from a first number to a last one
+abbrev pub IsWithin : ℕ → ℕ → ℕ → Type 0
+IsWithin first last n = (first ≤ n) × (n ≤ last)
+
+-- a digit, a capital letter, a small letter or _
+abbrev pub IsNameByte : ℕ → Type 0
+IsNameByte b = IsWithin 48 57 b ⊎ (IsWithin 65 90 b ⊎ (IsWithin 97 122 b ⊎ (b ≡ 95)))
+
+-- 1 to 32 such bytes
+abbrev pub IsName : List ℕ → Type 0
+IsName name = IsWithin 1 32 (length name) × All IsNameByte name
+
+abbrev pub IsNumber : ℕ → Type 0
+IsNumber n = n < 2 ^ 64
+
+abbrev pub IsCaller : ℕ → Type 0
+IsCaller caller = IsWithin 1 65535 caller
+
+-- at most 4,000 bytes
+abbrev pub AreBytes : List ℕ → Type 0
+AreBytes bytes = (length bytes ≤ 4000) × All (λ b. b < 256) bytes
+
+-- the numbers, names and bytes of a line are in their ranges
+abbrev pub IsInRange : Line → Type 0
+IsInRange Pass = Unit {0}
+IsInRange (Component name) = IsName name
+IsInRange (Owns name table) = IsName name × IsNumber table
+IsInRange (Begin caller) = IsCaller caller
+IsInRange (Enter caller name) = IsCaller caller × IsName name
+IsInRange (Put caller table key bytes) = IsCaller caller × IsNumber table × IsNumber key × AreBytes bytes
+IsInRange (Commit caller) = IsCaller caller
+IsInRange Table = Unit {0}
+
+-- cN
+abbrev pub caller_word : ℕ → List ℕ
+caller_word caller = 99 ∷ decimal caller
+
+-- the words of a line that is not passed over
+abbrev pub words_of_line : Line → List (List ℕ)
+words_of_line Pass = []
+words_of_line (Component name) = codes "component" ∷ name ∷ []
+words_of_line (Owns name table) = codes "owns" ∷ name ∷ decimal table ∷ []
+words_of_line (Begin caller) = codes "begin" ∷ caller_word caller ∷ []
+words_of_line (Enter caller name) = codes "enter" ∷ caller_word caller ∷ name ∷ []
+words_of_line (Put caller table key bytes) = codes "put" ∷ caller_word caller ∷ decimal table ∷ decimal key ∷ hex_text bytes ∷ []
+words_of_line (Commit caller) = codes "commit" ∷ caller_word caller ∷ []
+words_of_line Table = codes "table" ∷ []
+
+-- its words, with one space between each two; nothing for a line that is passed over
+abbrev pub spelling : Line → List ℕ
+spelling line = join_with_byte 32 (words_of_line line)
+
+-- # and ASCII without a carriage return
+abbrev pub IsComment : List ℕ → Type 0
+IsComment text = (rest : List ℕ) × (text ≡ 35 ∷ rest) × All (λ b. (b < 128) × (b ≢ 13)) rest
+
+-- A text spells a line: its fields are in their ranges, and the text, of at most 8,192 bytes, is
+-- its words; a line that is passed over is spelled by a comment too.
+abbrev pub Spells : List ℕ → Line → Type 0
+Spells text line = (length text ≤ 8192) × IsInRange line × ((text ≡ spelling line) ⊎ ((line ≡ Pass) × IsComment text))

@@ -1,0 +1,43 @@
+//! The lines of a scenario, from text.
+//!
+//! A scenario is ASCII text of lines, as
+//!
+//! ```text
+//! # a ledger with one table
+//! component ledger
+//! owns ledger 1
+//! begin c1
+//! enter c1 ledger
+//! put c1 1 7 00ff
+//! commit c1
+//! table
+//! ```
+//!
+//! `cut_line` takes the first line off a text, and `read_line` says which line it spells. Words
+//! stand between single spaces. NAME is 1 to 32 letters, digits or `_`; a caller is `c` and a
+//! number from 1 to 65,535; numbers are decimal without leading zeros, and below 2^64; bytes are in
+//! lower case hexadecimal, at most 4,000 of them, and `-` where there are none. An empty line, and
+//! one that begins with `#` and holds ASCII without a carriage return, pass. A line has at most
+//! 8,192 bytes.
+//!
+//! `read_line` is exact: it answers `line_of` of the text. `spelling_law` says that this is a line
+//! exactly where the text is the words of that line, with its numbers, names and bytes in their
+//! ranges; so only a line that passes has more than one spelling. `lines_law` says the like of
+//! cutting. Reading touches each byte of a line a few times. `write_hex` writes bytes as a line
+//! spells them.
+#![tactic(auto)]
+
+mod cutting;
+mod fields;
+mod laws;
+mod line;
+mod reading;
+#[cfg(test)]
+mod tests;
+mod texts;
+
+pub use cutting::cut_line;
+pub use laws::{lines_law, spelling_law};
+pub use line::{HexBytes, Line};
+pub use reading::read_line;
+pub use texts::write_hex;
