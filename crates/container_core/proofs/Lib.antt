@@ -1,0 +1,3 @@
+pub mod Committing
+pub mod Keeping
+pub mod Laying

@@ -1,0 +1,15 @@
+use Rattle.std.proofs.Common.{sym, ap, subst}
+use Rattle.journal_model.specs.Fits.{Fits}
+use Rattle.container_core.specs.Container.{ContainerValue}
+use Rattle.container_core.specs.declared.ticket.TicketParts.{TicketParts}
+use Rattle.container_core.proofs.Committing.{legal_commit}
+use Rattle.container_core.proofs.container.Container.commit.Goals as goal
+
+pub invariant_of-self-2 : goal.invariant_of-self-2
+invariant_of-self-2 c =
+    let start = c.self.inside.start in
+    let es = c.self.inside.journal.entries in
+    let F : ContainerValue → Type 0 = λ v. Fits v.start.base v.entries c.args.ticket in
+    let fits : Fits start.base es c.args.ticket = subst F (sym c.self.view_is) c.requires in
+    let writes = ap (λ (p : TicketParts). p.writes) c.into_parts-parts.ensures in
+    legal_commit start.base es _ _ _ c.args.ticket c.self.invariant fits writes c.reserve-room.ensures.entries c.push.ensures.entries

@@ -1,0 +1,5 @@
+pub mod Parts
+pub mod Journal
+pub mod Tickets
+pub mod Refusals
+pub mod Container

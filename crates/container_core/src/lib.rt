@@ -1,0 +1,39 @@
+//! The container: calls over one journal, from their begin to their commit.
+//!
+//! A call is a ticket that its caller holds. It enters components, puts rows, and in the end commits: then,
+//! and only then, its writes become an entry of the journal, whole, or it leaves nothing. The journal is
+//! legal at all times, which `Container::journal` hands out, and the rows that stand are read from it.
+//!
+//! ```text
+//! let mut container = Container::start(alloc, deployment);
+//! let mut ticket = container.begin(alloc, request, worker)?;
+//! container.enter(&mut ticket, component, method)?;
+//! container.put(&mut ticket, write)?;
+//! match container.commit(ticket, None) { .. }
+//! ```
+//!
+//! Refusals are told in a fixed order; each call has one function in `specs/Refusals` that says which one
+//! comes first, and answers exactly that one. Want of memory is apart: it is answered only where nothing
+//! else refuses the call, and leaves everything as it was.
+//!
+//! A ticket takes its room when it begins, and the journal takes room for one entry at each commit. The rows
+//! that stand are put together anew from the whole journal each time that they are asked for.
+#![tactic(auto)]
+
+mod container;
+mod deployment;
+mod journal;
+mod refusals;
+#[cfg(test)]
+mod tests;
+mod ticket;
+
+pub use container::{Container, Start};
+pub use deployment::{ComponentList, ComponentPart, Deployment, Parts, TableList, TablePart};
+pub use journal::Journal;
+pub use journal_model::{
+    ActionEntry, CommitEntry, DoneText, Entry, Mark, MarkList, ReadMark, SessionChange, Touch,
+    TouchList,
+};
+pub use refusals::{CallRefusal, CommitRefusal, Refused};
+pub use ticket::{InstanceList, Ticket, TicketParts};
