@@ -1,0 +1,31 @@
+-- What a line of a scenario answers.
+use Rattle.std.specs.Prelude.{ℕ, Bool, true, false, List, Option, Some, None, slice_get, slice_set, string_bytes}
+use Rattle.std.specs.declared.string.String.{String}
+use Rattle.std.proofs.Common.{Global}
+
+-- A line is refused, or is done: the state that it leaves, and what it writes.
+pub data Answer (S : Type 0) : Type 0 where
+  Refused : Answer S
+  Done : (state : S) (text : List ℕ) → Answer S
+
+abbrev pub refused_if : {S : Type 0} → Bool → Answer S → Answer S
+refused_if true answer = Refused
+refused_if false answer = answer
+
+abbrev pub or_refused : {A S : Type 0} → Option A → (A → Answer S) → Answer S
+or_refused None f = Refused
+or_refused (Some a) f = f a
+
+-- the answer of a part, as an answer of the whole
+abbrev pub within : {A S : Type 0} → (A → S) → Answer A → Answer S
+within whole Refused = Refused
+within whole (Done part text) = Done (whole part) text
+
+-- the answer of the item at a place, as an answer of the list
+abbrev pub at_place : {A : Type 0} → List A → Option ℕ → (A → Answer A) → Answer (List A)
+at_place items place f = or_refused place (λ i. or_refused (slice_get items i) (λ item. within (slice_set items i) (f item)))
+
+-- What the code answers: the text of a line that is done, with the state that it leaves, or None.
+abbrev pub answer_of : {S : Type 0} → Option (String Global) → S → Answer S
+answer_of None s = Refused
+answer_of (Some text) s = Done s (string_bytes text)

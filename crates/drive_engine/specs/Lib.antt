@@ -1,0 +1,11 @@
+pub mod Answers
+pub mod State
+pub mod Texts
+pub mod Heads
+pub mod CallLines
+pub mod Callers
+pub mod Events
+pub mod Transcript
+pub mod Stages
+pub mod Drive
+pub mod Command

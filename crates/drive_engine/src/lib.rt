@@ -1,0 +1,22 @@
+//! Scenarios, from the bytes of their lines to the bytes of their transcript.
+//!
+//! `run_command` is the program without its outside: it reads a scenario to its end, does its lines one by
+//! one over a container, and writes what they write. What it writes is defined in `specs/Transcript`, as a
+//! function of the text alone: `transcript_of`, and `ending_of` for how the scenario ends. The engine is
+//! proved to do each line exactly so, and hands out that the journal is legal when it ends.
+//!
+//! A line costs the text that it writes, and for `table` what the container's rows cost.
+#![tactic(auto)]
+
+mod call_lines;
+mod callers;
+mod command;
+mod drive;
+mod engine;
+mod head;
+mod running;
+#[cfg(test)]
+mod tests;
+mod texts;
+
+pub use command::run_command;
