@@ -1,4 +1,3 @@
-pub mod Parts
 pub mod Journal
 pub mod Tickets
 pub mod Refusals

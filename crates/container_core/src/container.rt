@@ -1,21 +1,21 @@
 //! Calls and commits over one journal.
 
 ghost use Rattle.std.specs.Prelude.{◌≡◌, ◌≢◌, ◌<◌, [], ◌∷◌, ◌++◌, length, true, false, Some, None, IfOk, IfErr, OnOk, OnErr};
+ghost use Rattle.deployment.specs.Groups.{group_of};
 ghost use Rattle.journal_model.specs.declared.entry.Entry.TheVariants.{Commit};
 ghost use Rattle.journal_model.specs.Calls.{begun, entered, kept, entry_of};
 ghost use Rattle.journal_model.specs.Fits.{Fits, IsWrite};
 ghost use Rattle.journal_model.specs.Legal.{IsLegal};
 ghost use Rattle.journal_model.specs.Rows.{rows_after};
-ghost use Rattle.container_core.specs.Parts.{group_of};
 ghost use Rattle.container_core.specs.Refusals.{CallAnswer, enter_refusal, put_refusal};
 
-use crate::deployment::Deployment;
 use crate::journal::Journal;
 use crate::refusals::{CallRefusal, CommitRefusal, Refused};
 use crate::ticket::{Ticket, TicketParts};
 use crash_base::{
     ComponentNo, GroupNo, LatestRows, OutOfMemory, Place, RequestNo, RowList, RowWrite, WorkerNo,
 };
+use deployment::Deployment;
 use journal_model::{ActionEntry, CommitEntry, Entry, Touch};
 use std::alloc::Global;
 use std::marker::Model;

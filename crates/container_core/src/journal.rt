@@ -1,28 +1,18 @@
 //! The entries of one boot, in order.
 
 ghost use Rattle.std.specs.Prelude.{◌≡◌, ◌+◌, ◌<◌, ◌≤◌, [], ◌∷◌, ◌++◌, length, slice_get, option_copied, OnOk, OnErr};
-ghost use Rattle.journal_model.specs.Reboots.{generation, is_down_of as down_test, holds};
+ghost use Rattle.journal_model.specs.Reboots.{generation, is_down_of as down_test};
 
-use crash_base::{GroupNo, OutOfMemory, Place, Scope};
+use crash_base::{GroupNo, OutOfMemory, Place};
 use journal_model::Entry;
 use std::alloc::Global;
 use std::marker::Model;
-
-/// Whether a scope holds a group.
-fn scope_holds(scope: Scope, group: GroupNo) -> bool
-    ensures { result ≡ holds scope group.0 }
-{
-    match scope {
-        Scope::Group(own) => own.0 == group.0,
-        Scope::App => group.0 < 64,
-    }
-}
 
 fn is_down_of(entry: &Entry, group: GroupNo) -> bool
     ensures { result ≡ down_test group.0 entry.now }
 {
     match entry {
-        Entry::Down(scope) => scope_holds(*scope, group),
+        Entry::Down(scope) => scope.holds(group),
         _ => false,
     }
 }

@@ -21,7 +21,6 @@
 #![tactic(auto)]
 
 mod container;
-mod deployment;
 mod journal;
 mod refusals;
 #[cfg(test)]
@@ -29,7 +28,6 @@ mod tests;
 mod ticket;
 
 pub use container::{Container, Start};
-pub use deployment::{ComponentList, ComponentPart, Deployment, Parts, TableList, TablePart};
 pub use journal::Journal;
 pub use journal_model::{
     ActionEntry, CommitEntry, DoneText, Entry, Mark, MarkList, ReadMark, SessionChange, Touch,

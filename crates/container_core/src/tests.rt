@@ -6,6 +6,7 @@ use crash_base::{
     ComponentName, ComponentNo, GroupNo, OutOfMemory, Place, RequestNo, RowBytes, RowId, RowWrite,
     WorkerNo,
 };
+use deployment::{ComponentPart, Deployment, MethodList, Parts};
 use std::alloc::Global;
 use std::process::Abort;
 use std::test::Fail;
@@ -18,67 +19,28 @@ const REQUEST: RequestNo = RequestNo {
 fn component(alloc: Global, name: &[u8]) -> Result<ComponentPart, OutOfMemory> {
     Ok(ComponentPart {
         name: ComponentName::copied(alloc, name)?,
+        methods: MethodList::new(alloc),
     })
 }
 
-/// Components "cart", "stock" and "cart" again.
-fn components(alloc: Global) -> Result<ComponentList, OutOfMemory>
-    ensures { IfOk result (λ components. length components ≡ 3) }
-{
-    let mut components = ComponentList::new(alloc);
-    components.push(component(alloc, b"cart")?)?;
-    components.push(component(alloc, b"stock")?)?;
-    components.push(component(alloc, b"cart")?)?;
-    Ok(components)
-}
-
-/// Tables 3 and 9 of "stock", and then 3 of "cart" as well.
-fn tables(alloc: Global) -> Result<TableList, OutOfMemory> {
-    let mut tables = TableList::new(alloc);
-    for (table, owner) in [(3, 1), (9, 1), (3, 0)] {
-        tables.push(TablePart {
-            table,
-            owner: ComponentNo(owner),
-        })?;
-    }
-    Ok(tables)
-}
-
+/// Components "cart" and "stock".
 fn shop(alloc: Global) -> Result<Parts, OutOfMemory>
-    ensures { IfOk result (λ parts. length parts.components ≡ 3) }
+    ensures { IfOk result (λ parts. length parts.components ≡ 2) }
 {
-    Ok(Parts {
-        components: components(alloc)?,
-        tables: tables(alloc)?,
-    })
+    let mut parts = Parts::new(alloc);
+    parts.components.push(component(alloc, b"cart")?)?;
+    parts.components.push(component(alloc, b"stock")?)?;
+    Ok(parts)
 }
 
 fn started(alloc: Global) -> Result<Container, OutOfMemory>
-    ensures { IfOk result (λ container. length container.start.deployment.components ≡ 3) }
+    ensures { IfOk result (λ container. length container.start.deployment.components ≡ 2) }
 {
-    let deployment = Deployment::new(shop(alloc)?);
-    Ok(Container::start(alloc, deployment))
+    match Deployment::check(shop(alloc)?) {
+        Ok(deployment) => Ok(Container::start(alloc, deployment)),
+        Err(_) => Err(OutOfMemory),
+    }
 }
-
-/// As many rows as a call may write.
-const SIXTEEN: [(u64, u8); 16] = [
-    (0, b'a'),
-    (1, b'a'),
-    (2, b'a'),
-    (3, b'a'),
-    (4, b'a'),
-    (5, b'a'),
-    (6, b'a'),
-    (7, b'a'),
-    (8, b'a'),
-    (9, b'a'),
-    (10, b'a'),
-    (11, b'a'),
-    (12, b'a'),
-    (13, b'a'),
-    (14, b'a'),
-    (15, b'a'),
-];
 
 /// A row of table 3, of one byte.
 fn row(alloc: Global, key: u64, byte: u8) -> Result<RowWrite, OutOfMemory>
@@ -127,21 +89,6 @@ fn call(
     }
 }
 
-/// Asserts that puts of these rows of table 3 are refused, and why.
-fn expect_refused_puts(
-    rt: &impl Abort,
-    alloc: Global,
-    container: &mut Container,
-    ticket: &mut Ticket,
-    puts: &[(u64, CallRefusal)],
-) -> Result<(), Fail> {
-    for (key, refusal) in puts {
-        let write = row(alloc, *key, b'x')?;
-        assert_eq!(rt; container.put(ticket, write), Err(*refusal));
-    }
-    Ok(())
-}
-
 fn expect_row(rt: &impl Abort, row: &RowWrite, key: u64, byte: u8) {
     assert_eq!(rt; row.id, RowId { table: 3, key });
     assert_eq!(rt; row.bytes.as_slice(), [byte].as_slice());
@@ -187,29 +134,6 @@ fn expect_rows(rt: &impl Abort, rows: &[&RowWrite], expected: &[(u64, u8)]) {
 }
 
 #[test]
-fn names_and_owners(rt: HostRuntime) -> Result<(), Fail> {
-    let parts = shop(rt.alloc())?;
-    assert_eq!(rt; parts.named(b"stock"), Some(1));
-    assert_eq!(rt; parts.owner_of(3), Some(ComponentNo(1)));
-
-    let deployment = Deployment::new(parts);
-    assert_eq!(rt; deployment.count(), 3);
-    for (name, number) in [
-        (b"cart".as_slice(), Some(0)),
-        (b"stock".as_slice(), Some(1)),
-        (b"stoc".as_slice(), None),
-        (b"stock2".as_slice(), None),
-        (b"".as_slice(), None),
-    ] {
-        assert_eq!(rt; deployment.named(name), number.map(ComponentNo));
-    }
-    for (table, owner) in [(3, Some(1)), (9, Some(1)), (0, None), (4, None)] {
-        assert_eq!(rt; deployment.owner_of(table), owner.map(ComponentNo));
-    }
-    Ok(())
-}
-
-#[test]
 fn commits_calls(rt: HostRuntime) -> Result<(), Fail> {
     let alloc = rt.alloc();
     let mut container = started(alloc)?;
@@ -230,39 +154,5 @@ fn commits_calls(rt: HostRuntime) -> Result<(), Fail> {
         rows.as_slice(),
         &[(1, b's'), (2, b'u'), (5, b'f'), (7, b'n')],
     );
-    Ok(())
-}
-
-#[test]
-fn refuses_the_17th_row(rt: HostRuntime) -> Result<(), Fail> {
-    let alloc = rt.alloc();
-    let mut container = started(alloc)?;
-    let mut ticket = container.begin(alloc, REQUEST, WorkerNo(4))?;
-    put_each(alloc, &mut container, &mut ticket, &SIXTEEN)?;
-    expect_refused_puts(
-        &rt,
-        alloc,
-        &mut container,
-        &mut ticket,
-        &[(16, CallRefusal::Writes)],
-    )?;
-    expect_writes(&rt, ticket.writes(), &SIXTEEN);
-    assert_eq!(rt; ticket.steps(), 16);
-    Ok(())
-}
-
-#[test]
-fn refuses_a_129th_step(rt: HostRuntime) -> Result<(), Fail> {
-    let alloc = rt.alloc();
-    let mut container = started(alloc)?;
-    let mut ticket = container.begin(alloc, REQUEST, WorkerNo(4))?;
-    put_each(alloc, &mut container, &mut ticket, &SIXTEEN)?;
-    put_each(alloc, &mut container, &mut ticket, &[(15, b'a'); 112])?;
-    let entered = container.enter(&mut ticket, ComponentNo(0), 0);
-    assert_eq!(rt; entered, Err(CallRefusal::Steps));
-    let puts = [(15, CallRefusal::Steps), (16, CallRefusal::Steps)];
-    expect_refused_puts(&rt, alloc, &mut container, &mut ticket, &puts)?;
-    expect_writes(&rt, ticket.writes(), &SIXTEEN);
-    assert_eq!(rt; ticket.steps(), 128);
     Ok(())
 }

@@ -1,5 +1,8 @@
 //! Numbers that name things.
 
+ghost use Rattle.std.specs.Prelude.{◌≡◌};
+ghost use Rattle.crash_base.specs.Scopes.{holds};
+
 /// A recovery group, by the least number of its components. A deployment's are below 64.
 #[derive(Clone, Copy, Debug, PartialEq, Eq)]
 pub struct GroupNo(pub u16);
@@ -66,6 +69,18 @@ pub enum Scope {
     Group(GroupNo),
     /// The whole application: every group.
     App,
+}
+
+impl Scope {
+    /// Whether this scope holds a group: a group's scope that group, and the application every number below 64.
+    pub fn holds(self, group: GroupNo) -> bool
+        ensures { result ≡ holds self group.0 }
+    {
+        match self {
+            Scope::Group(own) => own.0 == group.0,
+            Scope::App => group.0 < 64,
+        }
+    }
 }
 
 /// How much is restarted, from the least to the most.

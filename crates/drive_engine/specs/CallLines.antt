@@ -3,9 +3,10 @@ use Rattle.std.specs.Prelude.{ℕ, ◌-◌, ◌==◌, ◌||◌, nat_lt, Bool, fa
 use Rattle.crash_base.specs.declared.rows.RowWrite.{RowWrite}
 use Rattle.journal_model.specs.Calls.{Call, entered, kept}
 use Rattle.container_core.specs.Container.{ContainerValue}
-use Rattle.container_core.specs.Parts.{named, owner, group_of, component_no}
+use Rattle.deployment.specs.Groups.{group_of}
+use Rattle.deployment.specs.Parts.{named, owner, component_no}
 use Rattle.container_core.specs.Refusals.{enter_refusal, put_refusal}
-use Rattle.container_core.specs.declared.deployment.Parts.{Parts}
+use Rattle.deployment.specs.declared.parts.Parts.{Parts}
 use Rattle.container_core.specs.declared.refusals.CallRefusal.{CallRefusal}
 use Rattle.drive_engine.specs.declared.call_lines.CallLine.{CallLine}
 use Rattle.drive_engine.specs.declared.call_lines.CallLine.TheVariants as steps

@@ -1,14 +1,19 @@
 -- Head lines, which build the parts of a deployment.
-use Rattle.std.specs.Prelude.{ℕ, ◌||◌, nat_lt, nat_le, List, [], ◌∷◌, ◌++◌, length, is_some, codes}
+use Rattle.std.specs.Prelude.{ℕ, ◌||◌, nat_lt, nat_le, true, List, [], ◌∷◌, ◌++◌, length, is_some, codes}
 use Rattle.std.specs.Str.{bytes_eq}
 use Rattle.scenario_text.specs.declared.line.Line.{Line}
 use Rattle.scenario_text.specs.declared.line.Line.TheVariants as lines
-use Rattle.container_core.specs.Parts.{named, owner, component_no}
-use Rattle.container_core.specs.declared.deployment.Parts.{Parts}
+use Rattle.deployment.specs.Parts.{named, owner, component_no}
+use Rattle.deployment.specs.declared.parts.ComponentPart.{ComponentPart}
+use Rattle.deployment.specs.declared.parts.Parts.{Parts}
 use Rattle.drive_engine.specs.Answers.{Answer, Refused, Done, refused_if, or_refused}
 
+-- a component with one method `call`, which may be called again
+abbrev pub plain : List ℕ → ComponentPart
+plain name = record { name = name; methods = record { name = codes "call"; idempotent = true } ∷ [] }
+
 abbrev pub with_component : Parts → List ℕ → Parts
-with_component parts name = record parts { components = parts.components ++ record { name = name } ∷ [] }
+with_component parts name = record parts { components = parts.components ++ plain name ∷ [] }
 
 abbrev pub with_table : Parts → ℕ → ℕ → Parts
 with_table parts table c = record parts { tables = parts.tables ++ record { table = table; owner = component_no c } ∷ [] }

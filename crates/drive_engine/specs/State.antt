@@ -4,7 +4,7 @@ use Rattle.crash_base.specs.declared.numbers.RequestNo.{RequestNo}
 use Rattle.journal_model.specs.Calls.{Call}
 use Rattle.journal_model.specs.Fits.{Fits}
 use Rattle.container_core.specs.Container.{ContainerValue}
-use Rattle.container_core.specs.declared.deployment.Parts.{Parts}
+use Rattle.deployment.specs.declared.parts.Parts.{Parts}
 
 -- the callers that have begun in this boot, and the calls that have not ended
 pub record CallersState : Type 0 where
@@ -22,7 +22,7 @@ pub data State : Type 0 where
   Running : (running : RunningState) → State
 
 abbrev pub no_parts : Parts
-no_parts = record { components = []; tables = [] }
+no_parts = record { components = []; references = []; tables = [] }
 
 abbrev pub no_callers : CallersState
 no_callers = record { begun = []; live = [] }

@@ -7,8 +7,8 @@ ghost use Rattle.drive_engine.specs.Transcript.{running, stage_line, step, IsLeg
 
 use crate::head;
 use crate::running::Running;
-use container_core::Parts;
 use crash_base::OutOfMemory;
+use deployment::Parts;
 use scenario_text::Line;
 use std::alloc::Global;
 use std::marker::Model;
@@ -28,14 +28,14 @@ pub struct Engine {
 }
 
 impl Model for Engine {
-    ghost use Rattle.drive_engine.specs.Stages.{state_of, HasFew};
+    ghost use Rattle.drive_engine.specs.Stages.{state_of, IsAccepted};
     ghost use Rattle.drive_engine.specs.State.{State};
 
     ghost Value = { State };
 
     ghost view = { λ e. state_of e.stage };
 
-    ghost invariant = { λ e. HasFew e.stage };
+    ghost invariant = { λ e. IsAccepted e.stage };
 }
 
 impl Engine {

@@ -1,13 +1,27 @@
 //! Head lines, which build the parts of a deployment.
 
-ghost use Rattle.std.specs.Prelude.{◌≡◌, ◌≤◌, length, IfOk};
+ghost use Rattle.std.specs.Prelude.{◌≡◌, [], ◌∷◌, None, true, codes, IfOk};
+ghost use Rattle.deployment.specs.Refusals.{deploy_refusal};
 ghost use Rattle.drive_engine.specs.Answers.{answer_of};
 ghost use Rattle.drive_engine.specs.Heads.{component_step, owns_step, head_line};
 
-use container_core::{ComponentPart, Parts, TablePart};
 use crash_base::{ComponentName, ComponentNo, OutOfMemory};
+use deployment::{ComponentPart, MethodList, MethodPart, Parts, TablePart};
 use scenario_text::Line;
 use std::alloc::Global;
+
+/// The methods of a component: one method `call`, which may be called again.
+fn one_method(alloc: Global) -> Result<MethodList, OutOfMemory>
+    ensures { IfOk result (λ methods. methods ≡ record { name = codes "call"; idempotent = true } ∷ []) }
+{
+    let mut methods = MethodList::new(alloc);
+    let name = ComponentName::copied(alloc, b"call")?;
+    methods.push(MethodPart {
+        name,
+        idempotent: true,
+    })?;
+    Ok(methods)
+}
 
 /// The next component.
 #[tactic(auto, unfolding(crate::specs::Heads::component_step))]
@@ -16,9 +30,9 @@ fn component(
     parts: &mut Parts,
     name: ComponentName,
 ) -> Result<Option<String>, OutOfMemory>
-    requires { length parts.old.components ≤ 64 }
+    requires { deploy_refusal parts.old ≡ None }
     ensures answer { IfOk result (λ r. answer_of r parts.new ≡ component_step parts.old name) }
-    ensures few { length parts.new.components ≤ 64 }
+    ensures accepted { deploy_refusal parts.new ≡ None }
 {
     if name.as_slice() == b"app".as_slice() {
         return Ok(None);
@@ -29,7 +43,8 @@ fn component(
     if parts.components.len() >= 64 {
         return Ok(None);
     }
-    parts.components.push(ComponentPart { name })?;
+    let methods = one_method(alloc)?;
+    parts.components.push(ComponentPart { name, methods })?;
     Ok(Some(String::new(alloc)))
 }
 
@@ -41,9 +56,9 @@ fn owns(
     name: ComponentName,
     table: u64,
 ) -> Result<Option<String>, OutOfMemory>
-    requires { length parts.old.components ≤ 64 }
+    requires { deploy_refusal parts.old ≡ None }
     ensures answer { IfOk result (λ r. answer_of r parts.new ≡ owns_step parts.old name table) }
-    ensures few { length parts.new.components ≤ 64 }
+    ensures accepted { deploy_refusal parts.new ≡ None }
 {
     let Some(c) = parts.named(name.as_slice()) else {
         return Ok(None);
@@ -62,9 +77,9 @@ fn owns(
 
 /// A line before the container is started.
 pub fn line(alloc: Global, parts: &mut Parts, line: Line) -> Result<Option<String>, OutOfMemory>
-    requires { length parts.old.components ≤ 64 }
+    requires { deploy_refusal parts.old ≡ None }
     ensures answer { IfOk result (λ r. answer_of r parts.new ≡ head_line parts.old line) }
-    ensures few { length parts.new.components ≤ 64 }
+    ensures accepted { deploy_refusal parts.new ≡ None }
 {
     match line {
         Line::Pass => Ok(Some(String::new(alloc))),

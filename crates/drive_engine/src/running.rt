@@ -1,6 +1,7 @@
 //! Event lines, over a container that is started.
 
-ghost use Rattle.std.specs.Prelude.{◌≡◌, ◌≤◌, [], ◌∷◌, ◌++◌, length, None, IfOk, OnOk, OnErr};
+ghost use Rattle.std.specs.Prelude.{◌≡◌, [], ◌∷◌, ◌++◌, length, None, IfOk, OnOk, OnErr};
+ghost use Rattle.deployment.specs.Refusals.{deploy_refusal};
 ghost use Rattle.journal_model.specs.Calls.{entry_of};
 ghost use Rattle.journal_model.specs.Fits.{Fits};
 ghost use Rattle.journal_model.specs.Legal.{IsLegal};
@@ -12,8 +13,9 @@ ghost use Rattle.drive_engine.specs.Events.{commit_step, table_step, event_line}
 use crate::call_lines::CallLine;
 use crate::callers::Callers;
 use crate::texts;
-use container_core::{Container, Deployment, Parts, Ticket};
+use container_core::{Container, Ticket};
 use crash_base::{OutOfMemory, Place};
+use deployment::{Deployment, Parts};
 use scenario_text::Line;
 use std::alloc::Global;
 use std::marker::Model;
@@ -51,12 +53,15 @@ fn join(container: &mut Container, ticket: Ticket) -> Result<Place, OutOfMemory>
 impl Running {
     /// A container over these parts, which nobody has called.
     pub fn start(alloc: Global, parts: Parts) -> Running
-        requires { length parts.components ≤ 64 }
+        requires { deploy_refusal parts ≡ None }
         ensures { result ≡ started parts }
     {
-        Running {
-            container: Container::start(alloc, Deployment::new(parts)),
-            callers: Callers::new(alloc),
+        match Deployment::check(parts) {
+            Ok(deployment) => Running {
+                container: Container::start(alloc, deployment),
+                callers: Callers::new(alloc),
+            },
+            Err(_) => unreachable!(),
         }
     }
 

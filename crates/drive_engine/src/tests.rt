@@ -4,6 +4,7 @@ use crate::run_command;
 use crash_base::{InputBytes, Items, RowList, WordText};
 use outside::{BytesSink, BytesSource, CallList, SizeList, SureKeeper};
 use std::alloc::Global;
+use std::process::Abort;
 use std::test::Fail;
 
 /// The status of a command, and what it wrote and told.
@@ -77,107 +78,140 @@ fn run(alloc: Global, words: &[&str], text: &[u8], outside: Outside) -> Result<R
     })
 }
 
+/// The first scenario that a newcomer runs, and its transcript.
 const FIRST: &str = "component A/owns A 40/begin c1/enter c1 A/put c1 40 7 6162/commit c1/table/";
 
 const FIRST_OUT: &[u8] = b"c1 committed 0\n40 7 6162\n";
 
-/// Scenarios that come to their end, each with its transcript behind a bar. A slash ends a line.
-const SCENARIOS: &str = "|
-component A/owns A 40/begin c1/enter c1 A/put c1 40 7 6162/commit c1/table/|c1 committed 0/40 7 6162/
-/# a comment///|
-table|
-component A/begin c1/enter c1 A/|
-begin c1/commit c1/table/|c1 committed 0/
-component A/owns A 40/owns A 3/begin c1/enter c1 A/put c1 40 7 61/put c1 3 9 -/put c1 40 7 62/put c1 40 2 63/table/commit c1/table|c1 committed 0/3 9 -/40 2 63/40 7 62/
-component A/owns A 40/begin c1/enter c1 A/put c1 40 7 61/commit c1/begin c2/enter c2 A/put c2 40 7 62/put c2 40 18446744073709551615 00ff/commit c2/begin c65535/commit c65535/table/|c1 committed 0/c2 committed 1/c65535 committed 2/40 7 62/40 18446744073709551615 00ff/
-component A/component B/owns A 1/owns B 255/begin c1/enter c1 B/put c1 255 0 aa/commit c1/begin c2/enter c2 A/put c2 1 0 bb/commit c2/table/|c1 committed 0/c2 committed 1/1 0 bb/255 0 aa/";
-
-/// Each comes to its end.
-#[test]
-fn scenarios_write_their_transcripts(rt: HostRuntime) -> Result<(), Fail> {
-    let alloc = rt.alloc();
-    for case in SCENARIOS.split('\n') {
-        let (text, transcript) = case.split_once('|').ok_or("no bar")?;
-        let text = lines(alloc, text)?;
-        let transcript = lines(alloc, transcript)?;
-        let ran = run(alloc, &["drive"], text.as_bytes(), SURE)?;
-        assert_eq!(rt; ran.status, 0, "{case}");
-        assert_eq!(rt; ran.out.as_slice(), transcript.as_bytes(), "{case}");
-        assert_eq!(rt; ran.errors.as_slice(), b"".as_slice());
+/// One case, whose parts stand between bars: the size of the pieces that are read and the numbers of the read,
+/// the write and the telling that fail, 0 for none; the status; what is told; what is written; and the
+/// scenario. A slash ends a line.
+fn expect_case(rt: &impl Abort, alloc: Global, case: &str) -> Result<(), Fail> {
+    let parts: Vec<&str> = case.split('|').collect(alloc)?;
+    assert_eq!(rt; parts.len(), 5, "{case}");
+    let mut numbers = Vec::new(alloc);
+    for number in parts[0].split(' ') {
+        let number: u64 = number.parse()?;
+        numbers.push(number)?;
     }
+    assert_eq!(rt; numbers.len(), 4, "{case}");
+    let outside = Outside {
+        piece: numbers[0],
+        failing_read: numbers[1],
+        failing_write: numbers[2],
+        failing_error: numbers[3],
+    };
+    let status: u8 = parts[1].parse()?;
+    let ran = run(
+        alloc,
+        &["drive"],
+        lines(alloc, parts[4])?.as_bytes(),
+        outside,
+    )?;
+    assert_eq!(rt; ran.status, status, "{case}");
+    assert_eq!(rt;
+        ran.errors.as_slice(),
+        lines(alloc, parts[2])?.as_bytes(),
+        "{case}"
+    );
+    assert_eq!(rt;
+        ran.out.as_slice(),
+        lines(alloc, parts[3])?.as_bytes(),
+        "{case}"
+    );
     Ok(())
 }
 
-/// Scenarios with a line that is refused: its number, and the transcript of the lines before it.
-const REFUSED: &str = "1|component  A|
-1|component A |
-1| component A|
-1|component\tA|
-1|Component A|
-1|component|
-1|component |
-1|component A B|
-1|component A\r/|
-1|component é|
-1|component A-B|
-1|component aaaaaaaaaaaaaaaaaaaaaaaaaaaaaaaaa|
-1|component app|
-1|# café|
-1|#\r|
-4|//component A/component A/|
-2|component A/owns A 0|
-2|component A/owns A 256|
-2|component A/owns A 040|
-2|component A/owns A 18446744073709551616|
-2|component A/owns A -1|
-2|component A/owns B 40|
-3|component A/owns A 40/owns A 40|
-4|component A/component B/owns A 40/owns B 40|
-3|component A/begin c1/component B|
-3|component A/table/owns A 40|
-1|begin c0|
-1|begin c65536|
-1|begin c01|
-1|begin C1|
-1|begin 1|
-1|begin c|
-2|begin c1/begin c1|
-2|begin c1/begin c2|
-1|begin c1 c2|
-2|component A/enter c1 A|
-3|component A/begin c1/enter c1 B|
-4|component A/begin c1/enter c1 A/enter c1 A|
-4|component A/owns A 40/begin c1/put c1 40 7 61|
-6|component A/component B/owns A 40/begin c1/enter c1 B/put c1 40 7 61|
-5|component A/owns A 40/begin c1/enter c1 A/put c1 41 7 61|
-5|component A/owns A 40/begin c1/enter c1 A/put c1 40 7 6|
-5|component A/owns A 40/begin c1/enter c1 A/put c1 40 7 6A|
-5|component A/owns A 40/begin c1/enter c1 A/put c1 40 7 |
-5|component A/owns A 40/begin c1/enter c1 A/put c1 40 7 -61|
-5|component A/owns A 40/begin c1/enter c1 A/put c1 40 07 61|
-5|component A/owns A 40/begin c1/enter c1 A/put c1 40 18446744073709551616 61|
-5|component A/owns A 40/begin c1/enter c1 A/put c2 40 7 61|
-1|commit c1|
-1|table 40|
-1|tables|
-2|begin c1/exit c1|
-3|begin c1/commit c1/begin c1/table/|c1 committed 0/
-3|begin c1/commit c1/commit c1/|c1 committed 0/";
+/// Scenarios that come to their end.
+const SCENARIOS: &str = "0 0 0 0|0|||
+0 0 0 0|0||c1 committed 0/40 7 6162/|component A/owns A 40/begin c1/enter c1 A/put c1 40 7 6162/commit c1/table/
+0 0 0 0|0|||/# a comment///
+0 0 0 0|0|||table
+0 0 0 0|0|||component A/begin c1/enter c1 A/
+0 0 0 0|0||c1 committed 0/|begin c1/commit c1/table/
+0 0 0 0|0||c1 committed 0/3 9 -/40 2 63/40 7 62/|component A/owns A 40/owns A 3/begin c1/enter c1 A/put c1 40 7 61/put c1 3 9 -/put c1 40 7 62/put c1 40 2 63/table/commit c1/table
+0 0 0 0|0||c1 committed 0/c2 committed 1/c65535 committed 2/40 7 62/40 18446744073709551615 00ff/|component A/owns A 40/begin c1/enter c1 A/put c1 40 7 61/commit c1/begin c2/enter c2 A/put c2 40 7 62/put c2 40 18446744073709551615 00ff/commit c2/begin c65535/commit c65535/table/
+0 0 0 0|0||c1 committed 0/c2 committed 1/1 0 bb/255 0 aa/|component A/component B/owns A 1/owns B 255/begin c1/enter c1 B/put c1 255 0 aa/commit c1/begin c2/enter c2 A/put c2 1 0 bb/commit c2/table/";
 
-/// Each ends with status 3 and the number of its line.
+/// Scenarios with a line that is refused, which is told by its number.
+const REFUSED: &str = "0 0 0 0|3|line 1/||component  A
+0 0 0 0|3|line 1/||component A 
+0 0 0 0|3|line 1/|| component A
+0 0 0 0|3|line 1/||component\tA
+0 0 0 0|3|line 1/||Component A
+0 0 0 0|3|line 1/||component
+0 0 0 0|3|line 1/||component 
+0 0 0 0|3|line 1/||component A B
+0 0 0 0|3|line 1/||component A\r/
+0 0 0 0|3|line 1/||component é
+0 0 0 0|3|line 1/||component A-B
+0 0 0 0|3|line 1/||component aaaaaaaaaaaaaaaaaaaaaaaaaaaaaaaaa
+0 0 0 0|3|line 1/||component app
+0 0 0 0|3|line 1/||# café
+0 0 0 0|3|line 1/||#\r
+0 0 0 0|3|line 4/||//component A/component A/
+0 0 0 0|3|line 2/||component A/owns A 0
+0 0 0 0|3|line 2/||component A/owns A 256
+0 0 0 0|3|line 2/||component A/owns A 040
+0 0 0 0|3|line 2/||component A/owns A 18446744073709551616
+0 0 0 0|3|line 2/||component A/owns A -1
+0 0 0 0|3|line 2/||component A/owns B 40
+0 0 0 0|3|line 3/||component A/owns A 40/owns A 40
+0 0 0 0|3|line 4/||component A/component B/owns A 40/owns B 40
+0 0 0 0|3|line 3/||component A/begin c1/component B
+0 0 0 0|3|line 3/||component A/table/owns A 40
+0 0 0 0|3|line 1/||begin c0
+0 0 0 0|3|line 1/||begin c65536
+0 0 0 0|3|line 1/||begin c01
+0 0 0 0|3|line 1/||begin C1
+0 0 0 0|3|line 1/||begin 1
+0 0 0 0|3|line 1/||begin c
+0 0 0 0|3|line 2/||begin c1/begin c1
+0 0 0 0|3|line 2/||begin c1/begin c2
+0 0 0 0|3|line 1/||begin c1 c2
+0 0 0 0|3|line 2/||component A/enter c1 A
+0 0 0 0|3|line 3/||component A/begin c1/enter c1 B
+0 0 0 0|3|line 4/||component A/begin c1/enter c1 A/enter c1 A
+0 0 0 0|3|line 4/||component A/owns A 40/begin c1/put c1 40 7 61
+0 0 0 0|3|line 6/||component A/component B/owns A 40/begin c1/enter c1 B/put c1 40 7 61
+0 0 0 0|3|line 5/||component A/owns A 40/begin c1/enter c1 A/put c1 41 7 61
+0 0 0 0|3|line 5/||component A/owns A 40/begin c1/enter c1 A/put c1 40 7 6
+0 0 0 0|3|line 5/||component A/owns A 40/begin c1/enter c1 A/put c1 40 7 6A
+0 0 0 0|3|line 5/||component A/owns A 40/begin c1/enter c1 A/put c1 40 7 
+0 0 0 0|3|line 5/||component A/owns A 40/begin c1/enter c1 A/put c1 40 7 -61
+0 0 0 0|3|line 5/||component A/owns A 40/begin c1/enter c1 A/put c1 40 07 61
+0 0 0 0|3|line 5/||component A/owns A 40/begin c1/enter c1 A/put c1 40 18446744073709551616 61
+0 0 0 0|3|line 5/||component A/owns A 40/begin c1/enter c1 A/put c2 40 7 61
+0 0 0 0|3|line 1/||commit c1
+0 0 0 0|3|line 1/||table 40
+0 0 0 0|3|line 1/||tables
+0 0 0 0|3|line 2/||begin c1/exit c1
+0 0 0 0|3|line 3/|c1 committed 0/|begin c1/commit c1/begin c1/table/
+0 0 0 0|3|line 3/|c1 committed 0/|begin c1/commit c1/commit c1/";
+
+/// Each call of the outside fails in turn: six reads, of which the last finds the end, two writes, one telling.
+const FAULTS: &str =
+    "16 1 0 0|4|read failed/||component A/owns A 40/begin c1/enter c1 A/put c1 40 7 6162/commit c1/table/
+16 2 0 0|4|read failed/||component A/owns A 40/begin c1/enter c1 A/put c1 40 7 6162/commit c1/table/
+16 3 0 0|4|read failed/||component A/owns A 40/begin c1/enter c1 A/put c1 40 7 6162/commit c1/table/
+16 4 0 0|4|read failed/||component A/owns A 40/begin c1/enter c1 A/put c1 40 7 6162/commit c1/table/
+16 5 0 0|4|read failed/||component A/owns A 40/begin c1/enter c1 A/put c1 40 7 6162/commit c1/table/
+16 6 0 0|4|read failed/||component A/owns A 40/begin c1/enter c1 A/put c1 40 7 6162/commit c1/table/
+16 7 0 0|0||c1 committed 0/40 7 6162/|component A/owns A 40/begin c1/enter c1 A/put c1 40 7 6162/commit c1/table/
+0 0 1 0|5|write failed/||component A/owns A 40/begin c1/enter c1 A/put c1 40 7 6162/commit c1/table/
+0 0 2 0|5|write failed/|c1 committed 0/|component A/owns A 40/begin c1/enter c1 A/put c1 40 7 6162/commit c1/table/
+0 0 3 0|0||c1 committed 0/40 7 6162/|component A/owns A 40/begin c1/enter c1 A/put c1 40 7 6162/commit c1/table/
+16 1 0 1|4|||component A/owns A 40/begin c1/enter c1 A/put c1 40 7 6162/commit c1/table/
+0 0 2 1|5||c1 committed 0/|component A/owns A 40/begin c1/enter c1 A/put c1 40 7 6162/commit c1/table/
+0 0 0 1|3|||begin c0
+0 0 0 1|0||c1 committed 0/40 7 6162/|component A/owns A 40/begin c1/enter c1 A/put c1 40 7 6162/commit c1/table/";
+
 #[test]
-fn damaged_lines_are_refused(rt: HostRuntime) -> Result<(), Fail> {
-    let alloc = rt.alloc();
-    for case in REFUSED.split('\n') {
-        let (number, rest) = case.split_once('|').ok_or("no bar")?;
-        let (text, transcript) = rest.split_once('|').ok_or("no second bar")?;
-        let text = lines(alloc, text)?;
-        let transcript = lines(alloc, transcript)?;
-        let told = format!(in alloc; "line {number}\n")?;
-        let ran = run(alloc, &["drive"], text.as_bytes(), SURE)?;
-        assert_eq!(rt; ran.status, 3, "{case}");
-        assert_eq!(rt; ran.errors.as_slice(), told.as_bytes(), "{case}");
-        assert_eq!(rt; ran.out.as_slice(), transcript.as_bytes(), "{case}");
+fn cases(rt: HostRuntime) -> Result<(), Fail> {
+    for table in [SCENARIOS, REFUSED, FAULTS] {
+        for case in table.split('\n') {
+            expect_case(&rt, rt.alloc(), case)?;
+        }
     }
     Ok(())
 }
@@ -270,55 +304,6 @@ fn pieces_change_nothing(rt: HostRuntime) -> Result<(), Fail> {
         )?;
         assert_eq!(rt; ran.status, 0);
         assert_eq!(rt; ran.out.as_slice(), FIRST_OUT);
-    }
-    Ok(())
-}
-
-/// Each call of the outside fails in turn: five reads, of which the last finds the end, and two writes.
-const FAULTS: &str = "1 0 0|4|read failed/|
-2 0 0|4|read failed/|
-3 0 0|4|read failed/|
-4 0 0|4|read failed/|
-5 0 0|4|read failed/|
-6 0 0|4|read failed/|
-7 0 0|0||c1 committed 0/40 7 6162/
-0 1 0|5|write failed/|
-0 2 0|5|write failed/|c1 committed 0/
-0 3 0|0||c1 committed 0/40 7 6162/
-1 0 1|4||
-0 2 1|5||c1 committed 0/
-0 0 1|0||c1 committed 0/40 7 6162/";
-
-/// A fault ends the run with its status; one of the errors changes nothing else.
-#[test]
-fn faults_end_the_run(rt: HostRuntime) -> Result<(), Fail> {
-    let alloc = rt.alloc();
-    let text = lines(alloc, FIRST)?;
-    for case in FAULTS.split('\n') {
-        let (calls, rest) = case.split_once('|').ok_or("no bar")?;
-        let (status, rest) = rest.split_once('|').ok_or("no second bar")?;
-        let (told, written) = rest.split_once('|').ok_or("no third bar")?;
-        let (read, others) = calls.split_once(' ').ok_or("no space")?;
-        let (write, error) = others.split_once(' ').ok_or("no second space")?;
-        let outside = Outside {
-            piece: 16,
-            failing_read: read.parse()?,
-            failing_write: write.parse()?,
-            failing_error: error.parse()?,
-        };
-        let ran = run(alloc, &["drive"], text.as_bytes(), outside)?;
-        let status: u8 = status.parse()?;
-        assert_eq!(rt; ran.status, status, "{case}");
-        assert_eq!(rt;
-            ran.errors.as_slice(),
-            lines(alloc, told)?.as_bytes(),
-            "{case}"
-        );
-        assert_eq!(rt;
-            ran.out.as_slice(),
-            lines(alloc, written)?.as_bytes(),
-            "{case}"
-        );
     }
     Ok(())
 }
