@@ -1,0 +1,3 @@
+pub mod Gathering
+pub mod Exactness
+pub mod Firsts

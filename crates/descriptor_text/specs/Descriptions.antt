@@ -1,0 +1,62 @@
+-- Components as their tables describe them.
+use Rattle.std.specs.Prelude.{◌≡◌, ℕ, ◌<◌, suc, ◌&&◌, Bool, true, is_some, if◌then◌else◌, List, [], ◌∷◌, Option, Some, None, codes, Result, Ok, Err}
+use Rattle.toml.specs.Data.{Data, Items, no_items, item, Members, as_table, get_item}
+use Rattle.descriptor_text.specs.declared.description.Description.{Description}
+use Rattle.descriptor_text.specs.declared.refusals.FieldName.{FieldName}
+use Rattle.descriptor_text.specs.declared.refusals.FieldName.TheVariants as key
+use Rattle.descriptor_text.specs.declared.refusals.WrongField.{WrongField}
+use Rattle.descriptor_text.specs.Keys.{list_in, names_in, tables_in, methods_in}
+use Rattle.descriptor_text.specs.Names.{component_name_in}
+
+-- a key that gives a value lets the next ones be read; one that gives none has another form
+abbrev pub with_key : {A B : Type 0} → FieldName → Option A → (A → Result B FieldName) → Result B FieldName
+with_key field None next = Err field
+with_key field (Some a) next = next a
+
+-- the component of a table, or the first of its keys that has another form
+abbrev pub description_in : Members → Result Description FieldName
+description_in members =
+    with_key key.Name (component_name_in members) (λ name.
+    with_key key.Hard (names_in (codes "hard") members) (λ hard.
+    with_key key.Soft (names_in (codes "soft") members) (λ soft.
+    with_key key.Tables (tables_in members) (λ tables.
+    with_key key.Methods (methods_in members) (λ methods.
+    Ok (record { name = name; hard = hard; soft = soft; tables = tables; methods = methods }))))))
+
+-- the component of a value, which has to be a table
+abbrev pub description_of : Data → Result Description FieldName
+description_of d = with_key key.Component (as_table d) description_in
+
+-- each item is a table
+abbrev pub are_tables : Items → Bool
+are_tables no_items = true
+are_tables (item d rest) = is_some (as_table d) && are_tables rest
+
+-- the description at a place, and those behind it; the first that has none is told by its place
+abbrev pub joined : ℕ → Result Description FieldName → Result (List Description) WrongField → Result (List Description) WrongField
+joined place (Err field) others = Err (record { component = place; field = field })
+joined place (Ok first) (Err wrong) = Err wrong
+joined place (Ok first) (Ok others) = Ok (first ∷ others)
+
+-- the components of items, the first of which has this place
+abbrev pub described : ℕ → Items → Result (List Description) WrongField
+described place no_items = Ok []
+described place (item d rest) = joined place (description_of d) (described (suc place) rest)
+
+-- what is told where `component` is no array of tables
+abbrev pub no_tables : WrongField
+no_tables = record { component = 0; field = key.Component }
+
+-- the components of an array of tables
+abbrev pub described_tables : Option Items → Result (List Description) WrongField
+described_tables None = Err no_tables
+described_tables (Some items) = if are_tables items then described 0 items else Err no_tables
+
+-- the components of a document, or the first key that has another form
+abbrev pub descriptions_of : Members → Result (List Description) WrongField
+descriptions_of document = described_tables (list_in (codes "component") document)
+
+-- The wrong field is that of the item at its place, and each item before it describes a component.
+pub record IsFirstWrong (items : Items) (wrong : WrongField) : Type 0 where
+  pub there : (d : Data) × (get_item wrong.component items ≡ Some d) × (description_of d ≡ Err wrong.field)
+  pub before : (k : ℕ) → k < wrong.component → (d : Data) × (first : Description) × (get_item k items ≡ Some d) × (description_of d ≡ Ok first)

@@ -1,0 +1,33 @@
+-- Names of components and of methods.
+use Rattle.std.specs.Prelude.{ℕ, ◌==◌, ◌&&◌, ◌||◌, nat_le, Bool, not, if◌then◌else◌, List, length, Option, Some, None, option_and_then, bytes_eq, codes}
+use Rattle.std.specs.Char.{is_ascii_alphanumeric}
+use Rattle.std.specs.List.{list_all}
+use Rattle.toml.specs.Data.{Members, get_member, as_str}
+
+-- a letter of ASCII, a digit or `_`, whose code is 95
+abbrev pub is_name_byte : ℕ → Bool
+is_name_byte byte = is_ascii_alphanumeric byte || (byte == 95)
+
+-- 1 to 32 letters, digits or `_`
+abbrev pub is_name : List ℕ → Bool
+is_name bytes = (nat_le 1 (length bytes) && nat_le (length bytes) 32) && list_all is_name_byte bytes
+
+-- a name other than `app`
+abbrev pub is_component_name : List ℕ → Bool
+is_component_name bytes = is_name bytes && not (bytes_eq bytes (codes "app"))
+
+-- the text, where it passes a test
+abbrev pub passing : (List ℕ → Bool) → List ℕ → Option (List ℕ)
+passing test text = if test text then Some text else None
+
+-- the text under a key, if a text stands there
+abbrev pub text_in : List ℕ → Members → Option (List ℕ)
+text_in key members = option_and_then as_str (get_member key members)
+
+-- a component's name, if `name` has its form
+abbrev pub component_name_in : Members → Option (List ℕ)
+component_name_in members = option_and_then (passing is_component_name) (text_in (codes "name") members)
+
+-- a method's name, if `name` has its form
+abbrev pub method_name_in : Members → Option (List ℕ)
+method_name_in members = option_and_then (passing is_name) (text_in (codes "name") members)
