@@ -20,6 +20,7 @@ mod items;
 mod latest;
 mod laws;
 mod memory;
+mod names;
 mod numbers;
 mod rows;
 mod session;
@@ -35,9 +36,10 @@ pub use items::{
 pub use latest::LatestRows;
 pub use laws::{
     fields_are_numbers, fields_read_back, ids_in_order, puts_join, rows_are_last_writes,
-    rows_fixed_by_order, rows_in_order,
+    rows_fixed_by_order, rows_in_order, scopes_are_told_apart,
 };
 pub use memory::OutOfMemory;
+pub use names::is_name;
 pub use numbers::{
     BrickNo, ComponentNo, GroupNo, Level, Moment, Place, RequestNo, RowId, Scope, SessionKey,
     Version, WorkerNo,

@@ -97,3 +97,18 @@ fn latest_rows(rt: HostRuntime) -> Result<(), Fail> {
     }
     Ok(())
 }
+
+#[test]
+fn names(rt: HostRuntime) {
+    // 32 and 33 bytes, the bytes beside each range of letters and digits, and one above 127
+    let longest = b"abcdefghijklmnopqrstuvwxyz_ABZ09";
+    assert!(rt;
+        is_name(longest.as_slice()) && is_name(b"_".as_slice()) && is_name(b"app".as_slice())
+    );
+    assert!(rt;
+        !is_name(b"abcdefghijklmnopqrstuvwxyz_ABZ092".as_slice()) && !is_name(b"".as_slice())
+    );
+    for byte in [b'/', b':', b'@', b'[', b'^', b'`', b'{', b' ', 0, 200] {
+        assert!(rt; !is_name([b'a', byte].as_slice()));
+    }
+}
