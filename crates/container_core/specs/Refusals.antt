@@ -1,19 +1,10 @@
 -- Which refusal a call of the container meets first.
-use Rattle.std.specs.Prelude.{◌≡◌, ◌==◌, Bool, if◌then◌else◌, Option, Some, None, Result, Ok, Err, List, [], ◌∷◌, length}
+use Rattle.std.specs.Prelude.{◌≡◌, ◌==◌, if◌then◌else◌, Option, Some, None, Result, Ok, Err, [], ◌∷◌, length}
 use Rattle.crash_base.specs.declared.numbers.RowId.{RowId}
+use Rattle.deployment.specs.Refusals.{first_of, only_if}
 use Rattle.journal_model.specs.Calls.{Call, is_put}
 use Rattle.container_core.specs.declared.refusals.CallRefusal.{CallRefusal}
 use Rattle.container_core.specs.declared.refusals.CallRefusal.TheVariants.{Steps, Writes, OutOfMemory}
-
--- the first refusal of a list that holds
-abbrev pub first_of : {R : Type 0} → List (Option R) → Option R
-first_of [] = None
-first_of (None ∷ rs) = first_of rs
-first_of (Some r ∷ rs) = Some r
-
--- a refusal that comes where a test says so
-abbrev pub only_if : {R : Type 0} → Bool → R → Option R
-only_if b r = if b then Some r else None
 
 -- an enter is refused at 128 steps
 abbrev pub enter_refusal : Call → Option CallRefusal

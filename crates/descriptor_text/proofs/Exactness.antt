@@ -8,7 +8,7 @@ use Rattle.descriptor_text.specs.declared.refusals.FieldName.{FieldName}
 use Rattle.descriptor_text.specs.declared.refusals.TextRefusal.{TextRefusal}
 use Rattle.descriptor_text.specs.declared.refusals.TextRefusal.TheVariants.{NotToml, Field, Deploy, OutOfMemory}
 use Rattle.descriptor_text.specs.declared.refusals.WrongField.{WrongField}
-use Rattle.descriptor_text.specs.Text.{Describes, IsAnswer, SpellsNone, parts_of}
+use Rattle.descriptor_text.specs.Text.{Describes, IsAnswer, SpellsNoDocument, parts_of}
 
 -- the bytes spell one document at most, which describes one thing
 describes_one : (text : List ℕ) (x y : Result Parts WrongField) → Describes text x → Describes text y → x ≡ y
@@ -19,7 +19,7 @@ describes_one text x y (d, spelled, here) (e, also, there) =
     some_one : (d e : Members) → Some d ≡ Some e → d ≡ e
     some_one d e same = cc
 
-spells_one : (text : List ℕ) (x : Result Parts WrongField) → Describes text x → ¬ SpellsNone text
+spells_one : (text : List ℕ) (x : Result Parts WrongField) → Describes text x → ¬ SpellsNoDocument text
 spells_one text x (d, spelled, here) none = none d spelled
 
 wrong : ℕ → FieldName → Result Parts WrongField

@@ -4,7 +4,7 @@ use Rattle.toml.specs.Data.{Data, Items, no_items, item, get_item}
 use Rattle.descriptor_text.specs.declared.description.Description.{Description}
 use Rattle.descriptor_text.specs.declared.refusals.FieldName.{FieldName}
 use Rattle.descriptor_text.specs.declared.refusals.WrongField.{WrongField}
-use Rattle.descriptor_text.specs.Descriptions.{described, description_of, joined, IsFirstWrong}
+use Rattle.descriptor_text.specs.Descriptions.{described, description_of, with_others, IsFirstWrong}
 
 -- the item at a place describes a component
 abbrev IsDescribed : ℕ → Items → Type 0
@@ -31,7 +31,7 @@ first_from : (place : ℕ) (items : Items) (wrong : WrongField) → described pl
 first_from place no_items wrong h = absurd (cc)
 first_from place (item d rest) wrong h = go (description_of d) refl (described (suc place) rest) (first_from (suc place) rest) h
   where
-    go : (here : Result Description FieldName) → description_of d ≡ here → (others : Result (List Description) WrongField) → ((w : WrongField) → others ≡ Err w → IsFirstFrom (suc place) rest w) → joined place here others ≡ Err wrong → IsFirstFrom place (item d rest) wrong
+    go : (here : Result Description FieldName) → description_of d ≡ here → (others : Result (List Description) WrongField) → ((w : WrongField) → others ≡ Err w → IsFirstFrom (suc place) rest w) → with_others place here others ≡ Err wrong → IsFirstFrom place (item d rest) wrong
     go (Err field) is others later h =
         let same : record { component = place; field = field } ≡ wrong = cc in
         subst (λ w. IsFirstFrom place (item d rest) w) same (first_here place d rest field is)

@@ -33,15 +33,15 @@ are_tables no_items = true
 are_tables (item d rest) = is_some (as_table d) && are_tables rest
 
 -- the description at a place, and those behind it; the first that has none is told by its place
-abbrev pub joined : ℕ → Result Description FieldName → Result (List Description) WrongField → Result (List Description) WrongField
-joined place (Err field) others = Err (record { component = place; field = field })
-joined place (Ok first) (Err wrong) = Err wrong
-joined place (Ok first) (Ok others) = Ok (first ∷ others)
+abbrev pub with_others : ℕ → Result Description FieldName → Result (List Description) WrongField → Result (List Description) WrongField
+with_others place (Err field) others = Err (record { component = place; field = field })
+with_others place (Ok first) (Err wrong) = Err wrong
+with_others place (Ok first) (Ok others) = Ok (first ∷ others)
 
 -- the components of items, the first of which has this place
 abbrev pub described : ℕ → Items → Result (List Description) WrongField
 described place no_items = Ok []
-described place (item d rest) = joined place (description_of d) (described (suc place) rest)
+described place (item d rest) = with_others place (description_of d) (described (suc place) rest)
 
 -- what is told where `component` is no array of tables
 abbrev pub no_tables : WrongField

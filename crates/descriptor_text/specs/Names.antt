@@ -1,16 +1,7 @@
 -- Names of components and of methods.
-use Rattle.std.specs.Prelude.{ℕ, ◌==◌, ◌&&◌, ◌||◌, nat_le, Bool, not, if◌then◌else◌, List, length, Option, Some, None, option_and_then, bytes_eq, codes}
-use Rattle.std.specs.Char.{is_ascii_alphanumeric}
-use Rattle.std.specs.List.{list_all}
+use Rattle.std.specs.Prelude.{ℕ, ◌&&◌, Bool, not, if◌then◌else◌, List, Option, Some, None, option_and_then, bytes_eq, codes}
+use Rattle.crash_base.specs.Names.{is_name}
 use Rattle.toml.specs.Data.{Members, get_member, as_str}
-
--- a letter of ASCII, a digit or `_`, whose code is 95
-abbrev pub is_name_byte : ℕ → Bool
-is_name_byte byte = is_ascii_alphanumeric byte || (byte == 95)
-
--- 1 to 32 letters, digits or `_`
-abbrev pub is_name : List ℕ → Bool
-is_name bytes = (nat_le 1 (length bytes) && nat_le (length bytes) 32) && list_all is_name_byte bytes
 
 -- a name other than `app`
 abbrev pub is_component_name : List ℕ → Bool

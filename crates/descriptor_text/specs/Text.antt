@@ -12,8 +12,8 @@ use Rattle.descriptor_text.specs.Assembly.{assembled}
 use Rattle.descriptor_text.specs.Descriptions.{descriptions_of}
 
 -- the bytes are UTF-8, and the text is a TOML document with these members
-abbrev pub Spells : List ℕ → Members → Type 0
-Spells bytes document = IsUtf8 bytes × (parse_document bytes ≡ Some document)
+abbrev pub SpellsDocument : List ℕ → Members → Type 0
+SpellsDocument bytes document = IsUtf8 bytes × (parse_document bytes ≡ Some document)
 
 -- the parts that components make
 abbrev pub made_of : Result (List Description) WrongField → Result Parts WrongField
@@ -26,18 +26,18 @@ parts_of document = made_of (descriptions_of document)
 
 -- the bytes spell a document that describes this
 abbrev pub Describes : List ℕ → Result Parts WrongField → Type 0
-Describes text said = (document : Members) × Spells text document × (parts_of document ≡ said)
+Describes text said = (document : Members) × SpellsDocument text document × (parts_of document ≡ said)
 
 -- the bytes spell no document
-abbrev pub SpellsNone : List ℕ → Type 0
-SpellsNone text = (document : Members) → ¬ Spells text document
+abbrev pub SpellsNoDocument : List ℕ → Type 0
+SpellsNoDocument text = (document : Members) → ¬ SpellsDocument text document
 
 -- What a text calls for. A deployment: the bytes spell a document whose parts are accepted. `NotToml`: they
 -- spell none. `Field`: in the document that they spell, this is the first key of another form. `Deploy`: the
 -- parts of that document are refused so. Want of memory alone may come at any text.
 abbrev pub IsAnswer : List ℕ → Result Parts TextRefusal → Type 0
 IsAnswer text (Ok parts) = Describes text (Ok parts) × (deploy_refusal parts ≡ None)
-IsAnswer text (Err NotToml) = SpellsNone text
+IsAnswer text (Err NotToml) = SpellsNoDocument text
 IsAnswer text (Err (Field component field)) = Describes text (Err (record { component = component; field = field }))
 IsAnswer text (Err (Deploy refusal)) = (parts : Parts) × Describes text (Ok parts) × (deploy_refusal parts ≡ Some refusal)
 IsAnswer text (Err OutOfMemory) = Unit {0}

@@ -1,12 +1,11 @@
 //! Names of components and of methods.
 
 ghost use Rattle.std.specs.Prelude.{◌≡◌, IfOk, option_copied, option_map};
-ghost use Rattle.std.specs.List.{list_all};
 ghost use Rattle.toml.specs.Data.{get_member};
 ghost use Rattle.toml.specs.View.{table_view, view};
-ghost use Rattle.descriptor_text.specs.Names.{is_name, is_name_byte, is_component_name, component_name_in, method_name_in, text_in};
+ghost use Rattle.descriptor_text.specs.Names.{is_component_name, component_name_in, method_name_in, text_in};
 
-use crash_base::{ComponentName, OutOfMemory};
+use crash_base::{ComponentName, OutOfMemory, is_name};
 use std::alloc::Global;
 use toml::{Table, Value};
 
@@ -25,27 +24,6 @@ fn text_at<'a>(table: &'a Table, key: &str) -> Option<&'a str>
         None => None,
         Some(value) => value.as_str(),
     }
-}
-
-/// Whether a byte may stand in a name.
-fn is_name_byte(byte: u8) -> bool
-    ensures { result ≡ is_name_byte byte }
-{
-    byte.is_ascii_alphanumeric() || byte == b'_'
-}
-
-/// Whether each byte may stand in a name.
-fn has_name_bytes(bytes: &[u8]) -> bool
-    ensures { result ≡ list_all is_name_byte bytes.now }
-{
-    bytes.iter().all(|byte| is_name_byte(*byte))
-}
-
-/// Whether bytes are a name: 1 to 32 letters, digits or `_`.
-fn is_name(bytes: &[u8]) -> bool
-    ensures { result ≡ is_name bytes.now }
-{
-    1 <= bytes.len() && bytes.len() <= 32 && has_name_bytes(bytes)
 }
 
 /// Whether bytes are the name of a component, which is not `app`.

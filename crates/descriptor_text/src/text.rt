@@ -2,7 +2,7 @@
 
 ghost use Rattle.std.specs.Prelude.{◌≡◌, IfOk, MatchOption};
 ghost use Rattle.toml.specs.View.{table_view};
-ghost use Rattle.descriptor_text.specs.Text.{IsAnswer, Spells, SpellsNone, parts_of};
+ghost use Rattle.descriptor_text.specs.Text.{IsAnswer, SpellsDocument, SpellsNoDocument, parts_of};
 
 use crate::assembly::assemble;
 use crate::description::describe_document;
@@ -14,8 +14,8 @@ use toml::Table;
 
 /// The document that bytes spell. None exactly where they spell none.
 fn read_document(alloc: Global, text: &[u8]) -> Result<Option<Table>, OutOfMemory>
-    ensures { IfOk result (λ found. MatchOption found (SpellsNone text.now)
-        (λ document. Spells text.now (table_view document))) }
+    ensures { IfOk result (λ found. MatchOption found (SpellsNoDocument text.now)
+        (λ document. SpellsDocument text.now (table_view document))) }
 {
     match toml::table_from_slice(alloc, text) {
         Ok(document) => Ok(Some(document)),

@@ -7,7 +7,8 @@ use Rattle.std.specs.List.{All, join_with_byte, list_all}
 use Rattle.std.proofs.lemmas.Bool.Decides.{nat_tests, Decides-by_and}
 use Rattle.std.proofs.lemmas.List.Splits.{join_with_byte-slice_split}
 use Rattle.std.proofs.lemmas.Slice.Eq.{bytes_eq-Decides}
-use Rattle.scenario_text.specs.Fields.{words_of, is_name, is_name_byte, number_of, caller_of, hex_of}
+use Rattle.crash_base.specs.Names.{is_name, is_name_byte}
+use Rattle.scenario_text.specs.Fields.{words_of, number_of, caller_of, hex_of}
 use Rattle.scenario_text.specs.Texts.{hex_text}
 use Rattle.scenario_text.specs.Lines.{line_of, line_of_words, component_line, owns_line, begin_line, enter_line, put_line, commit_line, table_line, passes, is_comment_byte}
 use Rattle.scenario_text.specs.Spelling.{Spells, IsInRange, IsComment, IsName, IsNumber, IsCaller, spelling, words_of_line, caller_word}

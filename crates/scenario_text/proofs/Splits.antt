@@ -4,7 +4,8 @@ use Rattle.std.specs.List.{list_all, All, join_with_byte}
 use Rattle.std.proofs.lemmas.List.Elements.{All-nil, All-cons}
 use Rattle.std.proofs.lemmas.List.Splits.{slice_split_none, slice_split_at}
 use Rattle.std.proofs.lemmas.Bool.Decides.{nat_tests}
-use Rattle.scenario_text.specs.Fields.{words_of, is_digit, is_name_byte}
+use Rattle.crash_base.specs.Names.{is_name_byte}
+use Rattle.scenario_text.specs.Fields.{words_of, is_digit}
 use Rattle.scenario_text.proofs.Words.{and_true, all_digits}
 
 abbrev space : ℕ → Bool

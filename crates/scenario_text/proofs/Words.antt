@@ -7,7 +7,8 @@ use Rattle.std.proofs.lemmas.Str.Parse.{IsNumeralModel, numerals_by_fold}
 use Rattle.std.proofs.lemmas.Fmt.{decimal-digits_value, digits_decimal, digits_value-decimal, decimal_nonempty, first_decimal, decimal_digit}
 use Rattle.std.proofs.lemmas.Bool.Decides.{nat_tests, Decides-by_and}
 use borrow.Author.Tests.{tests}
-use Rattle.scenario_text.specs.Fields.{is_digit, is_name_byte, is_name, digits_from, number_of, caller_of}
+use Rattle.crash_base.specs.Names.{is_name, is_name_byte}
+use Rattle.scenario_text.specs.Fields.{is_digit, digits_from, number_of, caller_of}
 use Rattle.scenario_text.specs.Spelling.{IsNumber, IsCaller, IsName, IsNameByte, caller_word}
 
 abbrev pub all_digits : List ℕ → Bool

@@ -1,7 +1,7 @@
 -- The words of a line, and what one word says.
 use Rattle.std.specs.Prelude.{ℕ, ◌+◌, ◌*◌, ◌-◌, ◌^◌, ◌==◌, ◌&&◌, ◌||◌, Bool, nat_lt, nat_le, if◌then◌else◌, List, [], ◌∷◌, length, slice_index, Option, Some, None, option_and_then, ◌++◌, codes}
 use Rattle.std.specs.Str.{bytes_eq}
-use Rattle.std.specs.List.{slice_split, list_all}
+use Rattle.std.specs.List.{slice_split}
 
 -- the words of a line, between single spaces
 abbrev pub words_of : List ℕ → List (List ℕ)
@@ -10,14 +10,6 @@ words_of text = slice_split (λ b. b == 32) text
 -- a decimal digit
 abbrev pub is_digit : ℕ → Bool
 is_digit b = nat_le 48 b && nat_le b 57
-
--- a digit, a letter or _
-abbrev pub is_name_byte : ℕ → Bool
-is_name_byte b = is_digit b || ((nat_le 65 b && nat_le b 90) || ((nat_le 97 b && nat_le b 122) || b == 95))
-
--- a name has 1 to 32 such bytes
-abbrev pub is_name : List ℕ → Bool
-is_name word = (nat_le 1 (length word) && nat_le (length word) 32) && list_all is_name_byte word
 
 -- the number below 2 ^ 64 that digits go on to, after those of a first number
 abbrev pub digits_from : ℕ → List ℕ → Option ℕ

@@ -4,7 +4,8 @@ use Rattle.std.specs.Str.{bytes_eq}
 use Rattle.std.specs.List.{list_all}
 use Rattle.scenario_text.specs.declared.line.Line.{Line}
 use Rattle.scenario_text.specs.declared.line.Line.TheVariants.{Pass, Component, Owns, Begin, Enter, Put, Commit, Table}
-use Rattle.scenario_text.specs.Fields.{words_of, is_name, number_of, caller_of, hex_of}
+use Rattle.crash_base.specs.Names.{is_name}
+use Rattle.scenario_text.specs.Fields.{words_of, number_of, caller_of, hex_of}
 
 -- whether a line is an event line: neither passed over nor part of the head
 abbrev pub is_event : Line → Bool

@@ -1,9 +1,8 @@
 //! What one word of a line says.
 
 ghost use Rattle.std.specs.Prelude.{◌≡◌, ◌<◌, ◌≤◌, ◌*◌, length, IfOk, IfSome, Option};
-ghost use Rattle.std.specs.List.{list_all};
 ghost use Rattle.std.specs.Option.{option_map};
-ghost use Rattle.scenario_text.specs.Fields.{number_of, caller_of, digit_of, pair_of, pairs_of, hex_of, is_digit, is_name, is_name_byte};
+ghost use Rattle.scenario_text.specs.Fields.{number_of, caller_of, digit_of, pair_of, pairs_of, hex_of, is_digit};
 
 use crash_base::OutOfMemory;
 use std::alloc::Global;
@@ -12,25 +11,6 @@ fn is_digit(b: u8) -> bool
     ensures { result ≡ is_digit b }
 {
     48 <= b && b <= 57
-}
-
-fn is_name_byte(b: u8) -> bool
-    ensures { result ≡ is_name_byte b }
-{
-    is_digit(b) || (65 <= b && b <= 90) || (97 <= b && b <= 122) || b == 95
-}
-
-fn all_name_bytes(word: &[u8]) -> bool
-    ensures { result ≡ list_all is_name_byte word.now }
-{
-    word.iter().all(|b| is_name_byte(*b))
-}
-
-/// Whether a word is a component's name.
-pub fn is_name(word: &[u8]) -> bool
-    ensures { result ≡ is_name word.now }
-{
-    1 <= word.len() && word.len() <= 32 && all_name_bytes(word)
 }
 
 /// A number in decimal digits without leading zeros.

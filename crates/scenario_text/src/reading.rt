@@ -7,14 +7,14 @@ ghost use Rattle.scenario_text.specs.Lines.{line_of, line_of_words, passes, is_c
 
 use crate::fields;
 use crate::line::{HexBytes, Line};
-use crash_base::{ComponentName, OutOfMemory};
+use crash_base::{ComponentName, OutOfMemory, is_name};
 use std::alloc::{AllocError, Global};
 
 fn component(alloc: Global, words: &[&[u8]]) -> Result<Option<Line>, OutOfMemory>
     ensures { IfOk result (λ line. line ≡ component_line (map (λ w. w.now) words.now)) }
 {
     match words {
-        [name] if fields::is_name(name) => {
+        [name] if is_name(name) => {
             Ok(Some(Line::Component(ComponentName::copied(alloc, name)?)))
         }
         _ => Ok(None),
@@ -26,7 +26,7 @@ fn owns(alloc: Global, words: &[&[u8]]) -> Result<Option<Line>, OutOfMemory>
 {
     match words {
         [name, table] => match fields::number(table) {
-            Some(table) if fields::is_name(name) => {
+            Some(table) if is_name(name) => {
                 Ok(Some(Line::Owns(ComponentName::copied(alloc, name)?, table)))
             }
             _ => Ok(None),
@@ -49,7 +49,7 @@ fn enter(alloc: Global, words: &[&[u8]]) -> Result<Option<Line>, OutOfMemory>
 {
     match words {
         [caller, name] => match fields::caller(caller) {
-            Some(caller) if fields::is_name(name) => {
+            Some(caller) if is_name(name) => {
                 Ok(Some(Line::Enter(caller, ComponentName::copied(alloc, name)?)))
             }
             _ => Ok(None),
