@@ -3,3 +3,8 @@ pub mod Growing
 pub mod Adding
 pub mod Replacing
 pub mod Fitting
+pub mod Places
+pub mod Undone
+pub mod OneDown
+pub mod Rebooting
+pub mod Ending

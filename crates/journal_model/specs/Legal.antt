@@ -1,10 +1,13 @@
 -- Which journals are legal.
-use Rattle.std.specs.Prelude.{◌≡◌, ℕ, List, take, Some, All, slice_get}
+use Rattle.std.specs.Prelude.{◌≡◌, ℕ, ◌<◌, List, take, true, Some, None, All, slice_get}
+use Rattle.crash_base.specs.declared.numbers.Scope.{Scope}
 use Rattle.crash_base.specs.declared.rows.RowWrite.{RowWrite}
+use Rattle.crash_base.specs.Scopes.{holds}
 use Rattle.journal_model.specs.declared.entry.CommitEntry.{CommitEntry}
 use Rattle.journal_model.specs.declared.entry.Entry.{Entry}
 use Rattle.journal_model.specs.declared.entry.Entry.TheVariants.{Commit, Down, Up}
 use Rattle.journal_model.specs.Fits.{IsWrite, AreApart}
+use Rattle.journal_model.specs.Reboots.{IsUndone, down_of}
 
 -- A commit is whole: its rows may be written, and no two of them are one row.
 pub record IsWhole (e : CommitEntry) : Type 0 where
@@ -15,11 +18,23 @@ pub record IsWhole (e : CommitEntry) : Type 0 where
 pub record MayCommit (base : List RowWrite) (es : List Entry) (e : CommitEntry) : Type 0 where
   pub whole : IsWhole e
 
+-- a reboot may begin after these entries: its scope holds a group, and every group that it holds is up
+pub record MayBegin (es : List Entry) (s : Scope) : Type 0 where
+  pub group : ℕ
+  pub within : group < 64
+  pub holding : holds s group ≡ true
+  pub up : (g : ℕ) → holds s g ≡ true → down_of es g ≡ None
+
+-- a reboot may end after these entries: it began, and has not ended
+pub record MayEnd (es : List Entry) (s : Scope) : Type 0 where
+  pub place : ℕ
+  pub undone : IsUndone es place s
+
 -- an entry may come after these entries over this base
 abbrev pub MayCome : List RowWrite → List Entry → Entry → Type 0
 MayCome base es (Commit e) = MayCommit base es e
-MayCome base es (Down s) = Unit {0}
-MayCome base es (Up s) = Unit {0}
+MayCome base es (Down s) = MayBegin es s
+MayCome base es (Up s) = MayEnd es s
 
 -- A journal is legal where each entry might come where it stands.
 pub record IsLegal (base : List RowWrite) (es : List Entry) : Type 0 where

@@ -1,12 +1,14 @@
-//! What the entries of a journal are, and what they mean: the rows that they leave, how often a group
-//! was rebooted, what a call holds until it commits, and which journals are legal.
+//! What the entries of a journal are, and what they mean: the rows that they leave, how a group stands
+//! after its reboots, what a call holds until it commits, and which journals are legal.
 //!
 //! The container, its journal and its tickets share these types and definitions. The code here is small;
-//! the laws in `laws` say what the definitions promise to each other.
+//! the laws in `laws` and `reboot_laws` say what the definitions promise to each other.
 #![tactic(auto)]
 
 mod entry;
 mod laws;
+mod reboot_laws;
+mod status;
 
 pub use entry::{
     ActionEntry, CommitEntry, DoneText, Entry, Mark, MarkList, ReadMark, SessionChange, Touch,
@@ -16,3 +18,5 @@ pub use laws::{
     commit_is_in_the_rows, fits_until_commit, generations_add_up, grows_legally, last_write_stands,
     write_takes_its_place,
 };
+pub use reboot_laws::{downs_are_told, statuses_are_within, statuses_follow_entries};
+pub use status::GroupStatus;

@@ -1,0 +1,5 @@
+pub mod Finding
+pub mod Scoping
+pub mod Following
+pub mod Stepping
+pub mod Telling
