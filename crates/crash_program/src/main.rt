@@ -16,7 +16,8 @@ use words::Request;
 /// What `--help` writes: the usage line, and a line for each word that there is.
 const HELP: &str =
     "usage: crash drive | groups | workload NUMBER COUNT | serve PORT FILE KEYFILE WORKERS\n\
-drive: reads a scenario from standard input and writes its transcript to standard output\n";
+drive: reads a scenario from standard input and writes its transcript to standard output\n\
+groups: reads descriptors in TOML from standard input and writes each component with its recovery group\n";
 
 /// What `--version` writes.
 const VERSION: &str = "crash 0.1.0\n";

@@ -5,7 +5,7 @@ use Rattle.deployment.specs.declared.parts.Parts.{Parts}
 use Rattle.deployment.specs.declared.parts.TablePart.{TablePart}
 use Rattle.deployment.specs.Parts.{named, owner}
 use Rattle.deployment.specs.Refusals.{deploy_refusal}
-use Rattle.deployment.specs.Sound.{AreApart}
+use Rattle.deployment.specs.Sound.{HaveOwnNames}
 use Rattle.deployment.proofs.Growing.{component_added, table_added}
 use Rattle.deployment.proofs.Soundness.{sound_from_none, none_from_sound}
 use Rattle.drive_engine.specs.Heads.{plain}
@@ -14,7 +14,7 @@ none_here : {A : Type 0} (o : Option A) → is_some o ≡ false → o ≡ None
 none_here None h = refl
 none_here (Some a) h = cc
 
-apart_alone : (name : List ℕ) → AreApart (plain name).methods
+apart_alone : (name : List ℕ) → HaveOwnNames (plain name).methods
 apart_alone name = λ i j d lt within same. omega arith
 
 pub component_accepted : (parts : Parts) (name : List ℕ) (components : List ComponentPart) → deploy_refusal parts ≡ None → length parts.components < 64 → is_some (named parts.components name) ≡ false → components ≡ parts.components ++ plain name ∷ [] → deploy_refusal (record parts { components = components }) ≡ None

@@ -7,5 +7,8 @@ pub mod Callers
 pub mod Events
 pub mod Transcript
 pub mod Stages
+pub mod Inputs
 pub mod Drive
+pub mod Groups
+pub mod Words
 pub mod Command

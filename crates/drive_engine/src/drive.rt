@@ -1,12 +1,15 @@
 //! A scenario, from its source to its sink.
 
-ghost use Rattle.std.specs.Prelude.{◌≡◌, ◌<◌, ◌≤◌, ◌^◌, length, IfOk, OnOk};
+ghost use Rattle.std.specs.Prelude.{◌≡◌, ◌<◌, ◌^◌, true, length, IfOk, OnOk};
 ghost use Rattle.outside.specs.Told.{Rose};
 ghost use Rattle.drive_engine.specs.Answers.{answer_of};
-ghost use Rattle.drive_engine.specs.Drive.{Plays, Drives};
+ghost use Rattle.drive_engine.specs.Command.{Runs, is_silent};
+ghost use Rattle.drive_engine.specs.Drive.{Plays};
 ghost use Rattle.drive_engine.specs.Transcript.{line_answer, ending_of, transcript_of, IsLegalState};
 
+use crate::ending::Ending;
 use crate::engine::Engine;
+use crate::words::Command;
 use crash_base::OutOfMemory;
 use outside::{InputRefusal, Sink, Source, read_to_end, write_all};
 use scenario_text::{cut_line, read_line};
@@ -14,19 +17,6 @@ use std::alloc::Global;
 
 /// The most bytes that a scenario may have.
 const LIMIT: usize = 65_536;
-
-/// How a scenario ended.
-#[derive(Clone, Copy, Debug, PartialEq, Eq)]
-pub enum Ending {
-    /// All of its lines were done.
-    Done,
-    /// The line of this number was refused.
-    Refused(u64),
-    ReadFailed,
-    WriteFailed,
-    OutOfMemory,
-    TooLong,
-}
 
 /// Does one line of text.
 #[tactic(auto, unfolding(crate::specs::Transcript::line_answer))]
@@ -70,10 +60,10 @@ fn play<T: Sink>(alloc: Global, text: &[u8], out: &mut T) -> Ending
 
 /// Reads a scenario to its end, does its lines, and writes what they write.
 pub fn drive<S: Source, T: Sink>(alloc: Global, input: &mut S, out: &mut T) -> Ending
-    ensures drives { Drives result (S.left input.old) (S.left input.new) (T.written out.old) (T.written out.new) }
-    ensures read_failed { result ≡ Ending.ReadFailed → Rose (S.faults input.old) (S.faults input.new) × (out.new ≡ out.old) }
+    ensures runs { Runs Command.Drive result (S.left input.old) (S.left input.new) (T.written out.old) (T.written out.new) }
+    ensures read_failed { result ≡ Ending.ReadFailed → Rose (S.faults input.old) (S.faults input.new) }
     ensures write_failed { result ≡ Ending.WriteFailed → Rose (T.faults out.old) (T.faults out.new) }
-    ensures too_long { result ≡ Ending.TooLong → out.new ≡ out.old }
+    ensures silent { is_silent result ≡ true → out.new ≡ out.old }
 {
     match read_to_end(alloc, input, LIMIT) {
         Ok(text) => play(alloc, text.as_slice(), out),

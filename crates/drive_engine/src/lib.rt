@@ -12,11 +12,17 @@ mod call_lines;
 mod callers;
 mod command;
 mod drive;
+mod ending;
 mod engine;
+mod groups;
 mod head;
+mod laws;
 mod running;
 #[cfg(test)]
 mod tests;
 mod texts;
+mod words;
 
 pub use command::run_command;
+pub use laws::texts_call_for_one_status;
+pub use words::Command;

@@ -37,11 +37,11 @@ fn one_call(alloc: Global, call: u64) -> Result<CallList, Fail> {
     Ok(calls)
 }
 
-/// A text whose lines are joined by slashes.
-fn lines(alloc: Global, text: &str) -> Result<String, Fail> {
-    let mut lines = String::new(alloc);
-    for c in text.chars() {
-        lines.push(if c == '/' { '\n' } else { c })?;
+/// The bytes of a text whose lines are joined by slashes.
+fn lines(alloc: Global, text: &str) -> Result<Vec<u8>, Fail> {
+    let mut lines = Vec::new(alloc);
+    for byte in text.as_bytes() {
+        lines.push(if *byte == b'/' { b'\n' } else { *byte })?;
     }
     Ok(lines)
 }
@@ -83,47 +83,66 @@ const FIRST: &str = "component A/owns A 40/begin c1/enter c1 A/put c1 40 7 6162/
 
 const FIRST_OUT: &[u8] = b"c1 committed 0\n40 7 6162\n";
 
-/// One case, whose parts stand between bars: the size of the pieces that are read and the numbers of the read,
-/// the write and the telling that fail, 0 for none; the status; what is told; what is written; and the
-/// scenario. A slash ends a line.
-fn expect_case(rt: &impl Abort, alloc: Global, case: &str) -> Result<(), Fail> {
-    let parts: Vec<&str> = case.split('|').collect(alloc)?;
-    assert_eq!(rt; parts.len(), 5, "{case}");
-    let mut numbers = Vec::new(alloc);
-    for number in parts[0].split(' ') {
-        let number: u64 = number.parse()?;
-        numbers.push(number)?;
-    }
-    assert_eq!(rt; numbers.len(), 4, "{case}");
-    let outside = Outside {
-        piece: numbers[0],
-        failing_read: numbers[1],
-        failing_write: numbers[2],
-        failing_error: numbers[3],
-    };
-    let status: u8 = parts[1].parse()?;
-    let ran = run(
-        alloc,
-        &["drive"],
-        lines(alloc, parts[4])?.as_bytes(),
-        outside,
-    )?;
-    assert_eq!(rt; ran.status, status, "{case}");
+/// A small descriptor text.
+const SMALL: &str = "[[component]]/name = \"A\"/hard = [\"B\"]/[[component]]/name = \"B\"/";
+
+/// A number that ends at a space, and what stands behind it.
+fn number(text: &str) -> Result<(u64, &str), Fail> {
+    let (digits, rest) = text.split_once(' ').ok_or("no space")?;
+    Ok((digits.parse()?, rest))
+}
+
+/// The size of the pieces that are read, and the numbers of the read, the write and the telling that fail.
+fn outside_of(text: &str) -> Result<Outside, Fail> {
+    let (piece, rest) = number(text)?;
+    let (failing_read, rest) = number(rest)?;
+    let (failing_write, rest) = number(rest)?;
+    Ok(Outside {
+        piece,
+        failing_read,
+        failing_write,
+        failing_error: rest.parse()?,
+    })
+}
+
+/// What stands before the next bar, and behind it.
+fn part(case: &str) -> Result<(&str, &str), Fail> {
+    let parts = case.split_once('|').ok_or("no bar")?;
+    Ok(parts)
+}
+
+/// Asserts the status, what is told and what is written, which stand between bars.
+fn expect_ran(rt: &impl Abort, alloc: Global, ran: &Ran, want: &str) -> Result<(), Fail> {
+    let (status, rest) = part(want)?;
+    let (told, written) = part(rest)?;
+    let status: u8 = status.parse()?;
+    assert_eq!(rt; ran.status, status, "{want}");
     assert_eq!(rt;
         ran.errors.as_slice(),
-        lines(alloc, parts[2])?.as_bytes(),
-        "{case}"
+        lines(alloc, told)?.as_slice(),
+        "{want}"
     );
     assert_eq!(rt;
         ran.out.as_slice(),
-        lines(alloc, parts[3])?.as_bytes(),
-        "{case}"
+        lines(alloc, written)?.as_slice(),
+        "{want}"
     );
     Ok(())
 }
 
+/// One case of a command, whose parts stand between bars: the size of the pieces that are read and the numbers
+/// of the read, the write and the telling that fail, 0 for none; the status; what is told; what is written; and
+/// the input. A slash ends a line.
+fn expect_case(rt: &impl Abort, alloc: Global, word: &str, case: &str) -> Result<(), Fail> {
+    let (outside, rest) = part(case)?;
+    let (want, input) = rest.rsplit_once('|').ok_or("no bar")?;
+    let ran = run(alloc, &[word], &lines(alloc, input)?, outside_of(outside)?)?;
+    expect_ran(rt, alloc, &ran, want)
+}
+
 /// Scenarios that come to their end.
 const SCENARIOS: &str = "0 0 0 0|0|||
+0 0 0 0|0||c1 writes/c1 committed 0/40 1 61/40 2 61/40 3 61/40 4 61/40 5 61/40 6 61/40 7 61/40 8 61/40 9 61/40 10 61/40 11 61/40 12 61/40 13 61/40 14 61/40 15 61/40 16 61/|component A/owns A 40/begin c1/enter c1 A/put c1 40 1 61/put c1 40 2 61/put c1 40 3 61/put c1 40 4 61/put c1 40 5 61/put c1 40 6 61/put c1 40 7 61/put c1 40 8 61/put c1 40 9 61/put c1 40 10 61/put c1 40 11 61/put c1 40 12 61/put c1 40 13 61/put c1 40 14 61/put c1 40 15 61/put c1 40 16 61/put c1 40 17 61/commit c1/table/
 0 0 0 0|0||c1 committed 0/40 7 6162/|component A/owns A 40/begin c1/enter c1 A/put c1 40 7 6162/commit c1/table/
 0 0 0 0|0|||/# a comment///
 0 0 0 0|0|||table
@@ -206,49 +225,71 @@ const FAULTS: &str =
 0 0 0 1|3|||begin c0
 0 0 0 1|0||c1 committed 0/40 7 6162/|component A/owns A 40/begin c1/enter c1 A/put c1 40 7 6162/commit c1/table/";
 
+/// Descriptor texts: deployments, with inline tables, nested ones that are passed over, and the auction's eight
+/// components; texts that are refused; and each call of the outside failing in turn, of five reads, one write and
+/// one telling.
+const DESCRIPTORS: &str =
+    "0 0 0 0|0||A 0/B 0/C 2/|[[component]]/name = \"A\"/hard = [\"B\"]/tables = [40]/[[component]]/name = \"B\"/[[component]]/name = \"C\"/tables = [41]/
+0 0 0 0|10|descriptors refused/||[[component]]/name = \"A\"/hard = [\"B\"]/tables = [40]/[[component]]/name = \"B\"/[[component]]/name = \"C\"/tables = [41]/[[component]]/name = \"A\"/
+0 0 0 0|10|descriptors refused/||= 1
+0 0 0 0|0|||
+0 0 0 0|10|descriptors refused/||component = 5
+0 0 0 0|10|descriptors refused/||[[component]]/name = \"app\"/
+0 0 0 0|10|descriptors refused/||[[component]]/name = \"A\"/soft = [\"B\"]/
+0 0 0 0|10|descriptors refused/||[[component]]/name = \"A\"/tables = [0]/
+0 0 0 0|0||A 0/B 1/C 0/|component = [{ name = \"A\", methods = [{ name = \"app\", idempotent = true }] }, { name = \"B\", soft = [\"A\"], hard = [\"B\"] }, { name = \"C\", hard = [\"A\"] }]
+0 0 0 0|0||A 0/|[[component]]/name = \"A\"/[component.note]/deep = { x = [{ y = 1 }] }/
+0 0 0 0|0||Web 0/Users 1/Numbers 2/Items 3/Categories 4/Bids 3/Purchases 3/Feedback 1/|component = [{ name = \"Web\", soft = [\"Users\", \"Numbers\", \"Items\", \"Categories\", \"Bids\", \"Purchases\", \"Feedback\"] }, { name = \"Users\" }, { name = \"Numbers\" }, { name = \"Items\" }, { name = \"Categories\" }, { name = \"Bids\", hard = [\"Items\"] }, { name = \"Purchases\", hard = [\"Items\"] }, { name = \"Feedback\", hard = [\"Users\"], soft = [\"Items\"] }]
+8 1 0 0|4|read failed/||[[component]]/name = \"A\"/
+8 2 0 0|4|read failed/||[[component]]/name = \"A\"/
+8 3 0 0|4|read failed/||[[component]]/name = \"A\"/
+8 4 0 0|4|read failed/||[[component]]/name = \"A\"/
+8 5 0 0|4|read failed/||[[component]]/name = \"A\"/
+8 6 0 0|0||A 0/|[[component]]/name = \"A\"/
+0 0 1 0|5|write failed/||[[component]]/name = \"A\"/
+0 0 2 0|0||A 0/|[[component]]/name = \"A\"/
+0 0 1 1|5|||[[component]]/name = \"A\"/
+0 0 0 1|10|||= 1";
+
 #[test]
 fn cases(rt: HostRuntime) -> Result<(), Fail> {
-    for table in [SCENARIOS, REFUSED, FAULTS] {
+    for (word, table) in [
+        ("drive", SCENARIOS),
+        ("drive", REFUSED),
+        ("drive", FAULTS),
+        ("groups", DESCRIPTORS),
+    ] {
         for case in table.split('\n') {
-            expect_case(&rt, rt.alloc(), case)?;
+            expect_case(&rt, rt.alloc(), word, case)?;
         }
     }
     Ok(())
 }
 
-/// A scenario of one call that puts rows of one byte under these keys, and then commits.
-fn putting(alloc: Global, keys: &[u64]) -> Result<String, Fail> {
-    let mut text = lines(alloc, "component A/owns A 40/begin c1/enter c1 A/")?;
-    for key in keys {
-        text.push_str(format!(in alloc; "put c1 40 {key} 61\n")?.as_str())?;
+/// Adds a text so many times.
+fn add_times(bytes: &mut Vec<u8>, text: &[u8], count: usize) -> Result<(), Fail> {
+    for _ in 0..count {
+        bytes.extend_from_slice(text)?;
     }
-    text.push_str("commit c1\ntable\n")?;
-    Ok(text)
+    Ok(())
 }
 
-/// A call writes 16 rows and makes 128 steps, and goes on after a refusal.
+/// A call makes 128 steps, of which the first is its enter, and goes on after a refusal.
 #[test]
-fn calls_have_limits(rt: HostRuntime) -> Result<(), Fail> {
-    let alloc = rt.alloc();
-    let mut keys = Vec::new(alloc);
-    let mut written = String::from_str(alloc, "c1 writes\nc1 committed 0\n")?;
-    for key in 1..18u64 {
-        keys.push(key)?;
-        if key < 17 {
-            written.push_str(format!(in alloc; "40 {key} 61\n")?.as_str())?;
-        }
-    }
-    let ran = run(alloc, &["drive"], putting(alloc, &keys)?.as_bytes(), SURE)?;
-    assert_eq!(rt; ran.status, 0);
-    assert_eq!(rt; ran.out.as_slice(), written.as_bytes());
-
-    keys.clear();
-    for _ in 0..127u64 {
-        keys.push(7)?;
-    }
-    keys.push(8)?;
-    keys.push(7)?;
-    let ran = run(alloc, &["drive"], putting(alloc, &keys)?.as_bytes(), SURE)?;
+fn calls_have_steps(rt: HostRuntime) -> Result<(), Fail> {
+    let mut text = Vec::new(rt.alloc());
+    add_times(
+        &mut text,
+        b"component A\nowns A 40\nbegin c1\nenter c1 A\n",
+        1,
+    )?;
+    add_times(&mut text, b"put c1 40 7 61\n", 127)?;
+    add_times(
+        &mut text,
+        b"put c1 40 8 61\nput c1 40 7 61\ncommit c1\ntable\n",
+        1,
+    )?;
+    let ran = run(rt.alloc(), &["drive"], &text, SURE)?;
     assert_eq!(rt; ran.status, 0);
     assert_eq!(rt;
         ran.out.as_slice(),
@@ -266,27 +307,37 @@ fn repeated(alloc: Global, byte: u8, count: usize) -> Result<Vec<u8>, Fail> {
     Ok(bytes)
 }
 
-/// A 65th component, a line of 8,193 bytes, and a text of 65,537.
+/// A 65th component, whose names are two letters.
 #[test]
-fn too_much_is_refused(rt: HostRuntime) -> Result<(), Fail> {
-    let alloc = rt.alloc();
-    let mut text = String::new(alloc);
-    for n in 1..66u64 {
-        text.push_str(format!(in alloc; "component A{n}\n")?.as_str())?;
+fn too_many_components_are_refused(rt: HostRuntime) -> Result<(), Fail> {
+    let mut text = Vec::new(rt.alloc());
+    for n in 0..65u8 {
+        add_times(&mut text, b"component ", 1)?;
+        add_times(&mut text, &[b'A' + n / 8, b'a' + n % 8, b'\n'], 1)?;
     }
-    let ran = run(alloc, &["drive"], text.as_bytes(), SURE)?;
+    let ran = run(rt.alloc(), &["drive"], &text, SURE)?;
+    assert_eq!(rt; ran.status, 3);
     assert_eq!(rt; ran.errors.as_slice(), b"line 65\n".as_slice());
+    Ok(())
+}
 
-    for (byte, count, status) in [
-        (b'#', 8192, 0),
-        (b'#', 8193, 3),
-        (b'\n', 65_536, 0),
-        (b'\n', 65_537, 12),
+/// A line of 8,193 bytes, a scenario of 65,537, a descriptor text of 1,048,577, and one that is not UTF-8.
+#[test]
+fn too_many_bytes_are_refused(rt: HostRuntime) -> Result<(), Fail> {
+    for (word, byte, count, status, told) in [
+        ("drive", b'#', 8192, 0, ""),
+        ("drive", b'#', 8193, 3, "line 1\n"),
+        ("drive", b'\n', 65_536, 0, ""),
+        ("drive", b'\n', 65_537, 12, "input too long\n"),
+        ("groups", b'\n', 1_048_576, 0, ""),
+        ("groups", b'\n', 1_048_577, 8, "line 1 too long\n"),
+        ("groups", 255, 1, 10, "descriptors refused\n"),
     ] {
-        let bytes = repeated(alloc, byte, count)?;
-        let ran = run(alloc, &["drive"], &bytes, SURE)?;
+        let bytes = repeated(rt.alloc(), byte, count)?;
+        let ran = run(rt.alloc(), &[word], &bytes, SURE)?;
         assert_eq!(rt; ran.status, status);
         assert_eq!(rt; ran.out.as_slice(), b"".as_slice());
+        assert_eq!(rt; ran.errors.as_slice(), told.as_bytes());
     }
     Ok(())
 }
@@ -294,16 +345,16 @@ fn too_much_is_refused(rt: HostRuntime) -> Result<(), Fail> {
 /// The size of the pieces that are read changes nothing.
 #[test]
 fn pieces_change_nothing(rt: HostRuntime) -> Result<(), Fail> {
-    let text = lines(rt.alloc(), FIRST)?;
-    for piece in 1..text.len() as u64 + 1 {
-        let ran = run(
-            rt.alloc(),
-            &["drive"],
-            text.as_bytes(),
-            Outside { piece, ..SURE },
-        )?;
-        assert_eq!(rt; ran.status, 0);
-        assert_eq!(rt; ran.out.as_slice(), FIRST_OUT);
+    for (word, text, out) in [
+        ("drive", FIRST, FIRST_OUT),
+        ("groups", SMALL, b"A 0\nB 0\n".as_slice()),
+    ] {
+        let text = lines(rt.alloc(), text)?;
+        for piece in 1..text.len() as u64 + 1 {
+            let ran = run(rt.alloc(), &[word], &text, Outside { piece, ..SURE })?;
+            assert_eq!(rt; ran.status, 0);
+            assert_eq!(rt; ran.out.as_slice(), out);
+        }
     }
     Ok(())
 }
@@ -311,13 +362,14 @@ fn pieces_change_nothing(rt: HostRuntime) -> Result<(), Fail> {
 /// Words that spell no command.
 #[test]
 fn other_words_are_refused(rt: HostRuntime) -> Result<(), Fail> {
-    let cases: [&[&str]; 6] = [
+    let cases: [&[&str]; 7] = [
         &[],
         &[""],
         &["drive", "x"],
         &["Drive"],
         &["drive "],
-        &["groups"],
+        &["groups", "shop.toml"],
+        &["group"],
     ];
     for words in cases {
         let ran = run(rt.alloc(), words, b"table\n", SURE)?;
