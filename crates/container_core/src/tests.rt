@@ -133,26 +133,33 @@ fn expect_rows(rt: &impl Abort, rows: &[&RowWrite], expected: &[(u64, u8)]) {
     }
 }
 
+fn first_call(alloc: Global, container: &mut Container) -> Result<Place, Fail>
+    requires { 1 < length container.old.start.deployment.components }
+    ensures { container.new.start ≡ container.old.start }
+{
+    let rows = [(7, b'o'), (2, b't'), (7, b'n'), (5, b'f')];
+    call(alloc, container, 4, &rows)
+}
+
+fn second_call(alloc: Global, container: &mut Container) -> Result<Place, Fail>
+    requires { 1 < length container.old.start.deployment.components }
+{
+    call(alloc, container, 6, &[(2, b'u'), (1, b's')])
+}
+
+fn expect_last_rows(rt: &impl Abort, alloc: Global, container: &Container) -> Result<(), Fail> {
+    let rows = container.rows(alloc)?;
+    let expected = [(1, b's'), (2, b'u'), (5, b'f'), (7, b'n')];
+    expect_rows(rt, rows.as_slice(), &expected);
+    Ok(())
+}
+
 #[test]
 fn commits_calls(rt: HostRuntime) -> Result<(), Fail> {
     let alloc = rt.alloc();
     let mut container = started(alloc)?;
-    let first = call(
-        alloc,
-        &mut container,
-        4,
-        &[(7, b'o'), (2, b't'), (7, b'n'), (5, b'f')],
-    )?;
-    assert_eq!(rt; first, Place(0));
-    let second = call(alloc, &mut container, 6, &[(2, b'u'), (1, b's')])?;
-    assert_eq!(rt; second, Place(1));
-
+    assert_eq!(rt; first_call(alloc, &mut container)?, Place(0));
+    assert_eq!(rt; second_call(alloc, &mut container)?, Place(1));
     expect_two_commits(&rt, container.journal().entries());
-    let rows = container.rows(alloc)?;
-    expect_rows(
-        &rt,
-        rows.as_slice(),
-        &[(1, b's'), (2, b'u'), (5, b'f'), (7, b'n')],
-    );
-    Ok(())
+    expect_last_rows(&rt, alloc, &container)
 }

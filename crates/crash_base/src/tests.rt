@@ -2,41 +2,54 @@ use super::*;
 use std::alloc::Global;
 use std::test::Fail;
 
-fn write(alloc: Global, table: u8, key: u64, text: &[u8]) -> Result<RowWrite, OutOfMemory> {
-    Ok(RowWrite {
-        id: RowId { table, key },
-        bytes: RowBytes::copied(alloc, text)?,
-    })
+/// The size of a field, bytes, and what is taken from their front.
+///
+/// 258 = 0x0102, 16909060 = 0x01020304 = 16777216 + 2 * 65536 + 3 * 256 + 4, and in the last but one the third
+/// byte of eight counts 256^5 = 1099511627776.
+const FIELDS: &str = "2|1 2|Some((258, []))
+2|255 254 7 8|Some((65534, [7, 8]))
+2|1|None
+2||None
+4|1 2 3 4 5|Some((16909060, [5]))
+4|1 2 3|None
+8|0 0 1 0 0 0 0 42|Some((1099511627818, []))
+8|0 0 1 0 0 0 0|None";
+
+fn numbers(alloc: Global, text: &str) -> Result<Vec<u8>, Fail> {
+    let mut bytes = Vec::new(alloc);
+    for word in text.split(' ') {
+        if !word.is_empty() {
+            bytes.push(word.parse()?)?;
+        }
+    }
+    Ok(bytes)
+}
+
+fn taken(alloc: Global, size: &str, bytes: &[u8]) -> Result<String, Fail> {
+    let text = match size {
+        "2" => format!(in alloc; "{:?}", take_u16(bytes))?,
+        "4" => format!(in alloc; "{:?}", take_u32(bytes))?,
+        _ => format!(in alloc; "{:?}", take_u64(bytes))?,
+    };
+    Ok(text)
 }
 
 #[test]
-fn fields(rt: HostRuntime) {
-    // 0x0102 = 1 * 256 + 2
-    assert_eq!(rt; take_u16(&[1, 2]), Some((258, [].as_slice())));
-    assert_eq!(rt;
-        take_u16(&[0xff, 0xfe, 7, 8]),
-        Some((65534, [7, 8].as_slice()))
-    );
-    assert_eq!(rt; take_u16(&[1]), None);
-    assert_eq!(rt; take_u16(&[]), None);
-    // 0x01020304 = 16777216 + 2 * 65536 + 3 * 256 + 4
-    assert_eq!(rt;
-        take_u32(&[1, 2, 3, 4, 5]),
-        Some((16909060, [5].as_slice()))
-    );
-    assert_eq!(rt; take_u32(&[1, 2, 3]), None);
-    // the third byte of eight counts 256^5 = 1099511627776, and 0x2a = 42
-    assert_eq!(rt;
-        take_u64(&[0, 0, 1, 0, 0, 0, 0, 0x2a]),
-        Some((1099511627818, [].as_slice()))
-    );
-    assert_eq!(rt; take_u64(&[0, 0, 1, 0, 0, 0, 0]), None);
-}
-
-#[test]
-fn lists(rt: HostRuntime) -> Result<(), Fail> {
+fn fields(rt: HostRuntime) -> Result<(), Fail> {
     let alloc = rt.alloc();
-    let mut path = PathList::new(alloc);
+    for case in FIELDS.split('\n') {
+        let (size, case) = case.split_once('|').ok_or("no size")?;
+        let (bytes, want) = case.split_once('|').ok_or("no bytes")?;
+        let bytes = numbers(alloc, bytes)?;
+        let found = taken(alloc, size, &bytes)?;
+        assert_eq!(rt; found.as_str(), want, "{case}");
+    }
+    Ok(())
+}
+
+#[test]
+fn a_list_grows(rt: HostRuntime) -> Result<(), Fail> {
+    let mut path = PathList::new(rt.alloc());
     assert!(rt; path.is_empty() && path.len() == 0);
     path.push(ComponentNo(3))?;
     path.push(ComponentNo(1))?;
@@ -45,22 +58,49 @@ fn lists(rt: HostRuntime) -> Result<(), Fail> {
         [ComponentNo(3), ComponentNo(1)].as_slice()
     );
     assert!(rt; !path.is_empty() && path.len() == 2);
-    let mut bytes = PageText::from_vec(vec![in alloc; 104u8, 105]?);
+    Ok(())
+}
+
+#[test]
+fn a_list_is_a_vector(rt: HostRuntime) -> Result<(), Fail> {
+    let mut bytes = PageText::from_vec(Vec::from_slice(rt.alloc(), b"hi")?);
     bytes.push(33)?;
     assert_eq!(rt; bytes.into_vec().as_slice(), b"hi!".as_slice());
-    let row = write(alloc, 40, 7, b"ab")?;
-    let copy = row.copied(alloc)?;
+    Ok(())
+}
+
+fn write(alloc: Global, table: u8, key: u64, text: &[u8]) -> Result<RowWrite, OutOfMemory> {
+    Ok(RowWrite {
+        id: RowId { table, key },
+        bytes: RowBytes::copied(alloc, text)?,
+    })
+}
+
+#[test]
+fn a_row_is_copied(rt: HostRuntime) -> Result<(), Fail> {
+    let row = write(rt.alloc(), 40, 7, b"ab")?;
+    let copy = row.copied(rt.alloc())?;
     assert_eq!(rt; copy.id, RowId { table: 40, key: 7 });
     assert_eq!(rt; copy.bytes.as_slice(), b"ab".as_slice());
-    let session = SessionBytes::from_vec(vec![in alloc; 0u8, 255]?);
+    Ok(())
+}
+
+#[test]
+fn session_bytes(rt: HostRuntime) -> Result<(), Fail> {
+    let session = SessionBytes::from_vec(Vec::from_slice(rt.alloc(), &[0, 255])?);
     assert_eq!(rt; session.as_slice(), [0, 255].as_slice());
+    Ok(())
+}
+
+#[test]
+fn fault_lists(rt: HostRuntime) -> Result<(), Fail> {
     let plan = FaultPlan {
         component: ComponentNo(2),
         after: 5,
         kind: FaultKind::Hang,
         cured_by: Level::App,
     };
-    let faults = FaultList::from_vec(vec![in alloc; plan]?);
+    let faults = FaultList::from_vec(Vec::from_slice(rt.alloc(), &[plan])?);
     assert_eq!(rt; faults.as_slice(), [plan].as_slice());
     Ok(())
 }

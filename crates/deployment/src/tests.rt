@@ -51,27 +51,42 @@ fn add_table(parts: &mut Parts, table: &str, owner: &str) -> Result<(), Fail> {
     Ok(())
 }
 
+fn add_soft(parts: &mut Parts, word: &str) -> Result<(), Fail> {
+    let (from, to) = word.split_once('~').ok_or("no word")?;
+    add_reference(parts, from, to, false)
+}
+
+fn add_hard_or_soft(parts: &mut Parts, word: &str) -> Result<(), Fail> {
+    match word.split_once('-') {
+        Some((from, to)) => add_reference(parts, from, to, true),
+        None => add_soft(parts, word),
+    }
+}
+
+/// Adds what two numbers with a sign between them say.
+fn add_link(parts: &mut Parts, word: &str) -> Result<(), Fail> {
+    match word.split_once('=') {
+        Some((table, owner)) => add_table(parts, table, owner),
+        None => add_hard_or_soft(parts, word),
+    }
+}
+
 fn add_word(alloc: Global, parts: &mut Parts, word: &str) -> Result<(), Fail> {
     if let Some(count) = word.strip_prefix("*") {
         return add_components(alloc, parts, count.parse()?);
     }
-    if let Some(text) = word.strip_prefix("+") {
-        return add_component(alloc, parts, text);
+    match word.strip_prefix("+") {
+        Some(text) => add_component(alloc, parts, text),
+        None => add_link(parts, word),
     }
-    if let Some((from, to)) = word.split_once('-') {
-        return add_reference(parts, from, to, true);
-    }
-    if let Some((from, to)) = word.split_once('~') {
-        return add_reference(parts, from, to, false);
-    }
-    let (table, owner) = word.split_once('=').ok_or("no word")?;
-    add_table(parts, table, owner)
 }
 
 fn parts_of(alloc: Global, text: &str) -> Result<Parts, Fail> {
     let mut parts = Parts::new(alloc);
-    for word in text.split_whitespace() {
-        add_word(alloc, &mut parts, word)?;
+    for word in text.split(' ') {
+        if !word.is_empty() {
+            add_word(alloc, &mut parts, word)?;
+        }
     }
     Ok(parts)
 }
@@ -130,15 +145,22 @@ fn groups(rt: HostRuntime) -> Result<(), Fail> {
     Ok(())
 }
 
+fn add_hard(parts: &mut Parts, from: u16, to: u16) -> Result<(), Fail> {
+    parts.references.push(Reference {
+        from: ComponentNo(from),
+        to: ComponentNo(to),
+        hard: true,
+    })?;
+    Ok(())
+}
+
 /// 64 components, each of which needs the one so many before it.
 fn stepped(alloc: Global, step: u16) -> Result<Parts, Fail> {
     let mut parts = parts_of(alloc, "*64")?;
-    for c in step..64 {
-        parts.references.push(Reference {
-            from: ComponentNo(c),
-            to: ComponentNo(c - step),
-            hard: true,
-        })?;
+    for from in 0..64u16 {
+        if let Some(to) = from.checked_sub(step) {
+            add_hard(&mut parts, from, to)?;
+        }
     }
     Ok(parts)
 }
@@ -147,11 +169,7 @@ fn stepped(alloc: Global, step: u16) -> Result<Parts, Fail> {
 fn star(alloc: Global, hub: u16) -> Result<Parts, Fail> {
     let mut parts = parts_of(alloc, "*64")?;
     for c in 0..64 {
-        parts.references.push(Reference {
-            from: ComponentNo(hub),
-            to: ComponentNo(c),
-            hard: true,
-        })?;
+        add_hard(&mut parts, hub, c)?;
     }
     Ok(parts)
 }
@@ -195,79 +213,123 @@ const REFUSALS: &str = "*65 0-70 0=0|TooMany(65)
 *2 7=0 8=1 9=0 8=0 7=1|TableTwice(8)
 *2 255=0 1=1 255=1|TableTwice(255)";
 
+/// What a deployment is refused for.
+fn refusal_of(alloc: Global, text: &str) -> Result<String, Fail> {
+    match Deployment::check(parts_of(alloc, text)?) {
+        Ok(_) => Ok(String::from_str(alloc, "accepted")?),
+        Err(refusal) => Ok(format!(in alloc; "{refusal:?}")?),
+    }
+}
+
 #[test]
 fn refusals(rt: HostRuntime) -> Result<(), Fail> {
-    let alloc = rt.alloc();
     for case in REFUSALS.split('\n') {
         let (text, refusal) = case.split_once('|').ok_or("no bar")?;
-        match Deployment::check(parts_of(alloc, text)?) {
-            Ok(_) => assert!(rt; false, "{text}"),
-            Err(found) => {
-                let found = format!(in alloc; "{found:?}")?;
-                assert_eq!(rt; found.as_str(), refusal, "{text}");
-            }
-        }
+        let found = refusal_of(rt.alloc(), text)?;
+        assert_eq!(rt; found.as_str(), refusal, "{text}");
     }
     Ok(())
 }
 
 const SHOP: &str = "+shop.bY +stock +mail.X 0-1 1~0 0~2 40=1 7=0 255=0";
 
+fn shop(alloc: Global) -> Result<Deployment, Fail> {
+    Ok(Deployment::check(parts_of(alloc, SHOP)?).map_err(|_| "refused")?)
+}
+
+/// Questions to the shop, each before a bar, and the answers: the component of a name, the owner of a table,
+/// whether one component may call another, whether a component's method may be called again, and whether the
+/// scope of the application or of group 2 holds a group.
+const ANSWERS: &str = "named stock|Some(ComponentNo(1))
+named sto|None
+owner 40|Some(ComponentNo(1))
+owner 7|Some(ComponentNo(0))
+owner 255|Some(ComponentNo(0))
+owner 0|None
+owner 41|None
+call 0 1|true
+call 1 0|true
+call 0 2|true
+call 2 0|false
+call 0 0|false
+again 0 0|false
+again 0 1|true
+again 0 2|false
+again 1 0|false
+again 2 0|true
+again 3 0|false
+app 63|true
+app 64|false
+group 2|true
+group 0|false";
+
+fn may_call(deployment: &Deployment, pair: &str) -> Result<bool, Fail> {
+    let (from, to) = pair.split_once(' ').ok_or("no pair")?;
+    Ok(deployment.may_call(ComponentNo(from.parse()?), ComponentNo(to.parse()?)))
+}
+
+fn may_repeat(deployment: &Deployment, pair: &str) -> Result<bool, Fail> {
+    let (c, method) = pair.split_once(' ').ok_or("no pair")?;
+    Ok(deployment.idempotent(ComponentNo(c.parse()?), method.parse()?))
+}
+
+fn is_within(deployment: &Deployment, scope: Scope, group: &str) -> Result<bool, Fail> {
+    Ok(deployment.in_scope(scope, GroupNo(group.parse()?)))
+}
+
+fn owner(deployment: &Deployment, table: &str) -> Result<Option<ComponentNo>, Fail> {
+    Ok(deployment.owner_of(table.parse()?))
+}
+
+fn found_component(alloc: Global, found: Option<ComponentNo>) -> Result<String, Fail> {
+    Ok(format!(in alloc; "{found:?}")?)
+}
+
+fn found_truth(alloc: Global, found: bool) -> Result<String, Fail> {
+    Ok(format!(in alloc; "{found}")?)
+}
+
+fn answer(alloc: Global, deployment: &Deployment, question: &str) -> Result<String, Fail> {
+    let (asked, rest) = question.split_once(' ').ok_or("no question")?;
+    match asked {
+        "named" => found_component(alloc, deployment.named(rest.as_bytes())),
+        "owner" => found_component(alloc, owner(deployment, rest)?),
+        "call" => found_truth(alloc, may_call(deployment, rest)?),
+        "again" => found_truth(alloc, may_repeat(deployment, rest)?),
+        "app" => found_truth(alloc, is_within(deployment, Scope::App, rest)?),
+        _ => found_truth(
+            alloc,
+            is_within(deployment, Scope::Group(GroupNo(2)), rest)?,
+        ),
+    }
+}
+
 #[test]
-fn parts_are_read(rt: HostRuntime) -> Result<(), Fail> {
+fn a_shop_answers(rt: HostRuntime) -> Result<(), Fail> {
     let alloc = rt.alloc();
-    let deployment = Deployment::check(parts_of(alloc, SHOP)?).map_err(|_| "refused")?;
+    let deployment = shop(alloc)?;
+    for case in ANSWERS.split('\n') {
+        let (question, want) = case.split_once('|').ok_or("no bar")?;
+        let found = answer(alloc, &deployment, question)?;
+        assert_eq!(rt; found.as_str(), want, "{question}");
+    }
+    Ok(())
+}
+
+#[test]
+fn a_shop_has_its_parts(rt: HostRuntime) -> Result<(), Fail> {
+    let deployment = shop(rt.alloc())?;
     assert_eq!(rt; deployment.count(), 3);
     assert_eq!(rt; deployment.parts().references.len(), 3);
+    Ok(())
+}
+
+#[test]
+fn a_component_has_its_name(rt: HostRuntime) -> Result<(), Fail> {
+    let deployment = shop(rt.alloc())?;
     assert_eq!(rt; deployment.parts().named(b"mail"), Some(2));
-    assert_eq!(rt; deployment.named(b"stock"), Some(ComponentNo(1)));
-    assert_eq!(rt; deployment.named(b"sto"), None);
-    assert_eq!(rt;
-        deployment.name(ComponentNo(2)).as_slice(),
-        b"mail".as_slice()
-    );
-    let owners = [
-        (40, Some(1)),
-        (7, Some(0)),
-        (255, Some(0)),
-        (0, None),
-        (41, None),
-    ];
-    for (table, owner) in owners {
-        assert_eq!(rt; deployment.owner_of(table), owner.map(ComponentNo));
-    }
-    let calls = [
-        (0, 1, true),
-        (1, 0, true),
-        (0, 2, true),
-        (2, 0, false),
-        (0, 0, false),
-    ];
-    for (from, to, may) in calls {
-        assert_eq!(rt;
-            deployment.may_call(ComponentNo(from), ComponentNo(to)),
-            may
-        );
-    }
-    let methods = [
-        (0, 0, false),
-        (0, 1, true),
-        (0, 2, false),
-        (1, 0, false),
-        (2, 0, true),
-        (3, 0, false),
-    ];
-    for (c, method, may) in methods {
-        assert_eq!(rt; deployment.idempotent(ComponentNo(c), method), may);
-    }
-    let scopes = [
-        (Scope::App, 63, true),
-        (Scope::App, 64, false),
-        (Scope::Group(GroupNo(2)), 2, true),
-        (Scope::Group(GroupNo(2)), 0, false),
-    ];
-    for (scope, group, inside) in scopes {
-        assert_eq!(rt; deployment.in_scope(scope, GroupNo(group)), inside);
-    }
+    assert!(rt; 2 < deployment.count());
+    let name = deployment.name(ComponentNo(2));
+    assert_eq!(rt; name.as_slice(), b"mail".as_slice());
     Ok(())
 }
