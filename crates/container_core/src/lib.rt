@@ -23,8 +23,6 @@
 mod container;
 mod journal;
 mod refusals;
-#[cfg(test)]
-mod tests;
 mod ticket;
 
 pub use container::{Container, Start};

@@ -40,8 +40,6 @@ mod keys;
 mod laws;
 mod names;
 mod refusals;
-#[cfg(test)]
-mod tests;
 mod text;
 
 pub use laws::{texts_have_one_answer, wrong_fields_are_first};

@@ -18,8 +18,6 @@ mod groups;
 mod head;
 mod laws;
 mod running;
-#[cfg(test)]
-mod tests;
 mod texts;
 mod words;
 

@@ -25,8 +25,6 @@ mod binding;
 mod bound;
 mod laws;
 mod names;
-#[cfg(test)]
-mod tests;
 
 pub use binding::Binding;
 pub use bound::{BoundList, BoundName};

@@ -50,6 +50,3 @@ pub use source::Source;
 pub use sure_keeper::SureKeeper;
 pub use sure_sink::SureSink;
 pub use sure_source::SureSource;
-
-#[cfg(test)]
-mod tests;

@@ -32,8 +32,6 @@ mod fields;
 mod laws;
 mod line;
 mod reading;
-#[cfg(test)]
-mod tests;
 mod texts;
 
 pub use cutting::cut_line;

@@ -1,9 +1,9 @@
 ghost use Rattle.std.specs.Prelude.{◌≡◌, ◌<◌, ℕ, IfOk};
 ghost use Rattle.naming_table.specs.Names.{never_rebooted, status_at};
 
-use super::*;
 use crash_base::{ComponentName, ComponentNo, GroupNo, Place, Scope};
 use deployment::{ComponentPart, Deployment, MethodList, Parts, Reference};
+use naming_table::{Binding, Names};
 use std::alloc::Global;
 use std::process::Abort;
 use std::test::Fail;

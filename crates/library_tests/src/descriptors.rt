@@ -3,9 +3,9 @@
 //! `A#0.m!` is a component `A` of group 0 with a method `m` that is idempotent. `0-1` is a hard reference, `0~1`
 //! a soft one, and `40=1` says that component 1 owns table 40.
 
-use crate::{read_descriptors, texts_have_one_answer, wrong_fields_are_first};
 use crash_base::ComponentNo;
 use deployment::{ComponentPart, Deployment, MethodPart, Parts};
+use descriptor_text::{read_descriptors, texts_have_one_answer, wrong_fields_are_first};
 use std::alloc::Global;
 use std::test::Fail;
 

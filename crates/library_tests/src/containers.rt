@@ -1,7 +1,7 @@
 ghost use Rattle.std.specs.Prelude.{◌≡◌, ◌<◌, length, IfOk};
 ghost use Rattle.journal_model.specs.Fits.{Fits, IsWrite};
 
-use super::*;
+use container_core::{Container, Entry, Ticket, Touch};
 use crash_base::{
     ComponentName, ComponentNo, GroupNo, OutOfMemory, Place, RequestNo, RowBytes, RowId, RowWrite,
     WorkerNo,

@@ -4,8 +4,8 @@
 //! methods `b` and `Y`, of which the large letter may be called again. `0-1` is a hard reference and `0~1` a
 //! soft one, and `40=1` says that component 1 owns table 40.
 
-use super::*;
 use crash_base::{ComponentName, ComponentNo, GroupNo, Scope};
+use deployment::{ComponentPart, Deployment, MethodList, MethodPart, Parts, Reference, TablePart};
 use std::alloc::Global;
 use std::test::Fail;
 

@@ -1,6 +1,6 @@
 //! Lines that are read, and lines that are not.
 
-use super::*;
+use scenario_text::{HexBytes, Line, cut_line, read_line, write_hex};
 use std::alloc::Global;
 use std::process::Abort;
 use std::test::Fail;

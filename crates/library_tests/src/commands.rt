@@ -1,7 +1,7 @@
 //! Scenarios through the public call, with sources, sinks and a keeper in memory.
 
-use crate::run_command;
 use crash_base::{InputBytes, Items, RowList, WordText};
+use drive_engine::run_command;
 use outside::{BytesSink, BytesSource, CallList, SizeList, SureKeeper};
 use std::alloc::Global;
 use std::process::Abort;

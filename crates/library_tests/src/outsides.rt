@@ -1,10 +1,10 @@
 //! The kinds in memory at values, and each adapter over a stream that fails in its midst.
 
-use crate::{
+use crash_base::{InputBytes, OutOfMemory, RowBytes, RowId, RowList, RowWrite, WriteList};
+use outside::{
     BytesSink, BytesSource, CallList, Failed, InputRefusal, InputSource, Keeper, OutputSink, Sink,
     SizeList, Source, SureKeeper, SureSink, SureSource, read_to_end, write_all,
 };
-use crash_base::{InputBytes, OutOfMemory, RowBytes, RowId, RowList, RowWrite, WriteList};
 use std::alloc::Global;
 use std::cell::Cell;
 use std::io;

@@ -1,6 +1,6 @@
 use Rattle.std.proofs.Common.{◌≡◌}
 use Rattle.journal_model.specs.Fits.{Fits}
-use Rattle.container_core.proofs.tests.put_each.Given as goal
+use Rattle.library_tests.proofs.containers.put_each.Given as goal
 
 abbrev pub invariant-loop-key : goal.invariant-loop-key
 invariant-loop-key l = record {

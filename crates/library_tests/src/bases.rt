@@ -1,4 +1,8 @@
-use super::*;
+use crash_base::{
+    ComponentNo, FaultKind, FaultList, FaultPlan, LatestRows, Level, OutOfMemory, PageText,
+    PathList, RowBytes, RowId, RowWrite, SessionBytes, WriteList, is_name, take_u16, take_u32,
+    take_u64,
+};
 use std::alloc::Global;
 use std::test::Fail;
 
