@@ -12,7 +12,7 @@
 //!
 //! What an object tells of itself is a ghost member, an `Option`: the bytes that are left or that
 //! were written, or the rows; None tells nothing, as of a real stream. Each object counts its faults,
-//! and answers `Failed` only where that count rose (or stands at 2^64 - 1). So an object whose count
+//! and answers `Failed` only where that count rose (or is 2^64 - 1). So an object whose count
 //! is as it was, and below that, has answered no `Failed` since.
 //!
 //! Kinds in memory fail by a list of call numbers (`BytesSource`, `BytesSink`) or never
@@ -42,7 +42,7 @@ pub use failed::Failed;
 pub use input::{InputRefusal, read_to_end};
 pub use input_source::InputSource;
 pub use keeper::{Keeper, KeeperFault};
-pub use laws::{fronts_join, pieces_join, telling_goes_back};
+pub use laws::{pieces_join, prefixes_join, telling_goes_back};
 pub use lists::{CallList, SizeList};
 pub use output_sink::OutputSink;
 pub use sink::{Sink, write_all};
