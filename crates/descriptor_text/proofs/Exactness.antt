@@ -1,71 +1,77 @@
--- A text has one answer, and a wrong field that is told is the first one.
-use Rattle.std.proofs.Common.{◌≡◌, ◌≢◌, ◌∙◌, sym, ap, refl, ℕ, List, Result, Ok, Err, Some, None}
+-- Besides out of memory, each text has exactly one answer.
+use Rattle.std.proofs.Common.{◌≡◌, ◌≢◌, ◌∙◌, sym, ap, refl, ℕ, Bool, true, false, List, Option, Some, None, Result, Ok, Err, ◌⊎◌, inl, inr}
+use Rattle.std.specs.Str.{is_utf8}
+use Rattle.std.proofs.lemmas.Bool.{both_ways}
+use Rattle.std.proofs.lemmas.Option.{none-some, same_Some}
+use Rattle.std.proofs.lemmas.Str.{IsUtf8-from_is_utf8, is_utf8-from_IsUtf8}
 use Rattle.deployment.specs.declared.parts.Parts.{Parts}
 use Rattle.deployment.specs.Refusals.{deploy_refusal}
 use Rattle.deployment.specs.declared.refusals.DeployRefusal.{DeployRefusal}
 use Rattle.toml.specs.Data.{Members}
-use Rattle.descriptor_text.specs.declared.refusals.FieldName.{FieldName}
+use Rattle.toml.specs.Parse.{parse_document}
 use Rattle.descriptor_text.specs.declared.refusals.TextRefusal.{TextRefusal}
 use Rattle.descriptor_text.specs.declared.refusals.TextRefusal.TheVariants.{NotToml, Field, Deploy, OutOfMemory}
 use Rattle.descriptor_text.specs.declared.refusals.WrongField.{WrongField}
-use Rattle.descriptor_text.specs.Text.{Describes, IsAnswer, SpellsNoDocument, parts_of}
+use Rattle.descriptor_text.specs.Text.{SpellsDocument, SpellsNoDocument, Describes, IsAnswer, parts_in}
 
--- the bytes spell one document at most, which describes one thing
-describes_one : (text : List ℕ) (x y : Result Parts WrongField) → Describes text x → Describes text y → x ≡ y
-describes_one text x y (d, spelled, here) (e, also, there) =
-    let same : d ≡ e = some_one d e (sym spelled.1 ∙ also.1) in
-    sym here ∙ ap parts_of same ∙ there
+-- what parts are answered with, by their refusal
+abbrev checked : Parts → Option DeployRefusal → Result Parts TextRefusal
+checked parts None = Ok parts
+checked parts (Some refusal) = Err (Deploy refusal)
+
+-- what a document is answered with, by what it describes
+abbrev answer_to : Result Parts WrongField → Result Parts TextRefusal
+answer_to (Err wrong) = Err (Field wrong.component wrong.field)
+answer_to (Ok parts) = checked parts (deploy_refusal parts)
+
+-- bytes spell a document or none
+spelled_or_not : (text : List ℕ) → ((document : Members) × SpellsDocument text document) ⊎ SpellsNoDocument text
+spelled_or_not text = go (is_utf8 text) refl (parse_document text) refl
   where
-    some_one : (d e : Members) → Some d ≡ Some e → d ≡ e
-    some_one d e same = cc
+    go : (valid : Bool) → is_utf8 text ≡ valid → (found : Option Members) → parse_document text ≡ found → ((document : Members) × SpellsDocument text document) ⊎ SpellsNoDocument text
+    go true valid (Some document) found = inl (document, (IsUtf8-from_is_utf8 text valid, found))
+    go true valid None found = inr (λ document spelled. none-some document (sym found ∙ spelled.1))
+    go false valid parsed found = inr (λ document spelled. both_ways (is_utf8 text) valid (is_utf8-from_IsUtf8 text spelled.0))
 
-spells_one : (text : List ℕ) (x : Result Parts WrongField) → Describes text x → ¬ SpellsNoDocument text
-spells_one text x (d, spelled, here) none = none d spelled
+-- and one document at most, which describes one thing
+describes_one : (text : List ℕ) (document : Members) (given : Result Parts WrongField) → SpellsDocument text document → Describes text given → parts_in document ≡ given
+describes_one text document given spelled (other, also, describes) = ap parts_in (same_Some document other (sym spelled.1 ∙ also.1)) ∙ describes
 
-wrong : ℕ → FieldName → Result Parts WrongField
-wrong c f = Err (record { component = c; field = f })
+-- where they spell one, each answer is that to the document
+answer_spelled : (text : List ℕ) (document : Members) (a : Result Parts TextRefusal) → SpellsDocument text document → IsAnswer text a → a ≢ Err OutOfMemory → answer_to (parts_in document) ≡ a
+answer_spelled text document (Ok parts) spelled (describes, none) found = ap answer_to (describes_one text document (Ok parts) spelled describes) ∙ ap (checked parts) none
+answer_spelled text document (Err NotToml) spelled none found = absurd (none document spelled)
+answer_spelled text document (Err (Field component field)) spelled describes found = ap answer_to (describes_one text document (Err (record { component = component; field = field })) spelled describes)
+answer_spelled text document (Err (Deploy refusal)) spelled (parts, describes, refused) found = ap answer_to (describes_one text document (Ok parts) spelled describes) ∙ ap (checked parts) refused
+answer_spelled text document (Err OutOfMemory) spelled is found = absurd (found refl)
 
--- what a document describes, and what is wrong with it, are two things
-ok_or_wrong : (m : Parts) (c : ℕ) (f : FieldName) → Ok m ≡ wrong c f → ⊥
-unfolding wrong
-ok_or_wrong m c f same = cc
-
-ok_one : (m n : Parts) → ◌≡◌ {A = Result Parts WrongField} (Ok m) (Ok n) → m ≡ n
-ok_one m n same = cc
-
-wrong_one : (c d : ℕ) (f g : FieldName) → wrong c f ≡ wrong d g → Field c f ≡ Field d g
-unfolding wrong
-wrong_one c d f g same = ap (λ (w : WrongField). Field w.component w.field) (err_one _ _ same)
-  where
-    err_one : (v w : WrongField) → ◌≡◌ {A = Result Parts WrongField} (Err v) (Err w) → v ≡ w
-    err_one v w both = cc
-
-accepted_or_refused : (r : DeployRefusal) → None ≡ Some r → ⊥
-accepted_or_refused r same = cc
-
-refused_one : (r s : DeployRefusal) → Some r ≡ Some s → Deploy r ≡ Deploy s
-refused_one r s same = cc
+-- and where they spell none, each answer is that
+answer_not_spelled : (text : List ℕ) (a : Result Parts TextRefusal) → SpellsNoDocument text → IsAnswer text a → a ≢ Err OutOfMemory → Err NotToml ≡ a
+answer_not_spelled text (Ok parts) none ((document, spelled, is), accepted) found = absurd (none document spelled)
+answer_not_spelled text (Err NotToml) none is found = refl
+answer_not_spelled text (Err (Field component field)) none (document, spelled, is) found = absurd (none document spelled)
+answer_not_spelled text (Err (Deploy refusal)) none (parts, (document, spelled, is), refused) found = absurd (none document spelled)
+answer_not_spelled text (Err OutOfMemory) none is found = absurd (found refl)
 
 pub one_answer : (text : List ℕ) (a b : Result Parts TextRefusal) → IsAnswer text a → IsAnswer text b → a ≢ Err OutOfMemory → b ≢ Err OutOfMemory → a ≡ b
-unfolding wrong
-one_answer text (Err OutOfMemory) b x y p q = absurd (p refl)
-one_answer text (Ok m) (Err OutOfMemory) x y p q = absurd (q refl)
-one_answer text (Ok m) (Ok n) x y p q = ap Ok (ok_one m n (describes_one text (Ok m) (Ok n) x.0 y.0))
-one_answer text (Ok m) (Err NotToml) x y p q = absurd (spells_one text (Ok m) x.0 y)
-one_answer text (Ok m) (Err (Field c f)) x y p q = absurd (ok_or_wrong m c f (describes_one text (Ok m) (wrong c f) x.0 y))
-one_answer text (Ok m) (Err (Deploy r)) x (n, y, refused) p q = absurd (accepted_or_refused r (sym x.1 ∙ ap deploy_refusal (ok_one m n (describes_one text (Ok m) (Ok n) x.0 y)) ∙ refused))
-one_answer text (Err NotToml) (Err OutOfMemory) x y p q = absurd (q refl)
-one_answer text (Err NotToml) (Ok n) x y p q = absurd (spells_one text (Ok n) y.0 x)
-one_answer text (Err NotToml) (Err NotToml) x y p q = refl
-one_answer text (Err NotToml) (Err (Field c f)) x y p q = absurd (spells_one text (wrong c f) y x)
-one_answer text (Err NotToml) (Err (Deploy r)) x (n, y, refused) p q = absurd (spells_one text (Ok n) y x)
-one_answer text (Err (Field c f)) (Err OutOfMemory) x y p q = absurd (q refl)
-one_answer text (Err (Field c f)) (Ok n) x y p q = absurd (ok_or_wrong n c f (describes_one text (Ok n) (wrong c f) y.0 x))
-one_answer text (Err (Field c f)) (Err NotToml) x y p q = absurd (spells_one text (wrong c f) x y)
-one_answer text (Err (Field c f)) (Err (Field d g)) x y p q = ap Err (wrong_one c d f g (describes_one text (wrong c f) (wrong d g) x y))
-one_answer text (Err (Field c f)) (Err (Deploy r)) x (n, y, refused) p q = absurd (ok_or_wrong n c f (describes_one text (Ok n) (wrong c f) y x))
-one_answer text (Err (Deploy r)) (Err OutOfMemory) x y p q = absurd (q refl)
-one_answer text (Err (Deploy r)) (Ok n) (m, x, refused) y p q = absurd (accepted_or_refused r (sym y.1 ∙ ap deploy_refusal (ok_one n m (describes_one text (Ok n) (Ok m) y.0 x)) ∙ refused))
-one_answer text (Err (Deploy r)) (Err NotToml) (m, x, refused) y p q = absurd (spells_one text (Ok m) x y)
-one_answer text (Err (Deploy r)) (Err (Field c f)) (m, x, refused) y p q = absurd (ok_or_wrong m c f (describes_one text (Ok m) (wrong c f) x y))
-one_answer text (Err (Deploy r)) (Err (Deploy s)) (m, x, refused) (n, y, also) p q = ap Err (refused_one r s (sym refused ∙ ap deploy_refusal (ok_one m n (describes_one text (Ok m) (Ok n) x y)) ∙ also))
+one_answer text a b x y p q =
+    elim (spelled_or_not text) [
+      | inl (document, spelled) ↦ sym (answer_spelled text document a spelled x p) ∙ answer_spelled text document b spelled y q
+      | inr none ↦ sym (answer_not_spelled text a none x p) ∙ answer_not_spelled text b none y q
+    ]
+
+-- an answer to a document that bytes spell
+answered : (text : List ℕ) (document : Members) (given : Result Parts WrongField) → SpellsDocument text document → parts_in document ≡ given → (a : Result Parts TextRefusal) × (a ≢ Err OutOfMemory) × IsAnswer text a
+answered text document (Err wrong) spelled is = (Err (Field wrong.component wrong.field), (λ e. cc), (document, spelled, is))
+answered text document (Ok parts) spelled is = go (deploy_refusal parts) refl
+  where
+    go : (refusal : Option DeployRefusal) → deploy_refusal parts ≡ refusal → (a : Result Parts TextRefusal) × (a ≢ Err OutOfMemory) × IsAnswer text a
+    go None accepted = (Ok parts, (λ e. cc), ((document, spelled, is), accepted))
+    go (Some refusal) refused = (Err (Deploy refusal), (λ e. cc), (parts, (document, spelled, is), refused))
+
+pub an_answer : (text : List ℕ) → (a : Result Parts TextRefusal) × (a ≢ Err OutOfMemory) × IsAnswer text a
+an_answer text =
+    elim (spelled_or_not text) [
+      | inl (document, spelled) ↦ answered text document (parts_in document) spelled refl
+      | inr none ↦ (Err NotToml, (λ e. cc), none)
+    ]

@@ -3,7 +3,7 @@ use Rattle.std.proofs.Common.{◌≡◌, ℕ, suc, ◌+◌, add-one, List, [], �
 use Rattle.toml.specs.Data.{Data, Items, item}
 use Rattle.descriptor_text.specs.declared.description.Description.{Description}
 use Rattle.descriptor_text.specs.declared.refusals.WrongField.{WrongField}
-use Rattle.descriptor_text.specs.Descriptions.{description_of, described, with_others}
+use Rattle.descriptor_text.specs.Description.{description_of, descriptions_from, with_others}
 use Rattle.descriptor_text.specs.Keys.{gathered}
 
 -- what was gathered, and then what the other items give
@@ -16,8 +16,8 @@ described_after done (Err wrong) = Err wrong
 described_after done (Ok others) = Ok (done ++ others)
 
 -- an item that describes a component adds it
-pub described_after-item : (done : List Description) (place : ℕ) (d : Data) (rest : Items) (first : Description) → description_of d ≡ Ok first → described_after done (described place (item d rest)) ≡ described_after (done ++ first ∷ []) (described (place + 1) rest)
-described_after-item done place d rest first gives = rw (gives, add-one) (go (described (suc place) rest))
+pub described_after-item : (done : List Description) (place : ℕ) (d : Data) (rest : Items) (first : Description) → description_of d ≡ Ok first → described_after done (descriptions_from place (item d rest)) ≡ described_after (done ++ first ∷ []) (descriptions_from (place + 1) rest)
+described_after-item done place d rest first gives = rw (gives, add-one) (go (descriptions_from (suc place) rest))
   where
     go : (others : Result (List Description) WrongField) → described_after done (with_others place (Ok first) others) ≡ described_after (done ++ first ∷ []) others
     go (Err wrong) = refl

@@ -1,15 +1,17 @@
--- What stands under the keys of a component's table.
-use Rattle.std.specs.Prelude.{ℕ, ℤ, pos, negsuc, nat_le, Bool, true, if◌then◌else◌, List, [], ◌∷◌, Option, Some, None, option_map, option_and_then, codes}
+-- The values of the keys of a component's table.
+use Rattle.std.specs.Prelude.{ℕ, ℤ, pos, negsuc, nat_le, Bool, if◌then◌else◌, List, [], ◌∷◌, Option, Some, None, option_map, option_and_then, codes}
 use Rattle.deployment.specs.declared.parts.MethodPart.{MethodPart}
+use Rattle.deployment.specs.Parts.{one_call}
 use Rattle.toml.specs.Data.{Data, Items, no_items, item, Members, get_member, as_str, as_integer, as_bool, as_array, as_table}
 use Rattle.descriptor_text.specs.Names.{method_name_in}
 
 -- what each item gives, in order; none where one of them gives none
 abbrev pub gathered : {A : Type 0} → (Data → Option A) → Items → Option (List A)
 gathered read no_items = Some []
-gathered read (item d rest) = option_and_then (λ first. option_map (λ others. first ∷ others) (gathered read rest)) (read d)
+gathered read (item d rest) =
+    option_and_then (λ first. option_map (λ others. first ∷ others) (gathered read rest)) (read d)
 
--- the items of what stands under a key: an empty array where nothing does, and none where it is no array
+-- the items of a key's value: an empty array without the key, and none where it is no array
 abbrev pub items_under : Option Data → Option Items
 items_under None = Some no_items
 items_under (Some d) = as_array d
@@ -41,17 +43,16 @@ idempotent_in members = option_and_then as_bool (get_member (codes "idempotent")
 
 -- the method of a table, if both its keys have their form
 abbrev pub method_in : Members → Option MethodPart
-method_in members = option_and_then (λ name. option_map (λ idempotent. record { name = name; idempotent = idempotent }) (idempotent_in members)) (method_name_in members)
+method_in members =
+    option_and_then (λ name. option_map (λ idempotent.
+    record { name = name; idempotent = idempotent }) (idempotent_in members))
+    (method_name_in members)
 
 -- the method that a value describes, if it is such a table
 abbrev pub method_of : Data → Option MethodPart
 method_of d = option_and_then method_in (as_table d)
 
--- one method `call` that is idempotent
-abbrev pub one_call : List MethodPart
-one_call = record { name = codes "call"; idempotent = true } ∷ []
-
--- the methods of what stands under `methods`: one by default
+-- the methods of the value of `methods`: one by default
 abbrev pub methods_under : Option Data → Option (List MethodPart)
 methods_under None = Some one_call
 methods_under (Some d) = option_and_then (gathered method_of) (as_array d)

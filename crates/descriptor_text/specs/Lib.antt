@@ -1,5 +1,6 @@
 pub mod Assembly
-pub mod Descriptions
+pub mod Description
 pub mod Keys
 pub mod Names
+pub mod Refusals
 pub mod Text

@@ -1,7 +1,7 @@
 //! The parts that descriptions make.
 
-ghost use Rattle.std.specs.Prelude.{◌≡◌, ◌++◌, IfOk, OnOk, map, min, position, bytes_eq};
-ghost use Rattle.descriptor_text.specs.Assembly.{assembled, component_part, reference_to, references_from, tables_from, number_at, number_named, table_part};
+ghost use Rattle.std.specs.Prelude.{◌≡◌, ◌++◌, IfOk, OnOk, map};
+ghost use Rattle.descriptor_text.specs.Assembly.{assembled, component_at, component_named, components_of, first_described, reference_to, references_of, table_part, tables_of};
 
 use crate::description::{Description, DescriptionList};
 use crash_base::{ComponentName, ComponentNo, OutOfMemory};
@@ -10,28 +10,28 @@ use deployment::{
 };
 use std::alloc::Global;
 
-/// The number of the component at a place: 65,535 from there on, which no deployment has.
-fn number_at(place: usize) -> ComponentNo
-    ensures { result ≡ number_at place }
+/// The number of a component that no deployment has.
+const NO_COMPONENT: u16 = 65_535;
+
+/// The component at a place, and no deployment's where the place is too great.
+fn component_at(place: usize) -> ComponentNo
+    ensures { result ≡ component_at place }
 {
-    ComponentNo(place.min(65_535) as u16)
+    ComponentNo(place.min(NO_COMPONENT as usize) as u16)
 }
 
 /// The place of the first description of a name.
-fn place_of(descriptions: &[Description], name: &[u8]) -> Option<usize>
-    ensures { result ≡ position (λ d. bytes_eq d.name name.now) descriptions.now }
+fn first_described(descriptions: &[Description], name: &[u8]) -> Option<usize>
+    ensures { result ≡ first_described descriptions.now name.now }
 {
     descriptions.iter().position(|d| d.name.as_slice() == name)
 }
 
-/// The number of the first component of a name: 65,535 where no component has it.
-fn number_named(descriptions: &[Description], name: &[u8]) -> ComponentNo
-    ensures { result ≡ number_named descriptions.now name.now }
+/// The first component of a name, and no deployment's where no component has it.
+fn component_named(descriptions: &[Description], name: &[u8]) -> ComponentNo
+    ensures { result ≡ component_named descriptions.now name.now }
 {
-    match place_of(descriptions, name) {
-        None => ComponentNo(65_535),
-        Some(place) => number_at(place),
-    }
+    component_at(first_described(descriptions, name).unwrap_or(NO_COMPONENT as usize))
 }
 
 /// Adds the references of a component to these names.
@@ -47,8 +47,8 @@ fn add_references(
 {
     for name in names {
         references.push(Reference {
-            from: number_at(from),
-            to: number_named(descriptions, name.as_slice()),
+            from: component_at(from),
+            to: component_named(descriptions, name.as_slice()),
             hard,
         })?;
     }
@@ -57,7 +57,7 @@ fn add_references(
 
 /// The references of each component, in order: the hard ones, and then the soft ones.
 fn references_of(alloc: Global, descriptions: &[Description]) -> Result<ReferenceList, OutOfMemory>
-    ensures { IfOk result (λ references. references ≡ references_from descriptions.now 0 descriptions.now) }
+    ensures { IfOk result (λ references. references ≡ references_of descriptions.now) }
 {
     let mut references = ReferenceList::new(alloc);
     for (place, d) in descriptions.iter().enumerate() {
@@ -86,7 +86,7 @@ fn add_tables(tables: &mut TableList, owner: usize, numbers: &[u8]) -> Result<()
     for number in numbers {
         tables.push(TablePart {
             table: *number,
-            owner: number_at(owner),
+            owner: component_at(owner),
         })?;
     }
     Ok(())
@@ -94,7 +94,7 @@ fn add_tables(tables: &mut TableList, owner: usize, numbers: &[u8]) -> Result<()
 
 /// The tables of each component, in order.
 fn tables_of(alloc: Global, descriptions: &[Description]) -> Result<TableList, OutOfMemory>
-    ensures { IfOk result (λ tables. tables ≡ tables_from 0 descriptions.now) }
+    ensures { IfOk result (λ tables. tables ≡ tables_of descriptions.now) }
 {
     let mut tables = TableList::new(alloc);
     for (place, d) in descriptions.iter().enumerate() {
@@ -105,7 +105,7 @@ fn tables_of(alloc: Global, descriptions: &[Description]) -> Result<TableList, O
 
 /// The components, in order.
 fn components_of(alloc: Global, descriptions: DescriptionList) -> Result<ComponentList, OutOfMemory>
-    ensures { IfOk result (λ components. components ≡ map component_part descriptions) }
+    ensures { IfOk result (λ components. components ≡ components_of descriptions) }
 {
     let mut components = ComponentList::new(alloc);
     for d in descriptions.into_vec() {
@@ -118,7 +118,7 @@ fn components_of(alloc: Global, descriptions: DescriptionList) -> Result<Compone
 }
 
 /// The parts that descriptions make.
-pub(crate) fn assemble(alloc: Global, descriptions: DescriptionList) -> Result<Parts, OutOfMemory>
+pub(crate) fn assembled(alloc: Global, descriptions: DescriptionList) -> Result<Parts, OutOfMemory>
     ensures { IfOk result (λ parts. parts ≡ assembled descriptions) }
 {
     let references = references_of(alloc, descriptions.as_slice())?;

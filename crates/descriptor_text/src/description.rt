@@ -1,13 +1,14 @@
 //! One component as its table describes it.
 
-ghost use Rattle.std.specs.Prelude.{◌≡◌, IfOk};
+ghost use Rattle.std.specs.Prelude.{◌≡◌};
 ghost use Rattle.toml.specs.View.{view, items_view, table_view};
-ghost use Rattle.descriptor_text.specs.Descriptions.{are_tables, described, description_in, description_of, descriptions_of};
+ghost use Rattle.descriptor_text.specs.Description.{are_tables, description_in, description_of, descriptions_in, descriptions_of};
+ghost use Rattle.descriptor_text.specs.Refusals.{IsReadAs};
 
-use crate::keys::{list_at, methods_of, names_at, table_numbers};
-use crate::names::component_name;
-use crate::refusals::{FieldName, WrongField};
-use crash_base::{ComponentName, Items, OutOfMemory};
+use crate::keys::{list_in, methods_in, names_in, tables_in};
+use crate::names::component_name_in;
+use crate::refusals::{FieldName, ReadRefusal, WrongField};
+use crash_base::{ComponentName, Items};
 use deployment::MethodList;
 use std::alloc::Global;
 use toml::{Table, Value};
@@ -18,8 +19,9 @@ pub(crate) type NameList = Items<ComponentName>;
 /// Numbers of tables, in the order of a list.
 pub(crate) type TableNumbers = Items<u8>;
 
-/// A component, with the names of the components that it calls and the numbers of the tables that it owns.
-#[derive(Debug, Drop)]
+/// A component, with the names of the components that it calls and the numbers of the tables that
+/// it owns.
+#[derive(Drop)]
 pub(crate) struct Description {
     /// Its name.
     pub name: ComponentName,
@@ -37,43 +39,30 @@ pub(crate) struct Description {
 pub(crate) type DescriptionList = Items<Description>;
 
 /// The component that a table describes, or the first key of it that has another form.
-fn describe_table(
-    alloc: Global,
-    table: &Table,
-) -> Result<Result<Description, FieldName>, OutOfMemory>
-    ensures { IfOk result (λ answer. answer ≡ description_in (table_view table.now)) }
+fn description_in(alloc: Global, table: &Table) -> Result<Description, ReadRefusal<FieldName>>
+    ensures { IsReadAs result (description_in (table_view table.now)) }
 {
-    let Some(name) = component_name(alloc, table)? else {
-        return Ok(Err(FieldName::Name));
-    };
-    let Some(hard) = names_at(alloc, table, "hard")? else {
-        return Ok(Err(FieldName::Hard));
-    };
-    let Some(soft) = names_at(alloc, table, "soft")? else {
-        return Ok(Err(FieldName::Soft));
-    };
-    let Some(tables) = table_numbers(alloc, table)? else {
-        return Ok(Err(FieldName::Tables));
-    };
-    let Some(methods) = methods_of(alloc, table)? else {
-        return Ok(Err(FieldName::Methods));
-    };
-    Ok(Ok(Description {
+    let name = component_name_in(alloc, table)?.ok_or(ReadRefusal::Wrong(FieldName::Name))?;
+    let hard = names_in(alloc, table, "hard")?.ok_or(ReadRefusal::Wrong(FieldName::Hard))?;
+    let soft = names_in(alloc, table, "soft")?.ok_or(ReadRefusal::Wrong(FieldName::Soft))?;
+    let tables = tables_in(alloc, table)?.ok_or(ReadRefusal::Wrong(FieldName::Tables))?;
+    let methods = methods_in(alloc, table)?.ok_or(ReadRefusal::Wrong(FieldName::Methods))?;
+    Ok(Description {
         name,
         hard,
         soft,
         tables,
         methods,
-    }))
+    })
 }
 
 /// The component that a value describes. A value that is no table has the form of no component.
-fn describe(alloc: Global, value: &Value) -> Result<Result<Description, FieldName>, OutOfMemory>
-    ensures { IfOk result (λ answer. answer ≡ description_of (view value.now)) }
+fn description_of(alloc: Global, value: &Value) -> Result<Description, ReadRefusal<FieldName>>
+    ensures { IsReadAs result (description_of (view value.now)) }
 {
     match value.as_table() {
-        None => Ok(Err(FieldName::Component)),
-        Some(table) => Ok(describe_table(alloc, table)?),
+        None => Err(ReadRefusal::Wrong(FieldName::Component)),
+        Some(table) => description_in(alloc, table),
     }
 }
 
@@ -90,39 +79,41 @@ fn are_tables(values: &[Value]) -> bool
 }
 
 /// The components that values describe, or the first of them with a key of another form.
-fn describe_each(
+fn descriptions_of(
     alloc: Global,
     values: &[Value],
-) -> Result<Result<DescriptionList, WrongField>, OutOfMemory>
-    ensures { IfOk result (λ answer. answer ≡ described 0 (items_view values.now)) }
+) -> Result<DescriptionList, ReadRefusal<WrongField>>
+    ensures { IsReadAs result (descriptions_of (items_view values.now)) }
 {
     let mut descriptions = DescriptionList::new(alloc);
     for (component, value) in values.iter().enumerate() {
-        match describe(alloc, value)? {
-            Err(field) => return Ok(Err(WrongField { component, field })),
+        match description_of(alloc, value) {
             Ok(description) => descriptions.push(description)?,
+            Err(ReadRefusal::Wrong(field)) => {
+                return Err(ReadRefusal::Wrong(WrongField { component, field }));
+            }
+            Err(ReadRefusal::OutOfMemory) => return Err(ReadRefusal::OutOfMemory),
         }
     }
-    Ok(Ok(descriptions))
+    Ok(descriptions)
 }
 
-/// The components that a document describes.
-pub(crate) fn describe_document(
+/// The components that a document describes, or the first key that has another form.
+pub(crate) fn descriptions_in(
     alloc: Global,
     document: &Table,
-) -> Result<Result<DescriptionList, WrongField>, OutOfMemory>
-    ensures { IfOk result (λ answer. answer ≡ descriptions_of (table_view document.now)) }
+) -> Result<DescriptionList, ReadRefusal<WrongField>>
+    ensures { IsReadAs result (descriptions_in (table_view document.now)) }
 {
     let no_tables = WrongField {
         component: 0,
         field: FieldName::Component,
     };
-    let Some(values) = list_at(document, "component") else {
-        return Ok(Err(no_tables));
+    let Some(values) = list_in(document, "component") else {
+        return Err(ReadRefusal::Wrong(no_tables));
     };
     if !are_tables(values) {
-        return Ok(Err(no_tables));
+        return Err(ReadRefusal::Wrong(no_tables));
     }
-    let descriptions = describe_each(alloc, values)?;
-    Ok(descriptions)
+    descriptions_of(alloc, values)
 }

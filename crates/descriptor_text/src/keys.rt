@@ -1,27 +1,26 @@
-//! What stands under the keys of a component's table.
+//! The values of the keys of a component's table.
 
 ghost use Rattle.std.specs.Prelude.{◌≡◌, IfOk, option_map};
 ghost use Rattle.toml.specs.Data.{as_str};
 ghost use Rattle.toml.specs.View.{table_view, view, items_view};
-ghost use Rattle.descriptor_text.specs.Keys.{gathered, list_in, names_in, table_number, tables_in, idempotent_in, method_of, methods_in, one_call};
+ghost use Rattle.descriptor_text.specs.Keys.{gathered, list_in, names_in, table_number, tables_in, idempotent_in, method_of, methods_in};
 
 use crate::description::{NameList, TableNumbers};
-use crate::names::{member, method_name};
+use crate::names::{get_member, method_name_in};
 use crash_base::{ComponentName, OutOfMemory};
-use deployment::{MethodList, MethodPart};
+use deployment::{MethodList, MethodPart, one_call};
 use std::alloc::Global;
 use toml::{Table, Value};
 
-/// The items of the array under a key, none where the key is missing. None exactly where it is no array.
-pub(crate) fn list_at<'a>(table: &'a Table, key: &str) -> Option<&'a [Value]>
-    ensures { option_map (λ items. items_view items.now) result ≡ list_in key.now (table_view table.now) }
+/// The items of the array under a key, an empty one where the key is missing. None exactly where
+/// its value is no array.
+pub(crate) fn list_in<'a>(table: &'a Table, key: &str) -> Option<&'a [Value]>
+    ensures { option_map (λ items. items_view items.now) result
+        ≡ list_in key.now (table_view table.now) }
 {
-    match member(table, key) {
+    match get_member(table, key) {
         None => Some(&[]),
-        Some(value) => match value.as_array() {
-            None => None,
-            Some(items) => Some(items.as_slice()),
-        },
+        Some(value) => Some(value.as_array()?.as_slice()),
     }
 }
 
@@ -40,34 +39,24 @@ fn texts(alloc: Global, values: &[Value]) -> Result<Option<NameList>, OutOfMemor
 }
 
 /// The names under a key. None exactly where it is no array of texts.
-pub(crate) fn names_at(
+pub(crate) fn names_in(
     alloc: Global,
     table: &Table,
     key: &str,
 ) -> Result<Option<NameList>, OutOfMemory>
     ensures { IfOk result (λ names. names ≡ names_in key.now (table_view table.now)) }
 {
-    let Some(values) = list_at(table, key) else {
+    let Some(values) = list_in(table, key) else {
         return Ok(None);
     };
-    let names = texts(alloc, values)?;
-    Ok(names)
+    texts(alloc, values)
 }
 
 /// The number of a table. None exactly where the value is no whole number from 0 to 255.
 fn table_number(value: &Value) -> Option<u8>
     ensures { result ≡ table_number (view value.now) }
 {
-    match value.as_integer() {
-        None => None,
-        Some(number) => {
-            if 0 <= number && number <= 255 {
-                Some(number as u8)
-            } else {
-                None
-            }
-        }
-    }
+    u8::try_from(value.as_integer()?).ok()
 }
 
 /// The numbers of a list. None exactly where an item is no table's number.
@@ -85,27 +74,20 @@ fn numbers(alloc: Global, values: &[Value]) -> Result<Option<TableNumbers>, OutO
 }
 
 /// The numbers under `tables`. None exactly where it is no array of tables' numbers.
-pub(crate) fn table_numbers(
-    alloc: Global,
-    table: &Table,
-) -> Result<Option<TableNumbers>, OutOfMemory>
+pub(crate) fn tables_in(alloc: Global, table: &Table) -> Result<Option<TableNumbers>, OutOfMemory>
     ensures { IfOk result (λ numbers. numbers ≡ tables_in (table_view table.now)) }
 {
-    let Some(values) = list_at(table, "tables") else {
+    let Some(values) = list_in(table, "tables") else {
         return Ok(None);
     };
-    let numbers = numbers(alloc, values)?;
-    Ok(numbers)
+    numbers(alloc, values)
 }
 
 /// The truth value under `idempotent`. None exactly where there is none.
-fn idempotent(table: &Table) -> Option<bool>
+fn idempotent_in(table: &Table) -> Option<bool>
     ensures { result ≡ idempotent_in (table_view table.now) }
 {
-    match member(table, "idempotent") {
-        None => None,
-        Some(value) => value.as_bool(),
-    }
+    get_member(table, "idempotent")?.as_bool()
 }
 
 /// The method that a value describes. None exactly where it describes none.
@@ -115,10 +97,10 @@ fn method_of(alloc: Global, value: &Value) -> Result<Option<MethodPart>, OutOfMe
     let Some(table) = value.as_table() else {
         return Ok(None);
     };
-    let Some(name) = method_name(alloc, table)? else {
+    let Some(name) = method_name_in(alloc, table)? else {
         return Ok(None);
     };
-    let Some(idempotent) = idempotent(table) else {
+    let Some(idempotent) = idempotent_in(table) else {
         return Ok(None);
     };
     Ok(Some(MethodPart { name, idempotent }))
@@ -138,31 +120,16 @@ fn methods(alloc: Global, values: &[Value]) -> Result<Option<MethodList>, OutOfM
     Ok(Some(methods))
 }
 
-/// One method `call` that is idempotent.
-fn one_call(alloc: Global) -> Result<MethodList, OutOfMemory>
-    ensures { IfOk result (λ methods. methods ≡ one_call) }
-{
-    let mut methods = MethodList::new(alloc);
-    methods.push(MethodPart {
-        name: ComponentName::copied(alloc, b"call")?,
-        idempotent: true,
-    })?;
-    Ok(methods)
-}
-
-/// The methods under `methods`, or the one that a component has by default. None exactly where it is no array
-/// of methods.
-pub(crate) fn methods_of(alloc: Global, table: &Table) -> Result<Option<MethodList>, OutOfMemory>
+/// The methods under `methods`, or the one that a component has by default. None exactly where it
+/// is no array of methods.
+pub(crate) fn methods_in(alloc: Global, table: &Table) -> Result<Option<MethodList>, OutOfMemory>
     ensures { IfOk result (λ methods. methods ≡ methods_in (table_view table.now)) }
 {
-    match member(table, "methods") {
+    match get_member(table, "methods") {
         None => Ok(Some(one_call(alloc)?)),
         Some(value) => match value.as_array() {
             None => Ok(None),
-            Some(values) => {
-                let methods = methods(alloc, values.as_slice())?;
-                Ok(methods)
-            }
+            Some(values) => methods(alloc, values.as_slice()),
         },
     }
 }

@@ -1,5 +1,5 @@
-//! Laws of answers. Each is the contract of a function that does nothing: a caller that needs the law calls
-//! the function.
+//! Laws of answers. Each is the contract of a function that does nothing: a caller that needs the
+//! law calls the function.
 
 ghost use Rattle.std.specs.Prelude.{◌≡◌, ◌≢◌, ℕ, List, Result, Err};
 ghost use Rattle.deployment.specs.declared.parts.Parts.{Parts};
@@ -7,17 +7,24 @@ ghost use Rattle.toml.specs.Data.{Items};
 ghost use Rattle.descriptor_text.specs.declared.refusals.TextRefusal.{TextRefusal};
 ghost use Rattle.descriptor_text.specs.declared.refusals.TextRefusal.TheVariants.{OutOfMemory};
 ghost use Rattle.descriptor_text.specs.declared.refusals.WrongField.{WrongField};
-ghost use Rattle.descriptor_text.specs.Descriptions.{described, IsFirstWrong};
+ghost use Rattle.descriptor_text.specs.Description.{descriptions_of, IsFirstWrong};
 ghost use Rattle.descriptor_text.specs.Text.{IsAnswer};
 
-/// A text has one answer but for want of memory. So each answer comes exactly where its text calls for it.
+/// For every text there is an answer other than out of memory.
+pub fn texts_have_an_answer()
+    ensures { (text : List ℕ)
+        → (a : Result Parts TextRefusal) × (a ≢ Err OutOfMemory) × IsAnswer text a }
+{}
+
+/// A text has one answer at most besides out of memory. So each answer comes exactly where its text
+/// calls for it.
 pub fn texts_have_one_answer()
     ensures { (text : List ℕ) (a b : Result Parts TextRefusal)
         → IsAnswer text a → IsAnswer text b → a ≢ Err OutOfMemory → b ≢ Err OutOfMemory → a ≡ b }
 {}
 
-/// A field that is told is the first wrong one: each component before it has its form.
+/// A field that is reported is the first wrong one: each component before it has its form.
 pub fn wrong_fields_are_first()
     ensures { (items : Items) (wrong : WrongField)
-        → described 0 items ≡ Err wrong → IsFirstWrong items wrong }
+        → descriptions_of items ≡ Err wrong → IsFirstWrong items wrong }
 {}

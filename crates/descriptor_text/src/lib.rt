@@ -9,12 +9,13 @@
 //! methods = [{ name = "find", idempotent = true }]
 //! ```
 //!
-//! Each table of `component` is a component, in the order of their numbers; without that key there is none.
-//! Only `name` is needed: 1 to 32 letters of ASCII, digits or `_`, and not `app`. `hard` and `soft` name the
-//! components that it calls: a hard one must be rebooted with it, and a soft one may be missing for a while.
-//! `tables` has the numbers, from 0 to 255, of the tables that it owns. These three are empty by default. A
-//! method has a name like a component's, which may be `app` too, and tells whether a call of it may be made
-//! again; by default there is one method `call`, which is idempotent. Other keys are passed over.
+//! Each table of `component` is a component, in the order of their numbers; without that key there
+//! is none. Only `name` is needed: 1 to 32 letters of ASCII, digits or `_`, and not `app`. `hard`
+//! and `soft` name the components that it calls: a hard one must be rebooted with it, and a soft
+//! one may be missing for a while. `tables` has the numbers, from 0 to 255, of the tables that it
+//! owns. These three are empty by default. A method has a name like a component's, which may be
+//! `app` too, and says whether a call of it may be made again; by default there is one method
+//! `call`, which is idempotent. Other keys are passed over.
 //!
 //! `read_descriptors` reads a text and checks its parts:
 //!
@@ -22,16 +23,16 @@
 //! let deployment = read_descriptors(alloc, text)?;
 //! ```
 //!
-//! It is built in four steps. The bytes spell a document, its tables are descriptions, these make the parts of
-//! a deployment, and the parts are checked. A name of no component becomes the number 65,535, which is no
-//! component's, so the check refuses it.
+//! It is built in four steps. The bytes spell a document, its tables are descriptions, these make
+//! the parts of a deployment, and the parts are checked. A name of no component becomes the number
+//! 65,535, which is no component's, so the check refuses it.
 //!
-//! A text has one answer but for want of memory, and `IsAnswer` says of each answer which texts have it. A
-//! wrong field that is told is the first one. The laws `texts_have_one_answer` and `wrong_fields_are_first` say
-//! so.
+//! Besides out of memory a text has exactly one answer, and `IsAnswer` says of each answer which
+//! texts have it. A wrong field that is reported is the first one. The laws `texts_have_an_answer`,
+//! `texts_have_one_answer` and `wrong_fields_are_first` say so.
 //!
-//! A document is TOML 1.1, in which arrays and inline tables nest at most 80 deep, under keys that are passed
-//! over too. It is held in memory while it is read.
+//! A document is TOML 1.1, in which arrays, inline tables and dotted keys nest at most 80 deep, also
+//! under keys that are passed over. It is held in memory while it is read.
 #![tactic(auto)]
 
 mod assembly;
@@ -42,6 +43,6 @@ mod names;
 mod refusals;
 mod text;
 
-pub use laws::{texts_have_one_answer, wrong_fields_are_first};
+pub use laws::{texts_have_an_answer, texts_have_one_answer, wrong_fields_are_first};
 pub use refusals::{FieldName, TextRefusal};
 pub use text::read_descriptors;

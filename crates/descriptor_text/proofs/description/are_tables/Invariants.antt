@@ -1,6 +1,6 @@
 use Rattle.std.proofs.Common.{◌≡◌, drop}
 use Rattle.toml.specs.View.{items_view}
-use Rattle.descriptor_text.specs.Descriptions.{are_tables}
+use Rattle.descriptor_text.specs.Description.{are_tables}
 use Rattle.descriptor_text.proofs.description.are_tables.Given as goal
 
 abbrev pub invariant-loop-value : goal.invariant-loop-value

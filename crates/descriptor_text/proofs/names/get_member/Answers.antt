@@ -1,5 +1,5 @@
 use Rattle.toml.proofs.Views.{table_get}
-use Rattle.descriptor_text.proofs.names.member.Goals as goal
+use Rattle.descriptor_text.proofs.names.get_member.Goals as goal
 
 pub returns : goal.returns
 returns c = table_get c.get.result c.args.key.now c.args.table.now.entries c.get.ensures.value
