@@ -2,8 +2,9 @@ pub mod Writes
 pub mod Growing
 pub mod Adding
 pub mod Replacing
-pub mod Fitting
 pub mod Places
+pub mod Staleness
+pub mod Fitting
 pub mod Undone
 pub mod OneDown
 pub mod Rebooting

@@ -1,27 +1,30 @@
 -- Which journals are legal.
 use Rattle.std.specs.Prelude.{◌≡◌, ℕ, ◌<◌, List, take, true, Some, None, All, slice_get}
-use Rattle.crash_base.specs.declared.numbers.Scope.{Scope}
+use Rattle.crash_base.specs.declared.scope.Scope.{Scope}
+use Rattle.crash_base.specs.declared.scope.TheConstants.{MAX_GROUPS}
 use Rattle.crash_base.specs.declared.rows.RowWrite.{RowWrite}
-use Rattle.crash_base.specs.Scopes.{holds}
+use Rattle.crash_base.specs.Scope.{holds}
 use Rattle.journal_model.specs.declared.entry.CommitEntry.{CommitEntry}
 use Rattle.journal_model.specs.declared.entry.Entry.{Entry}
 use Rattle.journal_model.specs.declared.entry.Entry.TheVariants.{Commit, Down, Up}
 use Rattle.journal_model.specs.Fits.{IsWrite, AreApart}
 use Rattle.journal_model.specs.Reboots.{IsUndone, down_of}
+use Rattle.journal_model.specs.Stale.{IsTouch}
 
 -- A commit is whole: its rows may be written, and no two of them are one row.
 pub record IsWhole (e : CommitEntry) : Type 0 where
   pub writes : All IsWrite e.writes
   pub apart : AreApart e.writes
 
--- a commit may come after these entries over this base
+-- a commit may come after these entries over this base: it is whole, and entered its groups in this journal
 pub record MayCommit (base : List RowWrite) (es : List Entry) (e : CommitEntry) : Type 0 where
   pub whole : IsWhole e
+  pub touches : All (IsTouch es) e.touched
 
 -- a reboot may begin after these entries: its scope holds a group, and every group that it holds is up
 pub record MayBegin (es : List Entry) (s : Scope) : Type 0 where
   pub group : ℕ
-  pub within : group < 64
+  pub within : group < MAX_GROUPS
   pub holding : holds s group ≡ true
   pub up : (g : ℕ) → holds s g ≡ true → down_of es g ≡ None
 
@@ -36,6 +39,6 @@ MayCome base es (Commit e) = MayCommit base es e
 MayCome base es (Down s) = MayBegin es s
 MayCome base es (Up s) = MayEnd es s
 
--- A journal is legal where each entry might come where it stands.
+-- A journal is legal where each entry might come after those before it.
 pub record IsLegal (base : List RowWrite) (es : List Entry) : Type 0 where
   pub each : (i : ℕ) (e : Entry) → slice_get es i ≡ Some e → MayCome base (take i es) e

@@ -3,10 +3,11 @@
 ghost use Rattle.std.specs.Prelude.{◌≡◌, ℕ, ◌+◌, ◌≤◌, List, [], ◌∷◌, ◌++◌, length, map, slice_get, true, false, Option, Some};
 ghost use Rattle.crash_base.specs.declared.numbers.ComponentNo.{ComponentNo};
 ghost use Rattle.crash_base.specs.declared.numbers.RequestNo.{RequestNo};
-ghost use Rattle.crash_base.specs.declared.numbers.RowId.{RowId};
+ghost use Rattle.crash_base.specs.declared.row_id.RowId.{RowId};
 ghost use Rattle.crash_base.specs.declared.numbers.WorkerNo.{WorkerNo};
 ghost use Rattle.crash_base.specs.declared.rows.RowWrite.{RowWrite};
-ghost use Rattle.crash_base.specs.Rows.{same_id, put_all, row_in, last_write, AreOrdered};
+ghost use Rattle.crash_base.specs.RowId.{same_id};
+ghost use Rattle.crash_base.specs.Rows.{put_all, row_in, last_write, AreOrdered};
 ghost use Rattle.journal_model.specs.declared.entry.ActionEntry.{ActionEntry};
 ghost use Rattle.journal_model.specs.declared.entry.Entry.{Entry};
 ghost use Rattle.journal_model.specs.declared.entry.Entry.TheVariants.{Commit};
@@ -19,47 +20,69 @@ ghost use Rattle.journal_model.specs.Rows.{writes_of, row_of, rows_after};
 /// An empty journal is legal, and a legal one stays so by each entry that may come.
 pub fn grows_legally()
     ensures empty { (base : List RowWrite) → IsLegal base [] }
-    ensures more { (base : List RowWrite) (es : List Entry) (e : Entry) → IsLegal base es → MayCome base es e → IsLegal base (es ++ e ∷ []) }
+    ensures more { (base : List RowWrite) (es : List Entry) (e : Entry) →
+        IsLegal base es → MayCome base es e → IsLegal base (es ++ e ∷ []) }
 {}
 
 /// A call fits from its begin on: after each of its steps, whatever else enters the journal meanwhile, and
 /// until it commits, which it then may.
 pub fn fits_until_commit()
-    ensures begun { (base : List RowWrite) (es : List Entry) (request : RequestNo) (worker : WorkerNo) → Fits base es (begun request worker (record { 0 = length es })) }
-    ensures entered { (base : List RowWrite) (es : List Entry) (g : ℕ) (c : ComponentNo) (instance : ℕ) (call : Call) → Fits base es call → Fits base es (entered es g c instance call) }
-    ensures kept { (base : List RowWrite) (es : List Entry) (w : RowWrite) (call : Call) → IsWrite w → Fits base es call → Fits base es (kept w call) }
-    ensures meanwhile { (base : List RowWrite) (es more : List Entry) (call : Call) → Fits base es call → Fits base (es ++ more) call }
-    ensures commit { (base : List RowWrite) (es : List Entry) (call : Call) (action : Option ActionEntry) → Fits base es call → MayCome base es (Commit (entry_of call action)) }
+    ensures begun { (base : List RowWrite) (es : List Entry)
+        (request : RequestNo) (worker : WorkerNo) →
+        Fits base es (begun request worker (record { 0 = length es })) }
+    ensures entered { (base : List RowWrite) (es : List Entry)
+        (g : ℕ) (c : ComponentNo) (call : Call) →
+        Fits base es call → Fits base es (entered es g c call) }
+    ensures kept { (base : List RowWrite) (es : List Entry) (w : RowWrite) (call : Call) →
+        IsWrite w → Fits base es call → Fits base es (kept w call) }
+    ensures meanwhile { (base : List RowWrite) (es more : List Entry) (call : Call) →
+        Fits base es call → Fits base (es ++ more) call }
+    ensures commit { (base : List RowWrite) (es : List Entry)
+        (call : Call) (action : Option ActionEntry) →
+        Fits base es call → MayCome base es (Commit (entry_of call action)) }
 {}
 
 /// A write that a call keeps is read back, and no other row changes. A row that was put before keeps its
 /// place among the rows put, as does every write of another row; a row that is new comes last.
 pub fn write_takes_its_place()
-    ensures written { (ws : List RowWrite) (w : RowWrite) → row_in (with_write ws w) w.id ≡ Some w.bytes }
-    ensures others { (ws : List RowWrite) (w : RowWrite) (id : RowId) → same_id w.id id ≡ false → row_in (with_write ws w) id ≡ row_in ws id }
-    ensures places { (ws : List RowWrite) (w x : RowWrite) (i : ℕ) → slice_get ws i ≡ Some x → same_id x.id w.id ≡ false → slice_get (with_write ws w) i ≡ Some x }
-    ensures again { (ws : List RowWrite) (w : RowWrite) → is_put ws w.id ≡ true → map (λ (x : RowWrite). x.id) (with_write ws w) ≡ map (λ (x : RowWrite). x.id) ws }
-    ensures length { (ws : List RowWrite) (w : RowWrite) → is_put ws w.id ≡ true → length (with_write ws w) ≡ length ws }
-    ensures first { (ws : List RowWrite) (w : RowWrite) → is_put ws w.id ≡ false → with_write ws w ≡ ws ++ w ∷ [] }
+    ensures written { (ws : List RowWrite) (w : RowWrite) →
+        row_in (with_write ws w) w.id ≡ Some w.bytes }
+    ensures others { (ws : List RowWrite) (w : RowWrite) (id : RowId) →
+        same_id w.id id ≡ false → row_in (with_write ws w) id ≡ row_in ws id }
+    ensures places { (ws : List RowWrite) (w x : RowWrite) (i : ℕ) →
+        slice_get ws i ≡ Some x → same_id x.id w.id ≡ false →
+        slice_get (with_write ws w) i ≡ Some x }
+    ensures again { (ws : List RowWrite) (w : RowWrite) → is_put ws w.id ≡ true →
+        map (λ (x : RowWrite). x.id) (with_write ws w) ≡ map (λ (x : RowWrite). x.id) ws }
+    ensures length { (ws : List RowWrite) (w : RowWrite) →
+        is_put ws w.id ≡ true → length (with_write ws w) ≡ length ws }
+    ensures first { (ws : List RowWrite) (w : RowWrite) →
+        is_put ws w.id ≡ false → with_write ws w ≡ ws ++ w ∷ [] }
 {}
 
-/// An entry's writes are put over the rows that stood, the first first. An entry without writes leaves them.
+/// An entry's writes are put over the rows before it, the first first. An entry without writes leaves them.
 pub fn commit_is_in_the_rows()
-    ensures commit { (base : List RowWrite) (es : List Entry) (e : Entry) → rows_after base (es ++ e ∷ []) ≡ put_all (writes_of e) (rows_after base es) }
-    ensures silent { (base : List RowWrite) (es : List Entry) (e : Entry) → writes_of e ≡ [] → rows_after base (es ++ e ∷ []) ≡ rows_after base es }
+    ensures commit { (base : List RowWrite) (es : List Entry) (e : Entry) →
+        rows_after base (es ++ e ∷ []) ≡ put_all (writes_of e) (rows_after base es) }
+    ensures silent { (base : List RowWrite) (es : List Entry) (e : Entry) →
+        writes_of e ≡ [] → rows_after base (es ++ e ∷ []) ≡ rows_after base es }
 {}
 
 /// A row has the bytes of its last write: that of the new entry, if it writes the row, and else the one
-/// before. The rows after a journal stand in order of id, each id once, and each is that last write.
-pub fn last_write_stands()
+/// before. The rows after a journal are in order of id, each id once, and each is that last write.
+pub fn last_write_counts()
     ensures ordered { (base : List RowWrite) (es : List Entry) → AreOrdered (rows_after base es) }
-    ensures each { (base : List RowWrite) (es : List Entry) (id : RowId) → row_in (rows_after base es) id ≡ row_of base es id }
-    ensures more { (base : List RowWrite) (es : List Entry) (e : Entry) (id : RowId) → row_of base (es ++ e ∷ []) id ≡ last_write (row_of base es id) (writes_of e) id }
+    ensures each { (base : List RowWrite) (es : List Entry) (id : RowId) →
+        row_in (rows_after base es) id ≡ row_of base es id }
+    ensures more { (base : List RowWrite) (es : List Entry) (e : Entry) (id : RowId) →
+        row_of base (es ++ e ∷ []) id ≡ last_write (row_of base es id) (writes_of e) id }
 {}
 
-/// The reboots of a group are those in a front of the journal and those in the rest, so its generation
+/// The reboots of a group are those in a prefix of the journal and those in the rest, so its generation
 /// never falls.
 pub fn generations_add_up()
-    ensures sum { (es more : List Entry) (g : ℕ) → generation (es ++ more) g ≡ generation es g + generation more g }
-    ensures grown { (es more : List Entry) (g : ℕ) → generation es g ≤ generation (es ++ more) g }
+    ensures sum { (es more : List Entry) (g : ℕ) →
+        generation (es ++ more) g ≡ generation es g + generation more g }
+    ensures grown { (es more : List Entry) (g : ℕ) →
+        generation es g ≤ generation (es ++ more) g }
 {}

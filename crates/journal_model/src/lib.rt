@@ -1,5 +1,6 @@
-//! What the entries of a journal are, and what they mean: the rows that they leave, how a group stands
-//! after its reboots, what a call holds until it commits, and which journals are legal.
+//! What the entries of a journal are, and what they mean: the rows that they leave, the status of a group
+//! after its reboots, what a call holds until it commits, when a reboot has made a call stale, and which
+//! journals are legal.
 //!
 //! The container, its journal and its tickets share these types and definitions. The code here is small;
 //! the laws in `laws` and `reboot_laws` say what the definitions promise to each other.
@@ -15,8 +16,10 @@ pub use entry::{
     TouchList,
 };
 pub use laws::{
-    commit_is_in_the_rows, fits_until_commit, generations_add_up, grows_legally, last_write_stands,
+    commit_is_in_the_rows, fits_until_commit, generations_add_up, grows_legally, last_write_counts,
     write_takes_its_place,
 };
-pub use reboot_laws::{downs_are_told, statuses_are_within, statuses_follow_entries};
+pub use reboot_laws::{
+    downs_are_found, staleness_shows_in_generations, statuses_are_within, statuses_follow_entries,
+};
 pub use status::GroupStatus;
