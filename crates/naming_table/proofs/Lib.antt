@@ -2,4 +2,4 @@ pub mod Finding
 pub mod Scoping
 pub mod Following
 pub mod Stepping
-pub mod Telling
+pub mod Showing

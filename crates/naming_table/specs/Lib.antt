@@ -1,3 +1,3 @@
-pub mod Bindings
+pub mod Binding
 pub mod Names
 pub mod Steps

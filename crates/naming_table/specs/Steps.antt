@@ -9,13 +9,13 @@ pub data Step : Type 0 where
   SetUp : (g : ℕ) → Step
 
 -- the names after a step
-abbrev pub stepped : NamesValue → Step → NamesValue
-stepped names (SetDown g place) = with_down names g place
-stepped names (SetUp g) = with_up names g
+abbrev pub after_step : NamesValue → Step → NamesValue
+after_step names (SetDown g place) = with_down names g place
+after_step names (SetUp g) = with_up names g
 
 -- the names after steps, the first first
 abbrev pub after_steps : NamesValue → List Step → NamesValue
-after_steps names steps = fold stepped names steps
+after_steps names steps = fold after_step names steps
 
 -- whether a step is of this group
 abbrev pub is_step_of : ℕ → Step → Bool

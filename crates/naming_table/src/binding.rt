@@ -1,15 +1,15 @@
 //! What a name is bound to.
 
 ghost use Rattle.std.specs.Prelude.{◌≡◌};
-ghost use Rattle.naming_table.specs.Bindings.{binding_of};
+ghost use Rattle.naming_table.specs.Binding.{binding_of};
 
 use crash_base::{ComponentNo, GroupNo, Place};
 use journal_model::GroupStatus;
 
-/// What a name is bound to: its component, or what stands for it while its group is down.
-#[derive(Clone, Copy, Debug, PartialEq, Eq)]
+/// What a name is bound to: its component, or a sentinel in its place while its group is down.
+#[derive(Clone, Copy)]
 pub enum Binding {
-    /// The component, whose group is up and was rebooted so often.
+    /// The component, whose group is up and was rebooted `generation` times.
     Live {
         component: ComponentNo,
         generation: u64,
@@ -21,8 +21,8 @@ pub enum Binding {
     },
 }
 
-/// The binding of a component of a group that stands so.
-pub(crate) fn binding_at(component: ComponentNo, group: GroupNo, status: GroupStatus) -> Binding
+/// The binding of a component whose group has this status.
+pub(crate) fn binding_of(component: ComponentNo, group: GroupNo, status: GroupStatus) -> Binding
     ensures { result ≡ binding_of component group status }
 {
     match status.down {

@@ -32,10 +32,16 @@ abbrev pub live_unless : ComponentNo → GroupNo → ℕ → Option Place → Bi
 live_unless c g generation None = Live c generation
 live_unless c g generation (Some place) = Sentinel g place
 
--- the binding of a component whose group stands so
+-- the binding of a component whose group has this status
 abbrev pub binding_of : ComponentNo → GroupNo → GroupStatus → Binding
 binding_of c g status = live_unless c g status.generation status.down
 
--- What a name is bound to after a journal: the component of that name, as its group then stands.
+-- the binding of the component of a number, whose group has this status
+abbrev pub component_binding : Parts → ℕ → GroupStatus → Binding
+component_binding parts c status = binding_of (component_no c) (group_no (group_of parts c)) status
+
+-- What a name is bound to after a journal: the component of that name, with the status of its group then.
 abbrev pub binding_in : Parts → List Entry → List ℕ → Option Binding
-binding_in parts es name = option_map (λ c. let g = group_of parts c in binding_of (component_no c) (group_no g) (status_of es g)) (named parts.components name)
+binding_in parts es name =
+    option_map (λ c. component_binding parts c (status_of es (group_of parts c)))
+    (named parts.components name)

@@ -1,5 +1,5 @@
-use Rattle.naming_table.proofs.Telling.{binding_none, none_binding, binding_up, binding_down}
-use Rattle.naming_table.proofs.laws.bindings_tell_groups.Goals as goal
+use Rattle.naming_table.proofs.Showing.{binding_none, none_binding, binding_up, binding_down}
+use Rattle.naming_table.proofs.laws.bindings_show_groups.Goals as goal
 
 pub returns-clause-nobody : goal.returns-clause-nobody
 returns-clause-nobody c = λ parts es name. (binding_none parts es name, none_binding parts es name)

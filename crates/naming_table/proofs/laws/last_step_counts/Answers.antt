@@ -1,5 +1,5 @@
 use Rattle.naming_table.proofs.Stepping.{generation-after_steps, generation-first, down-after_steps, up-after_steps, untouched-after_steps, bound-after_steps}
-use Rattle.naming_table.proofs.laws.last_step_stands.Goals as goal
+use Rattle.naming_table.proofs.laws.last_step_counts.Goals as goal
 
 pub returns-clause-generation : goal.returns-clause-generation
 returns-clause-generation c = generation-after_steps
