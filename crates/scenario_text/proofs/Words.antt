@@ -3,57 +3,54 @@ use Rattle.std.proofs.Common.{◌≡◌, ℕ, ◌+◌, ◌*◌, ◌-◌, ◌^◌
 use Rattle.std.specs.Bool.{Decides}
 use Rattle.std.specs.Fmt.{decimal}
 use Rattle.std.specs.List.{list_all, All}
-use Rattle.std.proofs.lemmas.Str.Parse.{IsNumeralModel, numerals_by_fold}
+use Rattle.std.specs.Char.{is_ascii_digit}
+use Rattle.std.specs.Option.{option_map}
+use Rattle.std.specs.Str.{all_ascii_digits}
+use Rattle.std.proofs.lemmas.Str.Parse.{IsNumeralModel, numerals_by_fold, tells_all_ascii_digits}
 use Rattle.std.proofs.lemmas.Fmt.{decimal-digits_value, digits_decimal, digits_value-decimal, decimal_nonempty, first_decimal, decimal_digit}
+use Rattle.std.proofs.lemmas.Bool.{and_parts, or_parts}
+use Rattle.std.proofs.lemmas.Option.{cond_some}
 use Rattle.std.proofs.lemmas.Bool.Decides.{nat_tests, Decides-by_and}
 use borrow.Author.Tests.{tests}
+use Rattle.crash_base.specs.declared.names.TheConstants.{MAX_NAME_BYTES}
 use Rattle.crash_base.specs.Names.{is_name, is_name_byte}
-use Rattle.scenario_text.specs.Fields.{is_digit, digits_from, number_of, caller_of}
+use Rattle.scenario_text.specs.declared.line.TheConstants.{MAX_CALLER}
+use Rattle.scenario_text.specs.Fields.{digits_from, decimal_number, caller_number}
 use Rattle.scenario_text.specs.Spelling.{IsNumber, IsCaller, IsName, IsNameByte, caller_word}
-
-abbrev pub all_digits : List ℕ → Bool
-all_digits [] = true
-all_digits (c ∷ cs) = is_digit c && all_digits cs
 
 -- the number that digits go on to
 abbrev read : ℕ → List ℕ → ℕ
 read n [] = n
 read n (c ∷ cs) = read (10 * n + (c - 48)) cs
 
-own : IsNumeralModel (λ ds. all_digits ds ≡ true) (read 0)
-own = numerals_by_fold _ (search (rules, tests)) read (search rules)
-
-pub and_true : (p q : Bool) → (p && q) ≡ true → (p ≡ true) × (q ≡ true)
-and_true true q h = (refl, h)
-and_true false q h = cc
-
-or_false : (p q : Bool) → (p || q) ≡ false → (p ≡ false) × (q ≡ false)
-or_false true q h = cc
-or_false false q h = (refl, h)
+-- digits, and the number that they are
+own : IsNumeralModel (λ ds. all_ascii_digits ds ≡ true) (read 0)
+own = numerals_by_fold _ tells_all_ascii_digits read (search rules)
 
 -- what an answer that is there came from
 pub then_some : {A B : Type 0} (f : A → Option B) (o : Option A) (y : B) → option_and_then f o ≡ Some y → (x : A) × (o ≡ Some x) × (f x ≡ Some y)
 then_some f None y h = cc
 then_some f (Some x) y h = (x, refl, h)
 
--- a choice that is there was taken
-pub choice_some : {B : Type 0} (b : Bool) (x y : B) → cond b (Some x) None ≡ Some y → (b ≡ true) × (x ≡ y)
-choice_some true x y h = (refl, cc)
-choice_some false x y h = cc
+-- the same where it is the image of that
+pub map_some : {A B : Type 0} (f : A → B) (o : Option A) (y : B) → option_map f o ≡ Some y → (x : A) × (o ≡ Some x) × (f x ≡ y)
+map_some f None y h = cc
+map_some f (Some x) y h = (x, refl, cc)
 
-digits_read : (k : ℕ) (ds : List ℕ) (n : ℕ) → k < 2 ^ 64 → digits_from k ds ≡ Some n → (all_digits ds ≡ true) × (read k ds ≡ n) × (n < 2 ^ 64)
+-- a word that is read is digits of that number
+digits_read : (k : ℕ) (ds : List ℕ) (n : ℕ) → k < 2 ^ 64 → digits_from k ds ≡ Some n → (all_ascii_digits ds ≡ true) × (read k ds ≡ n) × (n < 2 ^ 64)
 digits_read k [] n h e = let f : k ≡ n = cc in (refl, f, omega arith)
 digits_read k (c ∷ cs) n h e =
     let m = 10 * k + (c - 48) in
-    let go : (b : Bool) → (is_digit c && nat_lt m (2 ^ 64)) ≡ b → cond b (digits_from m cs) None ≡ Some n → (all_digits (c ∷ cs) ≡ true) × (read k (c ∷ cs) ≡ n) × (n < 2 ^ 64) = elim [
+    let go : (b : Bool) → (is_ascii_digit c && nat_lt m (2 ^ 64)) ≡ b → cond b (digits_from m cs) None ≡ Some n → (all_ascii_digits (c ∷ cs) ≡ true) × (read k (c ∷ cs) ≡ n) × (n < 2 ^ 64) = elim [
       | true ↦ λ t k.
-          let g = and_true (is_digit c) (nat_lt m (2 ^ 64)) t in
+          let g = and_parts (is_ascii_digit c) (nat_lt m (2 ^ 64)) t in
           let small : m < 2 ^ 64 = search (rules, tests) in
           let r = digits_read m cs n small k in
           (rw g.0 r.0, r.1, r.2)
       | false ↦ λ t k. cc
     ] in
-    go (is_digit c && nat_lt m (2 ^ 64)) refl e
+    go (is_ascii_digit c && nat_lt m (2 ^ 64)) refl e
 
 positive : (n : ℕ) → (n == 0) ≡ false → 0 < n
 positive n h = grind (arith, nat_tests)
@@ -62,14 +59,14 @@ lone : (n b : ℕ) → 0 < n → b ≡ 48 → (nat_lt 1 n && b == 48) ≡ false 
 lone n b some e h = grind (arith, nat_tests)
 
 -- a word that says a number is its digits
-pub number_spelled : (ds : List ℕ) (n : ℕ) → number_of ds ≡ Some n → (ds ≡ decimal n) × IsNumber n
+pub number_spelled : (ds : List ℕ) (n : ℕ) → decimal_number ds ≡ Some n → (ds ≡ decimal n) × IsNumber n
 number_spelled ds n e =
     let p = length ds == 0 in
     let q = nat_lt 1 (length ds) && slice_index ds 0 == 48 in
     let go : (b : Bool) → (p || q) ≡ b → cond b None (digits_from 0 ds) ≡ Some n → (ds ≡ decimal n) × IsNumber n = elim [
       | true ↦ λ t k. cc
       | false ↦ λ t k.
-          let g = or_false p q t in
+          let g = or_parts p q t in
           let r = digits_read 0 ds n (omega arith) k in
           let some : 0 < length ds = positive (length ds) g.0 in
           let plain : get_or ds 0 0 ≡ 48 → length ds ≡ 1 = λ h. lone (length ds) (get_or ds 0 0) some h g.1 in
@@ -82,11 +79,11 @@ read_grows : (k : ℕ) (ds : List ℕ) → k ≤ read k ds
 read_grows k [] = omega arith
 read_grows k (c ∷ cs) = let h = read_grows (10 * k + (c - 48)) cs in omega arith
 
-digits_are_read : (k : ℕ) (ds : List ℕ) → all_digits ds ≡ true → read k ds < 2 ^ 64 → digits_from k ds ≡ Some (read k ds)
+digits_are_read : (k : ℕ) (ds : List ℕ) → all_ascii_digits ds ≡ true → read k ds < 2 ^ 64 → digits_from k ds ≡ Some (read k ds)
 digits_are_read k [] a h = refl
 digits_are_read k (c ∷ cs) a h =
     let m = 10 * k + (c - 48) in
-    let g = and_true (is_digit c) (all_digits cs) a in
+    let g = and_parts (is_ascii_digit c) (all_ascii_digits cs) a in
     let grows : m ≤ read m cs = read_grows m cs in
     let small : nat_lt m (2 ^ 64) ≡ true = grind (arith, nat_tests) in
     rw (g.0, small) (digits_are_read m cs g.1 h)
@@ -107,51 +104,55 @@ number_plain n h =
     rw a (go (grind arith))
 
 -- the digits of a number say it
-pub number_read : (n : ℕ) → IsNumber n → number_of (decimal n) ≡ Some n
+pub number_read : (n : ℕ) → IsNumber n → decimal_number (decimal n) ≡ Some n
 number_read n h =
     let v : read 0 (decimal n) ≡ n = digits_value-decimal own n h in
     let d : digits_from 0 (decimal n) ≡ Some (read 0 (decimal n)) = digits_are_read 0 (decimal n) (digits_decimal own n h) (rw v h) in
     rw (number_plain n h) (d ∙ ap Some v)
 
 -- they are digits only
-pub decimal_digits : (n : ℕ) → IsNumber n → all_digits (decimal n) ≡ true
+pub decimal_digits : (n : ℕ) → IsNumber n → all_ascii_digits (decimal n) ≡ true
 decimal_digits n h = digits_decimal own n h
 
 -- a word that says a caller is c and its number
-pub caller_spelled : (word : List ℕ) (c : ℕ) → caller_of word ≡ Some c → (word ≡ caller_word c) × IsCaller c
+pub caller_spelled : (word : List ℕ) (c : ℕ) → caller_number word ≡ Some c → (word ≡ caller_word c) × IsCaller c
 caller_spelled [] c h = cc
 caller_spelled (x ∷ ds) c h =
-    let f : ℕ → Option ℕ = λ n. cond (x == 99 && (nat_le 1 n && nat_le n 65535)) (Some n) None in
-    let (n, e, k) = then_some f (number_of ds) c h in
-    let g = choice_some (x == 99 && (nat_le 1 n && nat_le n 65535)) n c k in
+    let f : ℕ → Option ℕ = λ n. cond (x == 99 && (nat_le 1 n && nat_le n MAX_CALLER)) (Some n) None in
+    let (n, e, k) = then_some f (decimal_number ds) c h in
+    let g = cond_some (x == 99 && (nat_le 1 n && nat_le n MAX_CALLER)) n c k in
     let d = number_spelled ds n e in
     let same : n ≡ c = g.1 in
-    let t = and_true (x == 99) (nat_le 1 n && nat_le n 65535) g.0 in
+    let t = and_parts (x == 99) (nat_le 1 n && nat_le n MAX_CALLER) g.0 in
     let letter : x ≡ 99 = grind (arith, nat_tests) in
     let low : 1 ≤ c = grind (arith, nat_tests) in
-    let high : c ≤ 65535 = grind (arith, nat_tests) in
+    let high : c ≤ MAX_CALLER = grind (arith, nat_tests) in
     (ap (λ y. y ∷ ds) letter ∙ ap (λ ys. 99 ∷ ys) (d.0 ∙ ap decimal same), (low, high))
 
-in_range : (c : ℕ) → IsCaller c → (nat_le 1 c && nat_le c 65535) ≡ true
+in_range : (c : ℕ) → IsCaller c → (nat_le 1 c && nat_le c MAX_CALLER) ≡ true
 in_range c (low, high) = grind (arith, nat_tests)
 
-pub caller_read : (c : ℕ) → IsCaller c → caller_of (caller_word c) ≡ Some c
+-- that word says it
+pub caller_read : (c : ℕ) → IsCaller c → caller_number (caller_word c) ≡ Some c
 caller_read c (low, high) = rw (number_read c (omega arith), in_range c (low, high)) refl
 
+-- the test of a byte of a name decides what the grammar says of it, and so for names
 name_byte_decides : (b : ℕ) → Decides (is_name_byte b) (IsNameByte b)
 name_byte_decides b = (λ h. grind (arith, nat_tests), λ h. grind (arith, nat_tests))
 
 name_bytes_decide : (word : List ℕ) → Decides (list_all is_name_byte word) (All IsNameByte word)
 name_bytes_decide word = Decides-by_and is_name_byte IsNameByte (list_all is_name_byte) name_byte_decides refl (λ _ _. refl) word
 
+-- a word that passes the test is a name
 pub name_spelled : (word : List ℕ) → is_name word ≡ true → IsName word
 name_spelled word h =
-    let g = and_true (nat_le 1 (length word) && nat_le (length word) 32) (list_all is_name_byte word) h in
+    let g = and_parts (nat_le 1 (length word) && nat_le (length word) MAX_NAME_BYTES) (list_all is_name_byte word) h in
     let low : 1 ≤ length word = grind (arith, nat_tests) in
-    let high : length word ≤ 32 = grind (arith, nat_tests) in
+    let high : length word ≤ MAX_NAME_BYTES = grind (arith, nat_tests) in
     ((low, high), (name_bytes_decide word).0 g.1)
 
+-- and a name passes it
 pub name_read : (word : List ℕ) → IsName word → is_name word ≡ true
 name_read word ((low, high), bytes) =
-    let few : (nat_le 1 (length word) && nat_le (length word) 32) ≡ true = grind (arith, nat_tests) in
+    let few : (nat_le 1 (length word) && nat_le (length word) MAX_NAME_BYTES) ≡ true = grind (arith, nat_tests) in
     rw (few, (name_bytes_decide word).1 bytes) refl

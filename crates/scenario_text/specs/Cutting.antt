@@ -11,14 +11,18 @@ lines_of (b ∷ bs) = if b == 10 then [] ∷ lines_of bs else onto_first b (line
 abbrev pub IsOneLine : List ℕ → Type 0
 IsOneLine line = All (λ b. b ≢ 10) line
 
--- lines, each with a line feed behind it
+-- lines, each with a line feed after it
 abbrev pub text_of_lines : List (List ℕ) → List ℕ
 text_of_lines lines = flat_map (λ line. line ++ 10 ∷ []) lines
 
--- A text consists of these lines: behind each stands a line feed, but behind a last one that is
--- not empty the text may end without one.
+-- a text of these lines, the last of which is not empty and has no line feed after it
+abbrev pub EndsWithoutFeed : List ℕ → List (List ℕ) → Type 0
+EndsWithoutFeed text lines =
+    (before : List (List ℕ)) × (last : List ℕ)
+    × (lines ≡ before ++ last ∷ []) × (last ≢ []) × (text ≡ text_of_lines before ++ last)
+
+-- A text consists of these lines: after each is a line feed, but after a last one that is not empty
+-- the text may end without one.
 abbrev pub ConsistsOf : List ℕ → List (List ℕ) → Type 0
 ConsistsOf text lines =
-    All IsOneLine lines
-    × ((text ≡ text_of_lines lines)
-    ⊎ ((front : List (List ℕ)) × (last : List ℕ) × (lines ≡ front ++ last ∷ []) × (last ≢ []) × (text ≡ text_of_lines front ++ last)))
+    All IsOneLine lines × ((text ≡ text_of_lines lines) ⊎ EndsWithoutFeed text lines)

@@ -1,5 +1,6 @@
-pub mod Fields
-pub mod Lines
 pub mod Cutting
-pub mod Texts
+pub mod Fields
+pub mod Line
+pub mod Reading
 pub mod Spelling
+pub mod Texts

@@ -2,6 +2,8 @@
 use Rattle.std.specs.Prelude.{◌≡◌, ◌≢◌, ℕ, ◌^◌, ◌<◌, ◌≤◌, ◌⊎◌, List, [], ◌∷◌, length, All, codes}
 use Rattle.std.specs.Fmt.{decimal}
 use Rattle.std.specs.List.{join_with_byte}
+use Rattle.crash_base.specs.declared.names.TheConstants.{MAX_NAME_BYTES}
+use Rattle.scenario_text.specs.declared.line.TheConstants.{MAX_LINE_BYTES, MAX_HEX_BYTES, MAX_CALLER}
 use Rattle.scenario_text.specs.declared.line.Line.{Line}
 use Rattle.scenario_text.specs.declared.line.Line.TheVariants.{Pass, Component, Owns, Begin, Enter, Put, Commit, Table}
 use Rattle.scenario_text.specs.Texts.{hex_text}
@@ -14,19 +16,21 @@ IsWithin first last n = (first ≤ n) × (n ≤ last)
 abbrev pub IsNameByte : ℕ → Type 0
 IsNameByte b = IsWithin 48 57 b ⊎ (IsWithin 65 90 b ⊎ (IsWithin 97 122 b ⊎ (b ≡ 95)))
 
--- 1 to 32 such bytes
+-- 1 to 32 (`MAX_NAME_BYTES`) such bytes
 abbrev pub IsName : List ℕ → Type 0
-IsName name = IsWithin 1 32 (length name) × All IsNameByte name
+IsName name = IsWithin 1 MAX_NAME_BYTES (length name) × All IsNameByte name
 
+-- what a table or a key may be
 abbrev pub IsNumber : ℕ → Type 0
 IsNumber n = n < 2 ^ 64
 
+-- what the number of a caller may be
 abbrev pub IsCaller : ℕ → Type 0
-IsCaller caller = IsWithin 1 65535 caller
+IsCaller caller = IsWithin 1 MAX_CALLER caller
 
--- at most 4,000 bytes
+-- what a line may give in hexadecimal
 abbrev pub AreBytes : List ℕ → Type 0
-AreBytes bytes = (length bytes ≤ 4000) × All (λ b. b < 256) bytes
+AreBytes bytes = (length bytes ≤ MAX_HEX_BYTES) × All (λ b. b < 256) bytes
 
 -- the numbers, names and bytes of a line are in their ranges
 abbrev pub IsInRange : Line → Type 0
@@ -35,11 +39,12 @@ IsInRange (Component name) = IsName name
 IsInRange (Owns name table) = IsName name × IsNumber table
 IsInRange (Begin caller) = IsCaller caller
 IsInRange (Enter caller name) = IsCaller caller × IsName name
-IsInRange (Put caller table key bytes) = IsCaller caller × IsNumber table × IsNumber key × AreBytes bytes
+IsInRange (Put caller table key bytes) =
+    IsCaller caller × IsNumber table × IsNumber key × AreBytes bytes
 IsInRange (Commit caller) = IsCaller caller
 IsInRange Table = Unit {0}
 
--- cN
+-- a caller's word: c and its number
 abbrev pub caller_word : ℕ → List ℕ
 caller_word caller = 99 ∷ decimal caller
 
@@ -50,7 +55,8 @@ words_of_line (Component name) = codes "component" ∷ name ∷ []
 words_of_line (Owns name table) = codes "owns" ∷ name ∷ decimal table ∷ []
 words_of_line (Begin caller) = codes "begin" ∷ caller_word caller ∷ []
 words_of_line (Enter caller name) = codes "enter" ∷ caller_word caller ∷ name ∷ []
-words_of_line (Put caller table key bytes) = codes "put" ∷ caller_word caller ∷ decimal table ∷ decimal key ∷ hex_text bytes ∷ []
+words_of_line (Put caller table key bytes) =
+    codes "put" ∷ caller_word caller ∷ decimal table ∷ decimal key ∷ hex_text bytes ∷ []
 words_of_line (Commit caller) = codes "commit" ∷ caller_word caller ∷ []
 words_of_line Table = codes "table" ∷ []
 
@@ -62,7 +68,9 @@ spelling line = join_with_byte 32 (words_of_line line)
 abbrev pub IsComment : List ℕ → Type 0
 IsComment text = (rest : List ℕ) × (text ≡ 35 ∷ rest) × All (λ b. (b < 128) × (b ≢ 13)) rest
 
--- A text spells a line: its fields are in their ranges, and the text, of at most 8,192 bytes, is
--- its words; a line that is passed over is spelled by a comment too.
+-- A text spells a line: it is not too long, the line's fields are in their ranges, and the text is
+-- its words; a comment, too, spells the line that is passed over.
 abbrev pub Spells : List ℕ → Line → Type 0
-Spells text line = (length text ≤ 8192) × IsInRange line × ((text ≡ spelling line) ⊎ ((line ≡ Pass) × IsComment text))
+Spells text line =
+    (length text ≤ MAX_LINE_BYTES) × IsInRange line
+    × ((text ≡ spelling line) ⊎ ((line ≡ Pass) × IsComment text))

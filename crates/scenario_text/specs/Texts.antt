@@ -1,14 +1,11 @@
 -- Bytes as text.
-use Rattle.std.specs.Prelude.{ℕ, ◌+◌, ◌/◌, ◌%◌, nat_lt, if◌then◌else◌, List, [], ◌∷◌, codes}
+use Rattle.std.specs.Prelude.{ℕ, ◌/◌, ◌%◌, List, [], ◌∷◌, codes}
+use Rattle.std.specs.Char.{digit_char}
 use Rattle.std.specs.List.{flat_map}
 
--- a hexadecimal digit, in lower case
-abbrev pub digit_text : ℕ → ℕ
-digit_text n = if nat_lt n 10 then 48 + n else 87 + n
-
--- the two digits of a byte
+-- the two digits of a byte, in lower case hexadecimal
 abbrev pub byte_text : ℕ → List ℕ
-byte_text byte = digit_text (byte / 16) ∷ digit_text (byte % 16) ∷ []
+byte_text byte = digit_char (byte / 16) ∷ digit_char (byte % 16) ∷ []
 
 -- the digits of bytes, or - where there are none
 abbrev pub hex_text : List ℕ → List ℕ

@@ -10,7 +10,7 @@ fn first_feed(text: &[u8]) -> Option<usize>
     text.iter().position(|b| *b == b'\n')
 }
 
-/// The first line of a text, and what follows its line feed. It touches the bytes of that line.
+/// The first line of a text, and what follows its line feed. It visits the bytes of that line.
 pub fn cut_line(text: &[u8]) -> (&[u8], &[u8])
     requires { text.now ≢ [] }
     ensures lines { lines_of text.now ≡ result.0.now ∷ lines_of result.1.now }

@@ -2,27 +2,22 @@
 
 ghost use Rattle.std.specs.Prelude.{◌≡◌, ◌<◌, ◌≤◌, ◌*◌, length, IfOk, IfSome, Option};
 ghost use Rattle.std.specs.Option.{option_map};
-ghost use Rattle.scenario_text.specs.Fields.{number_of, caller_of, digit_of, pair_of, pairs_of, hex_of, is_digit};
+ghost use Rattle.scenario_text.specs.Fields.{decimal_number, caller_number, hex_digit, hex_byte, bytes_of_digits, hex_bytes};
 
+use crate::line::{HexBytes, MAX_CALLER, MAX_HEX_BYTES};
 use crash_base::OutOfMemory;
 use std::alloc::Global;
 
-fn is_digit(b: u8) -> bool
-    ensures { result ≡ is_digit b }
-{
-    48 <= b && b <= 57
-}
-
 /// A number in decimal digits without leading zeros.
-pub fn number(word: &[u8]) -> Option<u64>
-    ensures { result ≡ number_of word.now }
+pub fn decimal_number(word: &[u8]) -> Option<u64>
+    ensures { result ≡ decimal_number word.now }
 {
     if word.is_empty() || (word.len() > 1 && word[0] == b'0') {
         return None;
     }
     let mut n: u64 = 0;
     for b in word {
-        if !is_digit(*b) {
+        if !b.is_ascii_digit() {
             return None;
         }
         let digit = u64::from(*b - b'0');
@@ -35,14 +30,14 @@ pub fn number(word: &[u8]) -> Option<u64>
 }
 
 /// The number of a caller.
-pub fn caller(word: &[u8]) -> Option<u64>
-    ensures { result ≡ caller_of word.now }
+pub fn caller_number(word: &[u8]) -> Option<u64>
+    ensures { result ≡ caller_number word.now }
 {
     match word {
         [] => None,
         [c, digits @ ..] => {
-            let n = number(digits)?;
-            if *c == b'c' && 1 <= n && n <= 65535 {
+            let n = decimal_number(digits)?;
+            if *c == b'c' && 1 <= n && n <= MAX_CALLER {
                 Some(n)
             } else {
                 None
@@ -51,36 +46,39 @@ pub fn caller(word: &[u8]) -> Option<u64>
     }
 }
 
-fn digit(b: u8) -> Option<u8>
-    ensures value { result ≡ digit_of b }
+/// The value of a lower case hexadecimal digit.
+fn hex_digit(b: u8) -> Option<u8>
+    ensures value { result ≡ hex_digit b }
     ensures small { IfSome result (λ n. n < 16) }
 {
-    if is_digit(b) {
-        Some(b - 48)
-    } else if 97 <= b && b <= 102 {
-        Some(b - 87)
+    if b.is_ascii_digit() {
+        Some(b - b'0')
+    } else if b'a' <= b && b <= b'f' {
+        Some(b - b'a' + 10)
     } else {
         None
     }
 }
 
-/// A byte of two digits.
-fn pair(a: u8, b: u8) -> Option<u8>
-    ensures { result ≡ pair_of a b }
+/// The byte of two digits.
+fn hex_byte(a: u8, b: u8) -> Option<u8>
+    ensures { result ≡ hex_byte a b }
 {
-    let high = digit(a)?;
-    let low = digit(b)?;
+    let high = hex_digit(a)?;
+    let low = hex_digit(b)?;
     Some(16 * high + low)
 }
 
-fn pairs(alloc: Global, word: &[u8]) -> Result<Option<Vec<u8>>, OutOfMemory>
-    ensures value { IfOk result (λ bytes. option_map (λ v. v.items) bytes ≡ pairs_of word.now) }
+/// The bytes of two digits each.
+fn bytes_of_digits(alloc: Global, word: &[u8]) -> Result<Option<Vec<u8>>, OutOfMemory>
+    ensures value { IfOk result (λ bytes.
+        option_map (λ v. v.items) bytes ≡ bytes_of_digits word.now) }
     ensures few { IfOk result (λ bytes. IfSome bytes (λ v. 2 * length v.items ≤ length word.now)) }
 {
     let mut bytes = Vec::new(alloc);
     let mut rest = word;
     while rest.len() >= 2 {
-        let Some(byte) = pair(rest[0], rest[1]) else {
+        let Some(byte) = hex_byte(rest[0], rest[1]) else {
             return Ok(None);
         };
         bytes.push(byte)?;
@@ -92,16 +90,18 @@ fn pairs(alloc: Global, word: &[u8]) -> Result<Option<Vec<u8>>, OutOfMemory>
     Ok(Some(bytes))
 }
 
-/// Bytes in hexadecimal.
-pub fn hex(alloc: Global, word: &[u8]) -> Result<Option<Vec<u8>>, OutOfMemory>
-    ensures value { IfOk result (λ bytes. option_map (λ v. v.items) bytes ≡ hex_of word.now) }
-    ensures few { IfOk result (λ bytes. IfSome bytes (λ v. length v.items ≤ 4000)) }
+/// Bytes in hexadecimal, or `-` where there are none.
+pub fn hex_bytes(alloc: Global, word: &[u8]) -> Result<Option<HexBytes>, OutOfMemory>
+    ensures { IfOk result (λ bytes. bytes ≡ hex_bytes word.now) }
 {
     if word == b"-".as_slice() {
-        return Ok(Some(Vec::new(alloc)));
+        return Ok(Some(HexBytes::from_vec(Vec::new(alloc))));
     }
-    if word.is_empty() || word.len() > 8000 {
+    if word.is_empty() || word.len() > 2 * MAX_HEX_BYTES {
         return Ok(None);
     }
-    pairs(alloc, word)
+    let Some(bytes) = bytes_of_digits(alloc, word)? else {
+        return Ok(None);
+    };
+    Ok(Some(HexBytes::from_vec(bytes)))
 }

@@ -13,17 +13,17 @@
 //! table
 //! ```
 //!
-//! `cut_line` takes the first line off a text, and `read_line` says which line it spells. Words
-//! stand between single spaces. NAME is 1 to 32 letters, digits or `_`; a caller is `c` and a
-//! number from 1 to 65,535; numbers are decimal without leading zeros, and below 2^64; bytes are in
-//! lower case hexadecimal, at most 4,000 of them, and `-` where there are none. An empty line, and
-//! one that begins with `#` and holds ASCII without a carriage return, pass. A line has at most
-//! 8,192 bytes.
+//! `cut_line` takes the first line off a text, and `read_line` answers which line it spells. Words
+//! are separated by single spaces. A name is 1 to 32 letters, digits or `_`; a caller is `c` and a
+//! number from 1 to 65,535 (`MAX_CALLER`); numbers are decimal without leading zeros, and below
+//! 2^64; bytes are in lower case hexadecimal, at most 4,000 (`MAX_HEX_BYTES`), and `-` where there
+//! are none. An empty line passes, and so does a comment: `#` and then ASCII without a carriage
+//! return. A line has at most 8,192 bytes (`MAX_LINE_BYTES`).
 //!
 //! `read_line` is exact: it answers `line_of` of the text. `spelling_law` says that this is a line
 //! exactly where the text is the words of that line, with its numbers, names and bytes in their
-//! ranges; so only a line that passes has more than one spelling. `lines_law` says the like of
-//! cutting. Reading touches each byte of a line a few times. `write_hex` writes bytes as a line
+//! ranges; so only a line that passes has more than one spelling. `lines_law` says the same of
+//! cutting. Reading visits each byte of a line a few times. `write_hex` writes bytes as a line
 //! spells them.
 #![tactic(auto)]
 
@@ -36,6 +36,6 @@ mod texts;
 
 pub use cutting::cut_line;
 pub use laws::{lines_law, spelling_law};
-pub use line::{HexBytes, Line};
+pub use line::{HexBytes, Line, MAX_CALLER, MAX_HEX_BYTES, MAX_LINE_BYTES};
 pub use reading::read_line;
 pub use texts::write_hex;

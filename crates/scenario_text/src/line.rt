@@ -1,46 +1,24 @@
 //! The lines of a scenario.
 
-ghost use Rattle.std.specs.Prelude.{◌≡◌, ◌≤◌, length};
-ghost use Rattle.scenario_text.specs.Lines.{is_event};
+ghost use Rattle.std.specs.Prelude.{◌≡◌};
+ghost use Rattle.scenario_text.specs.Line.{is_event};
 
-use crash_base::ComponentName;
-use std::marker::Model;
+use crash_base::{BoundedItems, ComponentName};
 
-/// Bytes that a line gives in hexadecimal, at most 4,000.
-#[derive(Debug, Drop)]
-pub struct HexBytes {
-    bytes: Vec<u8>,
-}
+/// The most bytes of a line, without its line feed.
+pub const MAX_LINE_BYTES: usize = 8192;
 
-impl Model for HexBytes {
-    ghost use Rattle.std.specs.Prelude.{ℕ, ◌≤◌, List, length};
+/// The most bytes that a line gives in hexadecimal, each by two digits.
+pub const MAX_HEX_BYTES: usize = 4000;
 
-    ghost Value = { List ℕ };
+/// The highest number of a caller. The lowest is 1.
+pub const MAX_CALLER: u64 = 65_535;
 
-    ghost view = { λ a. a.bytes.items };
-
-    ghost invariant = { λ a. length a.bytes.items ≤ 4000 };
-}
-
-impl HexBytes {
-    /// The bytes of a vector, which are not moved.
-    pub fn new(bytes: Vec<u8>) -> HexBytes
-        requires { length bytes.items ≤ 4000 }
-        ensures { result ≡ bytes.items }
-    {
-        HexBytes { bytes }
-    }
-
-    pub fn as_slice(&self) -> &[u8]
-        ensures value { result.now ≡ self.now }
-        ensures few { length self.now ≤ 4000 }
-    {
-        self.bytes.as_slice()
-    }
-}
+/// Bytes that a line gives in hexadecimal.
+pub type HexBytes = BoundedItems<u8, MAX_HEX_BYTES>;
 
 /// A line of a scenario, with what its words say, in their order. A caller `cN` is its number N.
-#[derive(Debug, Drop)]
+#[derive(Drop)]
 pub enum Line {
     /// An empty line or a comment.
     Pass,

@@ -1,7 +1,7 @@
 use Rattle.std.proofs.Common.{sym, map, arith, List, ℕ, Bor}
 use Rattle.std.proofs.lemmas.List.{length-map}
 use Rattle.scenario_text.proofs.Forms.{put_needs}
-use Rattle.scenario_text.proofs.reading.put.Goals as goal
+use Rattle.scenario_text.proofs.reading.put_line.Goals as goal
 
 pub returns-then-words-ne4 : goal.returns-then-words-ne4
 returns-then-words-ne4 c =

@@ -1,22 +1,18 @@
--- The lines of a scenario.
-use Rattle.std.specs.Prelude.{ℕ, Bool, nat_lt, ◌==◌, ◌&&◌, true, false, not, if◌then◌else◌, List, [], ◌∷◌, length, Option, Some, None, option_and_then, codes}
+-- Which line a text spells.
+use Rattle.std.specs.Prelude.{ℕ, Bool, nat_lt, ◌==◌, ◌&&◌, true, not, if◌then◌else◌, List, [], ◌∷◌, length, Option, Some, None, option_and_then, codes}
+use Rattle.std.specs.Char.{is_ascii}
+use Rattle.std.specs.Option.{option_map}
 use Rattle.std.specs.Str.{bytes_eq}
-use Rattle.std.specs.List.{list_all}
+use Rattle.std.specs.List.{list_all, slice_split}
+use Rattle.crash_base.specs.Names.{is_name}
+use Rattle.scenario_text.specs.declared.line.TheConstants.{MAX_LINE_BYTES}
 use Rattle.scenario_text.specs.declared.line.Line.{Line}
 use Rattle.scenario_text.specs.declared.line.Line.TheVariants.{Pass, Component, Owns, Begin, Enter, Put, Commit, Table}
-use Rattle.crash_base.specs.Names.{is_name}
-use Rattle.scenario_text.specs.Fields.{words_of, number_of, caller_of, hex_of}
+use Rattle.scenario_text.specs.Fields.{decimal_number, caller_number, hex_bytes}
 
--- whether a line is an event line: neither passed over nor part of the head
-abbrev pub is_event : Line → Bool
-is_event Pass = false
-is_event (Component name) = false
-is_event (Owns name table) = false
-is_event (Begin caller) = true
-is_event (Enter caller name) = true
-is_event (Put caller table key bytes) = true
-is_event (Commit caller) = true
-is_event Table = true
+-- the words of a line, between single spaces
+abbrev pub words_of : List ℕ → List (List ℕ)
+words_of text = slice_split (λ b. b == 32) text
 
 -- the line of component and these words: a name
 abbrev pub component_line : List (List ℕ) → Option Line
@@ -28,20 +24,22 @@ component_line (name ∷ more ∷ words) = None
 abbrev pub owns_line : List (List ℕ) → Option Line
 owns_line [] = None
 owns_line (name ∷ []) = None
-owns_line (name ∷ table ∷ []) = option_and_then (λ t. if is_name name then Some (Owns name t) else None) (number_of table)
+owns_line (name ∷ table ∷ []) =
+    option_and_then (λ t. if is_name name then Some (Owns name t) else None) (decimal_number table)
 owns_line (name ∷ table ∷ more ∷ words) = None
 
 -- of begin: a caller
 abbrev pub begin_line : List (List ℕ) → Option Line
 begin_line [] = None
-begin_line (caller ∷ []) = option_and_then (λ c. Some (Begin c)) (caller_of caller)
+begin_line (caller ∷ []) = option_map (λ c. Begin c) (caller_number caller)
 begin_line (caller ∷ more ∷ words) = None
 
 -- of enter: a caller and a name
 abbrev pub enter_line : List (List ℕ) → Option Line
 enter_line [] = None
 enter_line (caller ∷ []) = None
-enter_line (caller ∷ name ∷ []) = option_and_then (λ c. if is_name name then Some (Enter c name) else None) (caller_of caller)
+enter_line (caller ∷ name ∷ []) =
+    option_and_then (λ c. if is_name name then Some (Enter c name) else None) (caller_number caller)
 enter_line (caller ∷ name ∷ more ∷ words) = None
 
 -- of put: a caller, the numbers of a table and a key, and bytes
@@ -50,13 +48,16 @@ put_line [] = None
 put_line (caller ∷ []) = None
 put_line (caller ∷ table ∷ []) = None
 put_line (caller ∷ table ∷ key ∷ []) = None
-put_line (caller ∷ table ∷ key ∷ hex ∷ []) = option_and_then (λ c. option_and_then (λ t. option_and_then (λ k. option_and_then (λ bytes. Some (Put c t k bytes)) (hex_of hex)) (number_of key)) (number_of table)) (caller_of caller)
+put_line (caller ∷ table ∷ key ∷ hex ∷ []) =
+    option_and_then (λ c. option_and_then (λ t. option_and_then (λ k.
+    option_map (λ bytes. Put c t k bytes) (hex_bytes hex))
+    (decimal_number key)) (decimal_number table)) (caller_number caller)
 put_line (caller ∷ table ∷ key ∷ hex ∷ more ∷ words) = None
 
 -- of commit: a caller
 abbrev pub commit_line : List (List ℕ) → Option Line
 commit_line [] = None
-commit_line (caller ∷ []) = option_and_then (λ c. Some (Commit c)) (caller_of caller)
+commit_line (caller ∷ []) = option_map (λ c. Commit c) (caller_number caller)
 commit_line (caller ∷ more ∷ words) = None
 
 -- of table: no words
@@ -82,13 +83,15 @@ line_of_words (first ∷ words) = line_from first words
 
 -- ASCII, and no carriage return
 abbrev pub is_comment_byte : ℕ → Bool
-is_comment_byte b = nat_lt b 128 && not (b == 13)
+is_comment_byte b = is_ascii b && not (b == 13)
 
 -- an empty line, and a comment: # and such bytes
 abbrev pub passes : List ℕ → Bool
 passes [] = true
 passes (b ∷ bs) = b == 35 && list_all is_comment_byte bs
 
--- the line that a text of at most 8,192 bytes spells
+-- the line that a text spells, if it is not too long
 unfoldable pub line_of : List ℕ → Option Line
-line_of text = if nat_lt 8192 (length text) then None else (if passes text then Some Pass else line_of_words (words_of text))
+line_of text =
+    if nat_lt MAX_LINE_BYTES (length text) then None else (
+    if passes text then Some Pass else line_of_words (words_of text))

@@ -1,0 +1,15 @@
+-- Kinds of lines.
+use Rattle.std.specs.Prelude.{Bool, true, false}
+use Rattle.scenario_text.specs.declared.line.Line.{Line}
+use Rattle.scenario_text.specs.declared.line.Line.TheVariants.{Pass, Component, Owns, Begin, Enter, Put, Commit, Table}
+
+-- whether a line is an event line: neither passed over nor part of the head
+abbrev pub is_event : Line → Bool
+is_event Pass = false
+is_event (Component name) = false
+is_event (Owns name table) = false
+is_event (Begin caller) = true
+is_event (Enter caller name) = true
+is_event (Put caller table key bytes) = true
+is_event (Commit caller) = true
+is_event Table = true
