@@ -2,7 +2,7 @@
 use Rattle.std.proofs.Common.{◌≡◌, ℕ, suc, ◌+◌, ◌<◌, ◌≤◌, Bool, true, false, not, cond, ◌||◌, List, [], ◌∷◌, ◌++◌, length, set, Some, None, refl, ap, sym, ◌∙◌, arith}
 use Rattle.std.specs.List.{position_or_len, position}
 use Rattle.crash_base.specs.declared.rows.RowWrite.{RowWrite}
-use Rattle.crash_base.specs.Rows.{same_id}
+use Rattle.crash_base.specs.RowId.{same_id}
 use Rattle.crash_base.proofs.Positions.{position-some, position-none}
 use Rattle.journal_model.specs.Calls.{is_put, with_write}
 

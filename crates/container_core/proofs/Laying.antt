@@ -11,8 +11,8 @@ use Rattle.crash_base.proofs.Ordering.{put_all-append}
 -- one entry more was put
 pub entry_put : (es : List Entry) (i : ℕ) (e : Entry) (rows next : List RowWrite) → i < length es → e ≡ get_or es i e → next ≡ put_all (writes_of e) rows → put_all (flat_map writes_of (drop (i + 1) es)) next ≡ put_all (flat_map writes_of (drop i es)) rows
 entry_put es i e rows next within at made =
-    let front : drop i es ≡ e ∷ drop (i + 1) es = rw (add-one, drop-cons es i e within) (ap (λ x. x ∷ drop (suc i) es) (sym at)) in
-    ap (put_all (flat_map writes_of (drop (i + 1) es))) made ∙ sym (put_all-append (writes_of e) (flat_map writes_of (drop (i + 1) es)) rows) ∙ ap (λ xs. put_all (flat_map writes_of xs) rows) (sym front)
+    let split : drop i es ≡ e ∷ drop (i + 1) es = rw (add-one, drop-cons es i e within) (ap (λ x. x ∷ drop (suc i) es) (sym at)) in
+    ap (put_all (flat_map writes_of (drop (i + 1) es))) made ∙ sym (put_all-append (writes_of e) (flat_map writes_of (drop (i + 1) es)) rows) ∙ ap (λ xs. put_all (flat_map writes_of xs) rows) (sym split)
 
 -- the base is put first
 pub base_put : (base : List RowWrite) (es : List Entry) → rows_after base es ≡ put_all (flat_map writes_of es) (put_all base [])

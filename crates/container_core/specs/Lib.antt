@@ -1,4 +1,5 @@
 pub mod Journal
-pub mod Tickets
+pub mod Ticket
+pub mod Owners
 pub mod Refusals
 pub mod Container

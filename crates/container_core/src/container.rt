@@ -1,15 +1,19 @@
 //! Calls and commits over one journal.
 
-ghost use Rattle.std.specs.Prelude.{◌≡◌, ◌≢◌, ◌<◌, [], ◌∷◌, ◌++◌, length, true, false, Some, None, IfOk, IfErr, OnOk, OnErr};
+ghost use Rattle.std.specs.Prelude.{◌≡◌, ◌≢◌, ◌<◌, [], ◌∷◌, ◌++◌, length, true, IfOk, IfErr, OnOk, OnErr};
 ghost use Rattle.deployment.specs.Groups.{group_of};
 ghost use Rattle.journal_model.specs.declared.entry.Entry.TheVariants.{Commit};
-ghost use Rattle.journal_model.specs.Calls.{begun, entered, kept, entry_of};
+ghost use Rattle.journal_model.specs.Calls.{entry_of};
 ghost use Rattle.journal_model.specs.Fits.{Fits, IsWrite};
 ghost use Rattle.journal_model.specs.Legal.{IsLegal};
 ghost use Rattle.journal_model.specs.Rows.{rows_after};
+ghost use Rattle.container_core.specs.Container.{with_entry};
+ghost use Rattle.container_core.specs.Owners.{is_in_owner};
 ghost use Rattle.container_core.specs.Refusals.{CallAnswer, enter_refusal, put_refusal};
+ghost use Rattle.container_core.specs.Ticket.{ticket_begun, ticket_entered, ticket_kept};
 
 use crate::journal::Journal;
+use crate::limits::{MAX_FRAMES, MAX_STEPS};
 use crate::refusals::{CallRefusal, CommitRefusal, Refused};
 use crate::ticket::{Ticket, TicketParts};
 use crash_base::{
@@ -20,8 +24,8 @@ use journal_model::{ActionEntry, CommitEntry, Entry, Touch};
 use std::alloc::Global;
 use std::marker::Model;
 
-/// How a container was started: the number of its boot, the rows that stood before, and the deployment.
-#[derive(Debug, Drop)]
+/// How a container was started: the number of its boot, the rows from before it, and the deployment.
+#[derive(Drop)]
 pub struct Start {
     pub boot: u32,
     pub base: RowList,
@@ -29,7 +33,7 @@ pub struct Start {
 }
 
 /// Calls and commits over one journal.
-#[derive(Debug, Drop)]
+#[derive(Drop)]
 pub struct Container {
     start: Start,
     journal: Journal,
@@ -48,16 +52,17 @@ impl Model for Container {
 
 /// Opens a frame of a component of a group.
 fn open_frame(journal: &Journal, ticket: &mut Ticket, c: ComponentNo, group: GroupNo)
-    requires depth { length ticket.old.frames < 16 }
-    requires steps { ticket.old.steps < 128 }
-    ensures { ticket.new ≡ entered journal.now.entries group.0 c 0 ticket.old }
+    requires depth { length ticket.old.call.frames < MAX_FRAMES }
+    requires steps { ticket.old.call.steps < MAX_STEPS }
+    ensures { ticket.new ≡ ticket_entered journal.now.entries group.0 c ticket.old }
 {
-    let touch = if ticket.has_touched(group) {
+    let touch = if ticket.is_touched(group) {
         None
     } else {
         Some(Touch {
             group,
             generation: journal.generation(group),
+            front: Place(journal.len()),
         })
     };
     ticket.push_frame(c, 0, touch);
@@ -66,7 +71,10 @@ fn open_frame(journal: &Journal, ticket: &mut Ticket, c: ComponentNo, group: Gro
 impl Container {
     /// A container with an empty journal over no rows, at its first boot. It takes no memory.
     pub fn start(alloc: Global, deployment: Deployment) -> Container
-        ensures { result ≡ record { start = record { boot = 1; base = []; deployment = deployment }; entries = [] } }
+        ensures { result ≡ record {
+          start = record { boot = 1; base = []; deployment = deployment };
+          entries = [];
+        } }
     {
         Container {
             start: Start {
@@ -85,6 +93,7 @@ impl Container {
         self.start.boot
     }
 
+    /// What is deployed here.
     pub fn deployment(&self) -> &Deployment
         ensures { result.now ≡ self.now.start.deployment }
     {
@@ -99,31 +108,45 @@ impl Container {
         &self.journal
     }
 
-    /// The rows that stand, in order of id, each with its last write. For each write of the journal it
-    /// touches each row that stands.
+    /// The current rows, in order of id, each with its last write. For each write of the journal it visits
+    /// each row that is current then.
     pub fn rows(&self, alloc: Global) -> Result<LatestRows<'_>, OutOfMemory>
         ensures { IfOk result (λ rows. rows ≡ rows_after self.now.start.base self.now.entries) }
     {
         rows_in(alloc, self.start.base.as_slice(), self.journal.entries())
     }
 
-    /// A call that has done nothing yet. Its ticket takes room at once for all that a call may hold: 16 frames,
-    /// 128 groups, 64 reads and 16 writes.
+    /// A call that has done nothing yet. Its ticket takes room at once for all that a call may hold, as
+    /// `Ticket::new` says.
     pub fn begin(
         &self,
         alloc: Global,
         request: RequestNo,
         worker: WorkerNo,
     ) -> Result<Ticket, OutOfMemory>
-        ensures begun { IfOk result (λ ticket. ticket ≡ begun request worker (record { 0 = length self.now.entries })) }
-        ensures fits { IfOk result (λ ticket. Fits self.now.start.base self.now.entries ticket) }
+        ensures begun { IfOk result (λ ticket.
+            ticket ≡ ticket_begun request worker (record { 0 = length self.now.entries })) }
+        ensures fits { IfOk result (λ ticket.
+            Fits self.now.start.base self.now.entries ticket.call) }
     {
         Ticket::new(alloc, request, worker, Place(self.journal.len()))
     }
 
-    /// Enters a component: notes its group with its generation where that is new, and opens a frame. A
-    /// refused call leaves the ticket as it was. It touches each group that the call has entered, and each
-    /// entry of the journal where the group is new to it.
+    /// Whether the frame that was opened last is of the component that owns the table. It visits each
+    /// declared table up to that one.
+    pub fn is_in_owner(&self, ticket: &Ticket, table: u8) -> bool
+        ensures { result ≡ is_in_owner self.now.start.deployment ticket.now.call table }
+    {
+        match (ticket.top(), self.start.deployment.owner_of(table)) {
+            (Some(top), Some(owner)) => top.0 == owner.0,
+            _ => false,
+        }
+    }
+
+    /// Enters a component: opens a frame, and notes its group where that is new to the call, with its
+    /// generation and the length of the journal. A refused call leaves the ticket as it was. It takes no
+    /// memory, and visits each group that the call has entered, and each entry of the journal where the group
+    /// is new to it.
     pub fn enter(
         &mut self,
         ticket: &mut Ticket,
@@ -131,14 +154,17 @@ impl Container {
         _method: u8,
     ) -> Result<(), CallRefusal>
         requires component { c.0 < length self.old.start.deployment.components }
-        requires frames { ticket.old.frames ≡ [] }
-        ensures answer { CallAnswer (enter_refusal ticket.old) result }
-        ensures entered { OnOk result (ticket.new ≡ entered self.old.entries (group_of self.old.start.deployment c.0) c 0 ticket.old) }
+        requires frames { ticket.old.call.frames ≡ [] }
+        ensures answer { CallAnswer (enter_refusal ticket.old.call) result }
+        ensures entered { OnOk result (ticket.new ≡ ticket_entered self.old.entries
+            (group_of self.old.start.deployment c.0) c ticket.old) }
         ensures refused { OnErr result (ticket.new ≡ ticket.old) }
-        ensures fits { Fits self.old.start.base self.old.entries ticket.old → Fits self.old.start.base self.old.entries ticket.new }
+        ensures memory { IfErr result (λ e. e ≢ CallRefusal.OutOfMemory) }
+        ensures fits { Fits self.old.start.base self.old.entries ticket.old.call →
+            Fits self.old.start.base self.old.entries ticket.new.call }
         ensures same { self.new ≡ self.old }
     {
-        if ticket.steps() == 128 {
+        if ticket.steps() == MAX_STEPS {
             return Err(CallRefusal::Steps);
         }
         let group = self.start.deployment.group_of(c);
@@ -147,34 +173,45 @@ impl Container {
     }
 
     /// Puts a row, in place of an earlier put of that row. It is written when the call commits. A refused
-    /// call leaves the ticket as it was. It takes no memory, and touches each write of the call.
+    /// call leaves the ticket as it was. It takes no memory, and visits each write of the call.
+    ///
+    /// That the call is in the component that owns the table is its caller's duty, and `is_in_owner` tests
+    /// it: a call that has entered no component touches no group, so no reboot could revoke its entry.
     pub fn put(&mut self, ticket: &mut Ticket, write: RowWrite) -> Result<(), CallRefusal>
-        requires { IsWrite write }
-        ensures answer { CallAnswer (put_refusal ticket.old write.id) result }
-        ensures kept { OnOk result (ticket.new ≡ kept write ticket.old) }
+        requires write { IsWrite write }
+        requires owner { is_in_owner self.old.start.deployment ticket.old.call write.id.table
+            ≡ true }
+        ensures answer { CallAnswer (put_refusal ticket.old.call write.id) result }
+        ensures kept { OnOk result (ticket.new ≡ ticket_kept write ticket.old) }
         ensures refused { OnErr result (ticket.new ≡ ticket.old) }
         ensures memory { IfErr result (λ e. e ≢ CallRefusal.OutOfMemory) }
-        ensures fits { Fits self.old.start.base self.old.entries ticket.old → Fits self.old.start.base self.old.entries ticket.new }
+        ensures fits { Fits self.old.start.base self.old.entries ticket.old.call →
+            Fits self.old.start.base self.old.entries ticket.new.call }
         ensures same { self.new ≡ self.old }
     {
         match ticket.steps() {
-            128 => Err(CallRefusal::Steps),
+            MAX_STEPS => Err(CallRefusal::Steps),
             _ if ticket.is_full_for(write.id) => Err(CallRefusal::Writes),
             _ => {
-                ticket.add_put(write);
+                ticket.keep(write);
                 Ok(())
             }
         }
     }
 
     /// Commits a call, which ends: its entry joins the journal whole, at the place that is answered. A
-    /// refused commit leaves the container as it was. Nothing that the call holds is copied; the journal takes
-    /// room for one entry more, as `Journal::reserve` says.
+    /// refused commit leaves the container as it was. Nothing that the call holds is copied; the journal
+    /// takes room for one entry more, as `Journal::reserve` says.
     pub fn commit(&mut self, ticket: Ticket, action: Option<ActionEntry>) -> Result<Place, Refused>
-        requires { Fits self.old.start.base self.old.entries ticket }
+        requires { Fits self.old.start.base self.old.entries ticket.call }
         ensures place { IfOk result (λ place. place.0 ≡ length self.old.entries) }
-        ensures committed { OnOk result (self.new ≡ record self.old { entries = self.old.entries ++ Commit (entry_of ticket action) ∷ [] }) }
-        ensures refused { IfErr result (λ refused. refused ≡ record { request = ticket.request; marks = ticket.marks; cause = CommitRefusal.OutOfMemory }) }
+        ensures committed { OnOk result
+            (self.new ≡ with_entry self.old (Commit (entry_of ticket.call action))) }
+        ensures refused { IfErr result (λ refused. refused ≡ record {
+          request = ticket.call.request;
+          marks = ticket.call.marks;
+          cause = CommitRefusal.OutOfMemory;
+        }) }
         ensures same { OnErr result (self.new ≡ self.old) }
     {
         let request = ticket.request();

@@ -1,15 +1,16 @@
 //! The entries of one boot, in order.
 
-ghost use Rattle.std.specs.Prelude.{◌≡◌, ◌+◌, ◌<◌, ◌≤◌, [], ◌∷◌, ◌++◌, length, slice_get, option_copied, OnOk, OnErr};
-ghost use Rattle.journal_model.specs.Reboots.{generation, is_down_of as down_test};
+ghost use Rattle.std.specs.Prelude.{◌≡◌, ◌+◌, ◌<◌, ◌≤◌, [], ◌∷◌, ◌++◌, length, OnOk, OnErr};
+ghost use Rattle.journal_model.specs.Reboots.{generation, is_down_of};
 
 use crash_base::{GroupNo, OutOfMemory, Place};
 use journal_model::Entry;
 use std::alloc::Global;
 use std::marker::Model;
 
+/// Whether an entry is a Down whose scope holds the group.
 fn is_down_of(entry: &Entry, group: GroupNo) -> bool
-    ensures { result ≡ down_test group.0 entry.now }
+    ensures { result ≡ is_down_of group.0 entry.now }
 {
     match entry {
         Entry::Down(scope) => scope.holds(group),
@@ -33,7 +34,7 @@ fn generation_in(entries: &[Entry], group: GroupNo) -> u64
 }
 
 /// The entries of one boot, in order.
-#[derive(Debug, Drop)]
+#[derive(Drop)]
 pub struct Journal {
     entries: Vec<Entry>,
 }
@@ -44,7 +45,10 @@ impl Model for Journal {
 
     ghost Value = { JournalValue };
 
-    ghost view = { λ j. record { entries = j.entries.items; spare = vec_capacity j.entries - vec_len j.entries } };
+    ghost view = { λ j. record {
+      entries = j.entries.items;
+      spare = vec_capacity j.entries - vec_len j.entries;
+    } };
 }
 
 impl Journal {
@@ -72,21 +76,21 @@ impl Journal {
         self.entries.as_slice()
     }
 
-    /// How often the group was rebooted. It touches each entry.
+    /// How often the group was rebooted. It visits each entry.
     pub fn generation(&self, group: GroupNo) -> u64
         ensures { result ≡ generation self.now.entries group.0 }
     {
         generation_in(self.entries.as_slice(), group)
     }
 
-    /// Takes room for so many entries more, where it is not there yet. Memory may be refused only there, and
-    /// then the journal is as it was. To take room may move each entry; since the room then doubles at least,
-    /// an entry is moved a constant number of times on average.
+    /// Takes room for so many entries more, where it is not there yet. Memory may run out only there, and
+    /// then the journal is as it was. To take room may move each entry; since the room then doubles at
+    /// least, an entry is moved a constant number of times on average.
     pub fn reserve(&mut self, entries: u64) -> Result<(), OutOfMemory>
         ensures entries { self.new.entries ≡ self.old.entries }
         ensures room { OnOk result (entries ≤ self.new.spare) }
         ensures kept { self.old.spare ≤ self.new.spare }
-        ensures wanted { OnErr result (self.old.spare < entries) }
+        ensures needed { OnErr result (self.old.spare < entries) }
         ensures refused { OnErr result (self.new ≡ self.old) }
     {
         Ok(self.entries.reserve(entries as usize)?)

@@ -4,25 +4,25 @@ use crash_base::RequestNo;
 use journal_model::MarkList;
 
 /// Why a step of a call was refused, in the order in which the causes are looked at. The call is as before.
-#[derive(Clone, Copy, Debug, PartialEq, Eq)]
+#[derive(Clone, Copy, Debug)]
 pub enum CallRefusal {
-    /// The call has made 128 steps.
+    /// The call has made `MAX_STEPS` steps.
     Steps,
-    /// The call writes 16 rows, and this would be another one.
+    /// The call writes `MAX_WRITES` rows, and this would be another one.
     Writes,
-    /// Memory was wanted and refused.
+    /// The allocator had no memory.
     OutOfMemory,
 }
 
 /// Why a commit was refused.
-#[derive(Clone, Copy, Debug, PartialEq, Eq)]
+#[derive(Clone, Copy)]
 pub enum CommitRefusal {
-    /// Memory was wanted and refused.
+    /// The allocator had no memory.
     OutOfMemory,
 }
 
 /// A commit that was refused: which request made it, what it had read, and why.
-#[derive(Debug, Drop)]
+#[derive(Drop)]
 pub struct Refused {
     pub request: RequestNo,
     pub marks: MarkList,
