@@ -1,43 +1,65 @@
 -- What was written, and how a scenario ends, one line further on.
-use Rattle.std.proofs.Common.{◌≡◌, ℕ, ◌+◌, List, [], ◌∷◌, ◌++◌, Option, Some, None, refl, ap, sym, ◌∙◌, append_assoc, append-nil, subst, Global}
-use Rattle.std.specs.String.{string_bytes}
-use Rattle.std.specs.declared.string.String.{String}
-use Rattle.outside.specs.Told.{appended, IsFront}
-use Rattle.drive_engine.specs.Answers.{Answer, Done, Refused, answer_of}
+use Rattle.std.proofs.Common.{◌≡◌, ℕ, ◌+◌, List, [], ◌∷◌, ◌++◌, Option, ap, sym, ◌∙◌, append_assoc, append-nil, subst}
+use Rattle.outside.specs.Sink.{appended, AppendsPrefix}
+use Rattle.outside.proofs.Prefixes.{appended_more, prefix_more}
+use Rattle.drive_engine.specs.Answer.{Answer, Done, Refused}
+use Rattle.drive_engine.specs.declared.ending.Ending.{Ending}
+use Rattle.drive_engine.specs.declared.ending.Ending.TheVariants as endings
+use Rattle.drive_engine.specs.Drive.{EndsAtLine, Plays}
 use Rattle.drive_engine.specs.State.{State}
-use Rattle.drive_engine.specs.Transcript.{transcript, ending, line_answer, End, Stopped, StopsAt, IsLegalState}
+use Rattle.drive_engine.specs.Transcript.{transcript, transcript_of, end_from, end_of, line_answer, End, Stopped, StopsAt}
 
-pub appended_appended : (o : Option (List ℕ)) (xs ys : List ℕ) → appended (appended o xs) ys ≡ appended o (xs ++ ys)
-appended_appended None xs ys = refl
-appended_appended (Some zs) xs ys = ap Some (append_assoc zs xs ys)
+-- the transcript of lines whose first one is done
+pub transcript-done : (s t : State) (line text : List ℕ) (lines more : List (List ℕ)) → lines ≡ line ∷ more → line_answer s line ≡ Done t text → transcript s lines ≡ text ++ transcript t more
+transcript-done s t line text lines more is done =
+    ap (transcript s) is ∙ ap (λ (a : Answer State). elim a [ Refused ↦ [] | Done u w ↦ w ++ transcript u more ]) done
 
--- a front of the next text goes onto the front so far
-pub front_more : (o n m : Option (List ℕ)) (all front text rest : List ℕ) → n ≡ appended o front → all ≡ front ++ (text ++ rest) → IsFront n m text → IsFront o m all
-front_more o n m all front text rest w t (f, r, k, e) = (front ++ f, r ++ rest, k ∙ ap (λ x. appended x f) w ∙ appended_appended o front f, t ∙ ap (λ x. front ++ (x ++ rest)) e ∙ ap (λ x. front ++ x) (append_assoc f r rest) ∙ sym (append_assoc front f (r ++ rest)))
-
--- the line that is done, of these lines
-line_done : (s t : State) (line : List ℕ) (r : Option (String Global)) (text : String Global) → r ≡ Some text → answer_of r t ≡ line_answer s line → line_answer s line ≡ Done t (string_bytes text)
-line_done s t line r text e a = sym a ∙ ap (λ x. answer_of x t) e
-
-pub text_more : (s t : State) (line : List ℕ) (lines more : List (List ℕ)) (r : Option (String Global)) (text : String Global) → r ≡ Some text → lines ≡ line ∷ more → answer_of r t ≡ line_answer s line → transcript s lines ≡ string_bytes text ++ transcript t more
-text_more s t line lines more r text e l a = ap (transcript s) l ∙ ap (λ (x : Answer State). elim x [ Refused ↦ [] | Done u w ↦ w ++ transcript u more ]) (line_done s t line r text e a)
-
-pub end_more : (s t : State) (n : ℕ) (line : List ℕ) (lines more : List (List ℕ)) (r : Option (String Global)) (text : String Global) → r ≡ Some text → lines ≡ line ∷ more → answer_of r t ≡ line_answer s line → ending s n lines ≡ ending t (n + 1) more
-end_more s t n line lines more r text e l a = ap (ending s n) l ∙ ap (λ (x : Answer State). elim x [ Refused ↦ Stopped s n | Done u w ↦ ending u (n + 1) more ]) (line_done s t line r text e a)
+-- and their ending
+pub end_from-done : (s t : State) (n : ℕ) (line text : List ℕ) (lines more : List (List ℕ)) → lines ≡ line ∷ more → line_answer s line ≡ Done t text → end_from s n lines ≡ end_from t (n + 1) more
+end_from-done s t n line text lines more is done =
+    ap (end_from s n) is ∙ ap (λ (a : Answer State). elim a [ Refused ↦ Stopped s n | Done u w ↦ end_from u (n + 1) more ]) done
 
 -- the text of a line more was written
-pub written_more : (o n m : Option (List ℕ)) (all front text rest : List ℕ) → n ≡ appended o front → m ≡ appended n text → all ≡ front ++ (text ++ rest) → (f : List ℕ) × (m ≡ appended o f) × (all ≡ f ++ rest)
-written_more o n m all front text rest w k t = (front ++ text, k ∙ ap (λ x. appended x text) w ∙ appended_appended o front text, t ∙ sym (append_assoc front text rest))
+pub written_more : (o n m : Option (List ℕ)) (all before text rest : List ℕ) → n ≡ appended o before → m ≡ appended n text → all ≡ before ++ (text ++ rest) → (b : List ℕ) × (m ≡ appended o b) × (all ≡ b ++ rest)
+written_more o n m all before text rest so_far more is =
+    (before ++ text, more ∙ ap (λ x. appended x text) so_far ∙ appended_more o before text, is ∙ sym (append_assoc before text rest))
 
--- a line that is refused ends the transcript there
-line_refused : (s t : State) (line : List ℕ) (r : Option (String Global)) → r ≡ None → answer_of r t ≡ line_answer s line → line_answer s line ≡ Refused
-line_refused s t line r e a = sym a ∙ ap (λ x. answer_of x t) e
+-- the transcript of lines whose first one is refused is empty
+transcript-refused : (s : State) (line : List ℕ) (lines more : List (List ℕ)) → lines ≡ line ∷ more → line_answer s line ≡ Refused → transcript s lines ≡ []
+transcript-refused s line lines more is refused =
+    ap (transcript s) is ∙ ap (λ (a : Answer State). elim a [ Refused ↦ [] | Done u w ↦ w ++ transcript u more ]) refused
 
-pub stops_here : (before now : Option (List ℕ)) (s t : State) (n : ℕ) (line : List ℕ) (lines more : List (List ℕ)) (all : List ℕ) (end : End) (r : Option (String Global)) → r ≡ None → lines ≡ line ∷ more → answer_of r t ≡ line_answer s line → IsLegalState s → ending s n lines ≡ end → ((front : List ℕ) × (now ≡ appended before front) × (all ≡ front ++ transcript s lines)) → StopsAt end n × (now ≡ appended before all)
-stops_here before now s t n line lines more all end r e l a legal ends (front, written, is) =
-    let refused : line_answer s line ≡ Refused = line_refused s t line r e a in
-    let stopped : ending s n lines ≡ Stopped s n = ap (ending s n) l ∙ ap (λ (x : Answer State). elim x [ Refused ↦ Stopped s n | Done u w ↦ ending u (n + 1) more ]) refused in
-    let none : transcript s lines ≡ [] = ap (transcript s) l ∙ ap (λ (x : Answer State). elim x [ Refused ↦ [] | Done u w ↦ w ++ transcript u more ]) refused in
-    let P : End → Type 0 = λ x. StopsAt x n in
-    let whole : all ≡ front = is ∙ ap (λ x. front ++ x) none ∙ append-nil front in
-    (subst P (sym stopped ∙ ends) (refl, legal), written ∙ ap (appended before) (sym whole))
+-- and they end there
+end_from-refused : (s : State) (n : ℕ) (line : List ℕ) (lines more : List (List ℕ)) → lines ≡ line ∷ more → line_answer s line ≡ Refused → end_from s n lines ≡ Stopped s n
+end_from-refused s n line lines more is refused =
+    ap (end_from s n) is ∙ ap (λ (a : Answer State). elim a [ Refused ↦ Stopped s n | Done u w ↦ end_from u (n + 1) more ]) refused
+
+-- what was written by now is a prefix of the transcript
+prefix_so_far : (o n : Option (List ℕ)) (all before rest : List ℕ) → n ≡ appended o before → all ≡ before ++ rest → AppendsPrefix o n all
+prefix_so_far o n all before rest so_far is = (before, so_far, (rest, sym is))
+
+-- A scenario that ends at a line has played its text up to there.
+pub ends_here : (e : Ending) (number : ℕ) (s : State) (line : List ℕ) (lines more : List (List ℕ)) (o n m : Option (List ℕ)) (text : List ℕ)
+    → lines ≡ line ∷ more → end_from s number lines ≡ end_of text
+    → ((before : List ℕ) × (n ≡ appended o before) × (transcript_of text ≡ before ++ transcript s lines))
+    → EndsAtLine e number s line n m → Plays e text o m
+ends_here endings.Done number s line lines more o n m text is ends so_far h = absurd h
+ends_here endings.UnknownCommand number s line lines more o n m text is ends so_far h = absurd h
+ends_here (endings.LineRefused k) number s line lines more o n m text is ends so_far h =
+    let P : End → Type 0 = λ x. StopsAt x k in
+    let none = transcript-refused s line lines more is h.1 in
+    let whole : transcript_of text ≡ so_far.0 = so_far.2 ∙ ap (λ x. so_far.0 ++ x) none ∙ append-nil so_far.0 in
+    (subst P (sym (end_from-refused s number line lines more is h.1) ∙ ends) h.0, h.2 ∙ so_far.1 ∙ ap (appended o) (sym whole))
+ends_here endings.ReadFailed number s line lines more o n m text is ends so_far h = absurd h
+ends_here endings.WriteFailed number s line lines more o n m text is ends so_far (t, wrote, done, prefix) =
+    let next = transcript-done s t line wrote lines more is done in
+    let all : transcript_of text ≡ (so_far.0 ++ wrote) ++ transcript t more = so_far.2 ∙ ap (λ x. so_far.0 ++ x) next ∙ sym (append_assoc so_far.0 wrote (transcript t more)) in
+    longer o m (transcript_of text) (so_far.0 ++ wrote) (transcript t more) (prefix_more o n m so_far.0 wrote so_far.1 prefix) all
+  where
+    longer : (o m : Option (List ℕ)) (all some rest : List ℕ) → AppendsPrefix o m some → all ≡ some ++ rest → AppendsPrefix o m all
+    longer o m all some rest (w, is, (r, e)) whole = (w, is, (r ++ rest, sym (append_assoc w r rest) ∙ ap (λ x. x ++ rest) e ∙ sym whole))
+ends_here endings.DescriptorsTooLong number s line lines more o n m text is ends so_far h = absurd h
+ends_here endings.OutOfMemory number s line lines more o n m text is ends so_far h =
+    prefix_so_far o m (transcript_of text) so_far.0 (transcript s lines) (h ∙ so_far.1) so_far.2
+ends_here endings.DescriptorsRefused number s line lines more o n m text is ends so_far h = absurd h
+ends_here endings.ScenarioTooLong number s line lines more o n m text is ends so_far h = absurd h

@@ -1,14 +1,17 @@
--- The recovery groups that a descriptor text describes, and what is read and written until they are told.
-use Rattle.std.specs.Prelude.{◌≡◌, ◌≢◌, ℕ, suc, List, [], ◌∷◌, ◌++◌, Option, Ok, Err, codes}
+-- The recovery groups that a descriptor text describes, and what is read and written until a command ends.
+use Rattle.std.specs.Prelude.{Option, ◌≡◌, ◌≢◌, ℕ, suc, List, [], ◌∷◌, ◌++◌, Ok, Err, codes}
 use Rattle.std.specs.Fmt.{decimal}
-use Rattle.outside.specs.Told.{appended, IsFront}
+use Rattle.outside.specs.Sink.{appended, AppendsPrefix}
 use Rattle.deployment.specs.Groups.{group_of}
 use Rattle.deployment.specs.declared.parts.ComponentPart.{ComponentPart}
 use Rattle.deployment.specs.declared.parts.Parts.{Parts}
 use Rattle.descriptor_text.specs.Text.{IsAnswer}
 use Rattle.descriptor_text.specs.declared.refusals.TextRefusal.{TextRefusal}
 use Rattle.descriptor_text.specs.declared.refusals.TextRefusal.TheVariants as refusals
-use Rattle.drive_engine.specs.Inputs.{IsRead}
+use Rattle.drive_engine.specs.declared.ending.Ending.{Ending}
+use Rattle.drive_engine.specs.declared.ending.Ending.TheVariants as endings
+use Rattle.drive_engine.specs.declared.groups.TheConstants.{MAX_DESCRIPTOR_BYTES}
+use Rattle.drive_engine.specs.Exchange.{Exchange, IsRead, IsWritten, IsPartlyWritten}
 
 -- the line of a component: its name, a space, and the number of its group
 abbrev pub group_line : List ℕ → ℕ → List ℕ
@@ -17,7 +20,8 @@ group_line name group = name ++ codes " " ++ decimal group ++ codes "\n"
 -- the lines of components, the first of which has this number
 abbrev pub lines_from : Parts → ℕ → List ComponentPart → List ℕ
 lines_from parts c [] = []
-lines_from parts c (part ∷ rest) = group_line part.name (group_of parts c) ++ lines_from parts (suc c) rest
+lines_from parts c (part ∷ rest) =
+    group_line part.name (group_of parts c) ++ lines_from parts (suc c) rest
 
 -- One line for each component of a deployment, in order.
 abbrev pub groups_text : Parts → List ℕ
@@ -34,23 +38,49 @@ pub record IsRefused (text : List ℕ) : Type 0 where
   pub answer : IsAnswer text (Err cause)
 
 -- A descriptor text was read, and the lines of its deployment were written.
-pub record ListsGroups (left_before left_now written_before written_now : Option (List ℕ)) : Type 0 where
+pub record WritesGroups (x : Exchange) : Type 0 where
   pub text : List ℕ
-  pub read : IsRead 1048576 left_before left_now text
+  pub read : IsRead MAX_DESCRIPTOR_BYTES x text
   pub parts : Parts
   pub deployment : IsDeployment text parts
-  pub written : written_now ≡ appended written_before (groups_text parts)
+  pub written : IsWritten x (groups_text parts)
 
--- A descriptor text was read, and a front of the lines of its deployment was written.
-pub record BreaksGroupsOff (left_before left_now written_before written_now : Option (List ℕ)) : Type 0 where
+-- A descriptor text was read, and a prefix of the lines of its deployment was written.
+pub record WritesGroupsPrefix (x : Exchange) : Type 0 where
   pub text : List ℕ
-  pub read : IsRead 1048576 left_before left_now text
+  pub read : IsRead MAX_DESCRIPTOR_BYTES x text
   pub parts : Parts
   pub deployment : IsDeployment text parts
-  pub front : IsFront written_before written_now (groups_text parts)
+  pub prefix : IsPartlyWritten x (groups_text parts)
 
 -- A descriptor text was read that describes no deployment.
-pub record RefusesDescriptors (left_before left_now : Option (List ℕ)) : Type 0 where
+pub record RefusesDescriptors (x : Exchange) : Type 0 where
   pub text : List ℕ
-  pub read : IsRead 1048576 left_before left_now text
+  pub read : IsRead MAX_DESCRIPTOR_BYTES x text
   pub refused : IsRefused text
+
+-- The lines of a deployment of these parts were written up to this ending.
+abbrev pub WritesLines : Ending → Parts → Option (List ℕ) → Option (List ℕ) → Type 0
+WritesLines endings.Done parts before after = after ≡ appended before (groups_text parts)
+WritesLines endings.UnknownCommand parts before after = ⊥
+WritesLines (endings.LineRefused n) parts before after = ⊥
+WritesLines endings.ReadFailed parts before after = ⊥
+WritesLines endings.WriteFailed parts before after = AppendsPrefix before after (groups_text parts)
+WritesLines endings.DescriptorsTooLong parts before after = ⊥
+WritesLines endings.OutOfMemory parts before after = after ≡ before
+WritesLines endings.DescriptorsRefused parts before after = ⊥
+WritesLines endings.ScenarioTooLong parts before after = ⊥
+
+-- A descriptor text came to this ending: its deployment's lines were written so, or it describes none.
+abbrev pub ListsText : Ending → List ℕ → Option (List ℕ) → Option (List ℕ) → Type 0
+ListsText endings.Done text before after =
+    (parts : Parts) × IsDeployment text parts × (after ≡ appended before (groups_text parts))
+ListsText endings.UnknownCommand text before after = ⊥
+ListsText (endings.LineRefused n) text before after = ⊥
+ListsText endings.ReadFailed text before after = ⊥
+ListsText endings.WriteFailed text before after =
+    (parts : Parts) × IsDeployment text parts × AppendsPrefix before after (groups_text parts)
+ListsText endings.DescriptorsTooLong text before after = ⊥
+ListsText endings.OutOfMemory text before after = after ≡ before
+ListsText endings.DescriptorsRefused text before after = IsRefused text
+ListsText endings.ScenarioTooLong text before after = ⊥

@@ -2,106 +2,104 @@
 
 ghost use Rattle.std.specs.Prelude.{◌≡◌, IfOk};
 ghost use Rattle.journal_model.specs.Fits.{Fits};
-ghost use Rattle.drive_engine.specs.Answers.{answer_of};
-ghost use Rattle.drive_engine.specs.CallLines.{call_line, enter_step, put_step, is_owned};
+ghost use Rattle.drive_engine.specs.Answer.{answer_of};
+ghost use Rattle.drive_engine.specs.CallLines.{call_line, enter_step, put_step};
 
-use crate::texts;
+use crate::answer::LineAnswer;
+use crate::tables::table_of;
+use crate::texts::refusal_text;
 use container_core::{Container, Ticket};
 use crash_base::{ComponentName, OutOfMemory, RowBytes, RowId, RowWrite};
 use scenario_text::HexBytes;
 use std::alloc::Global;
 
 /// What a line does to its caller's call.
-#[derive(Debug, Drop)]
+#[derive(Drop)]
 pub enum CallLine {
+    /// Enters a component.
     Enter(ComponentName),
+    /// Puts a row, by the number of its table, its key and its bytes.
     Put(u64, u64, HexBytes),
 }
 
 /// Enters a component.
 #[tactic(auto, unfolding(crate::specs::CallLines::enter_step))]
-fn enter(
+fn enter_step(
     alloc: Global,
     container: &mut Container,
     ticket: &mut Ticket,
     caller: u64,
     name: ComponentName,
-) -> Result<Option<String>, OutOfMemory>
-    ensures answer { IfOk result (λ r. answer_of r ticket.new ≡ enter_step container.old caller ticket.old name) }
-    ensures fits { Fits container.old.start.base container.old.entries ticket.old → Fits container.old.start.base container.old.entries ticket.new }
+) -> Result<LineAnswer, OutOfMemory>
+    ensures answer { IfOk result (λ a.
+        answer_of a ticket.new ≡ enter_step container.old caller ticket.old name) }
+    ensures fits { Fits container.old.start.base container.old.entries ticket.old.call
+        → Fits container.old.start.base container.old.entries ticket.new.call }
     ensures same { container.new ≡ container.old }
 {
     let Some(c) = container.deployment().named(name.as_slice()) else {
-        return Ok(None);
+        return Ok(LineAnswer::Refused);
     };
     if ticket.depth() > 0 {
-        return Ok(None);
+        return Ok(LineAnswer::Refused);
     }
     match container.enter(ticket, c, 0) {
-        Ok(()) => Ok(Some(String::new(alloc))),
-        Err(refusal) => Ok(Some(texts::refused(alloc, caller, refusal)?)),
-    }
-}
-
-/// Whether the frame that was opened last is of the table's owner.
-fn owns(container: &Container, ticket: &Ticket, table: u8) -> bool
-    ensures { result ≡ is_owned container.now.start.deployment ticket.now table }
-{
-    match (ticket.top(), container.deployment().owner_of(table)) {
-        (Some(top), Some(owner)) => top.0 == owner.0,
-        _ => false,
+        Ok(()) => Ok(LineAnswer::Done),
+        Err(refusal) => Ok(LineAnswer::Wrote(refusal_text(alloc, caller, refusal)?)),
     }
 }
 
 /// Puts a row.
 #[tactic(auto, unfolding(crate::specs::CallLines::put_step))]
-fn put(
+fn put_step(
     alloc: Global,
     container: &mut Container,
     ticket: &mut Ticket,
     caller: u64,
-    table: u64,
+    number: u64,
     key: u64,
     bytes: HexBytes,
-) -> Result<Option<String>, OutOfMemory>
-    ensures answer { IfOk result (λ r. answer_of r ticket.new ≡ put_step container.old caller ticket.old table key bytes) }
-    ensures fits { Fits container.old.start.base container.old.entries ticket.old → Fits container.old.start.base container.old.entries ticket.new }
+) -> Result<LineAnswer, OutOfMemory>
+    ensures answer { IfOk result (λ a.
+        answer_of a ticket.new ≡ put_step container.old caller ticket.old number key bytes) }
+    ensures fits { Fits container.old.start.base container.old.entries ticket.old.call
+        → Fits container.old.start.base container.old.entries ticket.new.call }
     ensures same { container.new ≡ container.old }
 {
-    if table < 1 || table > 255 {
-        return Ok(None);
+    let Some(table) = table_of(number) else {
+        return Ok(LineAnswer::Refused);
+    };
+    if !container.is_in_owner(ticket, table) {
+        return Ok(LineAnswer::Refused);
     }
-    let table = table as u8;
-    if !owns(container, ticket, table) {
-        return Ok(None);
-    }
-    let bytes = RowBytes::copied(alloc, bytes.as_slice())?;
     let write = RowWrite {
         id: RowId { table, key },
-        bytes,
+        bytes: RowBytes::from_vec(bytes.into_vec()),
     };
     match container.put(ticket, write) {
-        Ok(()) => Ok(Some(String::new(alloc))),
-        Err(refusal) => Ok(Some(texts::refused(alloc, caller, refusal)?)),
+        Ok(()) => Ok(LineAnswer::Done),
+        Err(refusal) => Ok(LineAnswer::Wrote(refusal_text(alloc, caller, refusal)?)),
     }
 }
 
-/// A line of one call.
-pub fn line(
+/// A line of one live call.
+pub fn call_line(
     alloc: Global,
     container: &mut Container,
     ticket: &mut Ticket,
     caller: u64,
     line: CallLine,
-) -> Result<Option<String>, OutOfMemory>
-    ensures answer { IfOk result (λ r. answer_of r ticket.new ≡ call_line container.old caller ticket.old line) }
-    ensures fits { Fits container.old.start.base container.old.entries ticket.old → Fits container.old.start.base container.old.entries ticket.new }
+) -> Result<LineAnswer, OutOfMemory>
+    ensures answer { IfOk result (λ a.
+        answer_of a ticket.new ≡ call_line container.old caller ticket.old line) }
+    ensures fits { Fits container.old.start.base container.old.entries ticket.old.call
+        → Fits container.old.start.base container.old.entries ticket.new.call }
     ensures same { container.new ≡ container.old }
 {
     match line {
-        CallLine::Enter(name) => enter(alloc, container, ticket, caller, name),
-        CallLine::Put(table, key, bytes) => {
-            put(alloc, container, ticket, caller, table, key, bytes)
+        CallLine::Enter(name) => enter_step(alloc, container, ticket, caller, name),
+        CallLine::Put(number, key, bytes) => {
+            put_step(alloc, container, ticket, caller, number, key, bytes)
         }
     }
 }

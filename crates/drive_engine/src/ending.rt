@@ -1,19 +1,64 @@
 //! How a command ends.
 
+ghost use Rattle.std.specs.Prelude.{◌≡◌};
+ghost use Rattle.drive_engine.specs.Ending.{status, fixed_report};
+
+use crate::words::USAGE;
+
 /// How a command ended.
-#[derive(Clone, Copy, Debug, PartialEq, Eq)]
+#[derive(Clone, Copy)]
 pub enum Ending {
     /// All of its input was done.
     Done,
+    /// The words spell no command.
+    UnknownCommand,
     /// The line of this number was refused.
-    Refused(u64),
+    LineRefused(u64),
+    /// The input failed.
     ReadFailed,
+    /// The output failed.
     WriteFailed,
     /// The descriptor text has more bytes than one may have.
     DescriptorsTooLong,
+    /// Memory ran out.
+    OutOfMemory,
     /// The descriptor text describes no deployment.
     DescriptorsRefused,
-    OutOfMemory,
     /// The scenario has more bytes than one may have.
-    TooLong,
+    ScenarioTooLong,
+}
+
+impl Ending {
+    /// The exit status.
+    pub(crate) fn status(self) -> u8
+        ensures { result ≡ status self }
+    {
+        match self {
+            Ending::Done => 0,
+            Ending::UnknownCommand => 2,
+            Ending::LineRefused(_) => 3,
+            Ending::ReadFailed => 4,
+            Ending::WriteFailed => 5,
+            Ending::DescriptorsTooLong => 8,
+            Ending::OutOfMemory => 9,
+            Ending::DescriptorsRefused => 10,
+            Ending::ScenarioTooLong => 12,
+        }
+    }
+
+    /// What is reported of an ending without a number, as one line.
+    pub(crate) fn fixed_report(self) -> &'static str
+        ensures { result.now ≡ fixed_report self }
+    {
+        match self {
+            Ending::Done | Ending::LineRefused(_) => "",
+            Ending::UnknownCommand => USAGE,
+            Ending::ReadFailed => "read failed\n",
+            Ending::WriteFailed => "write failed\n",
+            Ending::DescriptorsTooLong => "line 1 too long\n",
+            Ending::OutOfMemory => "out of memory\n",
+            Ending::DescriptorsRefused => "descriptors refused\n",
+            Ending::ScenarioTooLong => "input too long\n",
+        }
+    }
 }

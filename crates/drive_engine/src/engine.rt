@@ -1,11 +1,13 @@
 //! One scenario, line by line.
 
-ghost use Rattle.std.specs.Prelude.{◌≡◌, IfOk, OnOk};
-ghost use Rattle.drive_engine.specs.Answers.{answer_of};
-ghost use Rattle.drive_engine.specs.State.{Heading, no_parts};
-ghost use Rattle.drive_engine.specs.Transcript.{running, stage_line, step, IsLegalState};
+ghost use Rattle.std.specs.Prelude.{◌≡◌, IfOk};
+ghost use Rattle.drive_engine.specs.Answer.{answer_of};
+ghost use Rattle.drive_engine.specs.Engine.{running, stage_line, step};
+ghost use Rattle.drive_engine.specs.Head.{no_parts};
+ghost use Rattle.drive_engine.specs.State.{Heading};
 
-use crate::head;
+use crate::answer::LineAnswer;
+use crate::head::head_line;
 use crate::running::Running;
 use crash_base::OutOfMemory;
 use deployment::Parts;
@@ -15,20 +17,20 @@ use std::marker::Model;
 use std::mem;
 
 /// Parts that head lines build, or a container and its callers.
-#[derive(Debug, Drop)]
+#[derive(Drop)]
 enum Stage {
     Head(Parts),
     Run(Running),
 }
 
 /// One scenario.
-#[derive(Debug, Drop)]
+#[derive(Drop)]
 pub struct Engine {
     stage: Stage,
 }
 
 impl Model for Engine {
-    ghost use Rattle.drive_engine.specs.Stages.{state_of, IsAccepted};
+    ghost use Rattle.drive_engine.specs.Engine.{state_of, IsAccepted};
     ghost use Rattle.drive_engine.specs.State.{State};
 
     ghost Value = { State };
@@ -39,6 +41,7 @@ impl Model for Engine {
 }
 
 impl Engine {
+    /// A scenario before its first line. It takes no memory.
     pub fn new(alloc: Global) -> Engine
         ensures { result ≡ Heading no_parts }
     {
@@ -51,42 +54,30 @@ impl Engine {
     fn start(&mut self, alloc: Global)
         ensures { self.new ≡ running self.old }
     {
-        let stage = mem::replace(&mut self.stage, Stage::Head(Parts::new(alloc)));
-        self.stage = match stage {
-            Stage::Head(parts) => Stage::Run(Running::start(alloc, parts)),
-            Stage::Run(running) => Stage::Run(running),
-        };
-    }
-
-    /// Hands out that the journal is legal.
-    fn is_legal(&self)
-        ensures { IsLegalState self.now }
-    {
-        if let Stage::Run(running) = &self.stage {
-            running.is_legal();
+        if let Stage::Head(parts) = &mut self.stage {
+            let parts = mem::replace(parts, Parts::new(alloc));
+            self.stage = Stage::Run(Running::start(alloc, parts));
         }
     }
 
     /// Does one line in the present stage.
-    fn line(&mut self, alloc: Global, line: Line) -> Result<Option<String>, OutOfMemory>
-        ensures { IfOk result (λ r. answer_of r self.new ≡ stage_line self.old line) }
+    fn stage_line(&mut self, alloc: Global, line: Line) -> Result<LineAnswer, OutOfMemory>
+        ensures { IfOk result (λ a. answer_of a self.new ≡ stage_line self.old line) }
     {
         match &mut self.stage {
-            Stage::Head(parts) => head::line(alloc, parts, line),
-            Stage::Run(running) => running.line(alloc, line),
+            Stage::Head(parts) => head_line(alloc, parts, line),
+            Stage::Run(running) => running.event_line(alloc, line),
         }
     }
 
-    /// Does one line. It answers what the line writes, or None where the state refuses it.
-    pub fn step(&mut self, alloc: Global, line: Line) -> Result<Option<String>, OutOfMemory>
-        ensures answer { IfOk result (λ r. answer_of r self.new ≡ step self.old line) }
-        ensures legal { OnOk result (IsLegalState self.new) }
+    /// Does one line. The first event line starts the container, also where it is then refused.
+    pub fn step(&mut self, alloc: Global, line: Line) -> Result<LineAnswer, OutOfMemory>
+        ensures { IfOk result (λ a. answer_of a self.new ≡ step self.old line) }
     {
         if line.is_event() {
             self.start(alloc);
         }
-        let answer = self.line(alloc, line)?;
-        self.is_legal();
+        let answer = self.stage_line(alloc, line)?;
         Ok(answer)
     }
 }

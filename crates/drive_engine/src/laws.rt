@@ -1,16 +1,36 @@
-//! Laws of commands. Each is the contract of a function that does nothing: a caller that needs the law calls the
-//! function.
+//! Laws of commands. Each is the contract of a function that does nothing: a caller that needs the
+//! law calls the function.
 
 ghost use Rattle.std.specs.Prelude.{◌≡◌, ℕ, List};
 ghost use Rattle.drive_engine.specs.declared.words.Command.{Command};
 ghost use Rattle.drive_engine.specs.Command.{CallsFor};
+ghost use Rattle.drive_engine.specs.Engine.{IsLegalState};
+ghost use Rattle.drive_engine.specs.Transcript.{end_of, last_state};
 
-use descriptor_text::texts_have_one_answer;
+use descriptor_text::{texts_have_an_answer, texts_have_one_answer};
+use journal_model::{fits_until_commit, grows_legally};
 
-/// A text calls for one status. So the status that a run ends with, where no count of faults rises and memory is
-/// not wanted, comes exactly where its text calls for it.
+/// Whatever the text, the journal is legal in the state that its lines leave, also where they stop
+/// at a refused line.
+pub fn journals_are_legal()
+    ensures { (text : List ℕ) → IsLegalState (last_state (end_of text)) }
+{
+    grows_legally();
+    fits_until_commit();
+}
+
+/// A text calls for a status. So each text has one of the ends that the status's clauses describe.
+pub fn texts_call_for_a_status()
+    ensures { (command : Command) (text : List ℕ) → (status : ℕ) × CallsFor command text status }
+{
+    texts_have_an_answer();
+}
+
+/// A text calls for one status at most. So the status that a run ends with, where no count of faults
+/// rises and memory does not run out, comes exactly where its text calls for it.
 pub fn texts_call_for_one_status()
-    ensures { (command : Command) (text : List ℕ) (a b : ℕ) → CallsFor command text a → CallsFor command text b → a ≡ b }
+    ensures { (command : Command) (text : List ℕ) (a b : ℕ)
+        → CallsFor command text a → CallsFor command text b → a ≡ b }
 {
     texts_have_one_answer();
 }

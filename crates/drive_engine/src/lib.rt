@@ -2,21 +2,23 @@
 //!
 //! `run_command` is the program without its outside. For `drive` it reads a scenario to its end, does its lines
 //! one by one over a container, and writes what they write. What it writes is defined in `specs/Transcript`, as a
-//! function of the text alone: `transcript_of`, and `ending_of` for how the scenario ends. The engine is
-//! proved to do each line exactly so, and hands out that the journal is legal when it ends. For `groups` it reads
-//! a descriptor text to its end, and writes the lines of its deployment, `groups_text` of `specs/Groups`.
+//! function of the text alone: `transcript_of`, and `end_of` for how the scenario ends. The engine is
+//! proved to do each line exactly so. For `groups` it reads a descriptor text to its end, and writes the lines of
+//! its deployment, `groups_text` of `specs/Groups`.
 //!
 //! ```text
 //! let (status, keeper) = run_command(alloc, words, &mut input, &mut out, &mut errors, keeper);
 //! ```
 //!
-//! Which status a text calls for is `CallsFor` of `specs/Command`; the law `texts_call_for_one_status` says that
-//! it is one.
+//! Which status a text calls for is `CallsFor` of `specs/Command`; the laws `texts_call_for_a_status` and
+//! `texts_call_for_one_status` say that there is exactly one. The law `journals_are_legal` says that the journal
+//! of a scenario is legal, however the scenario ends.
 //!
-//! A line costs the text that it writes, and for `table` what the container's rows cost. A component's group costs
-//! its name.
+//! A line visits its bytes and those that it writes, each caller that has begun, and what its call of
+//! the container visits. `groups` visits each byte of its text and of its lines.
 #![tactic(auto)]
 
+mod answer;
 mod call_lines;
 mod callers;
 mod command;
@@ -27,9 +29,13 @@ mod groups;
 mod head;
 mod laws;
 mod running;
+mod tables;
 mod texts;
 mod words;
 
 pub use command::run_command;
-pub use laws::texts_call_for_one_status;
-pub use words::Command;
+pub use drive::MAX_SCENARIO_BYTES;
+pub use ending::Ending;
+pub use groups::MAX_DESCRIPTOR_BYTES;
+pub use laws::{journals_are_legal, texts_call_for_a_status, texts_call_for_one_status};
+pub use words::{Command, USAGE};

@@ -4,13 +4,13 @@ ghost use Rattle.std.specs.Prelude.{◌≡◌, ◌≢◌, ◌++◌, map, OnOk, I
 ghost use Rattle.drive_engine.specs.Texts.{committed_text, refusal_text, row_text, shown, table_text};
 
 use container_core::CallRefusal;
-use crash_base::{OutOfMemory, RowWrite};
+use crash_base::{OutOfMemory, RowWrite, SERVICE_TABLE};
 use scenario_text::write_hex;
 use std::alloc::Global;
 use std::fmt::Write;
 
 /// What a commit writes.
-pub fn committed(alloc: Global, caller: u64, place: u64) -> Result<String, OutOfMemory>
+pub fn committed_text(alloc: Global, caller: u64, place: u64) -> Result<String, OutOfMemory>
     ensures { IfOk result (λ text. string_bytes text ≡ committed_text caller place) }
 {
     let mut text = String::new(alloc);
@@ -19,7 +19,7 @@ pub fn committed(alloc: Global, caller: u64, place: u64) -> Result<String, OutOf
 }
 
 /// What a refused step of a call writes.
-pub fn refused(alloc: Global, caller: u64, refusal: CallRefusal) -> Result<String, OutOfMemory>
+pub fn refusal_text(alloc: Global, caller: u64, refusal: CallRefusal) -> Result<String, OutOfMemory>
     ensures text { IfOk result (λ text. string_bytes text ≡ refusal_text caller refusal) }
     ensures memory { OnOk result (refusal ≢ CallRefusal.OutOfMemory) }
 {
@@ -32,6 +32,7 @@ pub fn refused(alloc: Global, caller: u64, refusal: CallRefusal) -> Result<Strin
     Ok(text)
 }
 
+/// Writes the line of a row.
 fn write_row(text: &mut String, row: &RowWrite) -> Result<(), OutOfMemory>
     ensures { OnOk result (string_bytes text.new ≡ string_bytes text.old ++ row_text row.now) }
 {
@@ -43,22 +44,23 @@ fn write_row(text: &mut String, row: &RowWrite) -> Result<(), OutOfMemory>
     Ok(())
 }
 
-fn show(text: &mut String, row: &RowWrite) -> Result<(), OutOfMemory>
+/// Writes the line of a row, and nothing for a row of the service's own table.
+fn write_shown(text: &mut String, row: &RowWrite) -> Result<(), OutOfMemory>
     ensures { OnOk result (string_bytes text.new ≡ string_bytes text.old ++ shown row.now) }
 {
-    if row.id.table != 0 {
+    if row.id.table != SERVICE_TABLE {
         write_row(text, row)?;
     }
     Ok(())
 }
 
 /// The lines of rows.
-pub fn table(alloc: Global, rows: &[&RowWrite]) -> Result<String, OutOfMemory>
+pub fn table_text(alloc: Global, rows: &[&RowWrite]) -> Result<String, OutOfMemory>
     ensures { IfOk result (λ text. string_bytes text ≡ table_text (map (λ r. r.now) rows.now)) }
 {
     let mut text = String::new(alloc);
     for row in rows {
-        show(&mut text, row)?;
+        write_shown(&mut text, row)?;
     }
     Ok(text)
 }

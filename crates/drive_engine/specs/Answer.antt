@@ -1,17 +1,19 @@
 -- What a line of a scenario answers.
-use Rattle.std.specs.Prelude.{ℕ, Bool, true, false, List, Option, Some, None, slice_get, slice_set, string_bytes}
-use Rattle.std.specs.declared.string.String.{String}
-use Rattle.std.proofs.Common.{Global}
+use Rattle.std.specs.Prelude.{ℕ, Bool, true, false, List, [], Option, Some, None, slice_get, slice_set, string_bytes}
+use Rattle.drive_engine.specs.declared.answer.LineAnswer.{LineAnswer}
+use Rattle.drive_engine.specs.declared.answer.LineAnswer.TheVariants as answers
 
 -- A line is refused, or is done: the state that it leaves, and what it writes.
 pub data Answer (S : Type 0) : Type 0 where
   Refused : Answer S
   Done : (state : S) (text : List ℕ) → Answer S
 
+-- refused where the test holds
 abbrev pub refused_if : {S : Type 0} → Bool → Answer S → Answer S
 refused_if true answer = Refused
 refused_if false answer = answer
 
+-- refused where there is nothing to go on with
 abbrev pub or_refused : {A S : Type 0} → Option A → (A → Answer S) → Answer S
 or_refused None f = Refused
 or_refused (Some a) f = f a
@@ -23,9 +25,12 @@ within whole (Done part text) = Done (whole part) text
 
 -- the answer of the item at a place, as an answer of the list
 abbrev pub at_place : {A : Type 0} → List A → Option ℕ → (A → Answer A) → Answer (List A)
-at_place items place f = or_refused place (λ i. or_refused (slice_get items i) (λ item. within (slice_set items i) (f item)))
+at_place items place f =
+    or_refused place (λ i.
+    or_refused (slice_get items i) (λ item. within (slice_set items i) (f item)))
 
--- What the code answers: the text of a line that is done, with the state that it leaves, or None.
-abbrev pub answer_of : {S : Type 0} → Option (String Global) → S → Answer S
-answer_of None s = Refused
-answer_of (Some text) s = Done s (string_bytes text)
+-- what the code answers, with the state that it leaves
+abbrev pub answer_of : {S : Type 0} → LineAnswer → S → Answer S
+answer_of answers.Refused s = Refused
+answer_of answers.Done s = Done s []
+answer_of (answers.Wrote text) s = Done s (string_bytes text)

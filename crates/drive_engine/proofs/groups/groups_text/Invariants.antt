@@ -1,6 +1,6 @@
 use Rattle.std.proofs.Common.{◌≡◌, ◌++◌, drop}
 use Rattle.drive_engine.specs.Groups.{lines_from, groups_text}
-use Rattle.drive_engine.proofs.groups.lines_of.Given as goal
+use Rattle.drive_engine.proofs.groups.groups_text.Given as goal
 
 abbrev pub invariant-loop-part : goal.invariant-loop-part
 invariant-loop-part l = record {
