@@ -7,44 +7,45 @@
 mod words;
 
 use crash_base::{RowList, WordText};
-use drive_engine::run_command;
-use outside::{InputSource, OutputSink, SureKeeper, write_all};
-use std::io::Write;
+use drive_engine::{USAGE, run_command};
+use outside::{Failed, InputSource, OutputSink, Sink, SureKeeper, write_all};
 use std::process::ExitCode;
-use words::Request;
+use words::Invocation;
 
-/// What `--help` writes: the usage line, and a line for each word that there is.
+/// What `--help` writes after the usage line: a line for each word.
 const HELP: &str =
-    "usage: crash drive | groups | workload NUMBER COUNT | serve PORT FILE KEYFILE WORKERS\n\
-drive: reads a scenario from standard input and writes its transcript to standard output\n\
-groups: reads descriptors in TOML from standard input and writes each component with its recovery group\n";
+    "drive: reads a scenario from standard input and writes its transcript to standard output\n\
+groups: reads descriptors in TOML from standard input and writes each component with its recovery group\n\
+workload, serve: not built yet\n";
 
 /// What `--version` writes.
 const VERSION: &str = "crash 0.1.0\n";
 
-/// Writes a text, and answers the status of that.
-fn answer<T: Write + Drop, E: Write + Drop>(
-    out: &mut OutputSink<T>,
-    errors: &mut OutputSink<E>,
-    text: &str,
-) -> u8 {
-    match write_all(out, text.as_bytes()) {
-        Ok(()) => 0,
-        Err(_) => {
-            let _ = write_all(errors, b"write failed\n");
-            5
-        }
+/// Writes texts one after another.
+fn write_texts<T: Sink>(out: &mut T, texts: &[&str]) -> Result<(), Failed> {
+    for text in texts {
+        write_all(out, text.as_bytes())?;
     }
+    Ok(())
+}
+
+/// Writes texts, and answers the status of that.
+fn answer<T: Sink, E: Sink>(out: &mut T, errors: &mut E, texts: &[&str]) -> u8 {
+    if write_texts(out, texts).is_err() {
+        let _ = write_all(errors, b"write failed\n");
+        return 5;
+    }
+    0
 }
 
 /// Runs what the words ask for, and answers the status.
 fn run(rt: &HostRuntime, words: &[WordText]) -> u8 {
     let mut out = OutputSink::new(rt.stdout());
     let mut errors = OutputSink::new(rt.stderr());
-    match words::request_of(words) {
-        Request::Help => answer(&mut out, &mut errors, HELP),
-        Request::Version => answer(&mut out, &mut errors, VERSION),
-        Request::Command => {
+    match words::invocation_of(words) {
+        Invocation::Help => answer(&mut out, &mut errors, &[USAGE, HELP]),
+        Invocation::Version => answer(&mut out, &mut errors, &[VERSION]),
+        Invocation::Command => {
             let alloc = rt.alloc();
             let mut input = InputSource::new(rt.stdin());
             let keeper = SureKeeper::new(RowList::new(alloc));
