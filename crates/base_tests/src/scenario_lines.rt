@@ -1,0 +1,267 @@
+//! Lines that are read, and lines that are not.
+
+use crate::words::{
+    add_bytes, add_number, add_text, add_word, bytes, cut, expect_bytes, expect_words, number,
+};
+use scenario_text::{HexBytes, Line, cut_line, read_line, write_hex};
+use std::alloc::Global;
+use std::process::Abort;
+
+/// Adds the word of a line's form, and a caller, a table or a key.
+fn add_numbered(rt: &impl Abort, words: &mut String, form: &str, number: u64) {
+    add_word(rt, words, form);
+    add_number(rt, words, number);
+}
+
+/// Adds the word of a line's form, and a component.
+fn add_named(rt: &impl Abort, words: &mut String, form: &str, name: &[u8]) {
+    add_word(rt, words, form);
+    add_text(rt, words, " ", name);
+}
+
+/// Adds a line: `event` where it is one, its form, and what its words say.
+fn add_line(rt: &impl Abort, words: &mut String, line: &Line) {
+    if line.is_event() {
+        add_word(rt, words, "event");
+    }
+    match line {
+        Line::Pass => add_word(rt, words, "pass"),
+        Line::Component(name) => add_named(rt, words, "component", name.as_slice()),
+        Line::Owns(name, table) => {
+            add_named(rt, words, "owns", name.as_slice());
+            add_number(rt, words, *table);
+        }
+        Line::Begin(caller) => add_numbered(rt, words, "begin", *caller),
+        Line::Enter(caller, name) => {
+            add_numbered(rt, words, "enter", *caller);
+            add_text(rt, words, " ", name.as_slice());
+        }
+        Line::Put(caller, table, key, bytes) => {
+            add_numbered(rt, words, "put", *caller);
+            add_number(rt, words, *table);
+            add_number(rt, words, *key);
+            add_bytes(rt, words, bytes.as_slice());
+        }
+        Line::Commit(caller) => add_numbered(rt, words, "commit", *caller),
+        Line::Table => add_word(rt, words, "table"),
+    }
+}
+
+/// Asserts what is read of a line.
+fn expect_line(rt: &impl Abort, alloc: Global, line: &str, want: &str) {
+    let mut words = String::new(alloc);
+    match read_line(alloc, line.as_bytes()).expect(rt, line) {
+        Some(line) => add_line(rt, &mut words, &line),
+        None => add_word(rt, &mut words, "refused"),
+    }
+    expect_words(rt, &words, want, line);
+}
+
+/// What is read of a line, and after a bar the line.
+const FORMS: &str = "pass|
+pass|#
+pass|# put c0  X 
+pass|# !\"$%&'()*+,-./:;<=>?@[\\]^`{|}~\t\x00\x7f
+component Az_09|component Az_09
+owns a 0|owns a 0
+owns _ 18446744073709551615|owns _ 18446744073709551615
+event begin 1|begin c1
+event begin 65535|begin c65535
+event enter 10 9|enter c10 9
+event put 7 10 18446744073709551615|put c7 10 18446744073709551615 -
+event put 7 0 9 0 255 26|put c7 0 9 00ff1a
+event put 7 1 2 1 35 69 103 137 171 205 239|put c7 1 2 0123456789abcdef
+event commit 42|commit c42
+event table|table";
+
+#[test]
+fn reads_each_form(rt: HostRuntime) {
+    for row in FORMS.split('\n') {
+        let (want, line) = cut(&rt, row, '|');
+        expect_line(&rt, rt.alloc(), line, want);
+    }
+}
+
+/// Asserts that lines, which have slashes between them, are refused.
+fn expect_refused(rt: &impl Abort, alloc: Global, lines: &str) {
+    for line in lines.split('/') {
+        expect_line(rt, alloc, line, "refused");
+    }
+}
+
+const SPACES: &str = " /begin  c1/begin c1 / begin c1/ # comment";
+
+#[test]
+fn refuses_more_than_single_spaces(rt: HostRuntime) {
+    expect_refused(&rt, rt.alloc(), SPACES);
+}
+
+const OTHER_BYTES: &str =
+    "begin\tc1/begin c1\r/begin c1\n/\r/# comment\r/#\rcomment/# caf\u{e9}/component caf\u{e9}";
+
+#[test]
+fn refuses_other_bytes(rt: HostRuntime) {
+    expect_refused(&rt, rt.alloc(), OTHER_BYTES);
+}
+
+const OTHER_FORMS: &str = "Begin c1/BEGIN c1/begi c1/begins c1/exit c1/drop c1";
+
+#[test]
+fn refuses_other_first_words(rt: HostRuntime) {
+    expect_refused(&rt, rt.alloc(), OTHER_FORMS);
+}
+
+const NUMBERS: &str =
+    "owns a 00/owns a 01/put c1 02 3 -/put c1 2 03 -/owns a 18446744073709551616/owns a 18446744073709551620/owns a 28446744073709551615/put c1 18446744073709551616 3 -/put c1 2 99999999999999999999999 -/owns a -1/owns a +1/owns a 1a";
+
+#[test]
+fn refuses_other_numbers(rt: HostRuntime) {
+    expect_refused(&rt, rt.alloc(), NUMBERS);
+}
+
+const CALLERS: &str =
+    "begin c0/begin c01/begin c65536/begin c18446744073709551617/begin c/begin C1/begin 1/begin cc1/enter c0 a/commit c01/put c65536 1 2 -";
+
+#[test]
+fn refuses_other_callers(rt: HostRuntime) {
+    expect_refused(&rt, rt.alloc(), CALLERS);
+}
+
+const HEX: &str =
+    "put c1 2 3 0/put c1 2 3 000/put c1 2 3 AB/put c1 2 3 aB/put c1 2 3 0g/put c1 2 3 --/put c1 2 3 -00/put c1 2 3 00-/put c1 2 3 ";
+
+#[test]
+fn refuses_other_hexadecimal(rt: HostRuntime) {
+    expect_refused(&rt, rt.alloc(), HEX);
+}
+
+const NAMES: &str = "component /component a-b/component a.b/enter c1 /owns  1";
+
+#[test]
+fn refuses_other_names(rt: HostRuntime) {
+    expect_refused(&rt, rt.alloc(), NAMES);
+}
+
+const MISSING: &str =
+    "component/owns/owns a/begin/enter/enter c1/put/put c1/put c1 2/put c1 2 3/commit";
+
+#[test]
+fn refuses_missing_words(rt: HostRuntime) {
+    expect_refused(&rt, rt.alloc(), MISSING);
+}
+
+const FURTHER: &str =
+    "component a b/owns a 1 2/begin c1 c2/enter c1 a b/put c1 2 3 - -/commit c1 c1/table 1/table ";
+
+#[test]
+fn refuses_further_words(rt: HostRuntime) {
+    expect_refused(&rt, rt.alloc(), FURTHER);
+}
+
+/// Adds how many bytes a line puts: 0 where it is another line.
+fn add_length(rt: &impl Abort, alloc: Global, words: &mut String, line: &str) {
+    match read_line(alloc, line.as_bytes()).expect(rt, line) {
+        Some(Line::Put(_, _, _, bytes)) => add_number(rt, words, bytes.as_slice().len() as u64),
+        Some(_) => add_number(rt, words, 0),
+        None => add_word(rt, words, "refused"),
+    }
+}
+
+/// A text, and then another one a number of times.
+fn filled(rt: &impl Abort, alloc: Global, text: &str, fill: &str, times: u64) -> String {
+    let mut line = String::from_str(alloc, text).expect(rt, text);
+    for _ in 0..times {
+        line.push_str(fill).expect(rt, text);
+    }
+    line
+}
+
+/// A row has, between bars, how a line begins, what it goes on with and how often, and how many
+/// bytes it puts.
+fn expect_length(rt: &impl Abort, alloc: Global, row: &str) {
+    let (text, rest) = cut(rt, row, '|');
+    let (fill, rest) = cut(rt, rest, '|');
+    let (times, want) = cut(rt, rest, '|');
+    let line = filled(rt, alloc, text, fill, number(rt, times));
+    let mut words = String::new(alloc);
+    add_length(rt, alloc, &mut words, &line);
+    expect_words(rt, &words, want, row);
+}
+
+fn expect_lengths(rt: &impl Abort, alloc: Global, table: &str) {
+    for row in table.split('\n') {
+        expect_length(rt, alloc, row);
+    }
+}
+
+const NAME_LENGTHS: &str = "component |Z|32|0
+component |Z|33|refused";
+
+#[test]
+fn reads_names_up_to_the_limit(rt: HostRuntime) {
+    expect_lengths(&rt, rt.alloc(), NAME_LENGTHS);
+}
+
+const HEX_LENGTHS: &str = "put c65535 1 2 |0|8000|4000
+put c65535 1 2 |0|8002|refused
+put c65535 1 2 |0|7999|refused";
+
+#[test]
+fn reads_bytes_up_to_the_limit(rt: HostRuntime) {
+    expect_lengths(&rt, rt.alloc(), HEX_LENGTHS);
+}
+
+const LINE_LENGTHS: &str = "#|#|8191|0
+#|#|8192|refused
+begin c1| |8185|refused";
+
+#[test]
+fn reads_lines_up_to_the_limit(rt: HostRuntime) {
+    expect_lengths(&rt, rt.alloc(), LINE_LENGTHS);
+}
+
+/// Texts, each with its first line and what is left. Commas are between them.
+const CUTS: &str = "a|a|,a\n|a|,a\nb|a|b,\n||,\n\na\n||\na\n,ab\r\n\nc|ab\r|\nc";
+
+fn expect_cut(rt: &impl Abort, row: &str) {
+    let (text, rest) = cut(rt, row, '|');
+    let (first, left) = cut(rt, rest, '|');
+    assert!(rt; !text.is_empty(), "{row}");
+    let found = cut_line(text.as_bytes());
+    expect_bytes(rt, found.0, first.as_bytes(), row);
+    expect_bytes(rt, found.1, left.as_bytes(), row);
+}
+
+#[test]
+fn cuts_a_text_into_lines(rt: HostRuntime) {
+    for row in CUTS.split(',') {
+        expect_cut(&rt, row);
+    }
+}
+
+/// Bytes, and what is written of them after an `x`.
+const HEXADECIMAL: &str = "|x-
+0|x00
+9 10 15 16 159 160 255|x090a0f109fa0ff";
+
+fn expect_hex(rt: &impl Abort, alloc: Global, row: &str) {
+    let (text, want) = cut(rt, row, '|');
+    let bytes = bytes(rt, alloc, text);
+    let mut words = String::from_str(alloc, "x").expect(rt, row);
+    write_hex(&mut words, &bytes).expect(rt, row);
+    expect_words(rt, &words, want, row);
+}
+
+#[test]
+fn writes_hexadecimal(rt: HostRuntime) {
+    for row in HEXADECIMAL.split('\n') {
+        expect_hex(&rt, rt.alloc(), row);
+    }
+}
+
+#[test]
+fn bytes_of_a_line_are_a_vector(rt: HostRuntime) {
+    let bytes = Vec::from_slice(rt.alloc(), &[1, 2]).expect(&rt, "two bytes");
+    let bytes = HexBytes::from_vec(bytes);
+    expect_bytes(&rt, bytes.as_slice(), &[1, 2], "lent");
+}

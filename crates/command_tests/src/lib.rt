@@ -1,0 +1,23 @@
+//! Tests of whole commands through `run_command`, over sources, sinks and a keeper in memory.
+//!
+//! `running` runs a command, `expecting` compares what it did with what it should have done, and the other
+//! modules have the cases, a module for each topic. Cases are rows of text whose parts are between bars, and in
+//! which a slash ends a line; a failure prints its row.
+#![tactic(auto)]
+
+#[cfg(test)]
+mod descriptors;
+#[cfg(test)]
+mod expecting;
+#[cfg(test)]
+mod limits;
+#[cfg(test)]
+mod refused_lines;
+#[cfg(test)]
+mod running;
+#[cfg(test)]
+mod scenarios;
+#[cfg(test)]
+mod streams;
+#[cfg(test)]
+mod words;

@@ -1,0 +1,19 @@
+//! Tests of deployments, of their descriptors and names, and of the container, through public calls.
+//!
+//! Most tests go through a table of rows. What a row's call answers is put into words, each with a
+//! space before it, and these are compared with the words that the row wants. A row that fails is
+//! shown whole.
+#![tactic(auto)]
+
+#[cfg(test)]
+mod containers;
+#[cfg(test)]
+mod deployments;
+#[cfg(test)]
+mod descriptors;
+#[cfg(test)]
+mod names;
+#[cfg(test)]
+mod parts;
+#[cfg(test)]
+mod words;
