@@ -51,7 +51,7 @@ pub record TicketRoom : Type 0 where
   pub touches : ℕ
   pub writes : ℕ
 
--- there is room for all that a call may hold
+-- there is room for what enters and puts add
 pub record HasRoom (room : TicketRoom) : Type 0 where
   pub frames : MAX_FRAMES ≤ room.frames
   pub instances : MAX_FRAMES ≤ room.instances
