@@ -7,7 +7,7 @@ ghost use Rattle.drive_engine.specs.Command.{CallsFor};
 ghost use Rattle.drive_engine.specs.Engine.{IsLegalState};
 ghost use Rattle.drive_engine.specs.Transcript.{end_of, last_state};
 
-use descriptor_text::{texts_have_an_answer, texts_have_one_answer};
+use descriptor_text::texts_have_an_answer;
 use journal_model::{fits_until_commit, grows_legally};
 
 /// Whatever the text, the journal is legal in the state that its lines leave, also where they stop
@@ -31,6 +31,4 @@ pub fn texts_call_for_a_status()
 pub fn texts_call_for_one_status()
     ensures { (command : Command) (text : List ℕ) (a b : ℕ)
         → CallsFor command text a → CallsFor command text b → a ≡ b }
-{
-    texts_have_one_answer();
-}
+{}
