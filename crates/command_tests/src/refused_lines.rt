@@ -31,7 +31,7 @@ fn other_words_spell_nothing(rt: HostRuntime) -> Result<(), Fail> {
     expect_rows(&rt, "drive", "", WORDS)
 }
 
-/// A line has printable ASCII alone, also where it is a comment, and ends in a line feed.
+/// A line is ASCII without a carriage return, also where it is a comment.
 const BYTES: &str = "3|line 1/||component A\r/
 3|line 1/||component é
 3|line 1/||# café
