@@ -1,5 +1,5 @@
 -- A call, and what its steps leave.
-use Rattle.std.specs.Prelude.{ℕ, ◌+◌, ◌==◌, Bool, if◌then◌else◌, List, [], ◌∷◌, ◌++◌, Option}
+use Rattle.std.specs.Prelude.{ℕ, ◌+◌, ◌-◌, ◌==◌, Bool, if◌then◌else◌, List, [], ◌∷◌, ◌++◌, length, take, Option}
 use Rattle.std.specs.List.{list_any}
 use Rattle.crash_base.specs.declared.numbers.ComponentNo.{ComponentNo}
 use Rattle.crash_base.specs.declared.numbers.Place.{Place}
@@ -55,6 +55,11 @@ entered es g c call = record call {
   touched = touched_with es g call.touched;
   steps = call.steps + 1;
 }
+
+-- the call has left the component that it is in, which it entered last
+abbrev pub left : Call → Call
+left call =
+    record call { frames = take (length call.frames - 1) call.frames; steps = call.steps + 1 }
 
 -- whether one of the writes is of this row
 abbrev pub is_put : List RowWrite → RowId → Bool

@@ -9,17 +9,19 @@ use Rattle.journal_model.specs.declared.entry.Entry.{Entry}
 use Rattle.journal_model.specs.declared.entry.Entry.TheVariants.{Commit, Down, Up}
 use Rattle.journal_model.specs.Fits.{IsWrite, AreApart}
 use Rattle.journal_model.specs.Reboots.{IsUndone, down_of}
-use Rattle.journal_model.specs.Stale.{IsTouch}
+use Rattle.journal_model.specs.Stale.{IsTouch, IsLive}
 
 -- A commit is whole: its rows may be written, and no two of them are one row.
 pub record IsWhole (e : CommitEntry) : Type 0 where
   pub writes : All IsWrite e.writes
   pub apart : AreApart e.writes
 
--- a commit may come after these entries over this base: it is whole, and entered its groups in this journal
+-- A commit may come after these entries over this base: it is whole, it entered its groups in this journal, and
+-- each of them has been up since.
 pub record MayCommit (base : List RowWrite) (es : List Entry) (e : CommitEntry) : Type 0 where
   pub whole : IsWhole e
   pub touches : All (IsTouch es) e.touched
+  pub live : All (IsLive es) e.touched
 
 -- a reboot may begin after these entries: its scope holds a group, and every group that it holds is up
 pub record MayBegin (es : List Entry) (s : Scope) : Type 0 where
@@ -42,3 +44,13 @@ MayCome base es (Up s) = MayEnd es s
 -- A journal is legal where each entry might come after those before it.
 pub record IsLegal (base : List RowWrite) (es : List Entry) : Type 0 where
   pub each : (i : ℕ) (e : Entry) → slice_get es i ≡ Some e → MayCome base (take i es) e
+
+-- a reboot may begin or end after these entries; a commit is none
+abbrev pub MayReboot : List Entry → Entry → Type 0
+MayReboot es (Commit e) = Unit {0}
+MayReboot es (Down s) = MayBegin es s
+MayReboot es (Up s) = MayEnd es s
+
+-- The reboots of a journal are in turn where each of them might begin or end after the entries before it.
+pub record AreInTurn (es : List Entry) : Type 0 where
+  pub each : (i : ℕ) (e : Entry) → slice_get es i ≡ Some e → MayReboot (take i es) e

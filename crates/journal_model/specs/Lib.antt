@@ -1,6 +1,10 @@
 pub mod Rows
 pub mod Reboots
+pub mod Statuses
 pub mod Stale
+pub mod Revoked
 pub mod Calls
 pub mod Fits
 pub mod Legal
+pub mod Limits
+pub mod Requests

@@ -1,6 +1,6 @@
 //! Laws above the definitions, as contracts of functions that do nothing.
 
-ghost use Rattle.std.specs.Prelude.{◌≡◌, ℕ, ◌+◌, ◌≤◌, List, [], ◌∷◌, ◌++◌, length, map, slice_get, true, false, Option, Some};
+ghost use Rattle.std.specs.Prelude.{◌≡◌, ℕ, ◌+◌, ◌<◌, ◌≤◌, List, [], ◌∷◌, ◌++◌, length, map, slice_get, true, false, Option, Some, None};
 ghost use Rattle.crash_base.specs.declared.numbers.ComponentNo.{ComponentNo};
 ghost use Rattle.crash_base.specs.declared.numbers.RequestNo.{RequestNo};
 ghost use Rattle.crash_base.specs.declared.row_id.RowId.{RowId};
@@ -11,35 +11,42 @@ ghost use Rattle.crash_base.specs.Rows.{put_all, row_in, last_write, AreOrdered}
 ghost use Rattle.journal_model.specs.declared.entry.ActionEntry.{ActionEntry};
 ghost use Rattle.journal_model.specs.declared.entry.Entry.{Entry};
 ghost use Rattle.journal_model.specs.declared.entry.Entry.TheVariants.{Commit};
-ghost use Rattle.journal_model.specs.Calls.{Call, begun, entered, is_put, with_write, kept, entry_of};
+ghost use Rattle.journal_model.specs.Calls.{Call, begun, entered, left, is_put, with_write, kept, entry_of};
 ghost use Rattle.journal_model.specs.Fits.{Fits, IsWrite};
-ghost use Rattle.journal_model.specs.Legal.{IsLegal, MayCome};
-ghost use Rattle.journal_model.specs.Reboots.{generation};
+ghost use Rattle.journal_model.specs.Legal.{IsLegal, MayCome, AreInTurn};
+ghost use Rattle.journal_model.specs.Reboots.{generation, down_of};
 ghost use Rattle.journal_model.specs.Rows.{writes_of, row_of, rows_after};
+ghost use Rattle.journal_model.specs.Stale.{stale_in};
 
-/// An empty journal is legal, and a legal one stays so by each entry that may come.
+use crash_base::MAX_GROUPS;
+
+/// An empty journal is legal, and a legal one stays so by each entry that may come. Its reboots are in turn.
 pub fn grows_legally()
     ensures empty { (base : List RowWrite) → IsLegal base [] }
     ensures more { (base : List RowWrite) (es : List Entry) (e : Entry) →
         IsLegal base es → MayCome base es e → IsLegal base (es ++ e ∷ []) }
+    ensures turns { (base : List RowWrite) (es : List Entry) → IsLegal base es → AreInTurn es }
 {}
 
 /// A call fits from its begin on: after each of its steps, whatever else enters the journal meanwhile, and
-/// until it commits, which it then may.
+/// until it commits, which it then may where none of its touches is stale.
 pub fn fits_until_commit()
     ensures begun { (base : List RowWrite) (es : List Entry)
         (request : RequestNo) (worker : WorkerNo) →
         Fits base es (begun request worker (record { 0 = length es })) }
     ensures entered { (base : List RowWrite) (es : List Entry)
-        (g : ℕ) (c : ComponentNo) (call : Call) →
+        (g : ℕ) (c : ComponentNo) (call : Call) → g < MAX_GROUPS → down_of es g ≡ None →
         Fits base es call → Fits base es (entered es g c call) }
+    ensures left { (base : List RowWrite) (es : List Entry) (call : Call) →
+        Fits base es call → Fits base es (left call) }
     ensures kept { (base : List RowWrite) (es : List Entry) (w : RowWrite) (call : Call) →
         IsWrite w → Fits base es call → Fits base es (kept w call) }
     ensures meanwhile { (base : List RowWrite) (es more : List Entry) (call : Call) →
         Fits base es call → Fits base (es ++ more) call }
     ensures commit { (base : List RowWrite) (es : List Entry)
         (call : Call) (action : Option ActionEntry) →
-        Fits base es call → MayCome base es (Commit (entry_of call action)) }
+        Fits base es call → stale_in es call.touched ≡ None →
+        MayCome base es (Commit (entry_of call action)) }
 {}
 
 /// A write that a call keeps is read back, and no other row changes. A row that was put before keeps its

@@ -1,6 +1,6 @@
 //! What the entries of a journal are, and what they mean: the rows that they leave, the status of a group
-//! after its reboots, what a call holds until it commits, when a reboot has made a call stale, and which
-//! journals are legal.
+//! after its reboots, what a call holds until it commits, when a reboot has made a call stale, which journals
+//! are legal, and how full one is.
 //!
 //! The container, its journal and its tickets share these types and definitions. The code here is small;
 //! the laws in `laws` and `reboot_laws` say what the definitions promise to each other.
@@ -8,8 +8,11 @@
 
 mod entry;
 mod laws;
+mod limits;
 mod reboot_laws;
+mod stale;
 mod status;
+mod statuses;
 
 pub use entry::{
     ActionEntry, CommitEntry, DoneText, Entry, Mark, MarkList, ReadMark, SessionChange, Touch,
@@ -19,7 +22,12 @@ pub use laws::{
     commit_is_in_the_rows, fits_until_commit, generations_add_up, grows_legally, last_write_counts,
     write_takes_its_place,
 };
+pub use limits::{FullAt, JournalLimits, MAX_ENTRIES, MAX_JOURNAL_BYTES};
 pub use reboot_laws::{
-    downs_are_found, staleness_shows_in_generations, statuses_are_within, statuses_follow_entries,
+    downs_are_found, journals_fill, no_commit_after_a_reboot, stale_calls_stay_stale,
+    staleness_shows_in_generations, statuses_are_within, statuses_follow_entries,
+    undone_downs_are_found,
 };
+pub use stale::Stale;
 pub use status::GroupStatus;
+pub use statuses::GroupStatuses;
