@@ -1,0 +1,104 @@
+-- What a ticket holds, and what each step leaves of it.
+use Rattle.std.specs.Prelude.{◌≡◌, ℕ, ◌+◌, ◌-◌, ◌==◌, ◌&&◌, Bool, false, not, Option, Some, None, List, [], ◌∷◌, ◌++◌, length, take, slice_get}
+use Rattle.std.specs.List.{list_any}
+use Rattle.crash_base.specs.declared.numbers.ComponentNo.{ComponentNo}
+use Rattle.crash_base.specs.declared.numbers.Place.{Place}
+use Rattle.crash_base.specs.declared.numbers.RequestNo.{RequestNo}
+use Rattle.crash_base.specs.declared.numbers.WorkerNo.{WorkerNo}
+use Rattle.crash_base.specs.declared.row_id.RowId.{RowId}
+use Rattle.crash_base.specs.declared.rows.RowWrite.{RowWrite}
+use Rattle.crash_base.specs.RowId.{same_id}
+use Rattle.journal_model.specs.declared.entry.Mark.{Mark}
+use Rattle.journal_model.specs.declared.entry.ReadMark.{ReadMark}
+use Rattle.journal_model.specs.declared.entry.ReadMark.TheVariants.{Row, Table}
+use Rattle.journal_model.specs.declared.entry.Touch.{Touch}
+use Rattle.journal_model.specs.Calls.{Call, begun, left, is_touched, is_put, kept}
+use Rattle.call_ticket.specs.declared.limits.TheConstants.{MAX_WRITES}
+use Rattle.call_ticket.specs.declared.parts.TicketParts.{TicketParts}
+
+-- a call, and the instance that serves each of its open frames, the first first
+pub record TicketValue : Type 0 where
+  pub call : Call
+  pub instances : List ℕ
+
+-- the ticket of a call that has done nothing yet
+abbrev pub ticket_begun : RequestNo → WorkerNo → Place → TicketValue
+ticket_begun request worker at = record { call = begun request worker at; instances = [] }
+
+-- the component of the frame that was opened last, if one is open
+abbrev pub top : Call → Option ComponentNo
+top call = slice_get call.frames (length call.frames - 1)
+
+-- the instance that serves the frame that was opened last, if one is open
+abbrev pub top_instance : TicketValue → Option ℕ
+top_instance ticket = slice_get ticket.instances (length ticket.instances - 1)
+
+-- a touch, if there is one, is of a group that was not touched before
+abbrev pub IsFirst : List Touch → Option Touch → Type 0
+IsFirst touched None = Unit {0}
+IsFirst touched (Some t) = is_touched touched t.group.0 ≡ false
+
+-- a touch is added where there is one
+abbrev pub with_touch : List Touch → Option Touch → List Touch
+with_touch touched None = touched
+with_touch touched (Some t) = touched ++ t ∷ []
+
+-- a frame more, which an instance serves, and a touch where the group is new
+abbrev pub with_frame : TicketValue → ComponentNo → ℕ → Option Touch → TicketValue
+with_frame ticket c instance touch = record {
+  call = record (ticket.call) {
+    frames = ticket.call.frames ++ c ∷ [];
+    touched = with_touch ticket.call.touched touch;
+    steps = ticket.call.steps + 1;
+  };
+  instances = ticket.instances ++ instance ∷ [];
+}
+
+-- the ticket of a call that has left the component that it is in
+abbrev pub ticket_left : TicketValue → TicketValue
+ticket_left ticket = record {
+  call = left ticket.call;
+  instances = take (length ticket.instances - 1) ticket.instances;
+}
+
+-- whether both are marks of the same row, or of the same table
+abbrev pub same_mark : ReadMark → ReadMark → Bool
+same_mark (Row a) (Row b) = same_id a b
+same_mark (Row a) (Table u) = false
+same_mark (Table t) (Row b) = false
+same_mark (Table t) (Table u) = t == u
+
+-- whether this row or table was marked as read
+abbrev pub is_marked : List Mark → ReadMark → Bool
+is_marked marks read = list_any (λ (m : Mark). same_mark m.read read) marks
+
+-- a mark is added with its value where there is one
+abbrev pub with_mark : List Mark → Option ReadMark → Option (List ℕ) → List Mark
+with_mark marks None value = marks
+with_mark marks (Some read) value = marks ++ record { read = read; value = value } ∷ []
+
+-- the ticket of a call that has read
+abbrev pub ticket_read : TicketValue → Option ReadMark → Option (List ℕ) → TicketValue
+ticket_read ticket read value = record ticket {
+  call = record (ticket.call) {
+    marks = with_mark ticket.call.marks read value;
+    steps = ticket.call.steps + 1;
+  };
+}
+
+-- the ticket of a call that has put a row
+abbrev pub ticket_kept : RowWrite → TicketValue → TicketValue
+ticket_kept w ticket = record ticket { call = kept w ticket.call }
+
+-- whether a put of the row would be one too many
+abbrev pub is_full_for : List RowWrite → RowId → Bool
+is_full_for writes id = not (is_put writes id) && (length writes == MAX_WRITES)
+
+-- what a ticket hands out when its call ends
+abbrev pub parts_of : TicketValue → TicketParts
+parts_of ticket = record {
+  instances = ticket.instances;
+  touched = ticket.call.touched;
+  marks = ticket.call.marks;
+  writes = ticket.call.writes;
+}

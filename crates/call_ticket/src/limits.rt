@@ -1,0 +1,13 @@
+//! The most that one call may hold.
+
+/// The most open frames of a call.
+pub const MAX_FRAMES: usize = 16;
+
+/// The most steps of a call, and so the most groups that it enters.
+pub const MAX_STEPS: u64 = 128;
+
+/// The most reads of a call.
+pub const MAX_MARKS: usize = 64;
+
+/// The most rows that a call writes.
+pub const MAX_WRITES: usize = 16;

@@ -1,0 +1,16 @@
+//! What a ticket hands out when its call ends.
+
+use crash_base::{Items, WriteList};
+use journal_model::{MarkList, TouchList};
+
+/// The instances that serve the open frames of a call, the first first.
+pub type InstanceList = Items<u64>;
+
+/// What a ticket held when its call ended.
+#[derive(Drop)]
+pub struct TicketParts {
+    pub instances: InstanceList,
+    pub touched: TouchList,
+    pub marks: MarkList,
+    pub writes: WriteList,
+}
