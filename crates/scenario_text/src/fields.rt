@@ -69,19 +69,19 @@ fn hex_byte(a: u8, b: u8) -> Option<u8>
     Some(16 * high + low)
 }
 
-/// The bytes of two digits each.
+/// The bytes of two digits each, in a vector without spare room.
 fn bytes_of_digits(alloc: Global, word: &[u8]) -> Result<Option<Vec<u8>>, OutOfMemory>
     ensures value { IfOk result (λ bytes.
         option_map (λ v. v.items) bytes ≡ bytes_of_digits word.now) }
     ensures few { IfOk result (λ bytes. IfSome bytes (λ v. 2 * length v.items ≤ length word.now)) }
 {
-    let mut bytes = Vec::new(alloc);
+    let mut bytes = Vec::with_capacity(alloc, word.len() / 2)?;
     let mut rest = word;
     while rest.len() >= 2 {
         let Some(byte) = hex_byte(rest[0], rest[1]) else {
             return Ok(None);
         };
-        bytes.push(byte)?;
+        bytes.push_reserved(byte);
         rest = &rest[2..];
     }
     if !rest.is_empty() {
