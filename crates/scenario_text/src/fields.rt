@@ -2,11 +2,21 @@
 
 ghost use Rattle.std.specs.Prelude.{◌≡◌, ◌<◌, ◌≤◌, ◌*◌, length, IfOk, IfSome, Option};
 ghost use Rattle.std.specs.Option.{option_map};
-ghost use Rattle.scenario_text.specs.Fields.{decimal_number, caller_number, hex_digit, hex_byte, bytes_of_digits, hex_bytes};
+ghost use Rattle.scenario_text.specs.Fields.{name_of, decimal_number, caller_number, hex_digit, hex_byte, bytes_of_digits, hex_bytes};
 
 use crate::line::{HexBytes, MAX_CALLER, MAX_HEX_BYTES};
-use crash_base::OutOfMemory;
+use crash_base::{ComponentName, OutOfMemory, is_name};
 use std::alloc::Global;
+
+/// A copy of a word that is a name.
+pub fn name_of(alloc: Global, word: &[u8]) -> Result<Option<ComponentName>, OutOfMemory>
+    ensures { IfOk result (λ name. name ≡ name_of word.now) }
+{
+    if !is_name(word) {
+        return Ok(None);
+    }
+    Ok(Some(ComponentName::copied(alloc, word)?))
+}
 
 /// A number in decimal digits without leading zeros.
 pub fn decimal_number(word: &[u8]) -> Option<u64>
