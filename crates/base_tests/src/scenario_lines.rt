@@ -19,6 +19,12 @@ fn add_named(rt: &impl Abort, words: &mut String, form: &str, name: &[u8]) {
     add_text(rt, words, " ", name);
 }
 
+/// Adds the word of a line's form, and a component and the one that it refers to.
+fn add_reference(rt: &impl Abort, words: &mut String, form: &str, name: &[u8], other: &[u8]) {
+    add_named(rt, words, form, name);
+    add_text(rt, words, " ", other);
+}
+
 /// Adds a line: `event` where it is one, its form, and what its words say.
 fn add_line(rt: &impl Abort, words: &mut String, line: &Line) {
     if line.is_event() {
@@ -27,15 +33,26 @@ fn add_line(rt: &impl Abort, words: &mut String, line: &Line) {
     match line {
         Line::Pass => add_word(rt, words, "pass"),
         Line::Component(name) => add_named(rt, words, "component", name.as_slice()),
+        Line::Hard(name, other) => {
+            add_reference(rt, words, "hard", name.as_slice(), other.as_slice())
+        }
+        Line::Soft(name, other) => {
+            add_reference(rt, words, "soft", name.as_slice(), other.as_slice())
+        }
         Line::Owns(name, table) => {
             add_named(rt, words, "owns", name.as_slice());
             add_number(rt, words, *table);
+        }
+        Line::Limit(entries, bytes) => {
+            add_numbered(rt, words, "limit", *entries);
+            add_number(rt, words, *bytes);
         }
         Line::Begin(caller) => add_numbered(rt, words, "begin", *caller),
         Line::Enter(caller, name) => {
             add_numbered(rt, words, "enter", *caller);
             add_text(rt, words, " ", name.as_slice());
         }
+        Line::Exit(caller) => add_numbered(rt, words, "exit", *caller),
         Line::Put(caller, table, key, bytes) => {
             add_numbered(rt, words, "put", *caller);
             add_number(rt, words, *table);
@@ -43,7 +60,12 @@ fn add_line(rt: &impl Abort, words: &mut String, line: &Line) {
             add_bytes(rt, words, bytes.as_slice());
         }
         Line::Commit(caller) => add_numbered(rt, words, "commit", *caller),
+        Line::Drop(caller) => add_numbered(rt, words, "drop", *caller),
+        Line::Down(name) => add_named(rt, words, "down", name.as_slice()),
+        Line::Up(name) => add_named(rt, words, "up", name.as_slice()),
+        Line::Reboot(name) => add_named(rt, words, "reboot", name.as_slice()),
         Line::Table => add_word(rt, words, "table"),
+        Line::Journal => add_word(rt, words, "journal"),
     }
 }
 
@@ -63,16 +85,32 @@ pass|#
 pass|# put c0  X 
 pass|# !\"$%&'()*+,-./:;<=>?@[\\]^`{|}~\t\x00\x7f
 component Az_09|component Az_09
+hard Az_09 b|hard Az_09 b
+hard a a|hard a a
+soft b Az_09|soft b Az_09
 owns a 0|owns a 0
 owns _ 18446744073709551615|owns _ 18446744073709551615
+limit 0 18446744073709551615|limit 0 18446744073709551615
+limit 18446744073709551615 1|limit 18446744073709551615 1
 event begin 1|begin c1
 event begin 65535|begin c65535
 event enter 10 9|enter c10 9
+event exit 1|exit c1
+event exit 65535|exit c65535
 event put 7 10 18446744073709551615|put c7 10 18446744073709551615 -
 event put 7 0 9 0 255 26|put c7 0 9 00ff1a
 event put 7 1 2 1 35 69 103 137 171 205 239|put c7 1 2 0123456789abcdef
 event commit 42|commit c42
-event table|table";
+event drop 1|drop c1
+event drop 65535|drop c65535
+event down Az_09|down Az_09
+event down app|down app
+event up Az_09|up Az_09
+event up app|up app
+event reboot Az_09|reboot Az_09
+event reboot app|reboot app
+event table|table
+event journal|journal";
 
 #[test]
 fn reads_each_form(rt: HostRuntime) {
@@ -89,7 +127,8 @@ fn expect_refused(rt: &impl Abort, alloc: Global, lines: &str) {
     }
 }
 
-const SPACES: &str = " /begin  c1/begin c1 / begin c1/ # comment";
+const SPACES: &str =
+    " /begin  c1/begin c1 / begin c1/ # comment/hard  a b/hard a  b/hard a b /soft  a b/soft a  b/soft a b /limit  1 2/limit 1  2/limit 1 2 /exit  c1/exit c1 /drop  c1/drop c1 /down  a/down a /up  a/up a /reboot  a/reboot a / table/ journal/journal ";
 
 #[test]
 fn refuses_more_than_single_spaces(rt: HostRuntime) {
@@ -104,7 +143,8 @@ fn refuses_other_bytes(rt: HostRuntime) {
     expect_refused(&rt, rt.alloc(), OTHER_BYTES);
 }
 
-const OTHER_FORMS: &str = "Begin c1/BEGIN c1/begi c1/begins c1/exit c1/drop c1";
+const OTHER_FORMS: &str =
+    "Begin c1/BEGIN c1/begi c1/begins c1/Hard a b/hards a b/Soft a b/LIMIT 1 2/limits 1 2/Exit c1/exits c1/DROP c1/Down a/downs a/Up a/UP a/ups a/u a/Reboot a/rebootapp/Journal/journals";
 
 #[test]
 fn refuses_other_first_words(rt: HostRuntime) {
@@ -112,7 +152,7 @@ fn refuses_other_first_words(rt: HostRuntime) {
 }
 
 const NUMBERS: &str =
-    "owns a 00/owns a 01/put c1 02 3 -/put c1 2 03 -/owns a 18446744073709551616/owns a 18446744073709551620/owns a 28446744073709551615/put c1 18446744073709551616 3 -/put c1 2 99999999999999999999999 -/owns a -1/owns a +1/owns a 1a";
+    "owns a 00/owns a 01/put c1 02 3 -/put c1 2 03 -/owns a 18446744073709551616/owns a 18446744073709551620/owns a 28446744073709551615/put c1 18446744073709551616 3 -/put c1 2 99999999999999999999999 -/owns a -1/owns a +1/owns a 1a/limit 00 1/limit 01 1/limit 1 00/limit 1 01/limit 18446744073709551616 1/limit 1 18446744073709551616/limit -1 1/limit 1 +1/limit a 1/limit 1 1a/limit c1 1";
 
 #[test]
 fn refuses_other_numbers(rt: HostRuntime) {
@@ -120,7 +160,7 @@ fn refuses_other_numbers(rt: HostRuntime) {
 }
 
 const CALLERS: &str =
-    "begin c0/begin c01/begin c65536/begin c18446744073709551617/begin c/begin C1/begin 1/begin cc1/enter c0 a/commit c01/put c65536 1 2 -";
+    "begin c0/begin c01/begin c65536/begin c18446744073709551617/begin c/begin C1/begin 1/begin cc1/enter c0 a/commit c01/put c65536 1 2 -/exit c0/exit c01/exit c65536/exit c18446744073709551617/exit C1/exit 1/drop c0/drop c01/drop c65536/drop c18446744073709551617/drop C1/drop 1";
 
 #[test]
 fn refuses_other_callers(rt: HostRuntime) {
@@ -135,7 +175,8 @@ fn refuses_other_hexadecimal(rt: HostRuntime) {
     expect_refused(&rt, rt.alloc(), HEX);
 }
 
-const NAMES: &str = "component /component a-b/component a.b/enter c1 /owns  1";
+const NAMES: &str =
+    "component /component a-b/component a.b/enter c1 /owns  1/hard a-b c/hard a b.c/soft a. b/soft a b-/down /down a-b/up /up a.b/reboot /reboot app!/hard ZZZZZZZZZZZZZZZZZZZZZZZZZZZZZZZZZ b/soft ZZZZZZZZZZZZZZZZZZZZZZZZZZZZZZZZZ b/owns ZZZZZZZZZZZZZZZZZZZZZZZZZZZZZZZZZ 1";
 
 #[test]
 fn refuses_other_names(rt: HostRuntime) {
@@ -143,7 +184,7 @@ fn refuses_other_names(rt: HostRuntime) {
 }
 
 const MISSING: &str =
-    "component/owns/owns a/begin/enter/enter c1/put/put c1/put c1 2/put c1 2 3/commit";
+    "component/hard/hard a/soft/soft a/owns/owns a/limit/limit 1/begin/enter/enter c1/put/put c1/put c1 2/put c1 2 3/exit/commit/drop/down/up/reboot";
 
 #[test]
 fn refuses_missing_words(rt: HostRuntime) {
@@ -151,7 +192,7 @@ fn refuses_missing_words(rt: HostRuntime) {
 }
 
 const FURTHER: &str =
-    "component a b/owns a 1 2/begin c1 c2/enter c1 a b/put c1 2 3 - -/commit c1 c1/table 1/table ";
+    "component a b/hard a b c/soft a b c/owns a 1 2/limit 1 2 3/begin c1 c2/enter c1 a b/put c1 2 3 - -/exit c1 c1/commit c1 c1/drop c1 c1/down a b/up a b/reboot a b/table 1/table /journal 1";
 
 #[test]
 fn refuses_further_words(rt: HostRuntime) {
@@ -195,7 +236,18 @@ fn expect_lengths(rt: &impl Abort, alloc: Global, table: &str) {
 }
 
 const NAME_LENGTHS: &str = "component |Z|32|0
-component |Z|33|refused";
+component |Z|33|refused
+enter c1 |Z|33|refused
+hard a |Z|32|0
+hard a |Z|33|refused
+soft a |Z|32|0
+soft a |Z|33|refused
+down |Z|32|0
+down |Z|33|refused
+up |Z|32|0
+up |Z|33|refused
+reboot |Z|32|0
+reboot |Z|33|refused";
 
 #[test]
 fn reads_names_up_to_the_limit(rt: HostRuntime) {

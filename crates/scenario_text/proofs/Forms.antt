@@ -1,17 +1,7 @@
--- What a put needs, and how bytes go on by two digits.
-use Rattle.std.proofs.Common.{◌≡◌, ◌≢◌, ℕ, List, [], ◌∷◌, length, drop, slice_index, ◌++◌, ◌≤◌, Option, Some, None, option_and_then, refl, ap, append_assoc, arith}
+-- How bytes go on by two digits.
+use Rattle.std.proofs.Common.{◌≡◌, ℕ, List, [], ◌∷◌, length, drop, slice_index, ◌++◌, ◌≤◌, Option, Some, None, option_and_then, refl, ap, append_assoc, arith}
 use Rattle.std.specs.Option.{option_map}
-use Rattle.scenario_text.specs.Reading.{put_line}
 use Rattle.scenario_text.specs.Fields.{hex_byte, bytes_of_digits}
-
--- a put has four words
-pub put_needs : (words : List (List ℕ)) → length words ≢ 4 → put_line words ≡ None
-put_needs [] h = refl
-put_needs (a ∷ []) h = refl
-put_needs (a ∷ b ∷ []) h = refl
-put_needs (a ∷ b ∷ c ∷ []) h = refl
-put_needs (a ∷ b ∷ c ∷ d ∷ []) h = absurd (h refl)
-put_needs (a ∷ b ∷ c ∷ d ∷ e ∷ more) h = refl
 
 -- bytes before what follows, one more of them
 byte_more : (before : List ℕ) (byte : ℕ) (rest : Option (List ℕ)) (r : Option ℕ) → Some byte ≡ r → option_map (λ more. (before ++ byte ∷ []) ++ more) rest ≡ option_map (λ more. before ++ more) (option_and_then (λ b. option_map (λ more. b ∷ more) rest) r)

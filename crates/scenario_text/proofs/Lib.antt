@@ -1,6 +1,7 @@
 pub mod Cuts
 pub mod Forms
-pub mod Words
+pub mod OneWord
 pub mod Splits
 pub mod Hexadecimal
+pub mod WordKinds
 pub mod Spelled

@@ -1,26 +1,25 @@
 -- The law of the lines: what spells one, is read as it, and nothing else.
 use Rattle.std.proofs.Common.{◌≡◌, ◌≢◌, ◌↔◌, ◌<◌, ◌≤◌, ◌⊎◌, inl, inr, ℕ, ◌==◌, Bool, true, false, cond, nat_lt, List, [], ◌∷◌, length, Option, Some, None, option_and_then, codes, refl, ap, sym, ◌∙◌, arith}
 use Rattle.std.specs.Bool.{Decides}
-use Rattle.std.specs.Option.{option_map}
+use Rattle.std.specs.Option.{option_map, option_zip}
 use Rattle.std.proofs.lemmas.Bool.{and_parts}
-use Rattle.std.proofs.lemmas.Option.{cond_some}
 use Rattle.std.specs.Fmt.{decimal}
 use Rattle.std.specs.Str.{bytes_eq}
 use Rattle.std.specs.List.{All, join_with_byte, list_all}
 use Rattle.std.proofs.lemmas.Bool.Decides.{nat_tests, Decides-by_and}
 use Rattle.std.proofs.lemmas.List.Splits.{join_with_byte-slice_split}
 use Rattle.std.proofs.lemmas.Slice.Eq.{bytes_eq-Decides}
-use Rattle.crash_base.specs.Names.{is_name, is_name_byte}
 use Rattle.scenario_text.specs.declared.line.TheConstants.{MAX_LINE_BYTES}
 use Rattle.scenario_text.specs.Fields.{decimal_number, caller_number, hex_bytes}
 use Rattle.scenario_text.specs.Texts.{hex_text}
-use Rattle.scenario_text.specs.Reading.{line_of, words_of, line_of_words, component_line, owns_line, begin_line, enter_line, put_line, commit_line, table_line, passes, is_comment_byte}
-use Rattle.scenario_text.specs.Spelling.{Spells, IsInRange, IsComment, IsName, IsNumber, IsCaller, spelling, words_of_line, caller_word}
+use Rattle.scenario_text.specs.Words.{words_of, no_words, one_word, two_words, four_words}
+use Rattle.scenario_text.specs.Reading.{line_of, line_of_words, put_line, passes, is_comment_byte}
+use Rattle.scenario_text.specs.Spelling.{Spells, IsInRange, IsComment, spelling, words_of_line, caller_word}
 use Rattle.scenario_text.specs.declared.line.Line.{Line}
-use Rattle.scenario_text.specs.declared.line.Line.TheVariants.{Pass, Component, Owns, Begin, Enter, Put, Commit, Table}
-use Rattle.scenario_text.proofs.Words.{then_some, map_some, number_read, number_spelled, decimal_digits, caller_read, caller_spelled, name_read, name_spelled}
-use Rattle.scenario_text.proofs.Splits.{words_joined, is_whole, whole_more, digits_whole, name_whole}
-use Rattle.scenario_text.proofs.Hexadecimal.{hex_spelled, hex_read, hex_whole}
+use Rattle.scenario_text.specs.declared.line.Line.TheVariants.{Pass, Component, Hard, Soft, Owns, Limit, Begin, Enter, Exit, Put, Commit, Drop, Down, Up, Reboot, Table, Journal}
+use Rattle.scenario_text.proofs.OneWord.{then_some, map_some}
+use Rattle.scenario_text.proofs.Splits.{words_joined, is_whole}
+use Rattle.scenario_text.proofs.WordKinds.{Kind, names, numbers, callers, bytes, one_spelled, two_spelled, four_are}
 
 -- these words, the first among them, are those of a line in its ranges
 abbrev AreWords : List (List ℕ) → Line → Type 0
@@ -30,74 +29,22 @@ AreWords words line = IsInRange line × (words ≡ words_of_line line)
 same_line : (words : List (List ℕ)) (made line : Line) → made ≡ line → AreWords words made → AreWords words line
 same_line words made line e h = let P : Line → Type 0 = λ l. AreWords words l in rw (← e) h
 
--- what each form of line reads as, its words spell
-component_spelled : (words : List (List ℕ)) (line : Line) → component_line words ≡ Some line → AreWords (codes "component" ∷ words) line
-component_spelled [] line h = cc
-component_spelled (name ∷ []) line h =
-    let g = cond_some (is_name name) (Component name) line h in
-    same_line (codes "component" ∷ name ∷ []) (Component name) line g.1 (name_spelled name g.0, refl)
-component_spelled (name ∷ more ∷ words) line h = cc
-
-owns_spelled : (words : List (List ℕ)) (line : Line) → owns_line words ≡ Some line → AreWords (codes "owns" ∷ words) line
-owns_spelled [] line h = cc
-owns_spelled (name ∷ []) line h = cc
-owns_spelled (name ∷ table ∷ []) line h =
-    let (t, e, k) = then_some (λ t. cond (is_name name) (Some (Owns name t)) None) (decimal_number table) line h in
-    let g = cond_some (is_name name) (Owns name t) line k in
-    let n = number_spelled table t e in
-    same_line (codes "owns" ∷ name ∷ table ∷ []) (Owns name t) line g.1 ((name_spelled name g.0, n.1), ap (λ w. codes "owns" ∷ name ∷ w ∷ []) n.0)
-owns_spelled (name ∷ table ∷ more ∷ words) line h = cc
-
-begin_spelled : (words : List (List ℕ)) (line : Line) → begin_line words ≡ Some line → AreWords (codes "begin" ∷ words) line
-begin_spelled [] line h = cc
-begin_spelled (caller ∷ []) line h =
-    let (c, e, k) = map_some (λ c. Begin c) (caller_number caller) line h in
-    let n = caller_spelled caller c e in
-    same_line (codes "begin" ∷ caller ∷ []) (Begin c) line k (n.1, ap (λ w. codes "begin" ∷ w ∷ []) n.0)
-begin_spelled (caller ∷ more ∷ words) line h = cc
-
-enter_spelled : (words : List (List ℕ)) (line : Line) → enter_line words ≡ Some line → AreWords (codes "enter" ∷ words) line
-enter_spelled [] line h = cc
-enter_spelled (caller ∷ []) line h = cc
-enter_spelled (caller ∷ name ∷ []) line h =
-    let (c, e, k) = then_some (λ c. cond (is_name name) (Some (Enter c name)) None) (caller_number caller) line h in
-    let g = cond_some (is_name name) (Enter c name) line k in
-    let n = caller_spelled caller c e in
-    same_line (codes "enter" ∷ caller ∷ name ∷ []) (Enter c name) line g.1 ((n.1, name_spelled name g.0), ap (λ w. codes "enter" ∷ w ∷ name ∷ []) n.0)
-enter_spelled (caller ∷ name ∷ more ∷ words) line h = cc
-
 -- the words of a put
-words_put : (c t k : ℕ) (bytes caller table key hex : List ℕ) → caller ≡ caller_word c → table ≡ decimal t → key ≡ decimal k → hex ≡ hex_text bytes → codes "put" ∷ caller ∷ table ∷ key ∷ hex ∷ [] ≡ words_of_line (Put c t k bytes)
-words_put c t k bytes caller table key hex ce te ke be = rw (ce, te, ke, be) refl
+words_put : (words : List (List ℕ)) (c t k : ℕ) (b caller table key hex : List ℕ) → words ≡ caller ∷ table ∷ key ∷ hex ∷ [] → caller ≡ caller_word c → table ≡ decimal t → key ≡ decimal k → hex ≡ hex_text b → codes "put" ∷ words ≡ words_of_line (Put c t k b)
+words_put words c t k b caller table key hex e ce te ke be = rw (e, ce, te, ke, be) refl
 
 put_spelled : (words : List (List ℕ)) (line : Line) → put_line words ≡ Some line → AreWords (codes "put" ∷ words) line
-put_spelled [] line h = cc
-put_spelled (caller ∷ []) line h = cc
-put_spelled (caller ∷ table ∷ []) line h = cc
-put_spelled (caller ∷ table ∷ key ∷ []) line h = cc
-put_spelled (caller ∷ table ∷ key ∷ hex ∷ []) line h =
-    let (c, ce, h1) = then_some (λ c. option_and_then (λ t. option_and_then (λ k. option_map (λ bytes. Put c t k bytes) (hex_bytes hex)) (decimal_number key)) (decimal_number table)) (caller_number caller) line h in
-    let (t, te, h2) = then_some (λ t. option_and_then (λ k. option_map (λ bytes. Put c t k bytes) (hex_bytes hex)) (decimal_number key)) (decimal_number table) line h1 in
-    let (k, ke, h3) = then_some (λ k. option_map (λ bytes. Put c t k bytes) (hex_bytes hex)) (decimal_number key) line h2 in
-    let (bytes, be, h4) = map_some (λ bytes. Put c t k bytes) (hex_bytes hex) line h3 in
-    let cn = caller_spelled caller c ce in
-    let tn = number_spelled table t te in
-    let kn = number_spelled key k ke in
-    let bn = hex_spelled hex bytes be in
-    same_line (codes "put" ∷ caller ∷ table ∷ key ∷ hex ∷ []) (Put c t k bytes) line h4 ((cn.1, tn.1, kn.1, bn.1), words_put c t k bytes caller table key hex cn.0 tn.0 kn.0 bn.0)
-put_spelled (caller ∷ table ∷ key ∷ hex ∷ more ∷ words) line h = cc
-
-commit_spelled : (words : List (List ℕ)) (line : Line) → commit_line words ≡ Some line → AreWords (codes "commit" ∷ words) line
-commit_spelled [] line h = cc
-commit_spelled (caller ∷ []) line h =
-    let (c, e, k) = map_some (λ c. Commit c) (caller_number caller) line h in
-    let n = caller_spelled caller c e in
-    same_line (codes "commit" ∷ caller ∷ []) (Commit c) line k (n.1, ap (λ w. codes "commit" ∷ w ∷ []) n.0)
-commit_spelled (caller ∷ more ∷ words) line h = cc
-
-table_spelled : (words : List (List ℕ)) (line : Line) → table_line words ≡ Some line → AreWords (codes "table" ∷ words) line
-table_spelled [] line h = same_line (codes "table" ∷ []) Table line (cc) (tt, refl)
-table_spelled (more ∷ words) line h = cc
+put_spelled words line h =
+    let (w, we, h0) = then_some (λ w. option_and_then (λ c. option_and_then (λ t. option_and_then (λ k. option_map (λ b. Put c t k b) (hex_bytes w.3)) (decimal_number w.2)) (decimal_number w.1)) (caller_number w.0)) (four_words words) line h in
+    let (c, ce, h1) = then_some (λ c. option_and_then (λ t. option_and_then (λ k. option_map (λ b. Put c t k b) (hex_bytes w.3)) (decimal_number w.2)) (decimal_number w.1)) (caller_number w.0) line h0 in
+    let (t, te, h2) = then_some (λ t. option_and_then (λ k. option_map (λ b. Put c t k b) (hex_bytes w.3)) (decimal_number w.2)) (decimal_number w.1) line h1 in
+    let (k, ke, h3) = then_some (λ k. option_map (λ b. Put c t k b) (hex_bytes w.3)) (decimal_number w.2) line h2 in
+    let (b, be, h4) = map_some (λ b. Put c t k b) (hex_bytes w.3) line h3 in
+    let cn = callers.spelled w.0 c ce in
+    let tn = numbers.spelled w.1 t te in
+    let kn = numbers.spelled w.2 k ke in
+    let bn = bytes.spelled w.3 b be in
+    same_line (codes "put" ∷ words) (Put c t k b) line h4 ((cn.1, tn.1, kn.1, bn.1), words_put words c t k b w.0 w.1 w.2 w.3 (four_are words w we) cn.0 tn.0 kn.0 bn.0)
 
 -- one form more, by its first word
 form : (word first : List ℕ) (words : List (List ℕ)) (line : Line) (here later : Option Line) → (here ≡ Some line → AreWords (word ∷ words) line) → (later ≡ Some line → AreWords (first ∷ words) line) → cond (bytes_eq first word) here later ≡ Some line → AreWords (first ∷ words) line
@@ -111,18 +58,52 @@ form word first words line here later f g h =
     ] in
     go (bytes_eq first word) refl h
 
+-- of a line made of what its words say
+made_form : {A : Type 0} (word : List ℕ) (mk : A → Line) (own : A → List (List ℕ)) (IsIn : A → Type 0) → ((a : A) → IsIn a → AreWords (word ∷ own a) (mk a)) → (first : List ℕ) (words : List (List ℕ)) (line : Line) (o : Option A) (later : Option Line) → ((a : A) → o ≡ Some a → (words ≡ own a) × IsIn a) → (later ≡ Some line → AreWords (first ∷ words) line) → cond (bytes_eq first word) (option_map mk o) later ≡ Some line → AreWords (first ∷ words) line
+made_form {A} word mk own IsIn fits first words line o later says g =
+    let here : option_map mk o ≡ Some line → AreWords (word ∷ words) line = λ h.
+    let (a, e, k) = map_some mk o line h in
+    let (s, r) = says a e in
+    let P : List (List ℕ) → Type 0 = λ ws. AreWords (word ∷ ws) (mk a) in
+    let there : AreWords (word ∷ words) (mk a) = rw s (fits a r) in
+    same_line (word ∷ words) (mk a) line k there in
+    form word first words line (option_map mk o) later here g
+
+-- of no further word, of one and of two
+no_form : (word : List ℕ) (made : Line) → AreWords (word ∷ []) made → (first : List ℕ) (words : List (List ℕ)) (line : Line) (later : Option Line) → (later ≡ Some line → AreWords (first ∷ words) line) → cond (bytes_eq first word) (option_map (λ _. made) (no_words words)) later ≡ Some line → AreWords (first ∷ words) line
+no_form word made fits first words line later = made_form word (λ _. made) (λ _. []) (λ _. Unit {0}) (λ _ _. fits) first words line (no_words words) later (none words)
+  where
+    none : (words : List (List ℕ)) (u : Unit {0}) → no_words words ≡ Some u → (words ≡ []) × Unit {0}
+    none [] u h = (refl, tt)
+    none (w ∷ words) u h = cc
+
+one_form : {A : Type 0} (K : Kind A) (word : List ℕ) (mk : A → Line) → ((a : A) → K.IsIn a → AreWords (word ∷ K.word a ∷ []) (mk a)) → (first : List ℕ) (words : List (List ℕ)) (line : Line) (later : Option Line) → (later ≡ Some line → AreWords (first ∷ words) line) → cond (bytes_eq first word) (option_map mk (option_and_then K.says (one_word words))) later ≡ Some line → AreWords (first ∷ words) line
+one_form K word mk fits first words line later = made_form word mk (λ a. K.word a ∷ []) K.IsIn fits first words line (option_and_then K.says (one_word words)) later (one_spelled K words)
+
+two_form : {A B : Type 0} (K : Kind A) (L : Kind B) (word : List ℕ) (mk : A × B → Line) → ((p : A × B) → K.IsIn p.0 × L.IsIn p.1 → AreWords (word ∷ K.word p.0 ∷ L.word p.1 ∷ []) (mk p)) → (first : List ℕ) (words : List (List ℕ)) (line : Line) (later : Option Line) → (later ≡ Some line → AreWords (first ∷ words) line) → cond (bytes_eq first word) (option_map mk (option_and_then (λ w. option_zip (K.says w.0) (L.says w.1)) (two_words words))) later ≡ Some line → AreWords (first ∷ words) line
+two_form K L word mk fits first words line later = made_form word mk (λ p. K.word p.0 ∷ L.word p.1 ∷ []) (λ p. K.IsIn p.0 × L.IsIn p.1) fits first words line (option_and_then (λ w. option_zip (K.says w.0) (L.says w.1)) (two_words words)) later (two_spelled K L words)
+
 -- what words read as, they spell
 words_spelled : (words : List (List ℕ)) (line : Line) → line_of_words words ≡ Some line → AreWords words line
 words_spelled [] line h = cc
 words_spelled (first ∷ words) line h =
-    form (codes "component") first words line _ _ (component_spelled words line) (
-    form (codes "owns") first words line _ _ (owns_spelled words line) (
-    form (codes "begin") first words line _ _ (begin_spelled words line) (
-    form (codes "enter") first words line _ _ (enter_spelled words line) (
+    one_form names (codes "component") (λ n. Component n) (λ _ r. (r, refl)) first words line _ (
+    two_form names names (codes "hard") (λ p. Hard p.0 p.1) (λ _ r. (r, refl)) first words line _ (
+    two_form names names (codes "soft") (λ p. Soft p.0 p.1) (λ _ r. (r, refl)) first words line _ (
+    two_form names numbers (codes "owns") (λ p. Owns p.0 p.1) (λ _ r. (r, refl)) first words line _ (
+    two_form numbers numbers (codes "limit") (λ p. Limit p.0 p.1) (λ _ r. (r, refl)) first words line _ (
+    one_form callers (codes "begin") (λ c. Begin c) (λ _ r. (r, refl)) first words line _ (
+    two_form callers names (codes "enter") (λ p. Enter p.0 p.1) (λ _ r. (r, refl)) first words line _ (
+    one_form callers (codes "exit") (λ c. Exit c) (λ _ r. (r, refl)) first words line _ (
     form (codes "put") first words line _ _ (put_spelled words line) (
-    form (codes "commit") first words line _ _ (commit_spelled words line) (
-    form (codes "table") first words line _ _ (table_spelled words line) (
-    λ k. cc))))))) h
+    one_form callers (codes "commit") (λ c. Commit c) (λ _ r. (r, refl)) first words line _ (
+    one_form callers (codes "drop") (λ c. Drop c) (λ _ r. (r, refl)) first words line _ (
+    one_form names (codes "down") (λ n. Down n) (λ _ r. (r, refl)) first words line _ (
+    one_form names (codes "up") (λ n. Up n) (λ _ r. (r, refl)) first words line _ (
+    one_form names (codes "reboot") (λ n. Reboot n) (λ _ r. (r, refl)) first words line _ (
+    no_form (codes "table") Table (tt, refl) first words line _ (
+    no_form (codes "journal") Journal (tt, refl) first words line _ (
+    λ k. cc)))))))))))))))) h
 
 -- the test of a byte of a comment decides what the grammar says of it, and so for comments
 comment_byte_decides : (b : ℕ) → Decides (is_comment_byte b) ((b < 128) × (b ≢ 13))
@@ -163,16 +144,6 @@ line_spelled text line h =
     ] in
     short (nat_lt MAX_LINE_BYTES (length text)) refl h
 
--- the words of a line have no space
-caller_whole : (c : ℕ) → IsCaller c → is_whole (caller_word c) ≡ true
-caller_whole c (low, high) = whole_more 99 (decimal c) refl (digits_whole (decimal c) (decimal_digits c (omega arith)))
-
-number_whole : (n : ℕ) → IsNumber n → is_whole (decimal n) ≡ true
-number_whole n h = digits_whole (decimal n) (decimal_digits n h)
-
-named_whole : (name : List ℕ) → IsName name → is_whole name ≡ true
-named_whole name h = name_whole name (and_parts _ (list_all is_name_byte name) (name_read name h)).1
-
 -- a line that does not pass, and its words
 abbrev IsRead : Line → Type 0
 IsRead line = (passes (spelling line) ≡ false) × (words_of (spelling line) ≡ words_of_line line) × (line_of_words (words_of_line line) ≡ Some line)
@@ -190,16 +161,39 @@ passed_read : (text : List ℕ) → length text ≤ MAX_LINE_BYTES → passes te
 unfolding line_of
 passed_read text few p = let short : nat_lt MAX_LINE_BYTES (length text) ≡ false = grind (arith, nat_tests) in rw (short, p) refl
 
+-- the same of one further word, and of two
+one_read : {A : Type 0} (K : Kind A) (word : List ℕ) (mk : A → Line) (a : A) (text : List ℕ) → length text ≤ MAX_LINE_BYTES → K.IsIn a → text ≡ spelling (mk a) → passes (spelling (mk a)) ≡ false → words_of_line (mk a) ≡ word ∷ K.word a ∷ [] → is_whole word ≡ true → line_of_words (word ∷ K.word a ∷ []) ≡ option_map mk (K.says (K.word a)) → line_of text ≡ Some (mk a)
+one_read K word mk a text few h e p own w r =
+    let split : words_of (spelling (mk a)) ≡ words_of_line (mk a) = rw own (words_joined word (K.word a ∷ []) w (K.whole a h, tt)) in
+    let made : line_of_words (words_of_line (mk a)) ≡ Some (mk a) = ap line_of_words own ∙ r ∙ ap (option_map mk) (K.read a h) in
+    read_short text (mk a) few e (p, split, made)
+
+two_read : {A B : Type 0} (K : Kind A) (L : Kind B) (word : List ℕ) (mk : A → B → Line) (a : A) (b : B) (text : List ℕ) → length text ≤ MAX_LINE_BYTES → K.IsIn a → L.IsIn b → text ≡ spelling (mk a b) → passes (spelling (mk a b)) ≡ false → words_of_line (mk a b) ≡ word ∷ K.word a ∷ L.word b ∷ [] → is_whole word ≡ true → line_of_words (word ∷ K.word a ∷ L.word b ∷ []) ≡ option_map (λ p. mk p.0 p.1) (option_zip (K.says (K.word a)) (L.says (L.word b))) → line_of text ≡ Some (mk a b)
+two_read K L word mk a b text few h k e p own w r =
+    let split : words_of (spelling (mk a b)) ≡ words_of_line (mk a b) = rw own (words_joined word (K.word a ∷ L.word b ∷ []) w (K.whole a h, (L.whole b k, tt))) in
+    let both : option_zip (K.says (K.word a)) (L.says (L.word b)) ≡ Some (a, b) = rw (K.read a h, L.read b k) refl in
+    let made : line_of_words (words_of_line (mk a b)) ≡ Some (mk a b) = ap line_of_words own ∙ r ∙ ap (option_map (λ p. mk p.0 p.1)) both in
+    read_short text (mk a b) few e (p, split, made)
+
 -- the spelling of a line is read as that line
 spelling_read : (text : List ℕ) (line : Line) → length text ≤ MAX_LINE_BYTES → IsInRange line → text ≡ spelling line → line_of text ≡ Some line
 spelling_read text Pass few h e = passed_read text few (ap passes e)
-spelling_read text (Component name) few h e = read_short text (Component name) few e (refl, words_joined (codes "component") (name ∷ []) refl (named_whole name h, tt), rw (name_read name h) refl)
-spelling_read text (Owns name table) few (h, k) e = read_short text (Owns name table) few e (refl, words_joined (codes "owns") (name ∷ decimal table ∷ []) refl (named_whole name h, (number_whole table k, tt)), rw (number_read table k, name_read name h) refl)
-spelling_read text (Begin caller) few h e = read_short text (Begin caller) few e (refl, words_joined (codes "begin") (caller_word caller ∷ []) refl (caller_whole caller h, tt), rw (caller_read caller h) refl)
-spelling_read text (Enter caller name) few (h, k) e = read_short text (Enter caller name) few e (refl, words_joined (codes "enter") (caller_word caller ∷ name ∷ []) refl (caller_whole caller h, (named_whole name k, tt)), rw (caller_read caller h, name_read name k) refl)
-spelling_read text (Put caller table key bytes) few (h, t, k, b) e = read_short text (Put caller table key bytes) few e (refl, words_joined (codes "put") (caller_word caller ∷ decimal table ∷ decimal key ∷ hex_text bytes ∷ []) refl (caller_whole caller h, (number_whole table t, (number_whole key k, (hex_whole bytes, tt)))), rw (caller_read caller h, number_read table t, number_read key k, hex_read bytes b) refl)
-spelling_read text (Commit caller) few h e = read_short text (Commit caller) few e (refl, words_joined (codes "commit") (caller_word caller ∷ []) refl (caller_whole caller h, tt), rw (caller_read caller h) refl)
+spelling_read text (Component name) few h e = one_read names (codes "component") (λ a. Component a) name text few h e refl refl refl refl
+spelling_read text (Hard name other) few (h, k) e = two_read names names (codes "hard") (λ a b. Hard a b) name other text few h k e refl refl refl refl
+spelling_read text (Soft name other) few (h, k) e = two_read names names (codes "soft") (λ a b. Soft a b) name other text few h k e refl refl refl refl
+spelling_read text (Owns name table) few (h, k) e = two_read names numbers (codes "owns") (λ a b. Owns a b) name table text few h k e refl refl refl refl
+spelling_read text (Limit entries room) few (h, k) e = two_read numbers numbers (codes "limit") (λ a b. Limit a b) entries room text few h k e refl refl refl refl
+spelling_read text (Begin caller) few h e = one_read callers (codes "begin") (λ a. Begin a) caller text few h e refl refl refl refl
+spelling_read text (Enter caller name) few (h, k) e = two_read callers names (codes "enter") (λ a b. Enter a b) caller name text few h k e refl refl refl refl
+spelling_read text (Exit caller) few h e = one_read callers (codes "exit") (λ a. Exit a) caller text few h e refl refl refl refl
+spelling_read text (Put caller table key row) few (h, t, k, b) e = read_short text (Put caller table key row) few e (refl, words_joined (codes "put") (caller_word caller ∷ decimal table ∷ decimal key ∷ hex_text row ∷ []) refl (callers.whole caller h, (numbers.whole table t, (numbers.whole key k, (bytes.whole row b, tt)))), rw (callers.read caller h, numbers.read table t, numbers.read key k, bytes.read row b) refl)
+spelling_read text (Commit caller) few h e = one_read callers (codes "commit") (λ a. Commit a) caller text few h e refl refl refl refl
+spelling_read text (Drop caller) few h e = one_read callers (codes "drop") (λ a. Drop a) caller text few h e refl refl refl refl
+spelling_read text (Down name) few h e = one_read names (codes "down") (λ a. Down a) name text few h e refl refl refl refl
+spelling_read text (Up name) few h e = one_read names (codes "up") (λ a. Up a) name text few h e refl refl refl refl
+spelling_read text (Reboot name) few h e = one_read names (codes "reboot") (λ a. Reboot a) name text few h e refl refl refl refl
 spelling_read text Table few h e = read_short text Table few e (refl, words_joined (codes "table") [] refl tt, refl)
+spelling_read text Journal few h e = read_short text Journal few e (refl, words_joined (codes "journal") [] refl tt, refl)
 
 -- what a text spells, it is read as
 spelled_read : (text : List ℕ) (line : Line) → Spells text line → line_of text ≡ Some line

@@ -1,18 +1,50 @@
 -- Words without a space, joined and cut again.
-use Rattle.std.proofs.Common.{◌≡◌, ℕ, ◌==◌, Bool, true, false, not, List, [], ◌∷◌, refl, ap, ◌∙◌, arith}
+use Rattle.std.proofs.Common.{◌≡◌, ℕ, ◌==◌, Bool, true, false, not, List, [], ◌∷◌, ◌≢◌, length, take, drop, position, Some, None, refl, ap, sym, ◌∙◌, arith}
 use Rattle.std.specs.Char.{is_ascii_digit}
-use Rattle.std.specs.List.{list_all, All, join_with_byte}
+use Rattle.std.specs.List.{position_or_len, list_all, All, join_with_byte}
 use Rattle.std.specs.Str.{all_ascii_digits}
 use Rattle.std.proofs.lemmas.Bool.{and_parts}
-use Rattle.std.proofs.lemmas.List.Elements.{All-nil, All-cons}
-use Rattle.std.proofs.lemmas.List.Splits.{slice_split_none, slice_split_at}
+use Rattle.std.proofs.lemmas.List.Elements.{All-nil, All-cons, All-from_get_or}
+use Rattle.std.proofs.lemmas.List.{drop_more}
+use Rattle.std.proofs.lemmas.List.Sums.{fails_before_first}
+use Rattle.std.proofs.lemmas.List.Splits.{slice_split_none, slice_split_at, slice_split_first}
 use Rattle.std.proofs.lemmas.Bool.Decides.{nat_tests}
+use Rattle.crash_base.proofs.Positions.{position-some, position-none}
 use Rattle.crash_base.specs.Names.{is_name_byte}
-use Rattle.scenario_text.specs.Reading.{words_of}
+use Rattle.scenario_text.specs.Words.{words_of, words_after, no_words}
 
 -- a space
 abbrev space : ℕ → Bool
 space b = b == 32
+
+-- a text without a space is its one word
+pub unspaced : (text : List ℕ) → None ≡ position space text → words_of text ≡ text ∷ []
+unspaced text h = slice_split_none space text (All-from_get_or (λ b. space b ≡ false) text 0 (λ i few. let n = position-none space text (sym h) in fails_before_first space text i 0 (omega arith)))
+
+-- and else what comes before the first space is its first word
+pub spaced : (text : List ℕ) (i : ℕ) → Some i ≡ position space text → words_of text ≡ take i text ∷ words_after (drop i text)
+spaced text i h =
+    let r = position-some space text i (sym h) in
+    let first = slice_split_first space text 0 r.1 in
+    let P : ℕ → Type 0 = λ n. words_of text ≡ take n text ∷ words_after (drop n text) in
+    let n = position_or_len space text in
+    let whole : P n = first ∙ ap (λ left. take n text ∷ words_after left) (sym (drop_more text n 0 r.1)) in
+    rw r.0 whole
+
+-- a text has a word
+some_words : (text : List ℕ) → (word : List ℕ) × (words : List (List ℕ)) × (words_of text ≡ word ∷ words)
+some_words [] = ([], [], refl)
+some_words (b ∷ bs) =
+    let go : (d : Bool) → space b ≡ d → (word : List ℕ) × (words : List (List ℕ)) × (words_of (b ∷ bs) ≡ word ∷ words) = elim [
+      | true ↦ λ e. ([], words_of bs, rw e refl)
+      | false ↦ λ e. let (word, words, h) = some_words bs in (b ∷ word, words, rw (e, h) refl)
+    ] in
+    go (space b) refl
+
+-- there is one after a space
+pub no_words_no : (left : List ℕ) → length left ≢ 0 → no_words (words_after left) ≡ None
+no_words_no [] h = absurd (h refl)
+no_words_no (b ∷ text) h = let (word, words, e) = some_words text in rw e refl
 
 -- no byte of the word is a space
 abbrev pub is_whole : List ℕ → Bool

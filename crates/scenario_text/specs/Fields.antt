@@ -3,7 +3,12 @@ use Rattle.std.specs.Prelude.{ℕ, ◌+◌, ◌*◌, ◌-◌, ◌^◌, ◌==◌,
 use Rattle.std.specs.Char.{is_ascii_digit}
 use Rattle.std.specs.Option.{option_map}
 use Rattle.std.specs.Str.{bytes_eq}
+use Rattle.crash_base.specs.Names.{is_name}
 use Rattle.scenario_text.specs.declared.line.TheConstants.{MAX_HEX_BYTES, MAX_CALLER}
+
+-- a word that is a name
+abbrev pub name_of : List ℕ → Option (List ℕ)
+name_of word = if is_name word then Some word else None
 
 -- the number below 2 ^ 64 that digits go on to, after those of a first number
 abbrev pub digits_from : ℕ → List ℕ → Option ℕ

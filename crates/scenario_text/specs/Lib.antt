@@ -4,3 +4,4 @@ pub mod Line
 pub mod Reading
 pub mod Spelling
 pub mod Texts
+pub mod Words

@@ -1,80 +1,77 @@
 -- Which line a text spells.
 use Rattle.std.specs.Prelude.{ℕ, Bool, nat_lt, ◌==◌, ◌&&◌, true, not, if◌then◌else◌, List, [], ◌∷◌, length, Option, Some, None, option_and_then, codes}
 use Rattle.std.specs.Char.{is_ascii}
-use Rattle.std.specs.Option.{option_map}
+use Rattle.std.specs.Option.{option_map, option_zip}
 use Rattle.std.specs.Str.{bytes_eq}
-use Rattle.std.specs.List.{list_all, slice_split}
-use Rattle.crash_base.specs.Names.{is_name}
+use Rattle.std.specs.List.{list_all}
 use Rattle.scenario_text.specs.declared.line.TheConstants.{MAX_LINE_BYTES}
 use Rattle.scenario_text.specs.declared.line.Line.{Line}
-use Rattle.scenario_text.specs.declared.line.Line.TheVariants.{Pass, Component, Owns, Begin, Enter, Put, Commit, Table}
-use Rattle.scenario_text.specs.Fields.{decimal_number, caller_number, hex_bytes}
+use Rattle.scenario_text.specs.declared.line.Line.TheVariants.{Pass, Component, Hard, Soft, Owns, Limit, Begin, Enter, Exit, Put, Commit, Drop, Down, Up, Reboot, Table, Journal}
+use Rattle.scenario_text.specs.Fields.{name_of, decimal_number, caller_number, hex_bytes}
+use Rattle.scenario_text.specs.Words.{words_of, no_words, one_word, two_words, four_words}
 
--- the words of a line, between single spaces
-abbrev pub words_of : List ℕ → List (List ℕ)
-words_of text = slice_split (λ b. b == 32) text
+-- the name that is the only word
+abbrev pub one_name : List (List ℕ) → Option (List ℕ)
+one_name words = option_and_then name_of (one_word words)
 
--- the line of component and these words: a name
-abbrev pub component_line : List (List ℕ) → Option Line
-component_line [] = None
-component_line (name ∷ []) = if is_name name then Some (Component name) else None
-component_line (name ∷ more ∷ words) = None
+-- the caller that is the only word
+abbrev pub one_caller : List (List ℕ) → Option ℕ
+one_caller words = option_and_then caller_number (one_word words)
 
--- of owns: a name and the number of a table
-abbrev pub owns_line : List (List ℕ) → Option Line
-owns_line [] = None
-owns_line (name ∷ []) = None
-owns_line (name ∷ table ∷ []) =
-    option_and_then (λ t. if is_name name then Some (Owns name t) else None) (decimal_number table)
-owns_line (name ∷ table ∷ more ∷ words) = None
+-- two words, a name each
+abbrev pub two_names : List (List ℕ) → Option (List ℕ × List ℕ)
+two_names words =
+    option_and_then (λ w. option_zip (name_of w.0) (name_of w.1)) (two_words words)
 
--- of begin: a caller
-abbrev pub begin_line : List (List ℕ) → Option Line
-begin_line [] = None
-begin_line (caller ∷ []) = option_map (λ c. Begin c) (caller_number caller)
-begin_line (caller ∷ more ∷ words) = None
+-- two words, a number each
+abbrev pub two_numbers : List (List ℕ) → Option (ℕ × ℕ)
+two_numbers words =
+    option_and_then (λ w. option_zip (decimal_number w.0) (decimal_number w.1)) (two_words words)
 
--- of enter: a caller and a name
-abbrev pub enter_line : List (List ℕ) → Option Line
-enter_line [] = None
-enter_line (caller ∷ []) = None
-enter_line (caller ∷ name ∷ []) =
-    option_and_then (λ c. if is_name name then Some (Enter c name) else None) (caller_number caller)
-enter_line (caller ∷ name ∷ more ∷ words) = None
+-- two words, a name and a number
+abbrev pub name_and_number : List (List ℕ) → Option (List ℕ × ℕ)
+name_and_number words =
+    option_and_then (λ w. option_zip (name_of w.0) (decimal_number w.1)) (two_words words)
 
--- of put: a caller, the numbers of a table and a key, and bytes
+-- two words, a caller and a name
+abbrev pub caller_and_name : List (List ℕ) → Option (ℕ × List ℕ)
+caller_and_name words =
+    option_and_then (λ w. option_zip (caller_number w.0) (name_of w.1)) (two_words words)
+
+-- the line of put and these words: a caller, the numbers of a table and a key, and bytes
 abbrev pub put_line : List (List ℕ) → Option Line
-put_line [] = None
-put_line (caller ∷ []) = None
-put_line (caller ∷ table ∷ []) = None
-put_line (caller ∷ table ∷ key ∷ []) = None
-put_line (caller ∷ table ∷ key ∷ hex ∷ []) =
+put_line words =
+    option_and_then
+    (λ w.
     option_and_then (λ c. option_and_then (λ t. option_and_then (λ k.
-    option_map (λ bytes. Put c t k bytes) (hex_bytes hex))
-    (decimal_number key)) (decimal_number table)) (caller_number caller)
-put_line (caller ∷ table ∷ key ∷ hex ∷ more ∷ words) = None
+    option_map (λ bytes. Put c t k bytes) (hex_bytes w.3))
+    (decimal_number w.2)) (decimal_number w.1)) (caller_number w.0))
+    (four_words words)
 
--- of commit: a caller
-abbrev pub commit_line : List (List ℕ) → Option Line
-commit_line [] = None
-commit_line (caller ∷ []) = option_map (λ c. Commit c) (caller_number caller)
-commit_line (caller ∷ more ∷ words) = None
+-- the event line that a first word and the further words spell
+abbrev pub event_line : List ℕ → List (List ℕ) → Option Line
+event_line first words =
+    if bytes_eq first (codes "begin") then option_map (λ c. Begin c) (one_caller words) else (
+    if bytes_eq first (codes "enter") then option_map (λ p. Enter p.0 p.1) (caller_and_name words) else (
+    if bytes_eq first (codes "exit") then option_map (λ c. Exit c) (one_caller words) else (
+    if bytes_eq first (codes "put") then put_line words else (
+    if bytes_eq first (codes "commit") then option_map (λ c. Commit c) (one_caller words) else (
+    if bytes_eq first (codes "drop") then option_map (λ c. Drop c) (one_caller words) else (
+    if bytes_eq first (codes "down") then option_map (λ n. Down n) (one_name words) else (
+    if bytes_eq first (codes "up") then option_map (λ n. Up n) (one_name words) else (
+    if bytes_eq first (codes "reboot") then option_map (λ n. Reboot n) (one_name words) else (
+    if bytes_eq first (codes "table") then option_map (λ _. Table) (no_words words) else (
+    if bytes_eq first (codes "journal") then option_map (λ _. Journal) (no_words words) else None))))))))))
 
--- of table: no words
-abbrev pub table_line : List (List ℕ) → Option Line
-table_line [] = Some Table
-table_line (more ∷ words) = None
-
--- the line that a first word and the further words spell
+-- the line of the head, or else the event line, that they spell
 abbrev pub line_from : List ℕ → List (List ℕ) → Option Line
 line_from first words =
-    if bytes_eq first (codes "component") then component_line words else (
-    if bytes_eq first (codes "owns") then owns_line words else (
-    if bytes_eq first (codes "begin") then begin_line words else (
-    if bytes_eq first (codes "enter") then enter_line words else (
-    if bytes_eq first (codes "put") then put_line words else (
-    if bytes_eq first (codes "commit") then commit_line words else (
-    if bytes_eq first (codes "table") then table_line words else None))))))
+    if bytes_eq first (codes "component") then option_map (λ n. Component n) (one_name words) else (
+    if bytes_eq first (codes "hard") then option_map (λ p. Hard p.0 p.1) (two_names words) else (
+    if bytes_eq first (codes "soft") then option_map (λ p. Soft p.0 p.1) (two_names words) else (
+    if bytes_eq first (codes "owns") then option_map (λ p. Owns p.0 p.1) (name_and_number words) else (
+    if bytes_eq first (codes "limit") then option_map (λ p. Limit p.0 p.1) (two_numbers words) else
+    event_line first words))))
 
 -- the line that words spell
 abbrev pub line_of_words : List (List ℕ) → Option Line

@@ -5,7 +5,7 @@ use Rattle.std.specs.List.{join_with_byte}
 use Rattle.crash_base.specs.declared.names.TheConstants.{MAX_NAME_BYTES}
 use Rattle.scenario_text.specs.declared.line.TheConstants.{MAX_LINE_BYTES, MAX_HEX_BYTES, MAX_CALLER}
 use Rattle.scenario_text.specs.declared.line.Line.{Line}
-use Rattle.scenario_text.specs.declared.line.Line.TheVariants.{Pass, Component, Owns, Begin, Enter, Put, Commit, Table}
+use Rattle.scenario_text.specs.declared.line.Line.TheVariants.{Pass, Component, Hard, Soft, Owns, Limit, Begin, Enter, Exit, Put, Commit, Drop, Down, Up, Reboot, Table, Journal}
 use Rattle.scenario_text.specs.Texts.{hex_text}
 
 -- from a first number to a last one
@@ -20,7 +20,7 @@ IsNameByte b = IsWithin 48 57 b ⊎ (IsWithin 65 90 b ⊎ (IsWithin 97 122 b ⊎
 abbrev pub IsName : List ℕ → Type 0
 IsName name = IsWithin 1 MAX_NAME_BYTES (length name) × All IsNameByte name
 
--- what a table or a key may be
+-- what the number of a table, a key, entries or bytes may be
 abbrev pub IsNumber : ℕ → Type 0
 IsNumber n = n < 2 ^ 64
 
@@ -36,13 +36,22 @@ AreBytes bytes = (length bytes ≤ MAX_HEX_BYTES) × All (λ b. b < 256) bytes
 abbrev pub IsInRange : Line → Type 0
 IsInRange Pass = Unit {0}
 IsInRange (Component name) = IsName name
+IsInRange (Hard name other) = IsName name × IsName other
+IsInRange (Soft name other) = IsName name × IsName other
 IsInRange (Owns name table) = IsName name × IsNumber table
+IsInRange (Limit entries bytes) = IsNumber entries × IsNumber bytes
 IsInRange (Begin caller) = IsCaller caller
 IsInRange (Enter caller name) = IsCaller caller × IsName name
+IsInRange (Exit caller) = IsCaller caller
 IsInRange (Put caller table key bytes) =
     IsCaller caller × IsNumber table × IsNumber key × AreBytes bytes
 IsInRange (Commit caller) = IsCaller caller
+IsInRange (Drop caller) = IsCaller caller
+IsInRange (Down name) = IsName name
+IsInRange (Up name) = IsName name
+IsInRange (Reboot name) = IsName name
 IsInRange Table = Unit {0}
+IsInRange Journal = Unit {0}
 
 -- a caller's word: c and its number
 abbrev pub caller_word : ℕ → List ℕ
@@ -52,13 +61,22 @@ caller_word caller = 99 ∷ decimal caller
 abbrev pub words_of_line : Line → List (List ℕ)
 words_of_line Pass = []
 words_of_line (Component name) = codes "component" ∷ name ∷ []
+words_of_line (Hard name other) = codes "hard" ∷ name ∷ other ∷ []
+words_of_line (Soft name other) = codes "soft" ∷ name ∷ other ∷ []
 words_of_line (Owns name table) = codes "owns" ∷ name ∷ decimal table ∷ []
+words_of_line (Limit entries bytes) = codes "limit" ∷ decimal entries ∷ decimal bytes ∷ []
 words_of_line (Begin caller) = codes "begin" ∷ caller_word caller ∷ []
 words_of_line (Enter caller name) = codes "enter" ∷ caller_word caller ∷ name ∷ []
+words_of_line (Exit caller) = codes "exit" ∷ caller_word caller ∷ []
 words_of_line (Put caller table key bytes) =
     codes "put" ∷ caller_word caller ∷ decimal table ∷ decimal key ∷ hex_text bytes ∷ []
 words_of_line (Commit caller) = codes "commit" ∷ caller_word caller ∷ []
+words_of_line (Drop caller) = codes "drop" ∷ caller_word caller ∷ []
+words_of_line (Down name) = codes "down" ∷ name ∷ []
+words_of_line (Up name) = codes "up" ∷ name ∷ []
+words_of_line (Reboot name) = codes "reboot" ∷ name ∷ []
 words_of_line Table = codes "table" ∷ []
+words_of_line Journal = codes "journal" ∷ []
 
 -- its words, with one space between each two; nothing for a line that is passed over
 abbrev pub spelling : Line → List ℕ

@@ -2,11 +2,21 @@
 
 ghost use Rattle.std.specs.Prelude.{◌≡◌, ◌<◌, ◌≤◌, ◌*◌, length, IfOk, IfSome, Option};
 ghost use Rattle.std.specs.Option.{option_map};
-ghost use Rattle.scenario_text.specs.Fields.{decimal_number, caller_number, hex_digit, hex_byte, bytes_of_digits, hex_bytes};
+ghost use Rattle.scenario_text.specs.Fields.{name_of, decimal_number, caller_number, hex_digit, hex_byte, bytes_of_digits, hex_bytes};
 
 use crate::line::{HexBytes, MAX_CALLER, MAX_HEX_BYTES};
-use crash_base::OutOfMemory;
+use crash_base::{ComponentName, OutOfMemory, is_name};
 use std::alloc::Global;
+
+/// A copy of a word that is a name.
+pub fn name_of(alloc: Global, word: &[u8]) -> Result<Option<ComponentName>, OutOfMemory>
+    ensures { IfOk result (λ name. name ≡ name_of word.now) }
+{
+    if !is_name(word) {
+        return Ok(None);
+    }
+    Ok(Some(ComponentName::copied(alloc, word)?))
+}
 
 /// A number in decimal digits without leading zeros.
 pub fn decimal_number(word: &[u8]) -> Option<u64>
@@ -69,19 +79,19 @@ fn hex_byte(a: u8, b: u8) -> Option<u8>
     Some(16 * high + low)
 }
 
-/// The bytes of two digits each.
+/// The bytes of two digits each, in a vector without spare room.
 fn bytes_of_digits(alloc: Global, word: &[u8]) -> Result<Option<Vec<u8>>, OutOfMemory>
     ensures value { IfOk result (λ bytes.
         option_map (λ v. v.items) bytes ≡ bytes_of_digits word.now) }
     ensures few { IfOk result (λ bytes. IfSome bytes (λ v. 2 * length v.items ≤ length word.now)) }
 {
-    let mut bytes = Vec::new(alloc);
+    let mut bytes = Vec::with_capacity(alloc, word.len() / 2)?;
     let mut rest = word;
     while rest.len() >= 2 {
         let Some(byte) = hex_byte(rest[0], rest[1]) else {
             return Ok(None);
         };
-        bytes.push(byte)?;
+        bytes.push_reserved(byte);
         rest = &rest[2..];
     }
     if !rest.is_empty() {

@@ -3,14 +3,25 @@
 //! A scenario is ASCII text of lines, as
 //!
 //! ```text
-//! # a ledger with one table
+//! # a ledger with one table, and a desk that refers to it
 //! component ledger
+//! component desk
+//! hard desk ledger
 //! owns ledger 1
+//! limit 1000 65536
 //! begin c1
+//! enter c1 desk
 //! enter c1 ledger
 //! put c1 1 7 00ff
+//! exit c1
 //! commit c1
+//! begin c2
+//! drop c2
+//! down ledger
+//! up ledger
+//! reboot app
 //! table
+//! journal
 //! ```
 //!
 //! `cut_line` takes the first line off a text, and `read_line` answers which line it spells. Words
@@ -23,8 +34,8 @@
 //! `read_line` is exact: it answers `line_of` of the text. `spelling_law` says that this is a line
 //! exactly where the text is the words of that line, with its numbers, names and bytes in their
 //! ranges; so only a line that passes has more than one spelling. `lines_law` says the same of
-//! cutting. Reading visits each byte of a line a few times. `write_hex` writes bytes as a line
-//! spells them.
+//! cutting. Reading visits each byte of a line a few times, and takes memory only for the names and
+//! the bytes that the line says, without spare room. `write_hex` writes bytes as a line spells them.
 #![tactic(auto)]
 
 mod cutting;
@@ -33,6 +44,7 @@ mod laws;
 mod line;
 mod reading;
 mod texts;
+mod words;
 
 pub use cutting::cut_line;
 pub use laws::{lines_law, spelling_law};

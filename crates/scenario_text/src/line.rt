@@ -23,17 +23,34 @@ pub enum Line {
     /// An empty line or a comment.
     Pass,
     Component(ComponentName),
+    /// The component, and the one that it refers to by a hard reference.
+    Hard(ComponentName, ComponentName),
+    /// The component, and the one that it refers to by a soft reference.
+    Soft(ComponentName, ComponentName),
     /// The component, and the number of a table of its own.
     Owns(ComponentName, u64),
+    /// The most entries of the journal, and the most bytes.
+    Limit(u64, u64),
     /// The caller.
     Begin(u64),
     /// The caller, and the component that it enters.
     Enter(u64, ComponentName),
+    /// The caller.
+    Exit(u64),
     /// The caller, the table, the key and the row's bytes.
     Put(u64, u64, u64, HexBytes),
     /// The caller.
     Commit(u64),
+    /// The caller.
+    Drop(u64),
+    /// The component, or `app` for the whole application.
+    Down(ComponentName),
+    /// The component, or `app` for the whole application.
+    Up(ComponentName),
+    /// The component, or `app` for the whole application.
+    Reboot(ComponentName),
     Table,
+    Journal,
 }
 
 impl Line {
@@ -42,12 +59,23 @@ impl Line {
         ensures { result ≡ is_event self.now }
     {
         match self {
-            Line::Pass | Line::Component(_) | Line::Owns(_, _) => false,
+            Line::Pass
+            | Line::Component(_)
+            | Line::Hard(_, _)
+            | Line::Soft(_, _)
+            | Line::Owns(_, _)
+            | Line::Limit(_, _) => false,
             Line::Begin(_)
             | Line::Enter(_, _)
+            | Line::Exit(_)
             | Line::Put(_, _, _, _)
             | Line::Commit(_)
-            | Line::Table => true,
+            | Line::Drop(_)
+            | Line::Down(_)
+            | Line::Up(_)
+            | Line::Reboot(_)
+            | Line::Table
+            | Line::Journal => true,
         }
     }
 }

@@ -1,73 +1,78 @@
 //! Lines from text.
 
-ghost use Rattle.std.specs.Prelude.{◌≡◌, ◌∷◌, [], map, IfOk};
+ghost use Rattle.std.specs.Prelude.{◌≡◌, ◌∷◌, IfOk};
 ghost use Rattle.std.specs.List.{list_all};
-ghost use Rattle.scenario_text.specs.Reading.{line_of, line_of_words, words_of, passes, is_comment_byte, line_from, component_line, owns_line, begin_line, enter_line, put_line, commit_line, table_line};
+ghost use Rattle.scenario_text.specs.Words.{words_after};
+ghost use Rattle.scenario_text.specs.Reading.{line_of, passes, is_comment_byte, line_from, event_line, put_line, one_name, one_caller, two_names, two_numbers, name_and_number, caller_and_name};
 
-use crate::fields::{caller_number, decimal_number, hex_bytes};
+use crate::fields::{caller_number, decimal_number, hex_bytes, name_of};
 use crate::line::{Line, MAX_LINE_BYTES};
-use crash_base::{ComponentName, OutOfMemory, is_name};
-use std::alloc::{AllocError, Global};
+use crate::words::{first_word, four_words, no_words, one_word, two_words};
+use crash_base::{ComponentName, OutOfMemory};
+use std::alloc::Global;
 
-fn component_line(alloc: Global, words: &[&[u8]]) -> Result<Option<Line>, OutOfMemory>
-    ensures { IfOk result (λ line. line ≡ component_line (map (λ w. w.now) words.now)) }
+fn one_name(alloc: Global, left: &[u8]) -> Result<Option<ComponentName>, OutOfMemory>
+    ensures { IfOk result (λ name. name ≡ one_name (words_after left.now)) }
 {
-    match words {
-        [name] if is_name(name) => {
-            Ok(Some(Line::Component(ComponentName::copied(alloc, name)?)))
-        }
-        _ => Ok(None),
+    match one_word(left) {
+        Some(name) => name_of(alloc, name),
+        None => Ok(None),
     }
 }
 
-fn owns_line(alloc: Global, words: &[&[u8]]) -> Result<Option<Line>, OutOfMemory>
-    ensures { IfOk result (λ line. line ≡ owns_line (map (λ w. w.now) words.now)) }
+fn one_caller(left: &[u8]) -> Option<u64>
+    ensures { result ≡ one_caller (words_after left.now) }
 {
-    match words {
-        [name, table] => match decimal_number(table) {
-            Some(table) if is_name(name) => {
-                Ok(Some(Line::Owns(ComponentName::copied(alloc, name)?, table)))
-            }
-            _ => Ok(None),
-        },
-        _ => Ok(None),
-    }
+    caller_number(one_word(left)?)
 }
 
-fn begin_line(words: &[&[u8]]) -> Option<Line>
-    ensures { result ≡ begin_line (map (λ w. w.now) words.now) }
-{
-    match words {
-        [caller] => caller_number(caller).map(Line::Begin),
-        _ => None,
-    }
-}
-
-fn enter_line(alloc: Global, words: &[&[u8]]) -> Result<Option<Line>, OutOfMemory>
-    ensures { IfOk result (λ line. line ≡ enter_line (map (λ w. w.now) words.now)) }
-{
-    match words {
-        [caller, name] => match caller_number(caller) {
-            Some(caller) if is_name(name) => {
-                Ok(Some(Line::Enter(caller, ComponentName::copied(alloc, name)?)))
-            }
-            _ => Ok(None),
-        },
-        _ => Ok(None),
-    }
-}
-
-/// The line of put and its four words.
-fn put_line_of(
+fn two_names(
     alloc: Global,
-    caller: &[u8],
-    table: &[u8],
-    key: &[u8],
-    hex: &[u8],
-) -> Result<Option<Line>, OutOfMemory>
-    ensures { IfOk result (λ line.
-        line ≡ put_line (caller.now ∷ table.now ∷ key.now ∷ hex.now ∷ [])) }
+    left: &[u8],
+) -> Result<Option<(ComponentName, ComponentName)>, OutOfMemory>
+    ensures { IfOk result (λ names. names ≡ two_names (words_after left.now)) }
 {
+    let Some((name, other)) = two_words(left) else {
+        return Ok(None);
+    };
+    let name = name_of(alloc, name)?;
+    let other = name_of(alloc, other)?;
+    Ok(name.zip(other))
+}
+
+fn two_numbers(left: &[u8]) -> Option<(u64, u64)>
+    ensures { result ≡ two_numbers (words_after left.now) }
+{
+    let (number, other) = two_words(left)?;
+    decimal_number(number).zip(decimal_number(other))
+}
+
+fn name_and_number(alloc: Global, left: &[u8]) -> Result<Option<(ComponentName, u64)>, OutOfMemory>
+    ensures { IfOk result (λ words. words ≡ name_and_number (words_after left.now)) }
+{
+    let Some((name, number)) = two_words(left) else {
+        return Ok(None);
+    };
+    let name = name_of(alloc, name)?;
+    Ok(name.zip(decimal_number(number)))
+}
+
+fn caller_and_name(alloc: Global, left: &[u8]) -> Result<Option<(u64, ComponentName)>, OutOfMemory>
+    ensures { IfOk result (λ words. words ≡ caller_and_name (words_after left.now)) }
+{
+    let Some((caller, name)) = two_words(left) else {
+        return Ok(None);
+    };
+    let name = name_of(alloc, name)?;
+    Ok(caller_number(caller).zip(name))
+}
+
+fn put_line(alloc: Global, left: &[u8]) -> Result<Option<Line>, OutOfMemory>
+    ensures { IfOk result (λ line. line ≡ put_line (words_after left.now)) }
+{
+    let Some((caller, table, key, hex)) = four_words(left) else {
+        return Ok(None);
+    };
     let Some(caller) = caller_number(caller) else {
         return Ok(None);
     };
@@ -81,71 +86,53 @@ fn put_line_of(
     Ok(bytes.map(|bytes| Line::Put(caller, table, key, bytes)))
 }
 
-fn put_line(alloc: Global, words: &[&[u8]]) -> Result<Option<Line>, OutOfMemory>
-    ensures { IfOk result (λ line. line ≡ put_line (map (λ w. w.now) words.now)) }
+/// The event line that a first word and the words after it spell.
+fn event_line(alloc: Global, first: &[u8], left: &[u8]) -> Result<Option<Line>, OutOfMemory>
+    ensures { IfOk result (λ line. line ≡ event_line first.now (words_after left.now)) }
 {
-    if words.len() != 4 {
-        return Ok(None);
-    }
-    put_line_of(alloc, words[0], words[1], words[2], words[3])
-}
-
-fn commit_line(words: &[&[u8]]) -> Option<Line>
-    ensures { result ≡ commit_line (map (λ w. w.now) words.now) }
-{
-    match words {
-        [caller] => caller_number(caller).map(Line::Commit),
-        _ => None,
-    }
-}
-
-fn table_line(words: &[&[u8]]) -> Option<Line>
-    ensures { result ≡ table_line (map (λ w. w.now) words.now) }
-{
-    if words.is_empty() {
-        Some(Line::Table)
-    } else {
-        None
-    }
-}
-
-/// The line that a first word and further words spell.
-fn line_from(alloc: Global, first: &[u8], words: &[&[u8]]) -> Result<Option<Line>, OutOfMemory>
-    ensures { IfOk result (λ line. line ≡ line_from first.now (map (λ w. w.now) words.now)) }
-{
-    if first == b"component".as_slice() {
-        component_line(alloc, words)
-    } else if first == b"owns".as_slice() {
-        owns_line(alloc, words)
-    } else if first == b"begin".as_slice() {
-        Ok(begin_line(words))
+    if first == b"begin".as_slice() {
+        Ok(one_caller(left).map(Line::Begin))
     } else if first == b"enter".as_slice() {
-        enter_line(alloc, words)
+        Ok(caller_and_name(alloc, left)?.map(|(caller, name)| Line::Enter(caller, name)))
+    } else if first == b"exit".as_slice() {
+        Ok(one_caller(left).map(Line::Exit))
     } else if first == b"put".as_slice() {
-        put_line(alloc, words)
+        put_line(alloc, left)
     } else if first == b"commit".as_slice() {
-        Ok(commit_line(words))
+        Ok(one_caller(left).map(Line::Commit))
+    } else if first == b"drop".as_slice() {
+        Ok(one_caller(left).map(Line::Drop))
+    } else if first == b"down".as_slice() {
+        Ok(one_name(alloc, left)?.map(Line::Down))
+    } else if first == b"up".as_slice() {
+        Ok(one_name(alloc, left)?.map(Line::Up))
+    } else if first == b"reboot".as_slice() {
+        Ok(one_name(alloc, left)?.map(Line::Reboot))
     } else if first == b"table".as_slice() {
-        Ok(table_line(words))
+        Ok(no_words(left).map(|()| Line::Table))
+    } else if first == b"journal".as_slice() {
+        Ok(no_words(left).map(|()| Line::Journal))
     } else {
         Ok(None)
     }
 }
 
-/// The words of a line.
-fn words_of(alloc: Global, text: &[u8]) -> Result<Vec<&[u8]>, AllocError>
-    ensures { IfOk result (λ words. map (λ w. w.now) words.items ≡ words_of text.now) }
+/// The line of the head, or else the event line, that they spell.
+fn line_from(alloc: Global, first: &[u8], left: &[u8]) -> Result<Option<Line>, OutOfMemory>
+    ensures { IfOk result (λ line. line ≡ line_from first.now (words_after left.now)) }
 {
-    text.split(|b| *b == b' ').collect(alloc)
-}
-
-/// The line that words spell.
-fn line_of_words(alloc: Global, words: &[&[u8]]) -> Result<Option<Line>, OutOfMemory>
-    ensures { IfOk result (λ line. line ≡ line_of_words (map (λ w. w.now) words.now)) }
-{
-    match words {
-        [] => Ok(None),
-        [first, rest @ ..] => line_from(alloc, first, rest),
+    if first == b"component".as_slice() {
+        Ok(one_name(alloc, left)?.map(Line::Component))
+    } else if first == b"hard".as_slice() {
+        Ok(two_names(alloc, left)?.map(|(name, other)| Line::Hard(name, other)))
+    } else if first == b"soft".as_slice() {
+        Ok(two_names(alloc, left)?.map(|(name, other)| Line::Soft(name, other)))
+    } else if first == b"owns".as_slice() {
+        Ok(name_and_number(alloc, left)?.map(|(name, table)| Line::Owns(name, table)))
+    } else if first == b"limit".as_slice() {
+        Ok(two_numbers(left).map(|(entries, bytes)| Line::Limit(entries, bytes)))
+    } else {
+        event_line(alloc, first, left)
     }
 }
 
@@ -186,6 +173,6 @@ pub fn read_line(alloc: Global, text: &[u8]) -> Result<Option<Line>, OutOfMemory
     if passes(text) {
         return Ok(Some(Line::Pass));
     }
-    let words = words_of(alloc, text)?;
-    line_of_words(alloc, &words)
+    let (first, left) = first_word(text);
+    line_from(alloc, first, left)
 }

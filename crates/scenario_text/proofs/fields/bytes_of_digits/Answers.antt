@@ -12,6 +12,7 @@ loop-rest-preserved c =
     let d = length-drop 2 rest in
     let k = ap length (take_rest rest 2) in
     record {
-      so_far = rw c.in_ok-push.ensures.items (ap (λ r. option_map (λ more. (c.loop-rest.bytes.items ++ c.in-Some.byte ∷ []) ++ more) (bytes_of_digits r)) (take_rest rest 2) ∙ m ∙ c.loop-rest.invariant.so_far);
-      count = let l : length c.push.new.self.items ≡ length c.loop-rest.bytes.items + 1 = ap length c.in_ok-push.ensures.items ∙ length-append c.loop-rest.bytes.items (c.in-Some.byte ∷ []) in omega arith;
+      so_far = rw c.push_reserved.ensures.items (ap (λ r. option_map (λ more. (c.loop-rest.bytes.items ++ c.in-Some.byte ∷ []) ++ more) (bytes_of_digits r)) (take_rest rest 2) ∙ m ∙ c.loop-rest.invariant.so_far);
+      count = let l : length c.push_reserved.new.self.items ≡ length c.loop-rest.bytes.items + 1 = ap length c.push_reserved.ensures.items ∙ length-append c.loop-rest.bytes.items (c.in-Some.byte ∷ []) in omega arith;
+      room = c.push_reserved.ensures.capacity ∙ c.loop-rest.invariant.room;
     }

@@ -15,7 +15,7 @@ use borrow.Author.Tests.{tests}
 use Rattle.crash_base.specs.declared.names.TheConstants.{MAX_NAME_BYTES}
 use Rattle.crash_base.specs.Names.{is_name, is_name_byte}
 use Rattle.scenario_text.specs.declared.line.TheConstants.{MAX_CALLER}
-use Rattle.scenario_text.specs.Fields.{digits_from, decimal_number, caller_number}
+use Rattle.scenario_text.specs.Fields.{name_of, digits_from, decimal_number, caller_number}
 use Rattle.scenario_text.specs.Spelling.{IsNumber, IsCaller, IsName, IsNameByte, caller_word}
 
 -- the number that digits go on to
@@ -144,15 +144,25 @@ name_bytes_decide : (word : List ℕ) → Decides (list_all is_name_byte word) (
 name_bytes_decide word = Decides-by_and is_name_byte IsNameByte (list_all is_name_byte) name_byte_decides refl (λ _ _. refl) word
 
 -- a word that passes the test is a name
-pub name_spelled : (word : List ℕ) → is_name word ≡ true → IsName word
-name_spelled word h =
+is_name_spelled : (word : List ℕ) → is_name word ≡ true → IsName word
+is_name_spelled word h =
     let g = and_parts (nat_le 1 (length word) && nat_le (length word) MAX_NAME_BYTES) (list_all is_name_byte word) h in
     let low : 1 ≤ length word = grind (arith, nat_tests) in
     let high : length word ≤ MAX_NAME_BYTES = grind (arith, nat_tests) in
     ((low, high), (name_bytes_decide word).0 g.1)
 
 -- and a name passes it
-pub name_read : (word : List ℕ) → IsName word → is_name word ≡ true
-name_read word ((low, high), bytes) =
+pub is_name_read : (word : List ℕ) → IsName word → is_name word ≡ true
+is_name_read word ((low, high), bytes) =
     let few : (nat_le 1 (length word) && nat_le (length word) MAX_NAME_BYTES) ≡ true = grind (arith, nat_tests) in
     rw (few, (name_bytes_decide word).1 bytes) refl
+
+-- a word that says a name is that name
+pub name_spelled : (word name : List ℕ) → name_of word ≡ Some name → (word ≡ name) × IsName name
+name_spelled word name h =
+    let g = cond_some (is_name word) word name h in
+    (g.1, rw (← g.1) (is_name_spelled word g.0))
+
+-- and a name says itself
+pub name_read : (name : List ℕ) → IsName name → name_of name ≡ Some name
+name_read name h = rw (is_name_read name h) refl

@@ -1,0 +1,75 @@
+-- Kinds of words, and what words of these kinds say together.
+use Rattle.std.proofs.Common.{◌≡◌, ℕ, true, List, [], ◌∷◌, Option, Some, None, option_and_then, refl, ap, arith}
+use Rattle.std.specs.Fmt.{decimal}
+use Rattle.std.specs.List.{list_all}
+use Rattle.std.specs.Option.{option_zip}
+use Rattle.std.proofs.lemmas.Bool.{and_parts}
+use Rattle.crash_base.specs.Names.{is_name_byte}
+use Rattle.scenario_text.specs.Fields.{name_of, decimal_number, caller_number, hex_bytes}
+use Rattle.scenario_text.specs.Texts.{hex_text}
+use Rattle.scenario_text.specs.Spelling.{IsName, IsNumber, IsCaller, AreBytes, caller_word}
+use Rattle.scenario_text.specs.Words.{one_word, two_words, four_words}
+use Rattle.scenario_text.proofs.OneWord.{number_read, number_spelled, decimal_digits, caller_read, caller_spelled, is_name_read, name_read, name_spelled}
+use Rattle.scenario_text.proofs.Splits.{is_whole, whole_more, digits_whole, name_whole}
+use Rattle.scenario_text.proofs.Hexadecimal.{hex_spelled, hex_read, hex_whole}
+
+-- A kind of words: what one says, the word of what it says, and what that may be. Each of both follows from the other.
+pub record Kind (A : Type 0) : Type 1 where
+  pub says : List ℕ → Option A
+  pub word : A → List ℕ
+  pub IsIn : A → Type 0
+  pub spelled : (w : List ℕ) (a : A) → says w ≡ Some a → (w ≡ word a) × IsIn a
+  pub read : (a : A) → IsIn a → says (word a) ≡ Some a
+  pub whole : (a : A) → IsIn a → is_whole (word a) ≡ true
+
+pub named_whole : (name : List ℕ) → IsName name → is_whole name ≡ true
+named_whole name h = name_whole name (and_parts _ (list_all is_name_byte name) (is_name_read name h)).1
+
+pub number_whole : (n : ℕ) → IsNumber n → is_whole (decimal n) ≡ true
+number_whole n h = digits_whole (decimal n) (decimal_digits n h)
+
+pub caller_whole : (c : ℕ) → IsCaller c → is_whole (caller_word c) ≡ true
+caller_whole c (low, high) = whole_more 99 (decimal c) refl (number_whole c (omega arith))
+
+abbrev pub names : Kind (List ℕ)
+names = record { says = name_of; word = λ n. n; IsIn = IsName; spelled = name_spelled; read = name_read; whole = named_whole }
+
+abbrev pub numbers : Kind ℕ
+numbers = record { says = decimal_number; word = decimal; IsIn = IsNumber; spelled = number_spelled; read = number_read; whole = number_whole }
+
+abbrev pub callers : Kind ℕ
+callers = record { says = caller_number; word = caller_word; IsIn = IsCaller; spelled = caller_spelled; read = caller_read; whole = caller_whole }
+
+abbrev pub bytes : Kind (List ℕ)
+bytes = record { says = hex_bytes; word = hex_text; IsIn = AreBytes; spelled = hex_spelled; read = hex_read; whole = λ a h. hex_whole a }
+
+-- words that say something, where one is wanted
+pub one_spelled : {A : Type 0} (K : Kind A) (words : List (List ℕ)) (a : A) → option_and_then K.says (one_word words) ≡ Some a → (words ≡ K.word a ∷ []) × K.IsIn a
+one_spelled K [] a h = cc
+one_spelled K (w ∷ []) a h = let g = K.spelled w a h in (ap (λ v. v ∷ []) g.0, g.1)
+one_spelled K (w ∷ more ∷ words) a h = cc
+
+both_some : {A B : Type 0} (o : Option A) (q : Option B) (p : A × B) → option_zip o q ≡ Some p → (o ≡ Some p.0) × (q ≡ Some p.1)
+both_some None q p h = cc
+both_some (Some x) None p h = cc
+both_some (Some x) (Some y) p h = let e : (x, y) ≡ p = cc in (ap (λ r. Some r.0) e, ap (λ r. Some r.1) e)
+
+-- where two are wanted
+pub two_spelled : {A B : Type 0} (K : Kind A) (L : Kind B) (words : List (List ℕ)) (p : A × B) → option_and_then (λ w. option_zip (K.says w.0) (L.says w.1)) (two_words words) ≡ Some p → (words ≡ K.word p.0 ∷ L.word p.1 ∷ []) × (K.IsIn p.0 × L.IsIn p.1)
+two_spelled K L [] p h = cc
+two_spelled K L (v ∷ []) p h = cc
+two_spelled K L (v ∷ w ∷ []) p h =
+    let (e, f) = both_some (K.says v) (L.says w) p h in
+    let (a, i) = K.spelled v p.0 e in
+    let (b, j) = L.spelled w p.1 f in
+    (rw (a, b) refl, (i, j))
+two_spelled K L (v ∷ w ∷ more ∷ words) p h = cc
+
+-- and where four are
+pub four_are : (words : List (List ℕ)) (w : List ℕ × List ℕ × List ℕ × List ℕ) → four_words words ≡ Some w → words ≡ w.0 ∷ w.1 ∷ w.2 ∷ w.3 ∷ []
+four_are [] w h = cc
+four_are (a ∷ []) w h = cc
+four_are (a ∷ b ∷ []) w h = cc
+four_are (a ∷ b ∷ c ∷ []) w h = cc
+four_are (a ∷ b ∷ c ∷ d ∷ []) w h = let e : (a, b, c, d) ≡ w = cc in ap (λ w. w.0 ∷ w.1 ∷ w.2 ∷ w.3 ∷ []) e
+four_are (a ∷ b ∷ c ∷ d ∷ more ∷ words) w h = cc
