@@ -148,7 +148,8 @@ impl Journal {
         ensures { result ≡ full_for self.now.limits self.now.entries entries bytes }
     {
         let full = self.fullness();
-        if entries <= self.limits.entries - full.entries && bytes <= self.limits.bytes - full.bytes
+        if entries <= self.limits.entries - full.entries
+            && bytes <= self.limits.bytes - full.bytes
         {
             None
         } else {

@@ -1,7 +1,7 @@
 use Rattle.std.proofs.Common.{ap, ◌∙◌, arith}
 use Rattle.crash_base.specs.Rows.{put_all}
 use Rattle.container_core.proofs.Laying.{entry_put}
-use Rattle.container_core.proofs.container.rows_in.Goals as goal
+use Rattle.container_core.proofs.rows.rows_in.Goals as goal
 
 pub loop-entry-preserved : goal.loop-entry-preserved
 loop-entry-preserved c =
