@@ -4,11 +4,12 @@ use Rattle.crash_base.specs.declared.scope.TheConstants.{MAX_GROUPS}
 use Rattle.deployment.specs.declared.parts.TheConstants.{MAX_METHODS}
 use Rattle.deployment.specs.declared.parts.ComponentPart.{ComponentPart}
 use Rattle.deployment.specs.declared.parts.Parts.{Parts}
+use Rattle.deployment.specs.declared.parts.Reference.{Reference}
 use Rattle.deployment.specs.declared.parts.TablePart.{TablePart}
 use Rattle.deployment.specs.Parts.{named, owner_of}
 use Rattle.deployment.specs.Refusals.{deploy_refusal}
 use Rattle.deployment.specs.Sound.{HaveOwnNames}
-use Rattle.deployment.proofs.Growing.{component_added, table_added}
+use Rattle.deployment.proofs.Growing.{component_added, reference_added, table_added}
 use Rattle.deployment.proofs.Soundness.{sound_from_none, none_from_sound}
 use Rattle.drive_engine.specs.Head.{plain}
 
@@ -29,3 +30,8 @@ pub table_accepted : (parts : Parts) (t : TablePart) (tables : List TablePart) �
 table_accepted parts t tables none own new owned made =
     let P : List TablePart → Type 0 = λ ts. deploy_refusal (record parts { tables = ts }) ≡ None in
     subst P (sym made) (none_from_sound (record parts { tables = parts.tables ++ t ∷ [] }) (table_added parts t (sound_from_none parts none) own (none_here (owner_of parts.tables t.table) new) owned))
+
+pub reference_accepted : (parts : Parts) (r : Reference) (references : List Reference) → deploy_refusal parts ≡ None → r.from.0 < length parts.components → r.to.0 < length parts.components → references ≡ parts.references ++ r ∷ [] → deploy_refusal (record parts { references = references }) ≡ None
+reference_accepted parts r references none from to made =
+    let P : List Reference → Type 0 = λ rs. deploy_refusal (record parts { references = rs }) ≡ None in
+    subst P (sym made) (none_from_sound (record parts { references = parts.references ++ r ∷ [] }) (reference_added parts r (sound_from_none parts none) from to))

@@ -3,7 +3,10 @@ pub mod Coming
 pub mod Deciding
 pub mod Fitting
 pub mod Heading
+pub mod Leaving
 pub mod Legality
 pub mod Playing
+pub mod Rebooting
 pub mod Reporting
+pub mod Listing
 pub mod Numbering

@@ -6,12 +6,12 @@ use Rattle.scenario_text.specs.Cutting.{lines_of}
 use Rattle.scenario_text.specs.Reading.{line_of}
 use Rattle.drive_engine.specs.Answer.{Answer, Refused, Done}
 use Rattle.drive_engine.specs.Engine.{step}
-use Rattle.drive_engine.specs.Head.{no_parts}
+use Rattle.drive_engine.specs.Head.{no_head}
 use Rattle.drive_engine.specs.State.{State, Heading}
 
 -- the state before the first line
 abbrev pub first : State
-first = Heading no_parts
+first = Heading no_head
 
 -- a text that spells no line is refused
 abbrev pub answer_to : State → Option Line → Answer State

@@ -1,14 +1,14 @@
 //! Lines of one live call.
 
 ghost use Rattle.std.specs.Prelude.{◌≡◌, IfOk};
-ghost use Rattle.journal_model.specs.Fits.{Fits};
+ghost use Rattle.container_core.specs.Fits.{FitsIn};
 ghost use Rattle.drive_engine.specs.Answer.{answer_of};
-ghost use Rattle.drive_engine.specs.CallLines.{call_line, enter_step, put_step};
+ghost use Rattle.drive_engine.specs.CallLines.{call_line, enter_step, exit_step, put_step};
 
 use crate::answer::LineAnswer;
 use crate::tables::table_of;
 use crate::texts::refusal_text;
-use container_core::{Container, Ticket};
+use container_core::{CallRefusal, Container, MAX_STEPS, Ticket};
 use crash_base::{ComponentName, OutOfMemory, RowBytes, RowId, RowWrite};
 use scenario_text::HexBytes;
 use std::alloc::Global;
@@ -18,6 +18,8 @@ use std::alloc::Global;
 pub enum CallLine {
     /// Enters a component.
     Enter(ComponentName),
+    /// Leaves the component that was entered last.
+    Exit,
     /// Puts a row, by the number of its table, its key and its bytes.
     Put(u64, u64, HexBytes),
 }
@@ -31,21 +33,52 @@ fn enter_step(
     caller: u64,
     name: ComponentName,
 ) -> Result<LineAnswer, OutOfMemory>
+    requires { FitsIn container.old ticket.old.call }
     ensures answer { IfOk result (λ a.
         answer_of a ticket.new ≡ enter_step container.old caller ticket.old name) }
-    ensures fits { Fits container.old.start.base container.old.entries ticket.old.call
-        → Fits container.old.start.base container.old.entries ticket.new.call }
+    ensures fits { FitsIn container.old ticket.new.call }
     ensures same { container.new ≡ container.old }
 {
     let Some(c) = container.deployment().named(name.as_slice()) else {
         return Ok(LineAnswer::Refused);
     };
-    if ticket.depth() > 0 {
+    if !container.may_enter(ticket, c) {
         return Ok(LineAnswer::Refused);
     }
     match container.enter(ticket, c, 0) {
         Ok(()) => Ok(LineAnswer::Done),
         Err(refusal) => Ok(LineAnswer::Wrote(refusal_text(alloc, caller, refusal)?)),
+    }
+}
+
+/// Leaves the component that was entered last.
+#[tactic(auto, unfolding(crate::specs::CallLines::exit_step))]
+fn exit_step(
+    alloc: Global,
+    container: &mut Container,
+    ticket: &mut Ticket,
+    caller: u64,
+) -> Result<LineAnswer, OutOfMemory>
+    requires { FitsIn container.old ticket.old.call }
+    ensures answer { IfOk result (λ a.
+        answer_of a ticket.new ≡ exit_step container.old caller ticket.old) }
+    ensures fits { FitsIn container.old ticket.new.call }
+    ensures same { container.new ≡ container.old }
+{
+    if ticket.depth() == 0 {
+        return Ok(LineAnswer::Refused);
+    }
+    if let Err(stale) = container.check(ticket) {
+        let text = refusal_text(alloc, caller, CallRefusal::Revoked(stale))?;
+        return Ok(LineAnswer::Wrote(text));
+    }
+    if ticket.steps() == MAX_STEPS {
+        let text = refusal_text(alloc, caller, CallRefusal::Steps)?;
+        return Ok(LineAnswer::Wrote(text));
+    }
+    match container.exit(ticket) {
+        Ok(()) => Ok(LineAnswer::Done),
+        Err(_) => unreachable!(),
     }
 }
 
@@ -60,10 +93,10 @@ fn put_step(
     key: u64,
     bytes: HexBytes,
 ) -> Result<LineAnswer, OutOfMemory>
+    requires { FitsIn container.old ticket.old.call }
     ensures answer { IfOk result (λ a.
         answer_of a ticket.new ≡ put_step container.old caller ticket.old number key bytes) }
-    ensures fits { Fits container.old.start.base container.old.entries ticket.old.call
-        → Fits container.old.start.base container.old.entries ticket.new.call }
+    ensures fits { FitsIn container.old ticket.new.call }
     ensures same { container.new ≡ container.old }
 {
     let Some(table) = table_of(number) else {
@@ -90,14 +123,15 @@ pub fn call_line(
     caller: u64,
     line: CallLine,
 ) -> Result<LineAnswer, OutOfMemory>
+    requires { FitsIn container.old ticket.old.call }
     ensures answer { IfOk result (λ a.
         answer_of a ticket.new ≡ call_line container.old caller ticket.old line) }
-    ensures fits { Fits container.old.start.base container.old.entries ticket.old.call
-        → Fits container.old.start.base container.old.entries ticket.new.call }
+    ensures fits { FitsIn container.old ticket.new.call }
     ensures same { container.new ≡ container.old }
 {
     match line {
         CallLine::Enter(name) => enter_step(alloc, container, ticket, caller, name),
+        CallLine::Exit => exit_step(alloc, container, ticket, caller),
         CallLine::Put(number, key, bytes) => {
             put_step(alloc, container, ticket, caller, number, key, bytes)
         }

@@ -1,9 +1,11 @@
 //! Callers of a scenario.
 
-ghost use Rattle.std.specs.Prelude.{◌≡◌, ◌==◌, None, IfOk, MatchOption};
-ghost use Rattle.std.specs.List.{list_any};
+ghost use Rattle.std.specs.Prelude.{◌≡◌, ◌≤◌, [], IfOk, OnOk, MatchOption};
+ghost use Rattle.container_core.specs.Container.{ContainerValue};
+ghost use Rattle.container_core.specs.Fits.{FitsIn};
 ghost use Rattle.drive_engine.specs.Answer.{answer_of};
-ghost use Rattle.drive_engine.specs.Callers.{no_callers, place_of_call, AllFit, TakesCall, begin_step, call_step};
+ghost use Rattle.drive_engine.specs.Callers.{caller_at, padded, begins, caller_line, begin_step, call_step, new_ticket, AllFit, FitsCaller, IsAway, TakesCall};
+ghost use Rattle.drive_engine.specs.declared.callers.Caller.TheVariants.{Live, Ended};
 
 use crate::answer::LineAnswer;
 use crate::call_lines::{CallLine, call_line};
@@ -12,107 +14,177 @@ use crash_base::{OutOfMemory, RequestNo, WorkerNo};
 use scenario_text::MAX_CALLER;
 use std::alloc::Global;
 use std::marker::Model;
+use std::mem;
 
-/// The callers that have begun in this boot, and the calls that have not ended.
+/// What a caller has done in this boot.
+#[derive(Drop)]
+pub enum Caller {
+    /// It has not begun.
+    Absent,
+    /// It has begun a call, which has not ended.
+    Live(Ticket),
+    /// Its call has ended.
+    Ended,
+}
+
+/// The callers, by their numbers. Those past the end have not begun.
 #[derive(Drop)]
 pub struct Callers {
-    begun: Vec<u64>,
-    live: Vec<Ticket>,
+    callers: Vec<Caller>,
 }
 
 impl Model for Callers {
-    ghost use Rattle.drive_engine.specs.Callers.{CallersState};
+    ghost use Rattle.std.specs.Prelude.{List};
+    ghost use Rattle.drive_engine.specs.declared.callers.Caller.{Caller};
 
-    ghost Value = { CallersState };
+    ghost Value = { List Caller };
 
-    ghost view = { λ a. record { begun = a.begun.items; live = a.live.items } };
+    ghost view = { λ a. a.callers.items };
 }
 
-/// The place of a caller's call. It visits each live call.
-fn place_of_call(live: &[Ticket], caller: u64) -> Option<usize>
-    ensures { result ≡ place_of_call live.now caller }
+/// The call of a caller that begins.
+fn new_ticket(alloc: Global, container: &Container, number: u64) -> Result<Ticket, OutOfMemory>
+    requires { number ≤ MAX_CALLER }
+    ensures ticket { IfOk result (λ ticket. ticket ≡ new_ticket container.now number) }
+    ensures fits { IfOk result (λ ticket. FitsIn container.now ticket.call) }
 {
-    live.iter()
-        .position(|ticket| u64::from(ticket.worker().0) == caller)
+    let request = RequestNo {
+        boot: container.boot(),
+        serial: (1 << 63) + number,
+    };
+    container.begin(alloc, request, WorkerNo(number as u32))
 }
 
-/// Whether a caller has begun. It visits each that has.
-fn has_begun(begun: &[u64], caller: u64) -> bool
-    ensures { result ≡ list_any (λ b. b == caller) begun.now }
+/// Begins a caller's call, if it has not begun.
+fn begin(
+    alloc: Global,
+    container: &Container,
+    caller: &mut Caller,
+    number: u64,
+) -> Result<LineAnswer, OutOfMemory>
+    requires { number ≤ MAX_CALLER }
+    ensures answer { IfOk result (λ a.
+        answer_of a caller.new ≡ begins container.now number caller.old) }
+    ensures fits { FitsCaller container.now caller.old → FitsCaller container.now caller.new }
 {
-    begun.iter().any(|b| *b == caller)
+    match caller {
+        Caller::Absent => {
+            *caller = Caller::Live(new_ticket(alloc, container, number)?);
+            Ok(LineAnswer::Done)
+        }
+        Caller::Live(_) | Caller::Ended => Ok(LineAnswer::Refused),
+    }
+}
+
+/// A line of a caller's call, if it is live.
+fn caller_line(
+    alloc: Global,
+    container: &mut Container,
+    caller: &mut Caller,
+    number: u64,
+    line: CallLine,
+) -> Result<LineAnswer, OutOfMemory>
+    requires { FitsCaller container.old caller.old }
+    ensures answer { IfOk result (λ a.
+        answer_of a caller.new ≡ caller_line container.old number line caller.old) }
+    ensures fits { FitsCaller container.old caller.new }
+    ensures same { container.new ≡ container.old }
+{
+    match caller {
+        Caller::Live(ticket) => call_line(alloc, container, ticket, number, line),
+        Caller::Absent | Caller::Ended => Ok(LineAnswer::Refused),
+    }
+}
+
+/// Takes a caller's call, if it is live: it has ended.
+fn take(caller: &mut Caller) -> Option<Ticket>
+    ensures { MatchOption result ((caller.new ≡ caller.old) × IsAway caller.old)
+        (λ ticket. (caller.old ≡ Live ticket) × (caller.new ≡ Ended)) }
+{
+    match mem::replace(caller, Caller::Ended) {
+        Caller::Live(ticket) => Some(ticket),
+        Caller::Absent => {
+            *caller = Caller::Absent;
+            None
+        }
+        Caller::Ended => None,
+    }
+}
+
+/// Makes a place for each number up to this one.
+fn pad(callers: &mut Vec<Caller>, number: u64) -> Result<(), OutOfMemory>
+    ensures padded { OnOk result (callers.new.items ≡ padded callers.old.items number) }
+    ensures fits { (c : ContainerValue) → AllFit c callers.old.items → AllFit c callers.new.items }
+{
+    while callers.len() as u64 <= number {
+        callers.push(Caller::Absent)?;
+    }
+    Ok(())
 }
 
 impl Callers {
     /// No caller has begun. It takes no memory.
     pub fn new(alloc: Global) -> Callers
-        ensures { result ≡ no_callers }
+        ensures { result ≡ [] }
     {
         Callers {
-            begun: Vec::new(alloc),
-            live: Vec::new(alloc),
+            callers: Vec::new(alloc),
         }
     }
 
-    /// A caller begins.
+    /// A caller begins. It visits that caller, and makes a place for each one of a lesser number that has none.
     #[tactic(auto, unfolding(crate::specs::Callers::begin_step))]
     pub fn begin_step(
         &mut self,
         alloc: Global,
         container: &Container,
-        caller: u64,
+        number: u64,
     ) -> Result<LineAnswer, OutOfMemory>
+        requires { AllFit container.now self.old }
         ensures answer { IfOk result (λ a.
-            answer_of a self.new ≡ begin_step container.now self.old caller) }
-        ensures fits { AllFit container.now self.old.live → AllFit container.now self.new.live }
+            answer_of a self.new ≡ begin_step container.now self.old number) }
+        ensures fits { AllFit container.now self.new }
     {
-        if caller > MAX_CALLER {
+        if number > MAX_CALLER {
             return Ok(LineAnswer::Refused);
         }
-        if self.live.len() > 0 {
-            return Ok(LineAnswer::Refused);
-        }
-        if has_begun(&self.begun, caller) {
-            return Ok(LineAnswer::Refused);
-        }
-        let request = RequestNo {
-            boot: container.boot(),
-            serial: (1 << 63) + caller,
-        };
-        let ticket = container.begin(alloc, request, WorkerNo(caller as u32))?;
-        self.begun.push(caller)?;
-        self.live.push(ticket)?;
-        Ok(LineAnswer::Done)
+        pad(&mut self.callers, number)?;
+        let answer = begin(alloc, container, &mut self.callers[number as usize], number)?;
+        Ok(answer)
     }
 
-    /// A line of a live call.
+    /// A line of a live call. It visits that caller.
     #[tactic(auto, unfolding(crate::specs::Callers::call_step))]
     pub fn call_step(
         &mut self,
         alloc: Global,
         container: &mut Container,
-        caller: u64,
+        number: u64,
         line: CallLine,
     ) -> Result<LineAnswer, OutOfMemory>
+        requires { AllFit container.old self.old }
         ensures answer { IfOk result (λ a.
-            answer_of a self.new ≡ call_step container.old self.old caller line) }
-        ensures fits { AllFit container.old self.old.live → AllFit container.old self.new.live }
+            answer_of a self.new ≡ call_step container.old self.old number line) }
+        ensures fits { AllFit container.old self.new }
         ensures same { container.new ≡ container.old }
     {
-        let Some(i) = place_of_call(&self.live, caller) else {
+        if number >= self.callers.len() as u64 {
             return Ok(LineAnswer::Refused);
-        };
-        let answer = call_line(alloc, container, &mut self.live[i], caller, line)?;
+        }
+        let caller = &mut self.callers[number as usize];
+        let answer = caller_line(alloc, container, caller, number, line)?;
         Ok(answer)
     }
 
     /// Takes a caller's call, which ends. None exactly where no call of the caller is live.
-    pub fn take(&mut self, caller: u64) -> Option<Ticket>
+    pub fn take(&mut self, number: u64) -> Option<Ticket>
         ensures { MatchOption result
-            ((place_of_call self.old.live caller ≡ None) × (self.new ≡ self.old))
-            (λ ticket. TakesCall self.old self.new caller ticket) }
+            ((self.new ≡ self.old) × IsAway (caller_at self.old number))
+            (λ ticket. TakesCall self.old self.new number ticket) }
     {
-        let i = place_of_call(&self.live, caller)?;
-        Some(self.live.remove(i))
+        if number >= self.callers.len() as u64 {
+            return None;
+        }
+        take(&mut self.callers[number as usize])
     }
 }

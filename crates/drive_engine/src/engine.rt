@@ -1,24 +1,23 @@
 //! One scenario, line by line.
 
-ghost use Rattle.std.specs.Prelude.{◌≡◌, IfOk};
+ghost use Rattle.std.specs.Prelude.{◌≡◌, IfOk, OnOk};
 ghost use Rattle.drive_engine.specs.Answer.{answer_of};
 ghost use Rattle.drive_engine.specs.Engine.{running, stage_line, step};
 ghost use Rattle.drive_engine.specs.Transcript.{first};
 
 use crate::answer::LineAnswer;
-use crate::head::head_line;
+use crate::head::{Head, head_line};
 use crate::running::Running;
 use crash_base::OutOfMemory;
-use deployment::Parts;
 use scenario_text::Line;
 use std::alloc::Global;
 use std::marker::Model;
 use std::mem;
 
-/// Parts that head lines build, or a container and its callers.
+/// What head lines have said, or a container and its callers.
 #[derive(Drop)]
 enum Stage {
-    Head(Parts),
+    Head(Head),
     Run(Running),
 }
 
@@ -45,18 +44,19 @@ impl Engine {
         ensures { result ≡ first }
     {
         Engine {
-            stage: Stage::Head(Parts::new(alloc)),
+            stage: Stage::Head(Head::new(alloc)),
         }
     }
 
     /// Starts the container, where it is not started.
-    fn start(&mut self, alloc: Global)
-        ensures { self.new ≡ running self.old }
+    fn start(&mut self, alloc: Global) -> Result<(), OutOfMemory>
+        ensures { OnOk result (self.new ≡ running self.old) }
     {
-        if let Stage::Head(parts) = &mut self.stage {
-            let parts = mem::replace(parts, Parts::new(alloc));
-            self.stage = Stage::Run(Running::start(alloc, parts));
+        if let Stage::Head(head) = &mut self.stage {
+            let head = mem::replace(head, Head::new(alloc));
+            self.stage = Stage::Run(Running::start(alloc, head)?);
         }
+        Ok(())
     }
 
     /// Does one line in the present stage.
@@ -64,7 +64,7 @@ impl Engine {
         ensures { IfOk result (λ a. answer_of a self.new ≡ stage_line self.old line) }
     {
         match &mut self.stage {
-            Stage::Head(parts) => head_line(alloc, parts, line),
+            Stage::Head(head) => head_line(alloc, head, line),
             Stage::Run(running) => running.event_line(alloc, line),
         }
     }
@@ -74,7 +74,7 @@ impl Engine {
         ensures { IfOk result (λ a. answer_of a self.new ≡ step self.old line) }
     {
         if line.is_event() {
-            self.start(alloc);
+            self.start(alloc)?;
         }
         let answer = self.stage_line(alloc, line)?;
         Ok(answer)

@@ -7,17 +7,17 @@ ghost use Rattle.drive_engine.specs.Command.{CallsFor};
 ghost use Rattle.drive_engine.specs.Engine.{IsLegalState};
 ghost use Rattle.drive_engine.specs.Transcript.{first, end_from, end_of, last_state};
 
+use container_core::{calls_go_on_fitting, containers_stay_sound};
 use descriptor_text::texts_have_an_answer;
-use journal_model::{fits_until_commit, grows_legally};
 
-/// Whatever the text, or the lines, the journal is legal in the state that they leave, also where they
-/// stop at a line.
+/// Whatever the text, or the lines, the container is sound in the state that they leave, also where they
+/// stop at a line: its journal is legal and within its limits.
 pub fn journals_are_legal()
     ensures texts { (text : List ℕ) → IsLegalState (last_state (end_of text)) }
     ensures lines { (lines : List (List ℕ)) → IsLegalState (last_state (end_from first 1 lines)) }
 {
-    grows_legally();
-    fits_until_commit();
+    containers_stay_sound();
+    calls_go_on_fitting();
 }
 
 /// A text calls for a status. So each text has one of the ends that the status's clauses describe.

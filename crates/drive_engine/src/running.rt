@@ -1,22 +1,23 @@
 //! Event lines, over a container that is started.
 
-ghost use Rattle.std.specs.Prelude.{◌≡◌, length, None, IfOk, OnOk, OnErr};
+ghost use Rattle.std.specs.Prelude.{◌≡◌, ◌+◌, ◌++◌, length, None, IfOk, IfSome, option_map};
+ghost use Rattle.commit_journal.specs.Journal.{IsScope};
 ghost use Rattle.deployment.specs.Refusals.{deploy_refusal};
-ghost use Rattle.journal_model.specs.Calls.{entry_of};
-ghost use Rattle.journal_model.specs.Fits.{Fits};
-ghost use Rattle.journal_model.specs.declared.entry.Entry.TheVariants.{Commit};
-ghost use Rattle.container_core.specs.Container.{with_entry};
 ghost use Rattle.drive_engine.specs.Answer.{answer_of, within};
 ghost use Rattle.drive_engine.specs.Callers.{call_step};
-ghost use Rattle.drive_engine.specs.Running.{started, with_callers, commit_step, table_step, event_line};
+ghost use Rattle.drive_engine.specs.Running.{started, with_callers, scope_of, commit_step, drop_step, down_step, up_step, reboot_step, table_step, journal_step, event_line};
 
 use crate::answer::LineAnswer;
 use crate::call_lines::CallLine;
 use crate::callers::Callers;
-use crate::texts::{committed_text, table_text};
-use container_core::{Container, Ticket};
-use crash_base::{OutOfMemory, Place};
-use deployment::{Deployment, Parts};
+use crate::head::Head;
+use crate::texts::{
+    commit_refusal_text, committed_text, down_text, journal_text, reboot_refusal_text,
+    rebooted_text, table_text, up_text,
+};
+use container_core::Container;
+use crash_base::{APPLICATION, ComponentName, OutOfMemory, Scope};
+use deployment::Deployment;
 use scenario_text::Line;
 use std::alloc::Global;
 use std::marker::Model;
@@ -36,39 +37,39 @@ impl Model for Running {
 
     ghost view = { λ a. record { container = a.container; callers = a.callers } };
 
-    ghost invariant = { λ a. AllFit a.container a.callers.live };
+    ghost invariant = { λ a. AllFit a.container a.callers };
 }
 
-/// Commits a call without an action.
-fn join(container: &mut Container, ticket: Ticket) -> Result<Place, OutOfMemory>
-    requires { Fits container.old.start.base container.old.entries ticket.call }
-    ensures place { IfOk result (λ place. place.0 ≡ length container.old.entries) }
-    ensures joined { OnOk result
-        (container.new ≡ with_entry container.old (Commit (entry_of ticket.call None))) }
-    ensures same { OnErr result (container.new ≡ container.old) }
+/// The scope of a name: that of the whole application, or the group of a component. None exactly where no component
+/// has the name. It visits each component up to that one.
+fn scope_of(deployment: &Deployment, name: &ComponentName) -> Option<Scope>
+    ensures scope { result ≡ scope_of deployment.now name.now }
+    ensures known { IfSome result IsScope }
 {
-    match container.commit(ticket, None) {
-        Ok(place) => Ok(place),
-        Err(_) => Err(OutOfMemory),
+    if name.as_slice() == APPLICATION.as_bytes() {
+        return Some(Scope::App);
     }
+    let c = deployment.named(name.as_slice())?;
+    Some(Scope::Group(deployment.group_of(c)))
 }
 
 impl Running {
-    /// A container over these parts, which nobody has called.
-    pub fn start(alloc: Global, parts: Parts) -> Running
-        requires { deploy_refusal parts ≡ None }
-        ensures { result ≡ started parts }
+    /// A container over this deployment with these limits, which nobody has called.
+    pub fn start(alloc: Global, head: Head) -> Result<Running, OutOfMemory>
+        requires { deploy_refusal head.parts ≡ None }
+        ensures { IfOk result (λ r. r ≡ started head) }
     {
-        match Deployment::check(parts) {
-            Ok(deployment) => Running {
-                container: Container::start(alloc, deployment),
+        let limits = head.limits;
+        match Deployment::check(head.parts) {
+            Ok(deployment) => Ok(Running {
+                container: Container::start(alloc, deployment, limits)?,
                 callers: Callers::new(alloc),
-            },
+            }),
             Err(_) => unreachable!(),
         }
     }
 
-    /// A live call joins the journal.
+    /// A live call joins the journal, or is refused.
     #[tactic(auto, unfolding(crate::specs::Running::commit_step))]
     fn commit_step(&mut self, alloc: Global, caller: u64) -> Result<LineAnswer, OutOfMemory>
         ensures { IfOk result (λ a. answer_of a self.new ≡ commit_step self.old caller) }
@@ -76,8 +77,71 @@ impl Running {
         let Some(ticket) = self.callers.take(caller) else {
             return Ok(LineAnswer::Refused);
         };
-        let place = join(&mut self.container, ticket)?;
-        let text = committed_text(alloc, caller, place.0)?;
+        let text = match self.container.commit(alloc, ticket, None) {
+            Ok(place) => committed_text(alloc, caller, place.0)?,
+            Err(refused) => commit_refusal_text(alloc, caller, refused.cause)?,
+        };
+        Ok(LineAnswer::Wrote(text))
+    }
+
+    /// A live call is given up.
+    #[tactic(auto, unfolding(crate::specs::Running::drop_step))]
+    fn drop_step(&mut self, caller: u64) -> LineAnswer
+        ensures { answer_of result self.new ≡ drop_step self.old caller }
+    {
+        let Some(ticket) = self.callers.take(caller) else {
+            return LineAnswer::Refused;
+        };
+        self.container.abandon(ticket);
+        LineAnswer::Done
+    }
+
+    /// A scope goes down.
+    #[tactic(auto, unfolding(crate::specs::Running::down_step))]
+    fn down_step(&mut self, alloc: Global, name: ComponentName) -> Result<LineAnswer, OutOfMemory>
+        ensures { IfOk result (λ a. answer_of a self.new ≡ down_step self.old name) }
+    {
+        let Some(scope) = scope_of(self.container.deployment(), &name) else {
+            return Ok(LineAnswer::Refused);
+        };
+        let text = match self.container.begin_reboot(scope) {
+            Ok(place) => down_text(alloc, place.0)?,
+            Err(refusal) => reboot_refusal_text(alloc, refusal)?,
+        };
+        Ok(LineAnswer::Wrote(text))
+    }
+
+    /// A scope comes up.
+    #[tactic(auto, unfolding(crate::specs::Running::up_step))]
+    fn up_step(&mut self, alloc: Global, name: ComponentName) -> Result<LineAnswer, OutOfMemory>
+        ensures { IfOk result (λ a. answer_of a self.new ≡ up_step self.old name) }
+    {
+        let Some(scope) = scope_of(self.container.deployment(), &name) else {
+            return Ok(LineAnswer::Refused);
+        };
+        let Some(down) = self.container.undone_of(scope) else {
+            return Ok(LineAnswer::Refused);
+        };
+        let place = self.container.end_reboot(down);
+        let text = up_text(alloc, place.0)?;
+        Ok(LineAnswer::Wrote(text))
+    }
+
+    /// A scope goes down and comes up at once.
+    #[tactic(auto, unfolding(crate::specs::Running::reboot_step))]
+    fn reboot_step(&mut self, alloc: Global, name: ComponentName) -> Result<LineAnswer, OutOfMemory>
+        ensures { IfOk result (λ a. answer_of a self.new ≡ reboot_step self.old name) }
+    {
+        let Some(scope) = scope_of(self.container.deployment(), &name) else {
+            return Ok(LineAnswer::Refused);
+        };
+        let text = match self.container.begin_reboot(scope) {
+            Ok(down) => {
+                let up = self.container.end_reboot(down);
+                rebooted_text(alloc, down.0, up.0)?
+            }
+            Err(refusal) => reboot_refusal_text(alloc, refusal)?,
+        };
         Ok(LineAnswer::Wrote(text))
     }
 
@@ -88,6 +152,15 @@ impl Running {
     {
         let rows = self.container.rows(alloc)?;
         let text = table_text(alloc, rows.as_slice())?;
+        Ok(LineAnswer::Wrote(text))
+    }
+
+    /// The journal.
+    #[tactic(auto, unfolding(crate::specs::Running::journal_step))]
+    fn journal_step(&mut self, alloc: Global) -> Result<LineAnswer, OutOfMemory>
+        ensures { IfOk result (λ a. answer_of a self.new ≡ journal_step self.old) }
+    {
+        let text = journal_text(alloc, self.container.journal())?;
         Ok(LineAnswer::Wrote(text))
     }
 
@@ -111,14 +184,24 @@ impl Running {
     {
         match line {
             Line::Pass => Ok(LineAnswer::Done),
-            Line::Component(_) | Line::Owns(_, _) => Ok(LineAnswer::Refused),
+            Line::Component(_)
+            | Line::Hard(_, _)
+            | Line::Soft(_, _)
+            | Line::Owns(_, _)
+            | Line::Limit(_, _) => Ok(LineAnswer::Refused),
             Line::Begin(caller) => self.callers.begin_step(alloc, &self.container, caller),
             Line::Enter(caller, name) => self.call_step(alloc, caller, CallLine::Enter(name)),
+            Line::Exit(caller) => self.call_step(alloc, caller, CallLine::Exit),
             Line::Put(caller, table, key, bytes) => {
                 self.call_step(alloc, caller, CallLine::Put(table, key, bytes))
             }
             Line::Commit(caller) => self.commit_step(alloc, caller),
+            Line::Drop(caller) => Ok(self.drop_step(caller)),
+            Line::Down(name) => self.down_step(alloc, name),
+            Line::Up(name) => self.up_step(alloc, name),
+            Line::Reboot(name) => self.reboot_step(alloc, name),
             Line::Table => self.table_step(alloc),
+            Line::Journal => self.journal_step(alloc),
         }
     }
 }

@@ -1,11 +1,12 @@
 -- Words without a space, joined and cut again.
-use Rattle.std.proofs.Common.{◌≡◌, ℕ, ◌==◌, Bool, true, false, not, List, [], ◌∷◌, ◌≢◌, length, take, drop, position, Some, None, refl, ap, sym, ◌∙◌, arith}
+use Rattle.std.proofs.Common.{◌≡◌, ℕ, ◌==◌, ◌-◌, Bool, true, false, not, List, [], ◌∷◌, ◌≢◌, length, take, drop, position, Some, None, refl, ap, sym, ◌∙◌, arith}
 use Rattle.std.specs.Char.{is_ascii_digit}
 use Rattle.std.specs.List.{position_or_len, list_all, All, join_with_byte}
 use Rattle.std.specs.Str.{all_ascii_digits}
 use Rattle.std.proofs.lemmas.Bool.{and_parts}
 use Rattle.std.proofs.lemmas.List.Elements.{All-nil, All-cons, All-from_get_or}
-use Rattle.std.proofs.lemmas.List.{drop_more}
+use Rattle.std.proofs.Math.Seq.{drop-length}
+use Rattle.std.proofs.lemmas.List.{drop_more, take_rest}
 use Rattle.std.proofs.lemmas.List.Sums.{fails_before_first}
 use Rattle.std.proofs.lemmas.List.Splits.{slice_split_none, slice_split_at, slice_split_first}
 use Rattle.std.proofs.lemmas.Bool.Decides.{nat_tests}
@@ -86,3 +87,7 @@ name_whole (b ∷ bs) h =
     let g = and_parts (is_name_byte b) (list_all is_name_byte bs) h in
     let other : (b == 32) ≡ false = grind (arith, nat_tests) in
     whole_more b bs other (name_whole bs g.1)
+
+-- nothing is left past the end
+pub none_left : (xs : List ℕ) → take (length xs - length xs) (drop (length xs) xs) ≡ []
+none_left xs = take_rest xs (length xs) ∙ drop-length xs

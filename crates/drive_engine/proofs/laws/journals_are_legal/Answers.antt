@@ -1,16 +1,18 @@
-use Rattle.drive_engine.proofs.Legality.{JournalLaws, legal_at_end, legal_after_text}
+use Rattle.drive_engine.proofs.Legality.{ContainerLaws, legal_at_end, legal_after_text}
 use Rattle.drive_engine.proofs.laws.journals_are_legal.Goals as goal
 
 pub returns : goal.returns
 returns c =
-    let fits = c.fits_until_commit.ensures in
-    let grows = c.grows_legally.ensures in
-    let laws : JournalLaws = record {
-      empty = grows.empty;
-      more = grows.more;
+    let fits = c.calls_go_on_fitting.ensures in
+    let sound = c.containers_stay_sound.ensures in
+    let laws : ContainerLaws = record {
+      started = sound.started;
+      commit = sound.commit;
+      down = sound.down;
+      up = sound.up;
       begun = fits.begun;
       entered = fits.entered;
+      left = fits.left;
       kept = fits.kept;
-      commit = fits.commit;
     } in
     record { texts = legal_after_text laws; lines = legal_at_end laws }

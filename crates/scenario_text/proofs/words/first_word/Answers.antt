@@ -1,8 +1,7 @@
 use Rattle.std.proofs.Common.{◌∷◌, ap, sym, ◌∙◌, take}
 use Rattle.std.proofs.lemmas.List.{take_rest}
 use Rattle.scenario_text.specs.Words.{words_after}
-use Rattle.scenario_text.proofs.Cuts.{none_left}
-use Rattle.scenario_text.proofs.Splits.{unspaced, spaced}
+use Rattle.scenario_text.proofs.Splits.{unspaced, spaced, none_left}
 use Rattle.scenario_text.proofs.words.first_word.Goals as goal
 
 pub returns-in-None : goal.returns-in-None
