@@ -3,7 +3,7 @@
 use crate::words::{
     add_bytes, add_number, add_text, add_word, bytes, cut, expect_bytes, expect_words, number,
 };
-use scenario_text::{HexBytes, Line, cut_line, read_line, write_hex};
+use scenario_text::{HexBytes, Line, ended_line, read_line, write_hex};
 use std::alloc::Global;
 use std::process::Abort;
 
@@ -272,22 +272,32 @@ fn reads_lines_up_to_the_limit(rt: HostRuntime) {
     expect_lengths(&rt, rt.alloc(), LINE_LENGTHS);
 }
 
-/// Texts, each with its first line and what is left. Commas are between them.
-const CUTS: &str = "a|a|,a\n|a|,a\nb|a|b,\n||,\n\na\n||\na\n,ab\r\n\nc|ab\r|\nc";
+/// Texts, each with its first line that has ended and what is left. Commas are between them.
+const CUTS: &str = "\n||,a\nb|a|b,\n\na\n||\na\n,ab\r\n\nc|ab\r|\nc";
 
 fn expect_cut(rt: &impl Abort, row: &str) {
     let (text, rest) = cut(rt, row, '|');
     let (first, left) = cut(rt, rest, '|');
-    assert!(rt; !text.is_empty(), "{row}");
-    let found = cut_line(text.as_bytes());
+    let found = ended_line(text.as_bytes()).expect(rt, row);
     expect_bytes(rt, found.0, first.as_bytes(), row);
     expect_bytes(rt, found.1, left.as_bytes(), row);
 }
 
 #[test]
-fn cuts_a_text_into_lines(rt: HostRuntime) {
+fn cuts_off_the_first_line_that_has_ended(rt: HostRuntime) {
     for row in CUTS.split(',') {
         expect_cut(&rt, row);
+    }
+}
+
+fn expect_unended(rt: &impl Abort, row: &str) {
+    assert!(rt; ended_line(row.as_bytes()).is_none(), "{row}");
+}
+
+#[test]
+fn a_line_ends_with_a_line_feed_alone(rt: HostRuntime) {
+    for row in ",a,ab\r,a\x0bb".split(',') {
+        expect_unended(&rt, row);
     }
 }
 

@@ -66,7 +66,7 @@ impl Model for Ticket {
 }
 
 /// Moves all items to the end of a vector that has the room, and takes no memory.
-fn move_all<T: Drop>(from: &mut Vec<T>, into: &mut Vec<T>)
+fn move_all<T>(from: &mut Vec<T>, into: &mut Vec<T>)
     requires room { vec_len into.old + vec_len from.old ≤ vec_capacity into.old }
     ensures moved { into.new.items ≡ into.old.items ++ from.old.items }
     ensures left { from.new.items ≡ [] }

@@ -1,7 +1,7 @@
 //! The bytes that entries count for.
 
-ghost use Rattle.std.specs.Prelude.{◌≡◌, ◌<◌, ◌≤◌, ◌+◌, ◌^◌, length, sum_by, nat_lt, if◌then◌else◌, Some, None};
-ghost use Rattle.journal_model.specs.Limits.{value_bytes, call_bytes, session_bytes, action_bytes, entry_bytes};
+ghost use Rattle.std.specs.Prelude.{◌≡◌, ◌<◌, ◌≤◌, ◌+◌, ◌^◌, length, sum_by};
+ghost use Rattle.journal_model.specs.Limits.{value_bytes, call_bytes, session_bytes, action_bytes, entry_bytes, counted};
 
 use crash_base::{RowBytes, RowWrite};
 use journal_model::{ActionEntry, CommitEntry, Entry, Mark, SessionChange};
@@ -57,9 +57,7 @@ fn session_bytes(session: &SessionChange) -> u64
 /// The bytes of an action's text, of its page and of the session that it sets. None exactly where they are
 /// 2^64 or more.
 pub fn action_bytes(action: &Option<ActionEntry>) -> Option<u64>
-    ensures { result ≡
-        (if nat_lt (action_bytes action.now) (2 ^ 64) then Some (action_bytes action.now)
-        else None) }
+    ensures { result ≡ counted (action_bytes action.now) }
 {
     let Some(action) = action else {
         return Some(0);

@@ -1,9 +1,9 @@
 //! The entries of one boot, in order.
 
-ghost use Rattle.std.specs.Prelude.{◌≡◌, ◌↔◌, ◌+◌, ◌<◌, ◌≤◌, [], ◌∷◌, ◌++◌, length, slice_get, string_bytes, IsTrue, Some, option_map, OnOk, OnErr, IfOk};
+ghost use Rattle.std.specs.Prelude.{◌≡◌, ◌↔◌, ◌+◌, ◌^◌, ◌<◌, ◌≤◌, [], ◌∷◌, ◌++◌, length, slice_get, string_bytes, IsTrue, Some, option_map, OnOk, OnErr, IfOk};
 ghost use Rattle.crash_base.specs.declared.scope.Scope.{Scope};
 ghost use Rattle.journal_model.specs.Legal.{AreInTurn};
-ghost use Rattle.journal_model.specs.Limits.{IsWithin, full_for};
+ghost use Rattle.journal_model.specs.Limits.{IsWithin, fullness, full_for};
 ghost use Rattle.journal_model.specs.Reboots.{IsUndone, generation, down_of, undone_of};
 ghost use Rattle.journal_model.specs.Requests.{commit_of};
 ghost use Rattle.commit_journal.specs.Journal.{IsScope, CanPush, places_taken};
@@ -132,19 +132,28 @@ impl Journal {
         Some(Place(place as u64))
     }
 
+    /// How full the journal is. It visits no entry.
+    pub fn fullness(&self) -> FullAt
+        ensures { result ≡ fullness self.now.entries }
+    {
+        FullAt {
+            entries: self.entries.len() as u64 + self.waiting,
+            bytes: self.bytes,
+        }
+    }
+
     /// How full the journal is, exactly where so many entries and bytes more would pass a limit. It visits no
     /// entry.
     pub fn full_for(&self, entries: u64, bytes: u64) -> Option<FullAt>
         ensures { result ≡ full_for self.now.limits self.now.entries entries bytes }
     {
-        let places = self.entries.len() as u64 + self.waiting;
-        if entries <= self.limits.entries - places && bytes <= self.limits.bytes - self.bytes {
+        let full = self.fullness();
+        if entries <= self.limits.entries - full.entries
+            && bytes <= self.limits.bytes - full.bytes
+        {
             None
         } else {
-            Some(FullAt {
-                entries: places,
-                bytes: self.bytes,
-            })
+            Some(full)
         }
     }
 
@@ -173,6 +182,7 @@ impl Journal {
         ensures entries { self.new.entries ≡ self.old.entries ++ entry ∷ [] }
         ensures limits { self.new.limits ≡ self.old.limits }
         ensures spare { self.new.spare + places_taken entry ≡ self.old.spare }
+        ensures few { length self.new.entries < 2 ^ 64 }
     {
         let place = Place(self.entries.len() as u64);
         self.bytes += entry_bytes(&entry);

@@ -1,5 +1,8 @@
-pub mod Journal
-pub mod Ticket
-pub mod Owners
-pub mod Refusals
 pub mod Container
+pub mod Steps
+pub mod Owners
+pub mod Fits
+pub mod Refusals
+pub mod Sound
+pub mod Keeping
+pub mod Revoked

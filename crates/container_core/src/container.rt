@@ -1,57 +1,72 @@
-//! Calls and commits over one journal.
+//! Calls, commits and reboots over one journal.
 
-ghost use Rattle.std.specs.Prelude.{◌≡◌, ◌≢◌, ◌<◌, [], ◌∷◌, ◌++◌, length, true, IfOk, IfErr, OnOk, OnErr};
+ghost use Rattle.std.specs.Prelude.{◌≡◌, ◌≢◌, ◌<◌, ◌↔◌, ℕ, List, [], ◌∷◌, ◌++◌, length, slice_get, true, Some, IfOk, IfErr, OnOk, OnErr, IsTrue, MatchResult};
+ghost use Rattle.crash_base.specs.declared.scope.Scope.{Scope};
+ghost use Rattle.call_ticket.specs.Ticket.{ticket_begun, ticket_kept, ticket_left};
+ghost use Rattle.commit_journal.specs.Journal.{IsScope};
 ghost use Rattle.deployment.specs.Groups.{group_of};
-ghost use Rattle.journal_model.specs.declared.entry.Entry.TheVariants.{Commit};
+ghost use Rattle.journal_model.specs.declared.entry.Entry.TheVariants.{Commit, Down, Up};
 ghost use Rattle.journal_model.specs.Calls.{entry_of};
-ghost use Rattle.journal_model.specs.Fits.{Fits, IsWrite};
-ghost use Rattle.journal_model.specs.Legal.{IsLegal};
+ghost use Rattle.journal_model.specs.Fits.{IsWrite};
+ghost use Rattle.journal_model.specs.Reboots.{IsUndone, undone_of};
 ghost use Rattle.journal_model.specs.Rows.{rows_after};
-ghost use Rattle.container_core.specs.Container.{with_entry};
-ghost use Rattle.container_core.specs.Owners.{is_in_owner};
-ghost use Rattle.container_core.specs.Refusals.{CallAnswer, enter_refusal, put_refusal};
-ghost use Rattle.container_core.specs.Ticket.{ticket_begun, ticket_entered, ticket_kept};
+ghost use Rattle.journal_model.specs.Stale.{stale_in};
+ghost use Rattle.naming_table.specs.Binding.{binding_in};
+ghost use Rattle.container_core.specs.Container.{new_container, with_entry, HasGrown};
+ghost use Rattle.container_core.specs.Fits.{FitsIn};
+ghost use Rattle.container_core.specs.Owners.{is_in_owner, may_enter};
+ghost use Rattle.container_core.specs.Refusals.{CallAnswer, CommitAnswer, RebootAnswer, enter_refusal, put_refusal, commit_refusal, reboot_refusal};
+ghost use Rattle.container_core.specs.Sound.{IsSound};
+ghost use Rattle.container_core.specs.Steps.{ticket_entered};
 
-use crate::journal::Journal;
-use crate::limits::{MAX_FRAMES, MAX_STEPS};
-use crate::refusals::{CallRefusal, CommitRefusal, Refused};
-use crate::ticket::{Ticket, TicketParts};
+use crate::commits::{commit_refusal, refused, take_room};
+use crate::reboots::reboot_refusal;
+use crate::refusals::{CallRefusal, CommitRefusal, RebootRefusal, Refused};
+use crate::rows::rows_in;
+use crate::staleness::stale_in;
+use call_ticket::{MAX_FRAMES, MAX_STEPS, Ticket};
+use commit_journal::{ActionEntry, CommitEntry, Entry, Journal, JournalLimits, Stale, Touch};
 use crash_base::{
-    ComponentNo, GroupNo, LatestRows, OutOfMemory, Place, RequestNo, RowList, RowWrite, WorkerNo,
+    ComponentName, ComponentNo, GroupNo, LatestRows, MAX_GROUPS, OutOfMemory, Place, RequestNo,
+    RowList, RowWrite, Scope, WorkerNo,
 };
 use deployment::Deployment;
-use journal_model::{ActionEntry, CommitEntry, Entry, Touch};
+use naming_table::{Binding, Names};
 use std::alloc::Global;
 use std::marker::Model;
 
-/// How a container was started: the number of its boot, the rows from before it, and the deployment.
+/// How a container was started: the number of its boot, the rows from before it, the deployment, and the limits of
+/// its journal.
 #[derive(Drop)]
 pub struct Start {
     pub boot: u32,
     pub base: RowList,
     pub deployment: Deployment,
+    pub limits: JournalLimits,
 }
 
-/// Calls and commits over one journal.
+/// Calls, commits and reboots over one journal.
 #[derive(Drop)]
 pub struct Container {
     start: Start,
     journal: Journal,
+    names: Names,
 }
 
 impl Model for Container {
-    ghost use Rattle.journal_model.specs.Legal.{IsLegal};
     ghost use Rattle.container_core.specs.Container.{ContainerValue};
+    ghost use Rattle.container_core.specs.Keeping.{IsKept};
 
     ghost Value = { ContainerValue };
 
     ghost view = { λ c. record { start = c.start; entries = c.journal.entries } };
 
-    ghost invariant = { λ c. IsLegal c.start.base c.journal.entries };
+    ghost invariant = { λ c. IsKept c.start c.journal c.names };
 }
 
-/// Opens a frame of a component of a group.
+/// Opens a frame of a component of a group, which is up.
 fn open_frame(journal: &Journal, ticket: &mut Ticket, c: ComponentNo, group: GroupNo)
+    requires known { group.0 < MAX_GROUPS }
     requires depth { length ticket.old.call.frames < MAX_FRAMES }
     requires steps { ticket.old.call.steps < MAX_STEPS }
     ensures { ticket.new ≡ ticket_entered journal.now.entries group.0 c ticket.old }
@@ -69,21 +84,25 @@ fn open_frame(journal: &Journal, ticket: &mut Ticket, c: ComponentNo, group: Gro
 }
 
 impl Container {
-    /// A container with an empty journal over no rows, at its first boot. It takes no memory.
-    pub fn start(alloc: Global, deployment: Deployment) -> Container
-        ensures { result ≡ record {
-          start = record { boot = 1; base = []; deployment = deployment };
-          entries = [];
-        } }
+    /// A container with an empty journal over no rows, at its first boot. It copies each byte of each name.
+    pub fn start(
+        alloc: Global,
+        deployment: Deployment,
+        limits: JournalLimits,
+    ) -> Result<Container, OutOfMemory>
+        ensures { IfOk result (λ c. c ≡ new_container deployment limits) }
     {
-        Container {
+        let names = Names::new(alloc, &deployment)?;
+        Ok(Container {
             start: Start {
                 boot: 1,
                 base: RowList::new(alloc),
                 deployment,
+                limits,
             },
-            journal: Journal::new(alloc),
-        }
+            journal: Journal::new(alloc, limits),
+            names,
+        })
     }
 
     /// The number of this boot.
@@ -100,10 +119,11 @@ impl Container {
         &self.start.deployment
     }
 
-    /// The journal, which is legal.
+    /// The journal. It is legal and within its limits, and no commit wrote past the components that it entered.
     pub fn journal(&self) -> &Journal
         ensures entries { result.now.entries ≡ self.now.entries }
-        ensures legal { IsLegal self.now.start.base self.now.entries }
+        ensures limits { result.now.limits ≡ self.now.start.limits }
+        ensures sound { IsSound self.now }
     {
         &self.journal
     }
@@ -116,6 +136,14 @@ impl Container {
         rows_in(alloc, self.start.base.as_slice(), self.journal.entries())
     }
 
+    /// What a name is bound to: its component where that one's group is up, and else a sentinel. None exactly
+    /// where no component has the name. It takes no memory, and visits each name up to that one.
+    pub fn find(&self, name: &ComponentName) -> Option<Binding>
+        ensures { result ≡ binding_in self.now.start.deployment self.now.entries name.now }
+    {
+        self.names.look(name)
+    }
+
     /// A call that has done nothing yet. Its ticket takes room at once for all that a call may hold, as
     /// `Ticket::new` says.
     pub fn begin(
@@ -126,10 +154,20 @@ impl Container {
     ) -> Result<Ticket, OutOfMemory>
         ensures begun { IfOk result (λ ticket.
             ticket ≡ ticket_begun request worker (record { 0 = length self.now.entries })) }
-        ensures fits { IfOk result (λ ticket.
-            Fits self.now.start.base self.now.entries ticket.call) }
+        ensures fits { IfOk result (λ ticket. FitsIn self.now ticket.call) }
     {
         Ticket::new(alloc, request, worker, Place(self.journal.len()))
+    }
+
+    /// Whether the call is in no component, or in one that may call this one. It visits each reference up to
+    /// that one.
+    pub fn may_enter(&self, ticket: &Ticket, c: ComponentNo) -> bool
+        ensures { result ≡ may_enter self.now.start.deployment ticket.now.call c }
+    {
+        match ticket.top() {
+            None => true,
+            Some(top) => self.start.deployment.may_call(top, c),
+        }
     }
 
     /// Whether the frame that was opened last is of the component that owns the table. It visits each
@@ -143,10 +181,25 @@ impl Container {
         }
     }
 
+    /// Whether the call may go on: no group that it entered was rebooted since, or else the one that it entered
+    /// first among these. It takes no memory, and visits each group that the call entered.
+    pub fn check(&self, ticket: &Ticket) -> Result<(), Stale>
+        requires { FitsIn self.now ticket.now.call }
+        ensures { MatchResult result
+            (λ _. stale_in self.now.entries ticket.now.call.touched ≡ None)
+            (λ stale. stale_in self.now.entries ticket.now.call.touched ≡ Some stale) }
+    {
+        match stale_in(&self.journal, ticket.touched()) {
+            None => Ok(()),
+            Some(stale) => Err(stale),
+        }
+    }
+
     /// Enters a component: opens a frame, and notes its group where that is new to the call, with its
     /// generation and the length of the journal. A refused call leaves the ticket as it was. It takes no
-    /// memory, and visits each group that the call has entered, and each entry of the journal where the group
-    /// is new to it.
+    /// memory, and visits each group that the call has entered.
+    ///
+    /// That the component may be entered from where the call is, is its caller's duty, and `may_enter` tests it.
     pub fn enter(
         &mut self,
         ticket: &mut Ticket,
@@ -154,111 +207,194 @@ impl Container {
         _method: u8,
     ) -> Result<(), CallRefusal>
         requires component { c.0 < length self.old.start.deployment.components }
-        requires frames { ticket.old.call.frames ≡ [] }
-        ensures answer { CallAnswer (enter_refusal ticket.old.call) result }
+        requires from { may_enter self.old.start.deployment ticket.old.call c ≡ true }
+        requires fits { FitsIn self.old ticket.old.call }
+        ensures answer { CallAnswer (enter_refusal self.old.entries ticket.old.call
+            (group_of self.old.start.deployment c.0)) result }
         ensures entered { OnOk result (ticket.new ≡ ticket_entered self.old.entries
             (group_of self.old.start.deployment c.0) c ticket.old) }
         ensures refused { OnErr result (ticket.new ≡ ticket.old) }
         ensures memory { IfErr result (λ e. e ≢ CallRefusal.OutOfMemory) }
-        ensures fits { Fits self.old.start.base self.old.entries ticket.old.call →
-            Fits self.old.start.base self.old.entries ticket.new.call }
+        ensures fits { FitsIn self.new ticket.new.call }
         ensures same { self.new ≡ self.old }
     {
+        if let Some(stale) = stale_in(&self.journal, ticket.touched()) {
+            return Err(CallRefusal::Revoked(stale));
+        }
+        if ticket.depth() == MAX_FRAMES {
+            return Err(CallRefusal::Depth);
+        }
         if ticket.steps() == MAX_STEPS {
             return Err(CallRefusal::Steps);
         }
         let group = self.start.deployment.group_of(c);
+        if let Some(down) = self.journal.down_of(group) {
+            return Err(CallRefusal::Sentinel { group, down });
+        }
         open_frame(&self.journal, ticket, c, group);
         Ok(())
     }
 
+    /// Leaves the component that the call entered last: closes that frame. A refused call leaves the ticket as it
+    /// was. It takes no memory, and visits each group that the call has entered.
+    pub fn exit(&mut self, ticket: &mut Ticket) -> Result<(), Stale>
+        requires open { ticket.old.call.frames ≢ [] }
+        requires steps { ticket.old.call.steps < MAX_STEPS }
+        requires fits { FitsIn self.old ticket.old.call }
+        ensures answer { MatchResult result
+            (λ _. stale_in self.old.entries ticket.old.call.touched ≡ None)
+            (λ stale. stale_in self.old.entries ticket.old.call.touched ≡ Some stale) }
+        ensures left { OnOk result (ticket.new ≡ ticket_left ticket.old) }
+        ensures refused { OnErr result (ticket.new ≡ ticket.old) }
+        ensures fits { FitsIn self.new ticket.new.call }
+        ensures same { self.new ≡ self.old }
+    {
+        if let Some(stale) = stale_in(&self.journal, ticket.touched()) {
+            return Err(stale);
+        }
+        let _instance = ticket.pop_frame();
+        Ok(())
+    }
+
     /// Puts a row, in place of an earlier put of that row. It is written when the call commits. A refused
-    /// call leaves the ticket as it was. It takes no memory, and visits each write of the call.
+    /// call leaves the ticket as it was. It takes no memory, and visits each group that the call has entered and
+    /// each of its writes.
     ///
     /// That the call is in the component that owns the table is its caller's duty, and `is_in_owner` tests
-    /// it: a call that has entered no component touches no group, so no reboot could revoke its entry.
+    /// it: so a reboot of the owner's group revokes the call.
     pub fn put(&mut self, ticket: &mut Ticket, write: RowWrite) -> Result<(), CallRefusal>
         requires write { IsWrite write }
         requires owner { is_in_owner self.old.start.deployment ticket.old.call write.id.table
             ≡ true }
-        ensures answer { CallAnswer (put_refusal ticket.old.call write.id) result }
+        requires fits { FitsIn self.old ticket.old.call }
+        ensures answer { CallAnswer
+            (put_refusal self.old.entries ticket.old.call write.id) result }
         ensures kept { OnOk result (ticket.new ≡ ticket_kept write ticket.old) }
         ensures refused { OnErr result (ticket.new ≡ ticket.old) }
         ensures memory { IfErr result (λ e. e ≢ CallRefusal.OutOfMemory) }
-        ensures fits { Fits self.old.start.base self.old.entries ticket.old.call →
-            Fits self.old.start.base self.old.entries ticket.new.call }
+        ensures fits { FitsIn self.new ticket.new.call }
         ensures same { self.new ≡ self.old }
     {
-        match ticket.steps() {
-            MAX_STEPS => Err(CallRefusal::Steps),
-            _ if ticket.is_full_for(write.id) => Err(CallRefusal::Writes),
-            _ => {
-                ticket.keep(write);
-                Ok(())
-            }
+        if let Some(stale) = stale_in(&self.journal, ticket.touched()) {
+            return Err(CallRefusal::Revoked(stale));
         }
+        if ticket.steps() == MAX_STEPS {
+            return Err(CallRefusal::Steps);
+        }
+        if ticket.is_full_for(write.id) {
+            return Err(CallRefusal::Writes);
+        }
+        ticket.add_put(write);
+        Ok(())
     }
 
     /// Commits a call, which ends: its entry joins the journal whole, at the place that is answered. A
-    /// refused commit leaves the container as it was. Nothing that the call holds is copied; the journal
-    /// takes room for one entry more, as `Journal::reserve` says.
-    pub fn commit(&mut self, ticket: Ticket, action: Option<ActionEntry>) -> Result<Place, Refused>
-        requires { Fits self.old.start.base self.old.entries ticket.call }
+    /// refused commit leaves the container as it was. What the entry keeps is moved into exactly the room that it
+    /// needs, before anything changes; the journal takes room for one entry more, as `Journal::reserve` says. It
+    /// visits each group that the call entered, each read and each write.
+    pub fn commit(
+        &mut self,
+        alloc: Global,
+        ticket: Ticket,
+        action: Option<ActionEntry>,
+    ) -> Result<Place, Refused>
+        requires { FitsIn self.old ticket.call }
+        ensures answer { CommitAnswer (commit_refusal self.old.start.limits self.old.entries
+            ticket.call action) result }
         ensures place { IfOk result (λ place. place.0 ≡ length self.old.entries) }
         ensures committed { OnOk result
             (self.new ≡ with_entry self.old (Commit (entry_of ticket.call action))) }
-        ensures refused { IfErr result (λ refused. refused ≡ record {
-          request = ticket.call.request;
-          marks = ticket.call.marks;
-          cause = CommitRefusal.OutOfMemory;
-        }) }
+        ensures request { IfErr result (λ refused. refused.request ≡ ticket.call.request) }
+        ensures marks { IfErr result (λ refused. refused.marks ≡ ticket.call.marks) }
         ensures same { OnErr result (self.new ≡ self.old) }
+        ensures grown { HasGrown self.old self.new }
     {
+        let mut ticket = ticket;
         let request = ticket.request();
         let worker = ticket.worker();
         let at = ticket.at();
-        let room = self.journal.reserve(1);
-        let parts = ticket.into_parts();
-        if room.is_err() {
-            return Err(Refused {
-                request,
-                marks: parts.marks,
-                cause: CommitRefusal::OutOfMemory,
-            });
+        if let Some(cause) = commit_refusal(&self.journal, &ticket, &action) {
+            return Err(refused(ticket, cause));
         }
-        let TicketParts {
-            instances: _,
-            touched,
-            marks,
-            writes,
-        } = parts;
-        Ok(
-            self.journal.push(Entry::Commit(CommitEntry {
-                request,
-                worker,
-                at,
-                touched,
-                reads: marks,
-                writes,
-                action,
-            })),
-        )
+        let parts = match take_room(alloc, &mut self.journal, &mut ticket) {
+            Ok(parts) => parts,
+            Err(OutOfMemory) => return Err(refused(ticket, CommitRefusal::OutOfMemory)),
+        };
+        let place = self.journal.push(Entry::Commit(CommitEntry {
+            request,
+            worker,
+            at,
+            touched: parts.touched,
+            reads: parts.marks,
+            writes: parts.writes,
+            action,
+        }));
+        Ok(place)
     }
-}
 
-/// The rows that a base and entries leave.
-#[tactic(auto, using(crate::proofs::Laying::base_put))]
-fn rows_in<'a>(
-    alloc: Global,
-    base: &'a [RowWrite],
-    entries: &'a [Entry],
-) -> Result<LatestRows<'a>, OutOfMemory>
-    ensures { IfOk result (λ rows. rows ≡ rows_after base.now entries.now) }
-{
-    let mut rows = LatestRows::new(alloc);
-    rows.put_all(base)?;
-    for entry in entries {
-        rows.put_all(entry.writes())?;
+    /// Gives a call up: what it holds is dropped, and nothing else changes. It takes no memory.
+    pub fn abandon(&mut self, ticket: Ticket)
+        ensures { self.new ≡ self.old }
+    {
+        let _parts = ticket.into_parts();
     }
-    Ok(rows)
+
+    /// Begins the reboot of a scope, at the place that is answered: each group that the scope holds is down, and each
+    /// call that entered one is revoked. A refused reboot leaves the container as it was. The journal takes room for
+    /// the Down and its Up. It asks each of `MAX_GROUPS` groups.
+    pub fn begin_reboot(&mut self, scope: Scope) -> Result<Place, RebootRefusal>
+        requires { IsScope scope }
+        ensures answer { RebootAnswer
+            (reboot_refusal self.old.start.limits self.old.entries scope) result }
+        ensures place { IfOk result (λ place. place.0 ≡ length self.old.entries) }
+        ensures down { OnOk result (self.new ≡ with_entry self.old (Down scope)) }
+        ensures same { OnErr result (self.new ≡ self.old) }
+        ensures grown { HasGrown self.old self.new }
+    {
+        if let Some(refusal) = reboot_refusal(&self.journal, scope) {
+            return Err(refusal);
+        }
+        match self.journal.reserve(2) {
+            Ok(()) => {
+                let place = self.journal.push(Entry::Down(scope));
+                self.names.set_scope_down(scope, place);
+                Ok(place)
+            }
+            Err(OutOfMemory) => Err(RebootRefusal::OutOfMemory),
+        }
+    }
+
+    /// The place of the Down of a scope whose Up has not come. None exactly where there is none.
+    pub fn undone_of(&self, scope: Scope) -> Option<Place>
+        requires { IsScope scope }
+        ensures { result ≡ undone_of self.now.entries scope }
+    {
+        self.journal.undone_of(scope)
+    }
+
+    /// Whether the entry at this place is a Down whose Up has not come.
+    pub fn is_undone(&self, place: Place) -> bool
+        ensures { IsTrue result ↔ ((s : Scope) × IsUndone self.now.entries place.0 s) }
+    {
+        self.journal.is_undone(place)
+    }
+
+    /// Ends the reboot that the Down at this place began: each group of its scope is up again. It answers the place
+    /// of the Up, cannot be refused, and takes no memory. It asks each of `MAX_GROUPS` groups.
+    pub fn end_reboot(&mut self, down: Place) -> Place
+        requires { (s : Scope) × IsUndone self.old.entries down.0 s }
+        ensures place { result.0 ≡ length self.old.entries }
+        ensures up { (s : Scope) → slice_get self.old.entries down.0 ≡ Some (Down s) →
+            self.new ≡ with_entry self.old (Up s) }
+        ensures grown { HasGrown self.old self.new }
+    {
+        match self.journal.get(down) {
+            Some(Entry::Down(scope)) => {
+                let scope = *scope;
+                self.names.set_scope_up(scope);
+                self.journal.push(Entry::Up(scope))
+            }
+            _ => unreachable!(),
+        }
+    }
 }

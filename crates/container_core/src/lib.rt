@@ -1,42 +1,57 @@
-//! The container: calls over one journal, from their begin to their commit.
+//! The container: calls over one journal, from their begin to their commit, and reboots between any two of their
+//! steps.
 //!
-//! A call is a ticket that its caller holds. It enters components, puts rows, and in the end commits: then,
-//! and only then, its writes become an entry of the journal, whole, or it leaves nothing. The journal is
-//! legal at all times, which `Container::journal` hands out, and the current rows are read from it.
+//! A call is a ticket that its caller holds. It enters components and leaves them, puts rows, and in the end commits:
+//! then, and only then, its writes become an entry of the journal, whole, or it leaves nothing. A reboot takes a group
+//! of components down and brings it up again while calls go on. From its Down on, each call that entered the group is
+//! revoked: its every further step is refused, and so is its commit. Every other call goes on as if nothing had been.
 //!
 //! ```text
-//! let mut container = Container::start(alloc, deployment);
+//! let mut container = Container::start(alloc, deployment, limits)?;
 //! let mut ticket = container.begin(alloc, request, worker)?;
-//! container.enter(&mut ticket, component, method)?;
+//! if container.may_enter(&ticket, component) {
+//!     container.enter(&mut ticket, component, method)?;
+//! }
 //! if container.is_in_owner(&ticket, write.id.table) {
 //!     container.put(&mut ticket, write)?;
 //! }
-//! match container.commit(ticket, None) { .. }
+//! let down = container.begin_reboot(Scope::Group(group))?;
+//! let up = container.end_reboot(down);
+//! match container.commit(alloc, ticket, None) { .. }
 //! ```
 //!
-//! A call puts rows only into tables of the component that it is in. That is its caller's duty, and
-//! `Container::is_in_owner` tests it.
+//! `Container::journal` hands out that the container is sound (`IsSound` in `specs/Sound`): its journal is legal, so no
+//! commit comes after a reboot of a group that its call entered; it is within its limits; and each row was written by a
+//! call that entered the group of the row's owner. The laws `containers_stay_sound`, `calls_go_on_fitting` and
+//! `reboots_revoke_calls` say so of the definitions alone.
 //!
-//! Refusals come in a fixed order; `enter` and `put` each have one function in `specs/Refusals` that says
-//! which one comes first, and answer exactly that one. Out of memory is apart: it is answered only where nothing else
-//! refuses the call, and leaves everything as it was.
+//! Refusals come in a fixed order; `enter`, `put`, `commit` and `begin_reboot` each have one function in
+//! `specs/Refusals` that says which one comes first, and answer exactly that one. Out of memory is apart: it is
+//! answered only where nothing else refuses the call, and leaves everything as it was. A caller has two duties, and the
+//! container offers the test of each: a component is entered only from one that may call it (`may_enter`), and a row is
+//! put only from the component that owns its table (`is_in_owner`).
 //!
-//! A ticket takes its room when it begins, and the journal takes room for one entry at each commit. The
-//! current rows are put together anew from the whole journal each time that they are asked for.
+//! A ticket takes its room when it begins. A commit takes exactly the room that its entry needs, and the journal room
+//! for one entry more. No step of a call scans the journal. The current rows are put together anew from the whole
+//! journal each time that they are asked for.
 #![tactic(auto)]
 
+mod commits;
 mod container;
-mod journal;
-mod limits;
+mod laws;
+mod reboots;
 mod refusals;
-mod ticket;
+mod rows;
+mod staleness;
 
-pub use container::{Container, Start};
-pub use journal::Journal;
-pub use journal_model::{
-    ActionEntry, CommitEntry, DoneText, Entry, Mark, MarkList, ReadMark, SessionChange, Touch,
-    TouchList,
+pub use call_ticket::{MAX_FRAMES, MAX_MARKS, MAX_STEPS, MAX_WRITES, Ticket, TicketParts};
+pub use commit_journal::{
+    ActionEntry, CommitEntry, DoneText, Entry, FullAt, Journal, JournalLimits, MAX_ENTRIES,
+    MAX_JOURNAL_BYTES, Mark, MarkList, ReadMark, SessionChange, Stale, Touch, TouchList,
 };
-pub use limits::{MAX_FRAMES, MAX_MARKS, MAX_STEPS, MAX_WRITES};
-pub use refusals::{CallRefusal, CommitRefusal, Refused};
-pub use ticket::{InstanceList, Ticket, TicketParts};
+pub use container::{Container, Start};
+pub use laws::{
+    calls_go_on_fitting, containers_stay_sound, least_group_is_busy, reboots_revoke_calls,
+};
+pub use naming_table::Binding;
+pub use refusals::{CallRefusal, CommitRefusal, RebootRefusal, Refused};

@@ -1,22 +1,32 @@
 //! Why a call of the container was refused.
 
-use crash_base::RequestNo;
-use journal_model::MarkList;
+use commit_journal::{FullAt, MarkList, Stale};
+use crash_base::{GroupNo, Place, RequestNo};
 
 /// Why a step of a call was refused, in the order in which the causes are looked at. The call is as before.
-#[derive(Clone, Copy, Debug)]
+#[derive(Clone, Copy)]
 pub enum CallRefusal {
+    /// A group that the call entered was rebooted since: the one that it entered first among these.
+    Revoked(Stale),
+    /// The call has opened `MAX_FRAMES` frames.
+    Depth,
     /// The call has made `MAX_STEPS` steps.
     Steps,
     /// The call writes `MAX_WRITES` rows, and this would be another one.
     Writes,
+    /// The group of the component is down, by the Down at this place of the journal.
+    Sentinel { group: GroupNo, down: Place },
     /// The allocator had no memory.
     OutOfMemory,
 }
 
-/// Why a commit was refused.
+/// Why a commit was refused, in the order in which the causes are looked at.
 #[derive(Clone, Copy)]
 pub enum CommitRefusal {
+    /// A group that the call entered was rebooted since: the one that it entered first among these.
+    Revoked(Stale),
+    /// The entry would pass a limit of the journal, which is so full now.
+    JournalFull(FullAt),
     /// The allocator had no memory.
     OutOfMemory,
 }
@@ -27,4 +37,15 @@ pub struct Refused {
     pub request: RequestNo,
     pub marks: MarkList,
     pub cause: CommitRefusal,
+}
+
+/// Why a reboot did not begin, in the order in which the causes are looked at. Nothing was rebooted.
+#[derive(Clone, Copy)]
+pub enum RebootRefusal {
+    /// A group of the scope is down already, by the Down at this place: the least such group.
+    Busy { group: GroupNo, down: Place },
+    /// The Down and its Up would pass the journal's limit of entries, which is so full now.
+    JournalFull(FullAt),
+    /// The allocator had no memory.
+    OutOfMemory,
 }

@@ -22,9 +22,10 @@ use Rattle.container_core.specs.Owners.{is_in_owner}
 use Rattle.container_core.specs.Refusals.{enter_refusal, put_refusal}
 use Rattle.container_core.specs.Ticket.{TicketValue, ticket_entered, ticket_kept}
 use Rattle.container_core.specs.declared.refusals.CallRefusal.{CallRefusal}
-use Rattle.scenario_text.specs.declared.line.TheConstants.{MAX_CALLER}
+use Rattle.scenario_text.specs.declared.line.TheConstants.{MAX_CALLER, MAX_LINE_BYTES}
 use Rattle.scenario_text.specs.declared.line.Line.{Line}
 use Rattle.scenario_text.specs.declared.line.Line.TheVariants as lines
+use Rattle.scenario_text.specs.Cutting.{lines_of}
 use Rattle.scenario_text.specs.Line.{is_event}
 use Rattle.scenario_text.specs.Reading.{line_of}
 use Rattle.scenario_text.specs.Spelling.{IsInRange}
@@ -35,11 +36,11 @@ use Rattle.drive_engine.specs.Answer.{Answer, Refused, Done, refused_if, or_refu
 use Rattle.drive_engine.specs.CallLines.{step_answer, row, enter_step, put_step, call_line}
 use Rattle.drive_engine.specs.Callers.{CallersState, AllFit, new_ticket, request_of, with_live, begin_step, call_step, place_of_call}
 use Rattle.drive_engine.specs.Engine.{running, stage_line, step, IsLegalState}
-use Rattle.drive_engine.specs.Head.{head_line, no_parts}
+use Rattle.drive_engine.specs.Head.{head_line}
 use Rattle.drive_engine.specs.Running.{RunningState, started, with_callers, commit_step, table_step, event_line}
 use Rattle.drive_engine.specs.State.{State, Heading, Running}
 use Rattle.drive_engine.specs.Tables.{table_of}
-use Rattle.drive_engine.specs.Transcript.{answer_to, line_answer, end_from, end_of, last_state, Stopped}
+use Rattle.drive_engine.specs.Transcript.{first, answer_to, line_answer, end_from, end_of, last_state, Stopped, TooLong}
 use Rattle.drive_engine.proofs.Fitting.{fit_joined}
 use Rattle.drive_engine.proofs.Numbering.{table_of-positive}
 
@@ -236,16 +237,20 @@ sound_line laws s text sound = sound_answer laws s (line_of text) (λ line is. s
 
 sound_ending : (laws : JournalLaws) (s : State) (n : ℕ) (lines : List (List ℕ)) → IsSoundState s → IsSoundState (last_state (end_from s n lines))
 sound_ending laws s n [] sound = sound
-sound_ending laws s n (line ∷ lines) sound = go (line_answer s line) (sound_line laws s line sound) (λ t later. sound_ending laws t (n + 1) lines later)
+sound_ending laws s n (line ∷ lines) sound = go (nat_lt MAX_LINE_BYTES (length line)) (line_answer s line) (sound_line laws s line sound) (λ t later. sound_ending laws t (n + 1) lines later)
   where
-    go : (a : Answer State) → Leaves IsSoundState a → ((t : State) → IsSoundState t → IsSoundState (last_state (end_from t (n + 1) lines))) → IsSoundState (last_state (elim a [ Refused ↦ Stopped s n | Done t text ↦ end_from t (n + 1) lines ]))
-    go Refused left later = sound
-    go (Done t text) left later = later t left
+    go : (long : Bool) (a : Answer State) → Leaves IsSoundState a → ((t : State) → IsSoundState t → IsSoundState (last_state (end_from t (n + 1) lines))) → IsSoundState (last_state (cond long (TooLong s n) (elim a [ Refused ↦ Stopped s n | Done t text ↦ end_from t (n + 1) lines ])))
+    go true a left later = sound
+    go false Refused left later = sound
+    go false (Done t text) left later = later t left
 
 legal_from_sound : (s : State) → IsSoundState s → IsLegalState s
 legal_from_sound (Heading parts) sound = tt
 legal_from_sound (Running r) sound = sound.legal
 
-pub legal_at_end : (laws : JournalLaws) (text : List ℕ) → IsLegalState (last_state (end_of text))
+pub legal_at_end : (laws : JournalLaws) (lines : List (List ℕ)) → IsLegalState (last_state (end_from first 1 lines))
+legal_at_end laws lines = legal_from_sound (last_state (end_from first 1 lines)) (sound_ending laws first 1 lines tt)
+
+pub legal_after_text : (laws : JournalLaws) (text : List ℕ) → IsLegalState (last_state (end_of text))
 unfolding end_of
-legal_at_end laws text = legal_from_sound (last_state (end_of text)) (sound_ending laws (Heading no_parts) 1 _ tt)
+legal_after_text laws text = legal_at_end laws (lines_of text)

@@ -1,6 +1,9 @@
 pub mod Calling
+pub mod Coming
+pub mod Deciding
 pub mod Fitting
 pub mod Heading
 pub mod Legality
 pub mod Playing
+pub mod Reporting
 pub mod Numbering

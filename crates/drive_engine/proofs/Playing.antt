@@ -1,65 +1,63 @@
--- What was written, and how a scenario ends, one line further on.
-use Rattle.std.proofs.Common.{◌≡◌, ℕ, ◌+◌, List, [], ◌∷◌, ◌++◌, Option, ap, sym, ◌∙◌, append_assoc, append-nil, subst}
-use Rattle.outside.specs.Sink.{appended, AppendsPrefix}
-use Rattle.outside.proofs.Prefixes.{appended_more, prefix_more}
+-- Lines that were done, and more.
+use Rattle.std.proofs.Common.{◌≡◌, ℕ, suc, ◌+◌, ◌<◌, ◌≤◌, Bool, true, false, cond, nat_lt, List, [], ◌∷◌, ◌++◌, length, refl, ap, sym, subst, ◌∙◌, append_assoc, append-nil, arith}
+use Rattle.std.proofs.lemmas.Bool.Decides.{nat_tests}
+use Rattle.scenario_text.specs.declared.line.TheConstants.{MAX_LINE_BYTES}
 use Rattle.drive_engine.specs.Answer.{Answer, Done, Refused}
-use Rattle.drive_engine.specs.declared.ending.Ending.{Ending}
-use Rattle.drive_engine.specs.declared.ending.Ending.TheVariants as endings
-use Rattle.drive_engine.specs.Drive.{EndsAtLine, Plays}
+use Rattle.drive_engine.specs.Engine.{IsLegalState}
 use Rattle.drive_engine.specs.State.{State}
-use Rattle.drive_engine.specs.Transcript.{transcript, transcript_of, end_from, end_of, line_answer, End, Stopped, StopsAt}
+use Rattle.drive_engine.specs.Transcript.{first, transcript, end_from, line_answer, last_state, End, Ended, Stopped, TooLong}
 
--- the transcript of lines whose first one is done
-pub transcript-done : (s t : State) (line text : List ℕ) (lines more : List (List ℕ)) → lines ≡ line ∷ more → line_answer s line ≡ Done t text → transcript s lines ≡ text ++ transcript t more
-transcript-done s t line text lines more is done =
-    ap (transcript s) is ∙ ap (λ (a : Answer State). elim a [ Refused ↦ [] | Done u w ↦ w ++ transcript u more ]) done
-
--- and their ending
-pub end_from-done : (s t : State) (n : ℕ) (line text : List ℕ) (lines more : List (List ℕ)) → lines ≡ line ∷ more → line_answer s line ≡ Done t text → end_from s n lines ≡ end_from t (n + 1) more
-end_from-done s t n line text lines more is done =
-    ap (end_from s n) is ∙ ap (λ (a : Answer State). elim a [ Refused ↦ Stopped s n | Done u w ↦ end_from u (n + 1) more ]) done
-
--- the text of a line more was written
-pub written_more : (o n m : Option (List ℕ)) (all before text rest : List ℕ) → n ≡ appended o before → m ≡ appended n text → all ≡ before ++ (text ++ rest) → (b : List ℕ) × (m ≡ appended o b) × (all ≡ b ++ rest)
-written_more o n m all before text rest so_far more is =
-    (before ++ text, more ∙ ap (λ x. appended x text) so_far ∙ appended_more o before text, is ∙ sym (append_assoc before text rest))
-
--- the transcript of lines whose first one is refused is empty
-transcript-refused : (s : State) (line : List ℕ) (lines more : List (List ℕ)) → lines ≡ line ∷ more → line_answer s line ≡ Refused → transcript s lines ≡ []
-transcript-refused s line lines more is refused =
-    ap (transcript s) is ∙ ap (λ (a : Answer State). elim a [ Refused ↦ [] | Done u w ↦ w ++ transcript u more ]) refused
-
--- and they end there
-end_from-refused : (s : State) (n : ℕ) (line : List ℕ) (lines more : List (List ℕ)) → lines ≡ line ∷ more → line_answer s line ≡ Refused → end_from s n lines ≡ Stopped s n
-end_from-refused s n line lines more is refused =
-    ap (end_from s n) is ∙ ap (λ (a : Answer State). elim a [ Refused ↦ Stopped s n | Done u w ↦ end_from u (n + 1) more ]) refused
-
--- what was written by now is a prefix of the transcript
-prefix_so_far : (o n : Option (List ℕ)) (all before rest : List ℕ) → n ≡ appended o before → all ≡ before ++ rest → AppendsPrefix o n all
-prefix_so_far o n all before rest so_far is = (before, so_far, (rest, sym is))
-
--- A scenario that ends at a line has played its text up to there.
-pub ends_here : (e : Ending) (number : ℕ) (s : State) (line : List ℕ) (lines more : List (List ℕ)) (o n m : Option (List ℕ)) (text : List ℕ)
-    → lines ≡ line ∷ more → end_from s number lines ≡ end_of text
-    → ((before : List ℕ) × (n ≡ appended o before) × (transcript_of text ≡ before ++ transcript s lines))
-    → EndsAtLine e number s line n m → Plays e text o m
-ends_here endings.Done number s line lines more o n m text is ends so_far h = absurd h
-ends_here endings.UnknownCommand number s line lines more o n m text is ends so_far h = absurd h
-ends_here (endings.LineRefused k) number s line lines more o n m text is ends so_far h =
-    let P : End → Type 0 = λ x. StopsAt x k in
-    let none = transcript-refused s line lines more is h.1 in
-    let whole : transcript_of text ≡ so_far.0 = so_far.2 ∙ ap (λ x. so_far.0 ++ x) none ∙ append-nil so_far.0 in
-    (subst P (sym (end_from-refused s number line lines more is h.1) ∙ ends) h.0, h.2 ∙ so_far.1 ∙ ap (appended o) (sym whole))
-ends_here endings.ReadFailed number s line lines more o n m text is ends so_far h = absurd h
-ends_here endings.WriteFailed number s line lines more o n m text is ends so_far (t, wrote, done, prefix) =
-    let next = transcript-done s t line wrote lines more is done in
-    let all : transcript_of text ≡ (so_far.0 ++ wrote) ++ transcript t more = so_far.2 ∙ ap (λ x. so_far.0 ++ x) next ∙ sym (append_assoc so_far.0 wrote (transcript t more)) in
-    longer o m (transcript_of text) (so_far.0 ++ wrote) (transcript t more) (prefix_more o n m so_far.0 wrote so_far.1 prefix) all
+-- how lines end that come after lines that were done
+pub end_from-more : (s t : State) (n : ℕ) (lines more : List (List ℕ)) → end_from s n lines ≡ Ended t → end_from s n (lines ++ more) ≡ end_from t (n + length lines) more
+end_from-more s t n [] more h =
+    let same : s ≡ t = cc in
+    let none : n ≡ n + 0 = omega arith in
+    ap (λ u. end_from u n more) same ∙ ap (λ m. end_from t m more) none
+end_from-more s t n (line ∷ lines) more h = go (nat_lt MAX_LINE_BYTES (length line)) (line_answer s line) (λ u k. end_from-more u t (n + 1) lines more k) h
   where
-    longer : (o m : Option (List ℕ)) (all some rest : List ℕ) → AppendsPrefix o m some → all ≡ some ++ rest → AppendsPrefix o m all
-    longer o m all some rest (w, is, (r, e)) whole = (w, is, (r ++ rest, sym (append_assoc w r rest) ∙ ap (λ x. x ++ rest) e ∙ sym whole))
-ends_here endings.DescriptorsTooLong number s line lines more o n m text is ends so_far h = absurd h
-ends_here endings.OutOfMemory number s line lines more o n m text is ends so_far h =
-    prefix_so_far o m (transcript_of text) so_far.0 (transcript s lines) (h ∙ so_far.1) so_far.2
-ends_here endings.DescriptorsRefused number s line lines more o n m text is ends so_far h = absurd h
-ends_here endings.ScenarioTooLong number s line lines more o n m text is ends so_far h = absurd h
+    go : (long : Bool) (a : Answer State) → ((u : State) → end_from u (n + 1) lines ≡ Ended t → end_from u (n + 1) (lines ++ more) ≡ end_from t (n + 1 + length lines) more) → cond long (TooLong s n) (elim a [ Refused ↦ Stopped s n | Done u text ↦ end_from u (n + 1) lines ]) ≡ Ended t → cond long (TooLong s n) (elim a [ Refused ↦ Stopped s n | Done u text ↦ end_from u (n + 1) (lines ++ more) ]) ≡ end_from t (n + suc (length lines)) more
+    go true a later k = cc
+    go false Refused later k = cc
+    go false (Done u text) later k = let next : n + 1 + length lines ≡ n + suc (length lines) = omega arith in later u k ∙ ap (λ m. end_from t m more) next
+
+-- and what they write
+pub transcript-more : (s t : State) (n : ℕ) (lines more : List (List ℕ)) → end_from s n lines ≡ Ended t → transcript s (lines ++ more) ≡ transcript s lines ++ transcript t more
+transcript-more s t n [] more h = let same : s ≡ t = cc in ap (λ u. transcript u more) same
+transcript-more s t n (line ∷ lines) more h = go (nat_lt MAX_LINE_BYTES (length line)) (line_answer s line) (λ u k. transcript-more u t (n + 1) lines more k) h
+  where
+    go : (long : Bool) (a : Answer State) → ((u : State) → end_from u (n + 1) lines ≡ Ended t → transcript u (lines ++ more) ≡ transcript u lines ++ transcript t more) → cond long (TooLong s n) (elim a [ Refused ↦ Stopped s n | Done u text ↦ end_from u (n + 1) lines ]) ≡ Ended t → elim a [ Refused ↦ [] | Done u text ↦ text ++ transcript u (lines ++ more) ] ≡ elim a [ Refused ↦ [] | Done u text ↦ text ++ transcript u lines ] ++ transcript t more
+    go true a later k = cc
+    go false Refused later k = cc
+    go false (Done u text) later k = ap (λ r. text ++ r) (later u k) ∙ sym (append_assoc text (transcript u lines) (transcript t more))
+
+short_test : (line : List ℕ) → length line ≤ MAX_LINE_BYTES → nat_lt MAX_LINE_BYTES (length line) ≡ false
+short_test line short = grind (arith, nat_tests)
+
+long_test : (line : List ℕ) → MAX_LINE_BYTES < length line → nat_lt MAX_LINE_BYTES (length line) ≡ true
+long_test line long = grind (arith, nat_tests)
+
+-- a line that is done
+pub end_from-done : (s t : State) (n : ℕ) (line text : List ℕ) → length line ≤ MAX_LINE_BYTES → line_answer s line ≡ Done t text → end_from s n (line ∷ []) ≡ Ended t
+end_from-done s t n line text short done = rw (short_test line short, done) refl
+
+pub transcript-done : (s t : State) (line text : List ℕ) → line_answer s line ≡ Done t text → transcript s (line ∷ []) ≡ text
+transcript-done s t line text done = ap (λ (a : Answer State). elim a [ Refused ↦ [] | Done u w ↦ w ++ [] ]) done ∙ append-nil text
+
+-- a line that is refused
+pub end_from-refused : (s : State) (n : ℕ) (line : List ℕ) (more : List (List ℕ)) → length line ≤ MAX_LINE_BYTES → line_answer s line ≡ Refused → end_from s n (line ∷ more) ≡ Stopped s n
+end_from-refused s n line more short refused = rw (short_test line short, refused) refl
+
+-- a line that is too long
+pub end_from-long : (s : State) (n : ℕ) (line : List ℕ) (more : List (List ℕ)) → MAX_LINE_BYTES < length line → end_from s n (line ∷ more) ≡ TooLong s n
+end_from-long s n line more long = rw (long_test line long) refl
+
+-- lines that were done, and one line more that is done
+pub end_from-push : (s t : State) (lines : List (List ℕ)) (line text : List ℕ) → end_from first 1 lines ≡ Ended s → length line ≤ MAX_LINE_BYTES → line_answer s line ≡ Done t text → end_from first 1 (lines ++ line ∷ []) ≡ Ended t
+end_from-push s t lines line text h short done = end_from-more first s 1 lines (line ∷ []) h ∙ end_from-done s t (1 + length lines) line text short done
+
+pub transcript-push : (s t : State) (lines : List (List ℕ)) (line text : List ℕ) → end_from first 1 lines ≡ Ended s → line_answer s line ≡ Done t text → transcript first (lines ++ line ∷ []) ≡ transcript first lines ++ text
+transcript-push s t lines line text h done = transcript-more first s 1 lines (line ∷ []) h ∙ ap (λ r. transcript first lines ++ r) (transcript-done s t line text done)
+
+-- the journal is legal in the state that lines leave
+pub legal_after : (s : State) (lines : List (List ℕ)) → ((lines : List (List ℕ)) → IsLegalState (last_state (end_from first 1 lines))) → end_from first 1 lines ≡ Ended s → IsLegalState s
+legal_after s lines law h = let P : End → Type 0 = λ e. IsLegalState (last_state e) in subst P h (law lines)

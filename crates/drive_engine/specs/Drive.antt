@@ -1,68 +1,116 @@
 -- What is read and written until a scenario ends.
-use Rattle.std.specs.Prelude.{◌≡◌, ℕ, ◌⊎◌, List, Option}
-use Rattle.outside.specs.Sink.{appended, AppendsPrefix}
+use Rattle.std.specs.Prelude.{◌≡◌, ◌≢◌, ℕ, ◌+◌, ◌<◌, ◌≤◌, ◌⊎◌, List, [], ◌∷◌, ◌++◌, length, All}
+use mathlib.Core.List.{IsPrefix}
+use Rattle.outside.specs.Source.{prepended}
+use Rattle.scenario_text.specs.Cutting.{lines_of, text_of_lines, IsOneLine, IsCut}
+use Rattle.scenario_text.specs.declared.line.TheConstants.{MAX_LINE_BYTES}
 use Rattle.drive_engine.specs.declared.drive.TheConstants.{MAX_SCENARIO_BYTES}
-use Rattle.drive_engine.specs.declared.ending.Ending.{Ending}
-use Rattle.drive_engine.specs.declared.ending.Ending.TheVariants as endings
 use Rattle.drive_engine.specs.Answer.{Done, Refused}
-use Rattle.drive_engine.specs.Exchange.{Exchange, IsRead, IsWritten, IsPartlyWritten, WritesNothing}
+use Rattle.drive_engine.specs.Engine.{IsLegalState}
+use Rattle.drive_engine.specs.Exchange.{Exchange, IsRead, IsWritten}
 use Rattle.drive_engine.specs.State.{State}
-use Rattle.drive_engine.specs.Transcript.{IsEnded, StopsAt, end_of, line_answer, transcript_of}
+use Rattle.drive_engine.specs.Transcript.{first, Ended, end_from, end_of, line_answer, transcript, transcript_of}
+
+-- These lines were read, each with its line feed and all within the limit, and then maybe more.
+pub record AreReadWithFeeds (x : Exchange) (lines : List (List ℕ)) : Type 0 where
+  pub rest : List ℕ
+  pub taken : x.left_before ≡ prepended (text_of_lines lines ++ rest) x.left_after
+  pub plain : All IsOneLine lines
+  pub within : length (text_of_lines lines) ≤ MAX_SCENARIO_BYTES
+
+-- The input was read to its end, and these are its lines.
+pub record AreReadToEnd (x : Exchange) (lines : List (List ℕ)) : Type 0 where
+  pub text : List ℕ
+  pub read : IsRead MAX_SCENARIO_BYTES x text
+  pub cut : lines ≡ lines_of text
+
+-- These lines were read to their ends: each with its line feed, or up to the end of the input.
+abbrev pub AreRead : Exchange → List (List ℕ) → Type 0
+AreRead x lines = AreReadWithFeeds x lines ⊎ AreReadToEnd x lines
+
+-- These lines were done, in order, which leaves this state; what they write was written; and the journal is legal.
+pub record HasDone (x : Exchange) (lines : List (List ℕ)) (state : State) : Type 0 where
+  pub done : end_from first 1 lines ≡ Ended state
+  pub written : IsWritten x (transcript first lines)
+  pub legal : IsLegalState state
 
 -- A scenario was read and came to its end, and its transcript was written.
 pub record WritesTranscript (x : Exchange) : Type 0 where
   pub text : List ℕ
   pub read : IsRead MAX_SCENARIO_BYTES x text
-  pub ended : IsEnded (end_of text)
+  pub state : State
+  pub ended : end_of text ≡ Ended state
   pub written : IsWritten x (transcript_of text)
+  pub legal : IsLegalState state
 
--- A scenario was read, and its line of this number was refused: the transcript of the lines before it was written.
+-- The line of this number was read to its end and was refused, after the lines before it were done.
 pub record StopsAtLine (n : ℕ) (x : Exchange) : Type 0 where
+  pub before : List (List ℕ)
+  pub line : List ℕ
+  pub state : State
+  pub read : AreRead x (before ++ line ∷ [])
+  pub number : n ≡ length before + 1
+  pub done : HasDone x before state
+  pub short : length line ≤ MAX_LINE_BYTES
+  pub refused : line_answer state line ≡ Refused
+
+-- More bytes than a line may have were read of the line of this number, after the lines before it were done.
+pub record StopsAtLongLine (n : ℕ) (x : Exchange) : Type 0 where
+  pub before : List (List ℕ)
+  pub line : List ℕ
+  pub rest : List ℕ
+  pub state : State
+  pub taken : x.left_before ≡ prepended (text_of_lines before ++ (line ++ rest)) x.left_after
+  pub plain : All IsOneLine before
+  pub one : IsOneLine line
+  pub within : length (text_of_lines before ++ line) ≤ MAX_SCENARIO_BYTES
+  pub number : n ≡ length before + 1
+  pub done : HasDone x before state
+  pub long : MAX_LINE_BYTES < length line
+
+-- A read failed, after the lines that had ended by then were done.
+pub record StopsAtFailedRead (x : Exchange) : Type 0 where
   pub text : List ℕ
-  pub read : IsRead MAX_SCENARIO_BYTES x text
-  pub stops : StopsAt (end_of text) n
-  pub written : IsWritten x (transcript_of text)
+  pub lines : List (List ℕ)
+  pub part : List ℕ
+  pub state : State
+  pub taken : x.left_before ≡ prepended text x.left_after
+  pub cut : IsCut text lines part
+  pub short : length part ≤ MAX_LINE_BYTES
+  pub done : HasDone x lines state
 
--- A scenario was read, and a prefix of its transcript was written.
-pub record WritesTranscriptPrefix (x : Exchange) : Type 0 where
+-- A line was read to its end and done, and a prefix of what it writes was written, after the lines before it were done.
+pub record StopsAtFailedWrite (x : Exchange) : Type 0 where
+  pub before : List (List ℕ)
+  pub line : List ℕ
+  pub state : State
+  pub after : State
+  pub wrote : List ℕ
+  pub prefix : List ℕ
+  pub read : AreRead x (before ++ line ∷ [])
+  pub done : end_from first 1 before ≡ Ended state
+  pub legal : IsLegalState state
+  pub answer : line_answer state line ≡ Done after wrote
+  pub begins : IsPrefix prefix wrote
+  pub written : IsWritten x (transcript first before ++ prefix)
+
+-- Memory ran out after these lines were read and done.
+pub record StopsOutOfMemory (x : Exchange) : Type 0 where
+  pub before : List (List ℕ)
+  pub state : State
+  pub read : AreReadWithFeeds x before
+  pub done : HasDone x before state
+
+-- More bytes were read than a scenario may have, after the lines that end within these were done.
+pub record StopsPastLimit (x : Exchange) : Type 0 where
   pub text : List ℕ
-  pub read : IsRead MAX_SCENARIO_BYTES x text
-  pub prefix : IsPartlyWritten x (transcript_of text)
-
--- Nothing was written, or a scenario was read to its end and a prefix of its transcript was written.
-abbrev pub RunsDriveOutOfMemory : Exchange → Type 0
-RunsDriveOutOfMemory x = WritesNothing x ⊎ WritesTranscriptPrefix x
-
--- One line was done, which leaves this state, and what it writes was written.
-abbrev pub DoesLine : State → State → List ℕ → Option (List ℕ) → Option (List ℕ) → Type 0
-DoesLine s t line before after =
-    (text : List ℕ) × (line_answer s line ≡ Done t text) × (after ≡ appended before text)
-
--- A scenario ends so at the line of this number.
-abbrev pub EndsAtLine : Ending → ℕ → State → List ℕ → Option (List ℕ) → Option (List ℕ) → Type 0
-EndsAtLine endings.Done number s line before after = ⊥
-EndsAtLine endings.UnknownCommand number s line before after = ⊥
-EndsAtLine (endings.LineRefused n) number s line before after =
-    (number ≡ n) × (line_answer s line ≡ Refused) × (after ≡ before)
-EndsAtLine endings.ReadFailed number s line before after = ⊥
-EndsAtLine endings.WriteFailed number s line before after =
-    (t : State) × (text : List ℕ)
-    × (line_answer s line ≡ Done t text) × AppendsPrefix before after text
-EndsAtLine endings.DescriptorsTooLong number s line before after = ⊥
-EndsAtLine endings.OutOfMemory number s line before after = after ≡ before
-EndsAtLine endings.DescriptorsRefused number s line before after = ⊥
-EndsAtLine endings.ScenarioTooLong number s line before after = ⊥
-
--- The lines of a text were done up to this ending, and this was written of their transcript.
-abbrev pub Plays : Ending → List ℕ → Option (List ℕ) → Option (List ℕ) → Type 0
-Plays endings.Done text before after =
-    IsEnded (end_of text) × (after ≡ appended before (transcript_of text))
-Plays endings.UnknownCommand text before after = ⊥
-Plays (endings.LineRefused n) text before after =
-    StopsAt (end_of text) n × (after ≡ appended before (transcript_of text))
-Plays endings.ReadFailed text before after = ⊥
-Plays endings.WriteFailed text before after = AppendsPrefix before after (transcript_of text)
-Plays endings.DescriptorsTooLong text before after = ⊥
-Plays endings.OutOfMemory text before after = AppendsPrefix before after (transcript_of text)
-Plays endings.DescriptorsRefused text before after = ⊥
-Plays endings.ScenarioTooLong text before after = ⊥
+  pub more : List ℕ
+  pub lines : List (List ℕ)
+  pub part : List ℕ
+  pub state : State
+  pub taken : x.left_before ≡ prepended (text ++ more) x.left_after
+  pub past : more ≢ []
+  pub whole : length text ≡ MAX_SCENARIO_BYTES
+  pub cut : IsCut text lines part
+  pub short : length part ≤ MAX_LINE_BYTES
+  pub done : HasDone x lines state

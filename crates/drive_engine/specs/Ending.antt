@@ -2,7 +2,7 @@
 use Rattle.std.specs.Prelude.{◌≡◌, ℕ, ◌⊎◌, List, [], ◌++◌, codes}
 use Rattle.std.specs.Fmt.{decimal}
 use Rattle.drive_engine.specs.declared.ending.Ending.{Ending}
-use Rattle.drive_engine.specs.declared.ending.Ending.TheVariants.{Done, UnknownCommand, LineRefused, ReadFailed, WriteFailed, DescriptorsTooLong, OutOfMemory, DescriptorsRefused, ScenarioTooLong}
+use Rattle.drive_engine.specs.declared.ending.Ending.TheVariants.{Done, UnknownCommand, LineRefused, ReadFailed, WriteFailed, LineTooLong, OutOfMemory, DescriptorsRefused, ScenarioTooLong}
 use Rattle.drive_engine.specs.declared.words.TheConstants.{USAGE}
 
 -- the exit status
@@ -12,7 +12,7 @@ status UnknownCommand = 2
 status (LineRefused n) = 3
 status ReadFailed = 4
 status WriteFailed = 5
-status DescriptorsTooLong = 8
+status (LineTooLong n) = 8
 status OutOfMemory = 9
 status DescriptorsRefused = 10
 status ScenarioTooLong = 12
@@ -24,7 +24,7 @@ fixed_report UnknownCommand = USAGE.now
 fixed_report (LineRefused n) = []
 fixed_report ReadFailed = codes "read failed\n"
 fixed_report WriteFailed = codes "write failed\n"
-fixed_report DescriptorsTooLong = codes "line 1 too long\n"
+fixed_report (LineTooLong n) = []
 fixed_report OutOfMemory = codes "out of memory\n"
 fixed_report DescriptorsRefused = codes "descriptors refused\n"
 fixed_report ScenarioTooLong = codes "input too long\n"
@@ -33,6 +33,10 @@ fixed_report ScenarioTooLong = codes "input too long\n"
 abbrev pub line_report : ℕ → List ℕ
 line_report n = codes "line " ++ decimal n ++ codes "\n"
 
+-- what is reported of a line that is too long
+abbrev pub long_line_report : ℕ → List ℕ
+long_line_report n = codes "line " ++ decimal n ++ codes " too long\n"
+
 -- what is reported
 abbrev pub report : Ending → List ℕ
 report Done = []
@@ -40,12 +44,13 @@ report UnknownCommand = fixed_report UnknownCommand
 report (LineRefused n) = line_report n
 report ReadFailed = fixed_report ReadFailed
 report WriteFailed = fixed_report WriteFailed
-report DescriptorsTooLong = fixed_report DescriptorsTooLong
+report (LineTooLong n) = long_line_report n
 report OutOfMemory = fixed_report OutOfMemory
 report DescriptorsRefused = fixed_report DescriptorsRefused
 report ScenarioTooLong = fixed_report ScenarioTooLong
 
--- The ending is as it was, or there was no memory for the number of a refused line.
+-- The ending is as it was, or there was no memory for the number of a line.
 abbrev pub IsReported : Ending → Ending → Type 0
 IsReported ending reported =
-    (reported ≡ ending) ⊎ ((reported ≡ OutOfMemory) × ((n : ℕ) × (ending ≡ LineRefused n)))
+    (reported ≡ ending) ⊎ ((reported ≡ OutOfMemory)
+    × ((n : ℕ) × ((ending ≡ LineRefused n) ⊎ (ending ≡ LineTooLong n))))

@@ -1,5 +1,5 @@
 -- The recovery groups that a descriptor text describes, and what is read and written until a command ends.
-use Rattle.std.specs.Prelude.{Option, ◌≡◌, ◌≢◌, ℕ, suc, List, [], ◌∷◌, ◌++◌, Ok, Err, codes}
+use Rattle.std.specs.Prelude.{Option, ◌≡◌, ◌≢◌, ℕ, suc, Bool, true, false, List, [], ◌∷◌, ◌++◌, Ok, Err, codes}
 use Rattle.std.specs.Fmt.{decimal}
 use Rattle.outside.specs.Sink.{appended, AppendsPrefix}
 use Rattle.deployment.specs.Groups.{group_of}
@@ -11,7 +11,7 @@ use Rattle.descriptor_text.specs.declared.refusals.TextRefusal.TheVariants as re
 use Rattle.drive_engine.specs.declared.ending.Ending.{Ending}
 use Rattle.drive_engine.specs.declared.ending.Ending.TheVariants as endings
 use Rattle.drive_engine.specs.declared.groups.TheConstants.{MAX_DESCRIPTOR_BYTES}
-use Rattle.drive_engine.specs.Exchange.{Exchange, IsRead, IsWritten, IsPartlyWritten}
+use Rattle.drive_engine.specs.Exchange.{Exchange, IsRead, IsWritten, IsPartlyWritten, IsTooLong, WritesNothing}
 
 -- the line of a component: its name, a space, and the number of its group
 abbrev pub group_line : List ℕ → ℕ → List ℕ
@@ -59,6 +59,23 @@ pub record RefusesDescriptors (x : Exchange) : Type 0 where
   pub read : IsRead MAX_DESCRIPTOR_BYTES x text
   pub refused : IsRefused text
 
+-- A text has more bytes than descriptors may have, and nothing was written.
+pub record HasTooManyBytes (x : Exchange) : Type 0 where
+  pub long : IsTooLong MAX_DESCRIPTOR_BYTES x
+  pub silent : WritesNothing x
+
+-- whether nothing was written until this ending
+abbrev pub is_silent : Ending → Bool
+is_silent endings.Done = false
+is_silent endings.UnknownCommand = true
+is_silent (endings.LineRefused n) = false
+is_silent endings.ReadFailed = true
+is_silent endings.WriteFailed = false
+is_silent (endings.LineTooLong n) = true
+is_silent endings.OutOfMemory = false
+is_silent endings.DescriptorsRefused = true
+is_silent endings.ScenarioTooLong = false
+
 -- The lines of a deployment of these parts were written up to this ending.
 abbrev pub WritesLines : Ending → Parts → Option (List ℕ) → Option (List ℕ) → Type 0
 WritesLines endings.Done parts before after = after ≡ appended before (groups_text parts)
@@ -66,7 +83,7 @@ WritesLines endings.UnknownCommand parts before after = ⊥
 WritesLines (endings.LineRefused n) parts before after = ⊥
 WritesLines endings.ReadFailed parts before after = ⊥
 WritesLines endings.WriteFailed parts before after = AppendsPrefix before after (groups_text parts)
-WritesLines endings.DescriptorsTooLong parts before after = ⊥
+WritesLines (endings.LineTooLong n) parts before after = ⊥
 WritesLines endings.OutOfMemory parts before after = after ≡ before
 WritesLines endings.DescriptorsRefused parts before after = ⊥
 WritesLines endings.ScenarioTooLong parts before after = ⊥
@@ -80,7 +97,7 @@ ListsText (endings.LineRefused n) text before after = ⊥
 ListsText endings.ReadFailed text before after = ⊥
 ListsText endings.WriteFailed text before after =
     (parts : Parts) × IsDeployment text parts × AppendsPrefix before after (groups_text parts)
-ListsText endings.DescriptorsTooLong text before after = ⊥
+ListsText (endings.LineTooLong n) text before after = ⊥
 ListsText endings.OutOfMemory text before after = after ≡ before
 ListsText endings.DescriptorsRefused text before after = IsRefused text
 ListsText endings.ScenarioTooLong text before after = ⊥

@@ -14,3 +14,4 @@ pub mod Drive
 pub mod Groups
 pub mod Words
 pub mod Command
+pub mod Play

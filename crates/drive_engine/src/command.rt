@@ -4,16 +4,16 @@ ghost use Rattle.std.specs.Prelude.{codes, ◌≡◌, ◌≢◌, ◌↔◌, ◌�
 ghost use Rattle.std.specs.List.{list_any};
 ghost use Rattle.outside.specs.Faults.{Rose};
 ghost use Rattle.outside.specs.Sink.{AppendsOrFails};
-ghost use Rattle.drive_engine.specs.Command.{WritesAll, WritesPrefix, RunsOutOfMemory, Runs, Ends, CallsFor, is_silent};
-ghost use Rattle.drive_engine.specs.Drive.{StopsAtLine};
-ghost use Rattle.drive_engine.specs.Ending.{report, fixed_report, line_report, IsReported};
-ghost use Rattle.drive_engine.specs.Exchange.{exchange, IsTooLong};
-ghost use Rattle.drive_engine.specs.Groups.{RefusesDescriptors};
+ghost use Rattle.drive_engine.specs.Command.{WritesAll, FailsToRead, FailsToWrite, HasLongLine, RunsOutOfMemory, Runs, Ends, CallsFor};
+ghost use Rattle.drive_engine.specs.Drive.{StopsAtLine, StopsPastLimit};
+ghost use Rattle.drive_engine.specs.Ending.{report, fixed_report, line_report, long_line_report, IsReported};
+ghost use Rattle.drive_engine.specs.Exchange.{exchange};
+ghost use Rattle.drive_engine.specs.Groups.{RefusesDescriptors, is_silent};
 ghost use Rattle.drive_engine.specs.Words.{command_of};
 
-use crate::drive::{MAX_SCENARIO_BYTES, drive};
+use crate::drive::drive;
 use crate::ending::Ending;
-use crate::groups::{MAX_DESCRIPTOR_BYTES, groups};
+use crate::groups::groups;
 use crate::words::{Command, USAGE, command_of};
 use crash_base::{OutOfMemory, WordText};
 use outside::{Keeper, Sink, Source, write_all};
@@ -37,16 +37,30 @@ fn line_report(alloc: Global, number: u64) -> Result<String, OutOfMemory>
     Ok(text)
 }
 
-/// Reports a refused line, or that there is no memory for its number.
-fn report_line<E: Sink>(alloc: Global, number: u64, errors: &mut E) -> Ending
-    ensures ending { IsReported (Ending.LineRefused number) result }
+/// What is reported of a line that is too long.
+fn long_line_report(alloc: Global, number: u64) -> Result<String, OutOfMemory>
+    ensures { IfOk result (λ text. string_bytes text ≡ long_line_report number) }
+{
+    let mut text = String::new(alloc);
+    write!(text, "line {number} too long\n")?;
+    Ok(text)
+}
+
+/// Reports how a command ended at a line, or that there was no memory for this report.
+fn report_line<E: Sink>(
+    ending: Ending,
+    line_report: Result<String, OutOfMemory>,
+    errors: &mut E,
+) -> Ending
+    requires { IfOk line_report (λ text. string_bytes text ≡ report ending) }
+    ensures ending { (result ≡ ending) ⊎ (result ≡ Ending.OutOfMemory) }
     ensures reported { AppendsOrFails (E.written errors.old) (E.written errors.new)
         (E.faults errors.old) (E.faults errors.new) (report result) }
 {
-    match line_report(alloc, number) {
+    match line_report {
         Ok(text) => {
             write_report(errors, text.as_str());
-            Ending::LineRefused(number)
+            ending
         }
         Err(OutOfMemory) => {
             write_report(errors, Ending::OutOfMemory.fixed_report());
@@ -65,7 +79,10 @@ fn report_ending<E: Sink>(alloc: Global, ending: Ending, errors: &mut E) -> Endi
 {
     match ending {
         Ending::Done => ending,
-        Ending::LineRefused(number) => report_line(alloc, number, errors),
+        Ending::LineRefused(number) => report_line(ending, line_report(alloc, number), errors),
+        Ending::LineTooLong(number) => {
+            report_line(ending, long_line_report(alloc, number), errors)
+        }
         _ => {
             write_report(errors, ending.fixed_report());
             ending
@@ -81,7 +98,7 @@ fn run<S: Source, T: Sink>(alloc: Global, command: Command, input: &mut S, out: 
         → Rose (S.faults input.old) (S.faults input.new) }
     ensures write_failed { result ≡ Ending.WriteFailed
         → Rose (T.faults out.old) (T.faults out.new) }
-    ensures silent { is_silent result ≡ true → out.new ≡ out.old }
+    ensures silent { command ≡ Command.Groups → is_silent result ≡ true → out.new ≡ out.old }
 {
     match command {
         Command::Drive => drive(alloc, input, out),
@@ -102,8 +119,10 @@ fn run_words<S: Source, T: Sink>(
         → Rose (S.faults input.old) (S.faults input.new) }
     ensures write_failed { result ≡ Ending.WriteFailed
         → Rose (T.faults out.old) (T.faults out.new) }
-    ensures silent { is_silent result ≡ true → out.new ≡ out.old }
-    ensures unknown { command_of words.now ≡ None → input.new ≡ input.old }
+    ensures silent { command_of words.now ≡ Some Command.Groups
+        → is_silent result ≡ true → out.new ≡ out.old }
+    ensures unknown { command_of words.now ≡ None
+        → (input.new ≡ input.old) × (out.new ≡ out.old) }
 {
     match command_of(words) {
         Some(command) => run(alloc, command, input, out),
@@ -116,13 +135,16 @@ fn run_words<S: Source, T: Sink>(
 /// - 0: the input was read to its end. For `drive` what was written is the transcript of its lines, and for
 ///   `groups` the line of each component that it describes.
 /// - 2: the words spell no command.
-/// - 3: a line of a scenario was refused, whose number is reported; what was written is the transcript of the
-///   lines before.
+/// - 3: a line of a scenario was refused, whose number is reported.
 /// - 4, 5: the input, the output failed.
-/// - 8: a descriptor text has more than 1,048,576 bytes.
+/// - 8: a line of a scenario has more than 8,192 bytes, whose number is reported; or a descriptor text has more
+///   than 1,048,576 bytes, which is reported as its line 1.
 /// - 9: memory ran out.
 /// - 10: a descriptor text describes no deployment.
-/// - 12: a scenario has more than 65,536 bytes.
+/// - 12: a scenario has more than 4,294,967,295 bytes.
+///
+/// `drive` reads piece by piece, and does each line as soon as it was read to its end. So at 3, 4, 5, 8, 9 and 12
+/// the lines before were done, and their transcript was written.
 ///
 /// How it ended is reported on `errors`, except at 0.
 pub fn run_command<S: Source, T: Sink, E: Sink, K: Keeper>(
@@ -157,28 +179,30 @@ pub fn run_command<S: Source, T: Sink, E: Sink, K: Keeper>(
         × AppendsOrFails (E.written errors.old) (E.written errors.new)
         (E.faults errors.old) (E.faults errors.new) (line_report n)) }
 
-    // At 4 the input's count of faults rose, and nothing was written. At 5 the output's rose, and a
-    // prefix of what the command writes was written.
-    ensures read_failed { result.0 ≡ 4
-        → Rose (S.faults input.old) (S.faults input.new) × (out.new ≡ out.old)
+    // At 4 the input's count of faults rose. The transcript of the lines that had ended was written, or
+    // for groups nothing. At 5 the output's rose, and a prefix was written of what the command writes.
+    ensures read_failed { result.0 ≡ 4 → Rose (S.faults input.old) (S.faults input.new)
+        × IfSome (command_of words.now) (λ command. FailsToRead command
+        (exchange (S.left input.old) (S.left input.new) (T.written out.old) (T.written out.new)))
+        × (command_of words.now ≡ Some Command.Groups → out.new ≡ out.old)
         × AppendsOrFails (E.written errors.old) (E.written errors.new)
         (E.faults errors.old) (E.faults errors.new) (codes "read failed\n") }
     ensures write_failed { result.0 ≡ 5 → Rose (T.faults out.old) (T.faults out.new)
-        × IfSome (command_of words.now) (λ command. WritesPrefix command
+        × IfSome (command_of words.now) (λ command. FailsToWrite command
         (exchange (S.left input.old) (S.left input.new) (T.written out.old) (T.written out.new)))
         × AppendsOrFails (E.written errors.old) (E.written errors.new)
         (E.faults errors.old) (E.faults errors.new) (codes "write failed\n") }
 
-    // At 8 the input has more bytes than a descriptor text may have, and nothing was written.
-    ensures descriptors_too_long { result.0 ≡ 8 → (command_of words.now ≡ Some Command.Groups)
-        × IsTooLong MAX_DESCRIPTOR_BYTES
-        (exchange (S.left input.old) (S.left input.new) (T.written out.old) (T.written out.new))
-        × (out.new ≡ out.old)
+    // At 8 a line has more bytes than it may have, and the transcript of the lines before it was written. Or
+    // descriptors have, and nothing was written.
+    ensures line_too_long { result.0 ≡ 8 → (n : ℕ)
+        × IfSome (command_of words.now) (λ command. HasLongLine command n
+        (exchange (S.left input.old) (S.left input.new) (T.written out.old) (T.written out.new)))
+        × (command_of words.now ≡ Some Command.Groups → out.new ≡ out.old)
         × AppendsOrFails (E.written errors.old) (E.written errors.new)
-        (E.faults errors.old) (E.faults errors.new) (codes "line 1 too long\n") }
+        (E.faults errors.old) (E.faults errors.new) (long_line_report n) }
 
-    // At 9 nothing was written, or a scenario was read to its end and a prefix of its transcript was
-    // written.
+    // At 9 the transcript of the lines that were done was written, or for groups nothing.
     ensures out_of_memory { result.0 ≡ 9
         → IfSome (command_of words.now) (λ command. RunsOutOfMemory command
         (exchange (S.left input.old) (S.left input.new) (T.written out.old) (T.written out.new)))
@@ -193,11 +217,11 @@ pub fn run_command<S: Source, T: Sink, E: Sink, K: Keeper>(
         × AppendsOrFails (E.written errors.old) (E.written errors.new)
         (E.faults errors.old) (E.faults errors.new) (codes "descriptors refused\n") }
 
-    // At 12 the input has more bytes than a scenario may have, and nothing was written.
+    // At 12 the input has more bytes than a scenario may have, and the transcript of the lines that end
+    // within these was written.
     ensures scenario_too_long { result.0 ≡ 12 → (command_of words.now ≡ Some Command.Drive)
-        × IsTooLong MAX_SCENARIO_BYTES
+        × StopsPastLimit
         (exchange (S.left input.old) (S.left input.new) (T.written out.old) (T.written out.new))
-        × (out.new ≡ out.old)
         × AppendsOrFails (E.written errors.old) (E.written errors.new)
         (E.faults errors.old) (E.faults errors.new) (codes "input too long\n") }
 

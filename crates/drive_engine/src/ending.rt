@@ -18,8 +18,8 @@ pub enum Ending {
     ReadFailed,
     /// The output failed.
     WriteFailed,
-    /// The descriptor text has more bytes than one may have.
-    DescriptorsTooLong,
+    /// The line of this number has more bytes than a line may have, or the descriptor text has, which is line 1.
+    LineTooLong(u64),
     /// Memory ran out.
     OutOfMemory,
     /// The descriptor text describes no deployment.
@@ -39,7 +39,7 @@ impl Ending {
             Ending::LineRefused(_) => 3,
             Ending::ReadFailed => 4,
             Ending::WriteFailed => 5,
-            Ending::DescriptorsTooLong => 8,
+            Ending::LineTooLong(_) => 8,
             Ending::OutOfMemory => 9,
             Ending::DescriptorsRefused => 10,
             Ending::ScenarioTooLong => 12,
@@ -51,11 +51,10 @@ impl Ending {
         ensures { result.now ≡ fixed_report self }
     {
         match self {
-            Ending::Done | Ending::LineRefused(_) => "",
+            Ending::Done | Ending::LineRefused(_) | Ending::LineTooLong(_) => "",
             Ending::UnknownCommand => USAGE,
             Ending::ReadFailed => "read failed\n",
             Ending::WriteFailed => "write failed\n",
-            Ending::DescriptorsTooLong => "line 1 too long\n",
             Ending::OutOfMemory => "out of memory\n",
             Ending::DescriptorsRefused => "descriptors refused\n",
             Ending::ScenarioTooLong => "input too long\n",

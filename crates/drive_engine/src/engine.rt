@@ -3,8 +3,7 @@
 ghost use Rattle.std.specs.Prelude.{◌≡◌, IfOk};
 ghost use Rattle.drive_engine.specs.Answer.{answer_of};
 ghost use Rattle.drive_engine.specs.Engine.{running, stage_line, step};
-ghost use Rattle.drive_engine.specs.Head.{no_parts};
-ghost use Rattle.drive_engine.specs.State.{Heading};
+ghost use Rattle.drive_engine.specs.Transcript.{first};
 
 use crate::answer::LineAnswer;
 use crate::head::head_line;
@@ -43,7 +42,7 @@ impl Model for Engine {
 impl Engine {
     /// A scenario before its first line. It takes no memory.
     pub fn new(alloc: Global) -> Engine
-        ensures { result ≡ Heading no_parts }
+        ensures { result ≡ first }
     {
         Engine {
             stage: Stage::Head(Parts::new(alloc)),

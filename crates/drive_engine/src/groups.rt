@@ -2,9 +2,9 @@
 
 ghost use Rattle.std.specs.Prelude.{◌≡◌, ◌⊎◌, ◌++◌, true, IfOk, OnOk, MatchResult};
 ghost use Rattle.outside.specs.Faults.{Rose};
-ghost use Rattle.drive_engine.specs.Command.{Runs, is_silent};
+ghost use Rattle.drive_engine.specs.Command.{Runs};
 ghost use Rattle.drive_engine.specs.Exchange.{exchange};
-ghost use Rattle.drive_engine.specs.Groups.{group_line, groups_text, IsDeployment, IsRefused, WritesLines, ListsText};
+ghost use Rattle.drive_engine.specs.Groups.{group_line, groups_text, IsDeployment, IsRefused, WritesLines, ListsText, is_silent};
 
 use crate::ending::Ending;
 use crate::words::Command;
@@ -103,7 +103,7 @@ pub fn groups<S: Source, T: Sink>(alloc: Global, input: &mut S, out: &mut T) -> 
     match read_to_end(alloc, input, MAX_DESCRIPTOR_BYTES) {
         Ok(text) => list_groups(alloc, text.as_slice(), out),
         Err(InputRefusal::Failed) => Ending::ReadFailed,
-        Err(InputRefusal::TooLong) => Ending::DescriptorsTooLong,
+        Err(InputRefusal::TooLong) => Ending::LineTooLong(1),
         Err(InputRefusal::OutOfMemory) => Ending::OutOfMemory,
     }
 }

@@ -5,15 +5,16 @@ ghost use Rattle.std.specs.Prelude.{◌≡◌, ℕ, List};
 ghost use Rattle.drive_engine.specs.declared.words.Command.{Command};
 ghost use Rattle.drive_engine.specs.Command.{CallsFor};
 ghost use Rattle.drive_engine.specs.Engine.{IsLegalState};
-ghost use Rattle.drive_engine.specs.Transcript.{end_of, last_state};
+ghost use Rattle.drive_engine.specs.Transcript.{first, end_from, end_of, last_state};
 
 use descriptor_text::texts_have_an_answer;
 use journal_model::{fits_until_commit, grows_legally};
 
-/// Whatever the text, the journal is legal in the state that its lines leave, also where they stop
-/// at a refused line.
+/// Whatever the text, or the lines, the journal is legal in the state that they leave, also where they
+/// stop at a line.
 pub fn journals_are_legal()
-    ensures { (text : List ℕ) → IsLegalState (last_state (end_of text)) }
+    ensures texts { (text : List ℕ) → IsLegalState (last_state (end_of text)) }
+    ensures lines { (lines : List (List ℕ)) → IsLegalState (last_state (end_from first 1 lines)) }
 {
     grows_legally();
     fits_until_commit();

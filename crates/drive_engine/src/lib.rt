@@ -1,9 +1,9 @@
 //! Commands, from the bytes of their input to the bytes that they write.
 //!
-//! `run_command` is the program without its outside. For `drive` it reads a scenario to its end, does its lines
-//! one by one over a container, and writes what they write. What it writes is defined in `specs/Transcript`, as a
-//! function of the text alone: `transcript_of`, and `end_of` for how the scenario ends. The engine is
-//! proved to do each line exactly so. For `groups` it reads a descriptor text to its end, and writes the lines of
+//! `run_command` is the program without its outside. For `drive` it reads a scenario piece by piece, does each
+//! line over a container as soon as the line was read to its end, and writes what the line writes before it does
+//! the next. What it writes is defined in `specs/Transcript`, as a function of the text alone: `transcript_of`, and
+//! `end_of` for how the scenario ends. The engine is proved to do each line exactly so. For `groups` it reads a descriptor text to its end, and writes the lines of
 //! its deployment, `groups_text` of `specs/Groups`.
 //!
 //! ```text
@@ -14,8 +14,8 @@
 //! `texts_call_for_one_status` say that there is exactly one. The law `journals_are_legal` says that the journal
 //! of a scenario is legal, however the scenario ends.
 //!
-//! A line visits its bytes and those that it writes, each caller that has begun, and what its call of
-//! the container visits. `groups` visits each byte of its text and of its lines.
+//! A scenario takes room for one piece and one line, however long it is. A line visits its bytes and those that it
+//! writes, each caller that has begun, and what its call of the container visits. `groups` visits each byte of its text and of its lines.
 #![tactic(auto)]
 
 mod answer;
@@ -28,6 +28,7 @@ mod engine;
 mod groups;
 mod head;
 mod laws;
+mod play;
 mod running;
 mod tables;
 mod texts;

@@ -1,5 +1,5 @@
 -- How full a journal is, and what limits it.
-use Rattle.std.specs.Prelude.{ℕ, ◌+◌, ◌≤◌, nat_le, ◌&&◌, not, Bool, false, if◌then◌else◌, List, [], ◌∷◌, length, sum_by, Option, Some, None}
+use Rattle.std.specs.Prelude.{ℕ, ◌+◌, ◌^◌, ◌≤◌, nat_le, nat_lt, ◌&&◌, not, Bool, false, if◌then◌else◌, List, [], ◌∷◌, length, sum_by, Option, Some, None}
 use Rattle.std.specs.List.{list_any}
 use Rattle.crash_base.specs.declared.rows.RowWrite.{RowWrite}
 use Rattle.journal_model.specs.declared.entry.ActionEntry.{ActionEntry}
@@ -64,9 +64,17 @@ pub record IsWithin (limits : JournalLimits) (es : List Entry) : Type 0 where
   pub entries : places es ≤ limits.entries
   pub bytes : bytes_of es ≤ limits.bytes
 
+-- a number of bytes, if it is one that a count of bytes may be
+abbrev pub counted : ℕ → Option ℕ
+counted n = if nat_lt n (2 ^ 64) then Some n else None
+
+-- how full a journal is
+abbrev pub fullness : List Entry → FullAt
+fullness es = record { entries = places es; bytes = bytes_of es }
+
 -- How full a journal is where so many entries and bytes more would pass a limit.
 abbrev pub full_for : JournalLimits → List Entry → ℕ → ℕ → Option FullAt
 full_for limits es entries bytes =
     if nat_le (places es + entries) limits.entries && nat_le (bytes_of es + bytes) limits.bytes
     then None
-    else Some (record { entries = places es; bytes = bytes_of es })
+    else Some (fullness es)

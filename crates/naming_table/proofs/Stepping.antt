@@ -1,5 +1,5 @@
 -- What steps leave of a group.
-use Rattle.std.proofs.Common.{◌≡◌, ℕ, ◌+◌, ◌<◌, Bool, true, false, cond, eqb, List, [], ◌∷◌, ◌++◌, length, Some, None, refl, sym, ap, ◌∙◌, add_assoc, arith, eq-eqb, get_or-set_other}
+use Rattle.std.proofs.Common.{◌≡◌, ℕ, ◌+◌, ◌<◌, Bool, true, false, cond, eqb, List, [], ◌∷◌, ◌++◌, length, Some, None, refl, sym, ap, ◌∙◌, add_assoc, arith, slice_set, eq-eqb, get_or-set_other}
 use Rattle.std.specs.List.{list_any, count_by}
 use Rattle.std.proofs.Math.ListN.{length-set}
 use Rattle.std.proofs.lemmas.Bool.{eqb-true, eqb-false, or_parts}
@@ -9,8 +9,9 @@ use Rattle.std.proofs.lemmas.List.Sums.{fold-append, sum_by-cons}
 use Rattle.crash_base.specs.declared.numbers.Place.{Place}
 use Rattle.crash_base.specs.declared.scope.TheConstants.{MAX_GROUPS}
 use Rattle.journal_model.specs.declared.status.GroupStatus.{GroupStatus}
+use Rattle.journal_model.specs.Statuses.{never_rebooted, statuses_first, went_down, came_up}
 use Rattle.naming_table.specs.declared.bound.BoundName.{BoundName}
-use Rattle.naming_table.specs.Names.{NamesValue, never_rebooted, statuses_first, status_at, went_down, came_up, with_status}
+use Rattle.naming_table.specs.Names.{NamesValue, status_at}
 use Rattle.naming_table.specs.Steps.{Step, SetDown, SetUp, after_step, after_steps, is_step_of, is_set_down_of}
 
 -- one step
@@ -18,6 +19,10 @@ use Rattle.naming_table.specs.Steps.{Step, SetDown, SetUp, after_step, after_ste
 length-after_step : (names : NamesValue) (s : Step) → length (after_step names s).statuses ≡ length names.statuses
 length-after_step names (SetDown g place) = length-set names.statuses g (went_down place (status_at names g))
 length-after_step names (SetUp g) = length-set names.statuses g (came_up (status_at names g))
+
+-- the names once a group has another status
+abbrev with_status : NamesValue → ℕ → GroupStatus → NamesValue
+with_status names g status = record names { statuses = slice_set names.statuses g status }
 
 -- the group of the step
 status_at-same : (names : NamesValue) (h g : ℕ) (change : GroupStatus → GroupStatus) → eqb h g ≡ true → g < length names.statuses → status_at (with_status names h (change (status_at names h))) g ≡ change (status_at names g)

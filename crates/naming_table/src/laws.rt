@@ -13,10 +13,11 @@ ghost use Rattle.journal_model.specs.declared.entry.Entry.{Entry};
 ghost use Rattle.journal_model.specs.declared.entry.Entry.TheVariants.{Commit};
 ghost use Rattle.journal_model.specs.Legal.{MayBegin, MayEnd};
 ghost use Rattle.journal_model.specs.Reboots.{generation, down_of};
+ghost use Rattle.journal_model.specs.Statuses.{statuses_first};
 ghost use Rattle.naming_table.specs.declared.binding.Binding.TheVariants.{Live, Sentinel};
 ghost use Rattle.naming_table.specs.declared.bound.BoundName.{BoundName};
 ghost use Rattle.naming_table.specs.Binding.{binding_in, component_binding, group_no};
-ghost use Rattle.naming_table.specs.Names.{NamesValue, statuses_first, new_names, status_at, binding_now, Follows};
+ghost use Rattle.naming_table.specs.Names.{NamesValue, new_names, status_at, binding_now, Follows};
 ghost use Rattle.naming_table.specs.Steps.{Step, SetDown, SetUp, after_steps, is_step_of, is_set_down_of};
 
 use crash_base::MAX_GROUPS;

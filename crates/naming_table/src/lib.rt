@@ -14,9 +14,10 @@
 //! ```
 //!
 //! `Names` keeps a copy of each name and the status of each of `MAX_GROUPS` groups. Where its owner sets a
-//! scope down and up at each Down and Up of a legal journal, it follows that journal: `look` then answers
-//! exactly what `binding_in` says of the deployment and the journal. The laws `bindings_show_groups`,
-//! `names_follow_journals`, `last_step_counts` and `looks_follow_steps` say what that is.
+//! scope down and up at each Down and Up of a journal whose reboots are in turn, it follows that journal:
+//! `look` then answers exactly what `binding_in` says of the deployment and the journal. The laws
+//! `bindings_show_groups`, `names_follow_journals`, `last_step_counts` and `looks_follow_steps` say what
+//! that is.
 //!
 //! Only `Names::new` takes memory. A look visits each name up to the one that it finds.
 #![tactic(auto)]

@@ -1,21 +1,21 @@
 //! The names of components, and what each is bound to.
 
 ghost use Rattle.std.specs.Prelude.{◌≡◌, ◌≢◌, ◌<◌, ◌≤◌, ℕ, ◌+◌, ◌^◌, List, [], ◌∷◌, ◌++◌, length, All, true, None, IfOk, if◌then◌else◌};
-ghost use Rattle.crash_base.specs.declared.rows.RowWrite.{RowWrite};
 ghost use Rattle.crash_base.specs.Scope.{holds};
 ghost use Rattle.deployment.specs.declared.parts.Parts.{Parts};
 ghost use Rattle.journal_model.specs.declared.entry.Entry.{Entry};
 ghost use Rattle.journal_model.specs.declared.entry.Entry.TheVariants.{Down, Up};
-ghost use Rattle.journal_model.specs.Legal.{IsLegal, MayEnd};
+ghost use Rattle.journal_model.specs.Legal.{AreInTurn, MayEnd};
 ghost use Rattle.journal_model.specs.Reboots.{status_of};
+ghost use Rattle.journal_model.specs.Statuses.{went_down, came_up};
 ghost use Rattle.naming_table.specs.Binding.{binding_in};
-ghost use Rattle.naming_table.specs.Names.{statuses_first, new_names, status_at, went_down, came_up, with_down, with_up, binding_now, Follows};
+ghost use Rattle.naming_table.specs.Names.{new_names, status_at, with_down, with_up, binding_now, Follows};
 
 use crate::binding::{Binding, binding_of};
 use crate::bound::{BoundList, BoundName, bound_names, first_bound};
 use crash_base::{ComponentName, ComponentNo, GroupNo, MAX_GROUPS, OutOfMemory, Place, Scope};
 use deployment::Deployment;
-use journal_model::GroupStatus;
+use journal_model::{GroupStatus, GroupStatuses};
 use std::alloc::Global;
 use std::marker::Model;
 
@@ -24,8 +24,7 @@ use std::marker::Model;
 pub struct Names {
     /// By the numbers of components.
     bound: BoundList,
-    /// By the numbers of groups, so that a look for a group visits one of them.
-    statuses: [GroupStatus; MAX_GROUPS as usize],
+    statuses: GroupStatuses,
 }
 
 impl Model for Names {
@@ -35,26 +34,11 @@ impl Model for Names {
 
     ghost view = { λ n. record { bound = n.bound; statuses = n.statuses } };
 
-    ghost invariant = { λ n. AreWhole n.bound n.statuses };
-}
-
-/// Groups that are all up and were never rebooted.
-#[tactic(auto, unfolding(crate::specs::Names::statuses_first))]
-fn first_statuses() -> [GroupStatus; MAX_GROUPS as usize]
-    ensures { result ≡ statuses_first }
-{
-    [GroupStatus {
-        generation: 0,
-        down: None,
-    }; MAX_GROUPS as usize]
+    ghost invariant = { λ n. AreWhole n.bound };
 }
 
 /// What a name is bound to, among these names and groups.
-fn bound_to(
-    bound: &[BoundName],
-    statuses: &[GroupStatus; MAX_GROUPS as usize],
-    name: &[u8],
-) -> Option<Binding>
+fn bound_to(bound: &[BoundName], statuses: &GroupStatuses, name: &[u8]) -> Option<Binding>
     requires few { length bound.now ≤ MAX_GROUPS }
     requires groups { All (λ b. b.group.0 < MAX_GROUPS) bound.now }
     ensures { result ≡
@@ -62,8 +46,7 @@ fn bound_to(
 {
     let c = first_bound(bound, name)?;
     let group = bound[c].group;
-    let status = statuses[group.0 as usize];
-    Some(binding_of(ComponentNo(c as u16), group, status))
+    Some(binding_of(ComponentNo(c as u16), group, statuses.of(group)))
 }
 
 impl Names {
@@ -76,7 +59,7 @@ impl Names {
         let bound = bound_names(alloc, deployment)?;
         Ok(Names {
             bound,
-            statuses: first_statuses(),
+            statuses: GroupStatuses::first(),
         })
     }
 
@@ -98,7 +81,7 @@ impl Names {
         ensures journal { (parts : Parts) (es : List Entry) →
             Follows self.now parts es → result ≡ status_of es group.0 }
     {
-        self.statuses[group.0 as usize]
+        self.statuses.of(group)
     }
 
     /// A group goes down by the Down at this place, and was rebooted once more. It takes no memory.
@@ -109,9 +92,7 @@ impl Names {
         ensures value { self.new ≡ with_down self.old group.0 down }
         ensures status { status_at self.new group.0 ≡ went_down down (status_at self.old group.0) }
     {
-        let status = &mut self.statuses[group.0 as usize];
-        status.generation += 1;
-        status.down = Some(down);
+        self.statuses.set_down(group, down);
     }
 
     /// A group comes up. It takes no memory.
@@ -121,7 +102,7 @@ impl Names {
         ensures value { self.new ≡ with_up self.old group.0 }
         ensures status { status_at self.new group.0 ≡ came_up (status_at self.old group.0) }
     {
-        self.statuses[group.0 as usize].down = None;
+        self.statuses.set_up(group);
     }
 
     /// Each group that a scope holds goes down by the Down at this place. It takes no memory, and asks the
@@ -139,12 +120,7 @@ impl Names {
             Follows self.old parts es → down.0 ≡ length es →
             Follows self.new parts (es ++ Down scope ∷ []) }
     {
-        for number in 0..MAX_GROUPS {
-            let group = GroupNo(number);
-            if scope.holds(group) {
-                self.set_down(group, down);
-            }
-        }
+        self.statuses.set_scope_down(scope, down);
     }
 
     /// Each group that a scope holds comes up. It takes no memory, and asks the scope for each of
@@ -155,15 +131,10 @@ impl Names {
         ensures bound { self.new.bound ≡ self.old.bound }
         ensures each { (g : ℕ) → g < MAX_GROUPS → status_at self.new g ≡
             (if holds scope g then came_up (status_at self.old g) else status_at self.old g) }
-        ensures journal { (base : List RowWrite) (parts : Parts) (es : List Entry) →
-            Follows self.old parts es → IsLegal base es → MayEnd es scope →
+        ensures journal { (parts : Parts) (es : List Entry) →
+            Follows self.old parts es → AreInTurn es → MayEnd es scope →
             Follows self.new parts (es ++ Up scope ∷ []) }
     {
-        for number in 0..MAX_GROUPS {
-            let group = GroupNo(number);
-            if scope.holds(group) {
-                self.set_up(group);
-            }
-        }
+        self.statuses.set_scope_up(scope);
     }
 }

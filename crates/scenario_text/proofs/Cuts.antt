@@ -1,15 +1,13 @@
--- Lines cut off at the first line feed.
-use Rattle.std.proofs.Common.{◌≡◌, ◌≢◌, ◌↔◌, ℕ, suc, ◌+◌, ◌-◌, ◌<◌, ◌≤◌, Bool, true, false, not, cond, List, [], ◌∷◌, ◌++◌, length, take, drop, Some, None, ◌==◌, subst, All, inl, inr, append_assoc, refl, ap, sym, ◌∙◌, arith}
-use Rattle.std.proofs.Math.Seq.{drop-length}
-use Rattle.std.specs.List.{position_or_len, position, onto_first}
-use Rattle.std.proofs.lemmas.List.{append-nil, take_rest, take_at, drop_at}
+-- The lines of a text.
+use Rattle.std.proofs.Common.{◌≡◌, ◌≢◌, ◌↔◌, ℕ, Bool, true, false, cond, List, [], ◌∷◌, ◌++◌, length, take, drop, ◌==◌, subst, All, inl, inr, append_assoc, refl, ap, sym, ◌∙◌, arith}
+use Rattle.std.specs.List.{onto_first}
+use Rattle.std.proofs.lemmas.List.{append-nil, take_at, drop_at}
 use Rattle.std.proofs.lemmas.List.Elements.{All-nil, All-cons, All-head, All-tail, All-same, All-take, All-drop}
 use Rattle.std.proofs.lemmas.Bool.Decides.{nat_tests}
-use Rattle.crash_base.proofs.Positions.{position-some, position-none}
 use Rattle.scenario_text.specs.Cutting.{lines_of, IsOneLine, text_of_lines, EndsWithoutFeed, ConsistsOf}
 
 -- a line feed
-abbrev feeds : ℕ → Bool
+abbrev pub feeds : ℕ → Bool
 feeds b = b == 10
 
 not_feed : (b : ℕ) → b ≢ 10 → feeds b ≡ false
@@ -20,69 +18,29 @@ onto_one : (x : ℕ) (xs : List ℕ) → (xs ≢ [] → lines_of xs ≡ xs ∷ [
 onto_one x [] h = refl
 onto_one x (y ∷ ys) h = ap (onto_first x) (h (λ e. cc))
 
--- where there is no line feed, the text is its one line
-one_line : (xs : List ℕ) → length xs ≤ position_or_len feeds xs → xs ≢ [] → lines_of xs ≡ xs ∷ []
-one_line [] h ne = absurd (ne refl)
-one_line (x ∷ xs) h ne =
-    let p = position_or_len feeds xs in
-    let go : (b : Bool) → suc (length xs) ≤ cond (not b) (1 + p) 0 → cond b ([] ∷ lines_of xs) (onto_first x (lines_of xs)) ≡ (x ∷ xs) ∷ [] = elim [
-      | true ↦ λ k. absurd (omega arith)
-      | false ↦ λ k. onto_one x xs (one_line xs (omega arith))
-    ] in
-    go (feeds x) h
-
--- and else what comes before the first one is its first line
-cut_at : (xs : List ℕ) → position_or_len feeds xs < length xs → lines_of xs ≡ take (position_or_len feeds xs) xs ∷ lines_of (drop (position_or_len feeds xs + 1) xs)
-cut_at [] h = absurd (omega arith)
-cut_at (x ∷ xs) h =
-    let p = position_or_len feeds xs in
-    let n : Bool → ℕ = λ b. cond (not b) (1 + p) 0 in
-    let M : Bool → Type 0 = λ b. n b < suc (length xs) → cond b ([] ∷ lines_of xs) (onto_first x (lines_of xs)) ≡ take (n b) (x ∷ xs) ∷ lines_of (drop (n b + 1) (x ∷ xs)) in
-    let here : M true = λ k. refl in
-    let e : 1 + p ≡ suc p = omega arith in
-    let f : 1 + p + 1 ≡ suc (p + 1) = omega arith in
-    let later : M false = λ k. ap (onto_first x) (cut_at xs (omega arith)) ∙ sym (ap (λ m. take m (x ∷ xs) ∷ lines_of (drop (1 + p + 1) (x ∷ xs))) e ∙ ap (λ m. (x ∷ take p xs) ∷ lines_of (drop m (x ∷ xs))) f) in
-    let go : (b : Bool) → M b = elim [ true ↦ here | false ↦ later ] in
-    go (feeds x) h
-
--- the same, where a search for it answered so
-pub uncut : (xs : List ℕ) → None ≡ position feeds xs → xs ≢ [] → lines_of xs ≡ xs ∷ []
-uncut xs h ne = one_line xs (position-none feeds xs (sym h)) ne
-
--- the same, where a search found it
-pub cut : (xs : List ℕ) (i : ℕ) → Some i ≡ position feeds xs → (lines_of xs ≡ take i xs ∷ lines_of (drop (i + 1) xs)) × (i < length xs)
-cut xs i h =
-    let r = position-some feeds xs i (sym h) in
-    let lt : i < length xs = omega arith in
-    (cut_at xs r.1 ∙ ap (λ m. take m xs ∷ lines_of (drop (m + 1) xs)) (sym r.0), lt)
-
--- nothing is left past the end
-pub none_left : (xs : List ℕ) → take (length xs - length xs) (drop (length xs) xs) ≡ []
-none_left xs = take_rest xs (length xs) ∙ drop-length xs
-
 -- a line comes before the lines after its line feed
-line_fed : (line rest : List ℕ) → IsOneLine line → lines_of (line ++ 10 ∷ rest) ≡ line ∷ lines_of rest
+pub line_fed : (line rest : List ℕ) → IsOneLine line → lines_of (line ++ 10 ∷ rest) ≡ line ∷ lines_of rest
 line_fed [] rest h = refl
 line_fed (b ∷ bs) rest h =
     let other : feeds b ≡ false = not_feed b (All-head (λ b. b ≢ 10) b bs h) in
     rw (other, line_fed bs rest (All-tail (λ b. b ≢ 10) b bs h)) refl
 
 -- lines with their line feeds, before a rest
-lines_fed : (lines : List (List ℕ)) (rest : List ℕ) → All IsOneLine lines → lines_of (text_of_lines lines ++ rest) ≡ lines ++ lines_of rest
+pub lines_fed : (lines : List (List ℕ)) (rest : List ℕ) → All IsOneLine lines → lines_of (text_of_lines lines ++ rest) ≡ lines ++ lines_of rest
 lines_fed [] rest h = refl
 lines_fed (line ∷ lines) rest h =
     let first : text_of_lines (line ∷ lines) ++ rest ≡ line ++ 10 ∷ (text_of_lines lines ++ rest) = append_assoc (line ++ 10 ∷ []) (text_of_lines lines) rest ∙ append_assoc line (10 ∷ []) (text_of_lines lines ++ rest) in
     ap lines_of first ∙ line_fed line (text_of_lines lines ++ rest) (All-head IsOneLine line lines h) ∙ ap (λ ls. line ∷ ls) (lines_fed lines rest (All-tail IsOneLine line lines h))
 
 -- a text without a line feed is its one line
-line_unfed : (line : List ℕ) → IsOneLine line → line ≢ [] → lines_of line ≡ line ∷ []
+pub line_unfed : (line : List ℕ) → IsOneLine line → line ≢ [] → lines_of line ≡ line ∷ []
 line_unfed [] h ne = absurd (ne refl)
 line_unfed (b ∷ bs) h ne =
     let other : feeds b ≡ false = not_feed b (All-head (λ b. b ≢ 10) b bs h) in
     rw other (onto_one b bs (line_unfed bs (All-tail (λ b. b ≢ 10) b bs h)))
 
 -- what holds of each element of two lists together holds of each of the first, and of the second
-all_left : {X : Type 0} (P : X → Type 0) (xs ys : List X) → All P (xs ++ ys) → All P xs
+pub all_left : {X : Type 0} (P : X → Type 0) (xs ys : List X) → All P (xs ++ ys) → All P xs
 all_left P xs ys h = All-same P xs (take (length xs) (xs ++ ys)) (sym (take_at xs ys (length xs) refl)) (All-take P (length xs) (xs ++ ys) h)
 
 all_right : {X : Type 0} (P : X → Type 0) (xs ys : List X) → All P (xs ++ ys) → All P ys
@@ -132,10 +90,10 @@ feed_more bs lines (plain, text) =
       | inr (before, last, same, some, e) ↦ (each, inr ([] ∷ before, last, ap (λ ls. [] ∷ ls) same, some, ap (λ r. 10 ∷ r) e))
     ]
 
-is_feed : (b : ℕ) → feeds b ≡ true → b ≡ 10
+pub is_feed : (b : ℕ) → feeds b ≡ true → b ≡ 10
 is_feed b h = grind (arith, nat_tests)
 
-no_feed : (b : ℕ) → feeds b ≡ false → b ≢ 10
+pub no_feed : (b : ℕ) → feeds b ≡ false → b ≢ 10
 no_feed b h = λ e. grind (arith, nat_tests)
 
 -- and it consists of the lines into which it is cut

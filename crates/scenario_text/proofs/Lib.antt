@@ -1,4 +1,5 @@
 pub mod Cuts
+pub mod EndedLines
 pub mod Forms
 pub mod OneWord
 pub mod Splits

@@ -26,3 +26,9 @@ EndsWithoutFeed text lines =
 abbrev pub ConsistsOf : List ℕ → List (List ℕ) → Type 0
 ConsistsOf text lines =
     All IsOneLine lines × ((text ≡ text_of_lines lines) ⊎ EndsWithoutFeed text lines)
+
+-- a text is these lines, each with a line feed after it, and then the beginning of a line
+pub record IsCut (text : List ℕ) (lines : List (List ℕ)) (part : List ℕ) : Type 0 where
+  pub whole : text ≡ text_of_lines lines ++ part
+  pub plain : All IsOneLine lines
+  pub one : IsOneLine part

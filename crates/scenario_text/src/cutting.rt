@@ -1,7 +1,7 @@
 //! Cutting a text into its lines.
 
-ghost use Rattle.std.specs.Prelude.{◌≡◌, ◌≢◌, ◌==◌, position, ◌<◌, [], ◌∷◌, length};
-ghost use Rattle.scenario_text.specs.Cutting.{lines_of};
+ghost use Rattle.std.specs.Prelude.{◌≡◌, ◌++◌, ◌==◌, ◌<◌, ◌∷◌, position, length, MatchOption, IfSome};
+ghost use Rattle.scenario_text.specs.Cutting.{IsOneLine};
 
 /// The place of the first line feed.
 fn first_feed(text: &[u8]) -> Option<usize>
@@ -10,14 +10,13 @@ fn first_feed(text: &[u8]) -> Option<usize>
     text.iter().position(|b| *b == b'\n')
 }
 
-/// The first line of a text, and what follows its line feed. It visits the bytes of that line.
-pub fn cut_line(text: &[u8]) -> (&[u8], &[u8])
-    requires { text.now ≢ [] }
-    ensures lines { lines_of text.now ≡ result.0.now ∷ lines_of result.1.now }
-    ensures shorter { length result.1.now < length text.now }
+/// The first line that has ended, and what follows its line feed. None exactly where there is no line
+/// feed. It visits the bytes of that line.
+pub fn ended_line(text: &[u8]) -> Option<(&[u8], &[u8])>
+    ensures ended { MatchOption result (IsOneLine text.now)
+        (λ cut. IsOneLine cut.0.now × (text.now ≡ cut.0.now ++ 10 ∷ cut.1.now)) }
+    ensures shorter { IfSome result (λ cut. length cut.1.now < length text.now) }
 {
-    match first_feed(text) {
-        None => (text, &text[text.len()..]),
-        Some(at) => (&text[..at], &text[at + 1..]),
-    }
+    let at = first_feed(text)?;
+    Some((&text[..at], &text[at + 1..]))
 }

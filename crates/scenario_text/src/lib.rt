@@ -24,8 +24,8 @@
 //! journal
 //! ```
 //!
-//! `cut_line` takes the first line off a text, and `read_line` answers which line it spells. Words
-//! are separated by single spaces. A name is 1 to 32 letters, digits or `_`; a caller is `c` and a
+//! `ended_line` takes the first line that has ended off a text, and `read_line` answers which line it
+//! spells. Words are separated by single spaces. A name is 1 to 32 letters, digits or `_`; a caller is `c` and a
 //! number from 1 to 65,535 (`MAX_CALLER`); numbers are decimal without leading zeros, and below
 //! 2^64; bytes are in lower case hexadecimal, at most 4,000 (`MAX_HEX_BYTES`), and `-` where there
 //! are none. An empty line passes, and so does a comment: `#` and then ASCII without a carriage
@@ -46,7 +46,7 @@ mod reading;
 mod texts;
 mod words;
 
-pub use cutting::cut_line;
+pub use cutting::ended_line;
 pub use laws::{lines_law, spelling_law};
 pub use line::{HexBytes, Line, MAX_CALLER, MAX_HEX_BYTES, MAX_LINE_BYTES};
 pub use reading::read_line;

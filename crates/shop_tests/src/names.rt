@@ -1,7 +1,8 @@
 //! What names are bound to while groups are rebooted.
 
 ghost use Rattle.std.specs.Prelude.{◌≡◌, ◌<◌, ℕ};
-ghost use Rattle.naming_table.specs.Names.{never_rebooted, status_at};
+ghost use Rattle.journal_model.specs.Statuses.{never_rebooted};
+ghost use Rattle.naming_table.specs.Names.{status_at};
 
 use crate::parts::{deployment_of, name};
 use crate::words::{add_number, add_pair, add_word, expect_words};

@@ -1,27 +1,85 @@
-use Rattle.std.proofs.Common.{◌≡◌, ◌++◌, sym, ap, ◌∙◌, arith}
-use Rattle.scenario_text.specs.Cutting.{lines_of}
-use Rattle.drive_engine.specs.Transcript.{transcript, transcript_of}
-use Rattle.drive_engine.proofs.Playing.{transcript-done, end_from-done, written_more, ends_here}
+use Rattle.std.proofs.Common.{◌≡◌, ◌≢◌, ℕ, ◌-◌, List, [], length, take, drop, min, Ok, Err, refl, ap, sym, ◌∙◌, subst, length-drop, arith}
+use Rattle.std.proofs.lemmas.List.{length-take, nil_from_length}
+use Rattle.outside.specs.Source.{prepended}
+use Rattle.drive_engine.specs.declared.drive.TheConstants.{MAX_SCENARIO_BYTES}
+use Rattle.drive_engine.specs.Exchange.{exchange}
+use Rattle.drive_engine.specs.Play.{PlayState, HasCome}
+use Rattle.drive_engine.proofs.Coming.{comes_first, comes_read, stops_at_failed_read, stops_past_limit}
 use Rattle.drive_engine.proofs.drive.play_on.Goals as goal
 
-pub returns-in-Err-clause-plays : goal.returns-in-Err-clause-plays
-returns-in-Err-clause-plays g c =
-    let written = g.T.Sink.written in
-    let inv = c.loop-rest.invariant in
-    ends_here c.in-Err.ending c.loop-rest.number c.loop-rest.engine c.cut_line.result.0.now _ _ (written c.args.out.now) (written c.loop-rest.out) (written c.play_line.new.out) c.args.text.now c.cut_line.ensures.lines inv.end inv.text c.in-Err.ensures.plays
-
-pub loop-rest-preserved : goal.loop-rest-preserved
-loop-rest-preserved g c =
-    let written = g.T.Sink.written in
-    let inv = c.loop-rest.invariant in
-    let line = c.cut_line.result.0.now in
-    let more = lines_of c.cut_line.result.1.now in
-    let does = c.in-Ok.ensures.plays in
-    let next = transcript-done c.loop-rest.engine c.play_line.new.engine line does.0 _ more c.cut_line.ensures.lines does.1 in
-    let all : transcript_of c.args.text.now ≡ inv.text.0 ++ (does.0 ++ transcript c.play_line.new.engine more) = inv.text.2 ∙ ap (λ t. inv.text.0 ++ t) next in
+pub pieces-init : goal.pieces-init
+pieces-init g c =
+    let left = g.S.Source.left c.args.input.now in
+    let written = g.T.Sink.written c.args.out.now in
+    let P : PlayState → Type 0 = λ p. HasCome (exchange left left written written) MAX_SCENARIO_BYTES [] [] p in
+    let start : c.args.play.now.number ≡ 1 = ap (λ p. p.number) c.requires in
     record {
-      text = written_more (written c.args.out.now) (written c.loop-rest.out) (written c.play_line.new.out) (transcript_of c.args.text.now) inv.text.0 does.0 _ inv.text.1 does.2 all;
-      end = sym (end_from-done c.loop-rest.engine c.play_line.new.engine c.loop-rest.number line does.0 _ more c.cut_line.ensures.lines does.1) ∙ inv.end;
-      number = omega (arith, inv.number, c.cut_line.ensures.shorter);
-      count = omega (arith, inv.count, c.play_line.ensures.count);
+      come = subst P (sym c.requires) (comes_first left written);
+      number = omega (arith, start);
+      reads = omega arith;
+      writes = omega arith;
+    }
+
+pub returns-in-Err-clause-runs : goal.returns-in-Err-clause-runs
+returns-in-Err-clause-runs g c =
+    let left = g.S.Source.left in
+    let written = g.T.Sink.written in
+    stops_at_failed_read (left c.args.input.now) (left c.pieces.input) (left c.read.new.self) (written c.args.out.now) (written c.pieces.out) c.pieces.more c.pieces.play c.journals_are_legal.ensures.lines c.in-Err.ensures.err c.pieces.invariant.come
+
+pub returns-in-Ok-eq0-clause-runs : goal.returns-in-Ok-eq0-clause-runs
+returns-in-Ok-eq0-clause-runs g c =
+    let left = g.S.Source.left in
+    let written = g.T.Sink.written in
+    let none : c.in-Ok-eq0.field-0 ≡ 0 = c.in-Ok-eq0.field-0-test in
+    let taken = c.in-Ok-eq0.ensures.taken ∙ ap (λ n. prepended (take n c.read.new.into) (left c.read.new.self)) none in
+    let come = comes_read (left c.args.input.now) (left c.pieces.input) (left c.read.new.self) (written c.args.out.now) (written c.pieces.out) c.pieces.more c.pieces.more 0 0 c.read.new.into c.pieces.play (omega arith) (omega arith) (omega arith) taken c.pieces.invariant.come in
+    c.finish.ensures.ends (left c.args.input.now) (left c.read.new.self) (written c.args.out.now) c.pieces.more (c.in-Ok-eq0.ensures.end (ap Ok none) (omega arith)) come
+
+pub returns-in-Ok-eq0-clause-read_failed : goal.returns-in-Ok-eq0-clause-read_failed
+returns-in-Ok-eq0-clause-read_failed g c = λ e. absurd (c.finish.ensures.reads_nothing e)
+
+pub returns-in-Err-feed-clause-runs : goal.returns-in-Err-feed-clause-runs
+returns-in-Err-feed-clause-runs g c =
+    let left = g.S.Source.left in
+    let written = g.T.Sink.written in
+    let n = c.in-Ok.n in
+    let k = c.min.result in
+    let rest = c.pieces.more - k in
+    let come = comes_read (left c.args.input.now) (left c.pieces.input) (left c.read.new.self) (written c.args.out.now) (written c.pieces.out) c.pieces.more rest n k c.read.new.into c.pieces.play (omega arith) (omega (arith, c.in-Ok.ensures.within)) (omega arith) c.in-Ok.ensures.taken c.pieces.invariant.come in
+    c.in-Err-feed.ensures.comes (left c.args.input.now) (left c.read.new.self) (written c.args.out.now) rest (take (n - k) (drop k c.read.new.into)) come
+
+pub returns-in-Err-feed-clause-read_failed : goal.returns-in-Err-feed-clause-read_failed
+returns-in-Err-feed-clause-read_failed g c = λ e. absurd (c.in-Err-feed.ensures.reads_nothing (ap Err e))
+
+pub returns-then-n-more-clause-runs : goal.returns-then-n-more-clause-runs
+returns-then-n-more-clause-runs g c =
+    let left = g.S.Source.left in
+    let written = g.T.Sink.written in
+    let n = c.in-Ok.n in
+    let k = c.min.result in
+    let past = take (n - k) (drop k c.read.new.into) in
+    let size : length past ≡ min (n - k) (length (drop k c.read.new.into)) = length-take (n - k) (drop k c.read.new.into) in
+    let some : past ≢ [] = λ none. let empty : length past ≡ 0 = ap length none in absurd (omega (arith, c.in-Ok.ensures.within, length-drop k c.read.new.into)) in
+    let come = comes_read (left c.args.input.now) (left c.pieces.input) (left c.read.new.self) (written c.args.out.now) (written c.pieces.out) c.pieces.more 0 n k c.read.new.into c.pieces.play (omega arith) (omega (arith, c.in-Ok.ensures.within)) (omega arith) c.in-Ok.ensures.taken c.pieces.invariant.come in (
+      refl,
+      stops_past_limit (left c.args.input.now) (left c.read.new.self) (written c.args.out.now) (written c.feed.new.out) past c.feed.new.self c.journals_are_legal.ensures.lines some
+          (c.in-Ok-feed.ensures.comes (left c.args.input.now) (left c.read.new.self) (written c.args.out.now) 0 past come),
+    )
+
+pub pieces-preserved : goal.pieces-preserved
+pieces-preserved g c =
+    let left = g.S.Source.left in
+    let written = g.T.Sink.written in
+    let n = c.in-Ok.n in
+    let k = c.min.result in
+    let rest = c.pieces.more - n in
+    let past = take (n - k) (drop k c.read.new.into) in
+    let none : past ≡ [] = nil_from_length past (omega (arith, length-take (n - k) (drop k c.read.new.into))) in
+    let come = comes_read (left c.args.input.now) (left c.pieces.input) (left c.read.new.self) (written c.args.out.now) (written c.pieces.out) c.pieces.more rest n k c.read.new.into c.pieces.play (omega arith) (omega (arith, c.in-Ok.ensures.within)) (omega arith) c.in-Ok.ensures.taken c.pieces.invariant.come in
+    let P : List ℕ → Type 0 = λ t. HasCome (exchange (left c.args.input.now) (left c.read.new.self) (written c.args.out.now) (written c.feed.new.out)) rest [] t c.feed.new.self in
+    record {
+      come = subst P none (c.in-Ok-feed.ensures.comes (left c.args.input.now) (left c.read.new.self) (written c.args.out.now) rest past come);
+      number = omega (arith, c.in-Ok-feed.ensures.number, length-take k c.read.new.into);
+      reads = omega (arith, c.in-Ok.ensures.count);
+      writes = omega (arith, c.feed.ensures.count);
     }

@@ -1,18 +1,19 @@
-use Rattle.std.proofs.Common.{◌≡◌, ◌≤◌, ◌+◌, ◌++◌, List, ℕ, length}
-use Rattle.outside.specs.Sink.{appended}
-use Rattle.scenario_text.specs.Cutting.{lines_of}
-use Rattle.drive_engine.specs.Transcript.{transcript, transcript_of, end_from, end_of}
+use Rattle.std.proofs.Common.{◌+◌, ◌≤◌, []}
+use Rattle.drive_engine.specs.declared.drive.TheConstants.{MAX_SCENARIO_BYTES}
+use Rattle.drive_engine.specs.Exchange.{exchange}
+use Rattle.drive_engine.specs.Play.{HasCome}
 use Rattle.drive_engine.proofs.drive.play_on.Given as goal
 
-abbrev pub invariant-loop-rest : goal.invariant-loop-rest
-invariant-loop-rest g l =
+abbrev pub invariant-pieces : goal.invariant-pieces
+invariant-pieces g l =
+    let left = g.S.Source.left in
     let written = g.T.Sink.written in
     record {
-      text : (before : List ℕ) × (written l.out ≡ appended (written l.fn.out) before) × (transcript_of l.text ≡ before ++ transcript l.engine (lines_of l.rest));
-      end : end_from l.engine l.number (lines_of l.rest) ≡ end_of l.text;
-      number : l.number + length l.rest ≤ length l.text + 1;
-      count : g.T.Sink.faults l.fn.out ≤ g.T.Sink.faults l.out;
+      come : HasCome (exchange (left l.fn.input) (left l.input) (written l.fn.out) (written l.out)) l.more [] [] l.play;
+      number : l.play.number + l.more ≤ MAX_SCENARIO_BYTES + 1;
+      reads : g.S.Source.faults l.fn.input ≤ g.S.Source.faults l.input;
+      writes : g.T.Sink.faults l.fn.out ≤ g.T.Sink.faults l.out;
     }
 
-abbrev pub decreases-loop-rest : goal.decreases-loop-rest
-decreases-loop-rest g l = length l.rest
+abbrev pub decreases-pieces : goal.decreases-pieces
+decreases-pieces g l = l.more

@@ -1,12 +1,10 @@
 use Rattle.std.proofs.Common.{sym, subst}
-use Rattle.container_core.specs.Ticket.{TicketValue}
-use Rattle.journal_model.specs.Fits.{Fits}
-use Rattle.journal_model.proofs.Writes.{fits_kept}
+use Rattle.call_ticket.specs.Ticket.{TicketValue}
+use Rattle.container_core.specs.Fits.{FitsIn}
+use Rattle.container_core.proofs.Fitting.{fits_putting}
 use Rattle.container_core.proofs.container.Container.put.Goals as goal
 
-pub returns-in_default-2-clause-fits : goal.returns-in_default-2-clause-fits
-returns-in_default-2-clause-fits c = λ fits.
-    let base = c.args.self.now.start.base in
-    let es = c.args.self.now.entries in
-    let P : TicketValue → Type 0 = λ ticket. Fits base es ticket.call in
-    subst P (sym c.keep.ensures) (fits_kept base es c.args.write c.args.ticket.now.call c.requires.write fits)
+pub returns-clause-fits : goal.returns-clause-fits
+returns-clause-fits c =
+    let P : TicketValue → Type 0 = λ t. FitsIn c.args.self.now t.call in
+    subst P (sym c.add_put.ensures) (fits_putting c.args.self.now c.args.ticket.now.call c.args.write c.requires.fits c.requires.write c.requires.owner)

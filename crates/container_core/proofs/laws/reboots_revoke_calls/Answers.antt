@@ -1,0 +1,21 @@
+use Rattle.journal_model.proofs.Revoking.{stale_in-beside}
+use Rattle.container_core.proofs.Revoking.{down_revokes, revoked_lasts, put_beside, enter_beside, enter_up}
+use Rattle.container_core.proofs.laws.reboots_revoke_calls.Goals as goal
+
+pub returns-clause-down : goal.returns-clause-down
+returns-clause-down c = down_revokes
+
+pub returns-clause-lasting : goal.returns-clause-lasting
+returns-clause-lasting c = revoked_lasts
+
+pub returns-clause-beside : goal.returns-clause-beside
+returns-clause-beside c = λ es e call. stale_in-beside es e call.touched
+
+pub returns-clause-put : goal.returns-clause-put
+returns-clause-put c = put_beside
+
+pub returns-clause-enter_down : goal.returns-clause-enter_down
+returns-clause-enter_down c = enter_beside
+
+pub returns-clause-up : goal.returns-clause-up
+returns-clause-up c = enter_up

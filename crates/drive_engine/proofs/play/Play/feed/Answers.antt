@@ -1,0 +1,52 @@
+use Rattle.std.proofs.Common.{List, [], ℕ, subst, sym, arith}
+use Rattle.std.proofs.lemmas.Result.{MatchResult-weaker}
+use Rattle.drive_engine.specs.declared.ending.Ending.{Ending}
+use Rattle.drive_engine.specs.declared.words.Command.TheVariants.{Drive}
+use Rattle.drive_engine.specs.Command.{Runs}
+use Rattle.drive_engine.specs.Play.{HasCome, Comes, EndsFrom}
+use Rattle.drive_engine.specs.Exchange.{exchange}
+use Rattle.drive_engine.proofs.Coming.{comes_line, comes_kept, ends_in_piece, ends_long}
+use Rattle.drive_engine.proofs.play.Play.feed.Goals as goal
+
+pub returns-in-Err-clause-comes : goal.returns-in-Err-clause-comes
+returns-in-Err-clause-comes g c =
+    let old = g.T.Sink.written c.loop-part.out in
+    let new = g.T.Sink.written c.end_line.new.out in
+    let part = c.in-Some.part.now in
+    let more = c.in-Some.more.now in
+    let cut = c.in-Some.ensures.ended in
+    λ left left_now written room past h.
+    let P : List ℕ → Type 0 = λ t. HasCome (exchange left left_now written old) room t past c.loop-part.self in
+    ends_in_piece c.in-Err.ending left left_now written old new room past c.loop-part.self part more c.journals_are_legal.ensures.lines cut.0 c.in-Err.ensures.does (subst P cut.1 (c.loop-part.invariant.comes left left_now written room past h))
+
+pub loop-part-preserved : goal.loop-part-preserved
+loop-part-preserved g c =
+    let old = g.T.Sink.written c.loop-part.out in
+    let new = g.T.Sink.written c.end_line.new.out in
+    let part = c.in-Some.part.now in
+    let more = c.in-Some.more.now in
+    let cut = c.in-Some.ensures.ended in
+    record {
+      comes = λ left left_now written room past h.
+          let P : List ℕ → Type 0 = λ t. HasCome (exchange left left_now written old) room t past c.loop-part.self in
+          comes_line left left_now written old new room past c.loop-part.self c.end_line.new.self part more cut.0 c.in-Ok.ensures.does c.in-Ok.ensures.next.0 c.in-Ok.ensures.next.1 (subst P cut.1 (c.loop-part.invariant.comes left left_now written room past h));
+      number = omega (arith, c.in-Some.ensures.shorter, c.in-Ok.ensures.next.1);
+      count = omega arith;
+    }
+
+pub returns-clause-comes : goal.returns-clause-comes
+returns-clause-comes g c =
+    let new = g.T.Sink.written c.loop-part.out in
+    let p = c.loop-part.self in
+    let rest = c.loop-part.rest.now in
+    let one = c.in_default.ensures.ended in
+    let come = c.loop-part.invariant.comes in
+    let old = g.T.Sink.written c.args.out.now in
+    MatchResult-weaker c.keep.result
+    {P' = λ x. Comes c.args.self.now c.args.piece.now old c.keep.new.self [] new}
+    {Q' = λ ending. EndsFrom c.args.self.now c.args.piece.now old ending new}
+    c.keep.ensures
+    (λ x k. λ left left_now written room past h. comes_kept left left_now written new room past p c.keep.new.self rest one k.0 k.1 (come left left_now written room past h))
+    (λ ending k. λ left left_now written room past h.
+    let P : Ending → Type 0 = λ e. Runs Drive e (exchange left left_now written new) in
+    subst P (sym k.0) (ends_long left left_now written new room past p rest c.journals_are_legal.ensures.lines one k.1 (come left left_now written room past h)))

@@ -1,0 +1,201 @@
+//! A scenario that is done line by line, as its pieces come.
+
+ghost use Rattle.std.specs.Prelude.{◌≡◌, ◌≢◌, ℕ, ◌+◌, ◌<◌, ◌≤◌, [], ◌++◌, length, List, Option, IfOk, OnOk, MatchResult};
+ghost use Rattle.scenario_text.specs.Cutting.{IsOneLine};
+ghost use Rattle.outside.specs.Faults.{Rose};
+ghost use Rattle.outside.specs.Source.{HasEnded};
+ghost use Rattle.drive_engine.specs.Answer.{answer_of};
+ghost use Rattle.drive_engine.specs.Command.{Runs};
+ghost use Rattle.drive_engine.specs.Exchange.{exchange};
+ghost use Rattle.drive_engine.specs.Play.{DoesLine, EndsAtLine, HasCome, Comes, EndsFrom};
+ghost use Rattle.drive_engine.specs.Transcript.{first, line_answer};
+
+use crate::answer::LineAnswer;
+use crate::drive::MAX_SCENARIO_BYTES;
+use crate::ending::Ending;
+use crate::engine::Engine;
+use crate::laws::journals_are_legal;
+use crate::words::Command;
+use crash_base::OutOfMemory;
+use outside::{Sink, write_all};
+use scenario_text::{MAX_LINE_BYTES, ended_line, read_line};
+use std::alloc::Global;
+use std::marker::Model;
+
+/// A scenario between two pieces: the lines that have ended are done.
+#[derive(Drop)]
+pub struct Play {
+    engine: Engine,
+    /// What was read of the line that has not ended.
+    part: Vec<u8>,
+    /// The number of that line.
+    number: u64,
+}
+
+impl Model for Play {
+    ghost use Rattle.std.specs.Prelude.{◌≤◌, vec_len, vec_capacity};
+    ghost use Rattle.scenario_text.specs.declared.line.TheConstants.{MAX_LINE_BYTES};
+    ghost use Rattle.drive_engine.specs.Play.{PlayState};
+
+    ghost Value = { PlayState };
+
+    ghost view = { λ p. record { state = p.engine; part = p.part.items; number = p.number } };
+
+    // Its room is taken at the start, so no line takes any.
+    ghost invariant = { λ p. (vec_len p.part ≤ MAX_LINE_BYTES) × (MAX_LINE_BYTES ≤ vec_capacity p.part) };
+}
+
+/// Does one line of text.
+#[tactic(auto, unfolding(crate::specs::Transcript::line_answer))]
+fn line_answer(alloc: Global, engine: &mut Engine, text: &[u8]) -> Result<LineAnswer, OutOfMemory>
+    ensures { IfOk result (λ a. answer_of a engine.new ≡ line_answer engine.old text.now) }
+{
+    match read_line(alloc, text)? {
+        None => Ok(LineAnswer::Refused),
+        Some(line) => engine.step(alloc, line),
+    }
+}
+
+/// Does the line of this number, and writes what it writes; or answers how the scenario ends there.
+fn do_line<T: Sink>(
+    alloc: Global,
+    engine: &mut Engine,
+    line: &[u8],
+    number: u64,
+    out: &mut T,
+) -> Result<(), Ending>
+    ensures does { MatchResult result
+        (λ _. DoesLine engine.old engine.new line.now (T.written out.old) (T.written out.new))
+        (λ ending. EndsAtLine ending number engine.old line.now
+        (T.written out.old) (T.written out.new)) }
+    ensures failed { result ≡ Err Ending.WriteFailed → Rose (T.faults out.old) (T.faults out.new) }
+    ensures count { T.faults out.old ≤ T.faults out.new }
+{
+    if line.len() > MAX_LINE_BYTES {
+        return Err(Ending::LineTooLong(number));
+    }
+    match line_answer(alloc, engine, line) {
+        Err(OutOfMemory) => Err(Ending::OutOfMemory),
+        Ok(LineAnswer::Refused) => Err(Ending::LineRefused(number)),
+        Ok(LineAnswer::Done) => Ok(()),
+        Ok(LineAnswer::Wrote(text)) => match write_all(out, text.as_bytes()) {
+            Ok(()) => Ok(()),
+            Err(_) => Err(Ending::WriteFailed),
+        },
+    }
+}
+
+impl Play {
+    /// A scenario before its first line.
+    pub fn new(alloc: Global) -> Result<Play, OutOfMemory>
+        ensures { IfOk result (λ play. play ≡ record { state = first; part = []; number = 1 }) }
+    {
+        Ok(Play {
+            engine: Engine::new(alloc),
+            part: Vec::with_capacity(alloc, MAX_LINE_BYTES)?,
+            number: 1,
+        })
+    }
+
+    /// Keeps a further part of the line that has not ended.
+    fn keep(&mut self, part: &[u8]) -> Result<(), Ending>
+        ensures { MatchResult result
+            (λ _. (self.new ≡ record self.old { part = self.old.part ++ part.now })
+            × (length (self.old.part ++ part.now) ≤ MAX_LINE_BYTES))
+            (λ ending. (ending ≡ Ending.LineTooLong self.old.number)
+            × (MAX_LINE_BYTES < length (self.old.part ++ part.now))) }
+    {
+        if part.len() > MAX_LINE_BYTES - self.part.len() {
+            return Err(Ending::LineTooLong(self.number));
+        }
+        match self.part.extend_from_slice(part) {
+            Ok(()) => Ok(()),
+            Err(_) => unreachable!(),
+        }
+    }
+
+    /// Does the line whose parts were kept.
+    fn do_kept<T: Sink>(&mut self, alloc: Global, out: &mut T) -> Result<(), Ending>
+        ensures does { MatchResult result
+            (λ _. DoesLine self.old.state self.new.state self.old.part
+            (T.written out.old) (T.written out.new))
+            (λ ending. EndsAtLine ending self.old.number self.old.state self.old.part
+            (T.written out.old) (T.written out.new)) }
+        ensures same { (self.new.part ≡ self.old.part) × (self.new.number ≡ self.old.number) }
+        ensures failed { result ≡ Err Ending.WriteFailed
+            → Rose (T.faults out.old) (T.faults out.new) }
+        ensures count { T.faults out.old ≤ T.faults out.new }
+    {
+        do_line(alloc, &mut self.engine, &self.part, self.number, out)
+    }
+
+    /// Does the line that ends with this part.
+    fn end_line<T: Sink>(&mut self, alloc: Global, part: &[u8], out: &mut T) -> Result<(), Ending>
+        requires { self.old.number ≤ MAX_SCENARIO_BYTES }
+        ensures does { MatchResult result
+            (λ _. DoesLine self.old.state self.new.state (self.old.part ++ part.now)
+            (T.written out.old) (T.written out.new))
+            (λ ending. EndsAtLine ending self.old.number self.old.state (self.old.part ++ part.now)
+            (T.written out.old) (T.written out.new)) }
+        ensures next { OnOk result
+            ((self.new.part ≡ []) × (self.new.number ≡ self.old.number + 1)) }
+        ensures failed { result ≡ Err Ending.WriteFailed
+            → Rose (T.faults out.old) (T.faults out.new) }
+        ensures count { T.faults out.old ≤ T.faults out.new }
+    {
+        if self.part.is_empty() {
+            do_line(alloc, &mut self.engine, part, self.number, out)?;
+        } else {
+            self.keep(part)?;
+            self.do_kept(alloc, out)?;
+            self.part.clear();
+        }
+        self.number += 1;
+        Ok(())
+    }
+
+    /// Does each line that ends in the piece, and keeps the rest.
+    pub fn feed<T: Sink>(&mut self, alloc: Global, piece: &[u8], out: &mut T) -> Result<(), Ending>
+        requires { self.old.number + length piece.now ≤ MAX_SCENARIO_BYTES + 1 }
+        ensures comes { MatchResult result
+            (λ _. Comes self.old piece.now (T.written out.old) self.new [] (T.written out.new))
+            (λ ending. EndsFrom self.old piece.now (T.written out.old) ending
+            (T.written out.new)) }
+        ensures number { OnOk result (self.new.number ≤ self.old.number + length piece.now) }
+        ensures reads_nothing { result ≢ Err Ending.ReadFailed }
+        ensures failed { result ≡ Err Ending.WriteFailed
+            → Rose (T.faults out.old) (T.faults out.new) }
+        ensures count { T.faults out.old ≤ T.faults out.new }
+    {
+        journals_are_legal();
+        let mut rest = piece;
+        while let Some((part, more)) = ended_line(rest) {
+            match self.end_line(alloc, part, out) {
+                Ok(()) => {}
+                Err(ending) => return Err(ending),
+            }
+            rest = more;
+        }
+        self.keep(rest)
+    }
+
+    /// Does the last line, which has no line feed, if there is one.
+    pub fn finish<T: Sink>(&mut self, alloc: Global, out: &mut T) -> Ending
+        ensures ends { (left left_now written : Option (List ℕ)) (more : ℕ) → HasEnded left_now
+            → HasCome (exchange left left_now written (T.written out.old)) more [] [] self.old
+            → Runs Command.Drive result (exchange left left_now written (T.written out.new)) }
+        ensures reads_nothing { result ≢ Ending.ReadFailed }
+        ensures failed { result ≡ Ending.WriteFailed
+            → Rose (T.faults out.old) (T.faults out.new) }
+        ensures count { T.faults out.old ≤ T.faults out.new }
+    {
+        journals_are_legal();
+        if self.part.is_empty() {
+            return Ending::Done;
+        }
+        match self.do_kept(alloc, out) {
+            Ok(()) => Ending::Done,
+            Err(ending) => ending,
+        }
+    }
+}

@@ -1,6 +1,0 @@
-use Rattle.std.proofs.Common.{arith}
-use Rattle.naming_table.proofs.Following.{follows_up}
-use Rattle.naming_table.proofs.names.Names.set_scope_up.Goals as goal
-
-pub returns-clause-journal : goal.returns-clause-journal
-returns-clause-journal c = follows_up c.args.scope c.args.self.now c.loop-number.self c.loop-number.invariant.bound (λ g within. c.loop-number.invariant.below g (omega arith))
