@@ -6,13 +6,23 @@
 #![tactic(auto)]
 
 #[cfg(test)]
+mod calls;
+#[cfg(test)]
 mod descriptors;
 #[cfg(test)]
 mod expecting;
 #[cfg(test)]
+mod interleavings;
+#[cfg(test)]
+mod journals;
+#[cfg(test)]
 mod limits;
 #[cfg(test)]
+mod reboots;
+#[cfg(test)]
 mod refused_lines;
+#[cfg(test)]
+mod refused_states;
 #[cfg(test)]
 mod running;
 #[cfg(test)]

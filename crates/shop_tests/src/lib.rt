@@ -1,4 +1,4 @@
-//! Tests of deployments, of their descriptors and names, and of the container, through public calls.
+//! Tests of deployments, of their descriptors and names, of journals, tickets and the container, through public calls.
 //!
 //! Most tests go through a table of rows. What a row's call answers is put into words, each with a
 //! space before it, and these are compared with the words that the row wants. A row that fails is
@@ -12,8 +12,12 @@ mod deployments;
 #[cfg(test)]
 mod descriptors;
 #[cfg(test)]
+mod journals;
+#[cfg(test)]
 mod names;
 #[cfg(test)]
 mod parts;
+#[cfg(test)]
+mod tickets;
 #[cfg(test)]
 mod words;

@@ -21,7 +21,7 @@ fn new_names(rt: &impl Abort, alloc: Global) -> Names
 
 /// Adds what a name is bound to: `1.2` is component 1, whose group was rebooted twice, `0!7` a
 /// sentinel for group 0, which is down by the Down at 7, and `-` nothing.
-fn add_binding(rt: &impl Abort, words: &mut String, binding: Option<Binding>) {
+pub fn add_binding(rt: &impl Abort, words: &mut String, binding: Option<Binding>) {
     match binding {
         Some(
             Binding::Live {
