@@ -12,6 +12,8 @@ mod expecting;
 #[cfg(test)]
 mod limits;
 #[cfg(test)]
+mod long_scenarios;
+#[cfg(test)]
 mod refused_lines;
 #[cfg(test)]
 mod running;
