@@ -18,6 +18,8 @@ mod journals;
 #[cfg(test)]
 mod limits;
 #[cfg(test)]
+mod long_scenarios;
+#[cfg(test)]
 mod reboots;
 #[cfg(test)]
 mod refused_lines;

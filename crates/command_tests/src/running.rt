@@ -82,7 +82,7 @@ fn nothing_ran(alloc: Global, outside: Outside) -> Result<Ran, Fail> {
 }
 
 /// The words of a command line.
-fn words_of(alloc: Global, words: &[&str]) -> Result<Items<WordText>, Fail> {
+pub fn words_of(alloc: Global, words: &[&str]) -> Result<Items<WordText>, Fail> {
     let mut all = Items::new(alloc);
     for word in words {
         all.push(WordText::copied(alloc, word.as_bytes())?)?;

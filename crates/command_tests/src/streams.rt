@@ -8,6 +8,10 @@ use std::test::Fail;
 /// The first scenario that a newcomer runs.
 const FIRST: &str = "component A/owns A 40/begin c1/enter c1 A/put c1 40 7 6162/commit c1/table/";
 
+/// The same without its last line feed.
+const WITHOUT_FEED: &str =
+    "component A/owns A 40/begin c1/enter c1 A/put c1 40 7 6162/commit c1/table";
+
 /// A descriptor text of one component.
 const ONE: &str = "[[component]]/name = \"A\"/";
 
@@ -48,14 +52,75 @@ fn expect_outsides(
     Ok(())
 }
 
-/// Six reads of a scenario, of which the last finds the end.
-const READS: &str = "16 1 0 0|4|read failed/|
-16 2 0 0|4|read failed/|
-16 3 0 0|4|read failed/|
-16 4 0 0|4|read failed/|
-16 5 0 0|4|read failed/|
-16 6 0 0|4|read failed/|
-16 7 0 0|0||c1 committed 0/40 7 6162/";
+/// What is written of `FIRST` once so many bytes of it were read: its commit ends at 69, and it ends at 75.
+fn written_by(bytes: u64) -> &'static str {
+    if bytes < 69 {
+        ""
+    } else if bytes < 75 {
+        "c1 committed 0/"
+    } else {
+        "c1 committed 0/40 7 6162/"
+    }
+}
+
+/// Asserts what `FIRST` has written when one of so many reads of this size fails, whichever it is.
+fn expect_failed_reads(
+    rt: &(impl Abort + AllocGlobal),
+    piece: u64,
+    reads: u64,
+) -> Result<(), Fail> {
+    for failing_read in 1..=reads {
+        let row = format!(in rt.alloc(); "read {failing_read} of {piece} bytes fails")?;
+        let want = Want {
+            status: 4,
+            reported: "read failed/",
+            written: written_by((failing_read - 1).saturating_mul(piece)),
+        };
+        let outside = Outside {
+            piece,
+            failing_read,
+            ..SURE
+        };
+        expect_over(rt, &row, "drive", FIRST, outside, want)?;
+    }
+    Ok(())
+}
+
+/// Sizes of pieces, each with the number of reads that `FIRST` takes so, of which the last finds the end.
+const READS: &str = "1 76
+7 12
+10 9
+16 6
+23 5
+69 3
+74 3
+75 2
+100 2";
+
+#[test]
+fn a_failed_read_leaves_the_lines_before_it(rt: HostRuntime) -> Result<(), Fail> {
+    for row in READS.split('\n') {
+        let (piece, reads) = number(row)?;
+        expect_failed_reads(&rt, piece, reads.parse()?)?;
+    }
+    Ok(())
+}
+
+/// The last line has no line feed, and is not done before the end was read. A line that is too long ends the
+/// scenario before the next read.
+const LAST_READS: &str = "0 2 0 0|4|read failed/|c1 committed 0/
+1 75 0 0|4|read failed/|c1 committed 0/
+0 3 0 0|0||c1 committed 0/40 7 6162/";
+
+const LONG_READS: &str = "1 8193 0 0|4|read failed/|
+1 8194 0 0|8|line 1 too long/|";
+
+#[test]
+fn a_line_has_an_end(rt: HostRuntime) -> Result<(), Fail> {
+    expect_outsides(&rt, "drive", WITHOUT_FEED, LAST_READS)?;
+    let long = "#".repeat(rt.alloc(), 8200)?;
+    expect_outsides(&rt, "drive", &long, LONG_READS)
+}
 
 /// Five reads of descriptors, of which the last finds the end.
 const DESCRIPTOR_READS: &str = "8 1 0 0|4|read failed/|
@@ -66,14 +131,15 @@ const DESCRIPTOR_READS: &str = "8 1 0 0|4|read failed/|
 8 6 0 0|0||A 0/";
 
 #[test]
-fn a_failed_read_ends_in_4(rt: HostRuntime) -> Result<(), Fail> {
-    expect_outsides(&rt, "drive", FIRST, READS)?;
+fn a_failed_read_of_descriptors_ends_in_4(rt: HostRuntime) -> Result<(), Fail> {
     expect_outsides(&rt, "groups", ONE, DESCRIPTOR_READS)
 }
 
 /// Two writes of a transcript.
 const WRITES: &str = "0 0 1 0|5|write failed/|
+1 0 1 0|5|write failed/|
 0 0 2 0|5|write failed/|c1 committed 0/
+10 0 2 0|5|write failed/|c1 committed 0/
 0 0 3 0|0||c1 committed 0/40 7 6162/";
 
 /// One write of groups.
@@ -121,5 +187,6 @@ fn expect_in_pieces(
 #[test]
 fn pieces_change_nothing(rt: HostRuntime) -> Result<(), Fail> {
     expect_in_pieces(&rt, "drive", FIRST, "c1 committed 0/40 7 6162/")?;
+    expect_in_pieces(&rt, "drive", WITHOUT_FEED, "c1 committed 0/40 7 6162/")?;
     expect_in_pieces(&rt, "groups", PAIR, "A 0/B 0/")
 }

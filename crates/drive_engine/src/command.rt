@@ -6,7 +6,7 @@ ghost use Rattle.outside.specs.Faults.{Rose};
 ghost use Rattle.outside.specs.Sink.{AppendsOrFails};
 ghost use Rattle.drive_engine.specs.Command.{WritesAll, FailsToRead, FailsToWrite, HasLongLine, RunsOutOfMemory, Runs, Ends, CallsFor};
 ghost use Rattle.drive_engine.specs.Drive.{StopsAtLine, StopsPastLimit};
-ghost use Rattle.drive_engine.specs.Ending.{report, fixed_report, line_report, long_line_report, IsReported};
+ghost use Rattle.drive_engine.specs.Ending.{report, line_report, long_line_report, IsReported};
 ghost use Rattle.drive_engine.specs.Exchange.{exchange};
 ghost use Rattle.drive_engine.specs.Groups.{RefusesDescriptors, is_silent};
 ghost use Rattle.drive_engine.specs.Words.{command_of};

@@ -1,7 +1,6 @@
 //! A scenario that is done line by line, as its pieces come.
 
 ghost use Rattle.std.specs.Prelude.{◌≡◌, ◌≢◌, ℕ, ◌+◌, ◌<◌, ◌≤◌, [], ◌++◌, length, List, Option, IfOk, OnOk, MatchResult};
-ghost use Rattle.scenario_text.specs.Cutting.{IsOneLine};
 ghost use Rattle.outside.specs.Faults.{Rose};
 ghost use Rattle.outside.specs.Source.{HasEnded};
 ghost use Rattle.drive_engine.specs.Answer.{answer_of};

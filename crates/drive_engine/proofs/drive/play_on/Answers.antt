@@ -1,4 +1,4 @@
-use Rattle.std.proofs.Common.{◌≡◌, ◌≢◌, ℕ, ◌-◌, List, [], length, take, drop, min, Ok, Err, refl, ap, sym, ◌∙◌, subst, length-drop, arith}
+use Rattle.std.proofs.Common.{◌≡◌, ◌≢◌, ℕ, ◌-◌, List, [], length, take, drop, min, Ok, Err, refl, ap, sym, subst, length-drop, arith}
 use Rattle.std.proofs.lemmas.List.{length-take, nil_from_length}
 use Rattle.outside.specs.Source.{prepended}
 use Rattle.drive_engine.specs.declared.drive.TheConstants.{MAX_SCENARIO_BYTES}
@@ -31,7 +31,8 @@ returns-in-Ok-eq0-clause-runs g c =
     let left = g.S.Source.left in
     let written = g.T.Sink.written in
     let none : c.in-Ok-eq0.field-0 ≡ 0 = c.in-Ok-eq0.field-0-test in
-    let taken = c.in-Ok-eq0.ensures.taken ∙ ap (λ n. prepended (take n c.read.new.into) (left c.read.new.self)) none in
+    let P : ℕ → Type 0 = λ n. left c.pieces.input ≡ prepended (take n c.read.new.into) (left c.read.new.self) in
+    let taken = subst P none c.in-Ok-eq0.ensures.taken in
     let come = comes_read (left c.args.input.now) (left c.pieces.input) (left c.read.new.self) (written c.args.out.now) (written c.pieces.out) c.pieces.more c.pieces.more 0 0 c.read.new.into c.pieces.play (omega arith) (omega arith) (omega arith) taken c.pieces.invariant.come in
     c.finish.ensures.ends (left c.args.input.now) (left c.read.new.self) (written c.args.out.now) c.pieces.more (c.in-Ok-eq0.ensures.end (ap Ok none) (omega arith)) come
 
