@@ -20,6 +20,7 @@ ghost use Rattle.container_core.specs.Sound.{IsSound};
 ghost use Rattle.container_core.specs.Steps.{ticket_entered};
 
 use crate::commits::{commit_refusal, refused, take_room};
+use crate::idle::IdleTickets;
 use crate::reboots::reboot_refusal;
 use crate::refusals::{CallRefusal, CommitRefusal, RebootRefusal, Refused};
 use crate::rows::rows_in;
@@ -51,6 +52,8 @@ pub struct Container {
     start: Start,
     journal: Journal,
     names: Names,
+    // Contracts do not see these: whether a call has old room or new makes no difference to it.
+    idle: IdleTickets,
 }
 
 impl Model for Container {
@@ -84,7 +87,8 @@ fn open_frame(journal: &Journal, ticket: &mut Ticket, c: ComponentNo, group: Gro
 }
 
 impl Container {
-    /// A container with an empty journal over no rows, at its first boot. It copies each byte of each name.
+    /// A container with an empty journal over no rows, at its first boot. It copies each byte of each name, and takes
+    /// the room to keep some tickets of calls that have ended.
     pub fn start(
         alloc: Global,
         deployment: Deployment,
@@ -93,6 +97,7 @@ impl Container {
         ensures { IfOk result (λ c. c ≡ new_container deployment limits) }
     {
         let names = Names::new(alloc, &deployment)?;
+        let idle = IdleTickets::new(alloc)?;
         Ok(Container {
             start: Start {
                 boot: 1,
@@ -102,6 +107,7 @@ impl Container {
             },
             journal: Journal::new(alloc, limits),
             names,
+            idle,
         })
     }
 
@@ -144,19 +150,21 @@ impl Container {
         self.names.look(name)
     }
 
-    /// A call that has done nothing yet. Its ticket takes room at once for all that a call may hold, as
-    /// `Ticket::new` says.
+    /// A call that has done nothing yet. Its ticket has room at once for all that a call may hold: that of a call which
+    /// ended, where one is kept, and else new room, as `Ticket::new` says.
     pub fn begin(
-        &self,
+        &mut self,
         alloc: Global,
         request: RequestNo,
         worker: WorkerNo,
     ) -> Result<Ticket, OutOfMemory>
         ensures begun { IfOk result (λ ticket.
-            ticket ≡ ticket_begun request worker (record { 0 = length self.now.entries })) }
-        ensures fits { IfOk result (λ ticket. FitsIn self.now ticket.call) }
+            ticket ≡ ticket_begun request worker (record { 0 = length self.old.entries })) }
+        ensures fits { IfOk result (λ ticket. FitsIn self.new ticket.call) }
+        ensures same { self.new ≡ self.old }
     {
-        Ticket::new(alloc, request, worker, Place(self.journal.len()))
+        let at = Place(self.journal.len());
+        self.idle.begin(alloc, request, worker, at)
     }
 
     /// Whether the call is in no component, or in one that may call this one. It visits each reference up to
@@ -291,7 +299,8 @@ impl Container {
     /// Commits a call, which ends: its entry joins the journal whole, at the place that is answered. A
     /// refused commit leaves the container as it was. What the entry keeps is moved into exactly the room that it
     /// needs, before anything changes; the journal takes room for one entry more, as `Journal::reserve` says. It
-    /// visits each group that the call entered, each read and each write.
+    /// visits each group that the call entered, each read and each write. Where the call commits, the room of its
+    /// ticket is kept for another call.
     pub fn commit(
         &mut self,
         alloc: Global,
@@ -329,14 +338,16 @@ impl Container {
             writes: parts.writes,
             action,
         }));
+        self.idle.keep(ticket);
         Ok(place)
     }
 
-    /// Gives a call up: what it holds is dropped, and nothing else changes. It takes no memory.
+    /// Gives a call up: what it holds is dropped, and nothing else changes. It takes no memory, and the room of the
+    /// ticket is kept for another call.
     pub fn abandon(&mut self, ticket: Ticket)
         ensures { self.new ≡ self.old }
     {
-        let _parts = ticket.into_parts();
+        self.idle.keep(ticket);
     }
 
     /// Begins the reboot of a scope, at the place that is answered: each group that the scope holds is down, and each

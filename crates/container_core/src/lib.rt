@@ -31,13 +31,15 @@
 //! container offers the test of each: a component is entered only from one that may call it (`may_enter`), and a row is
 //! put only from the component that owns its table (`is_in_owner`).
 //!
-//! A ticket takes its room when it begins. A commit takes exactly the room that its entry needs, and the journal room
-//! for one entry more. No step of a call scans the journal. The current rows are put together anew from the whole
-//! journal each time that they are asked for.
+//! A call has all the room of its ticket when it begins. That of a call which committed or was given up is kept for
+//! another one, up to sixteen tickets, and else a ticket takes new room. A commit takes exactly the room that its
+//! entry needs, and the journal room for one entry more. No step of a call scans the journal. The current rows are put
+//! together anew from the whole journal each time that they are asked for.
 #![tactic(auto)]
 
 mod commits;
 mod container;
+mod idle;
 mod laws;
 mod reboots;
 mod refusals;
