@@ -43,10 +43,11 @@ impl Model for Callers {
 }
 
 /// The call of a caller that begins.
-fn new_ticket(alloc: Global, container: &Container, number: u64) -> Result<Ticket, OutOfMemory>
+fn new_ticket(alloc: Global, container: &mut Container, number: u64) -> Result<Ticket, OutOfMemory>
     requires { number ≤ MAX_CALLER }
-    ensures ticket { IfOk result (λ ticket. ticket ≡ new_ticket container.now number) }
-    ensures fits { IfOk result (λ ticket. FitsIn container.now ticket.call) }
+    ensures ticket { IfOk result (λ ticket. ticket ≡ new_ticket container.old number) }
+    ensures fits { IfOk result (λ ticket. FitsIn container.old ticket.call) }
+    ensures same { container.new ≡ container.old }
 {
     let request = RequestNo {
         boot: container.boot(),
@@ -58,14 +59,15 @@ fn new_ticket(alloc: Global, container: &Container, number: u64) -> Result<Ticke
 /// Begins a caller's call, if it has not begun.
 fn begin(
     alloc: Global,
-    container: &Container,
+    container: &mut Container,
     caller: &mut Caller,
     number: u64,
 ) -> Result<LineAnswer, OutOfMemory>
     requires { number ≤ MAX_CALLER }
     ensures answer { IfOk result (λ a.
-        answer_of a caller.new ≡ begins container.now number caller.old) }
-    ensures fits { FitsCaller container.now caller.old → FitsCaller container.now caller.new }
+        answer_of a caller.new ≡ begins container.old number caller.old) }
+    ensures fits { FitsCaller container.old caller.old → FitsCaller container.old caller.new }
+    ensures same { container.new ≡ container.old }
 {
     match caller {
         Caller::Absent => {
@@ -137,13 +139,14 @@ impl Callers {
     pub fn begin_step(
         &mut self,
         alloc: Global,
-        container: &Container,
+        container: &mut Container,
         number: u64,
     ) -> Result<LineAnswer, OutOfMemory>
-        requires { AllFit container.now self.old }
+        requires { AllFit container.old self.old }
         ensures answer { IfOk result (λ a.
-            answer_of a self.new ≡ begin_step container.now self.old number) }
-        ensures fits { AllFit container.now self.new }
+            answer_of a self.new ≡ begin_step container.old self.old number) }
+        ensures fits { AllFit container.old self.new }
+        ensures same { container.new ≡ container.old }
     {
         if number > MAX_CALLER {
             return Ok(LineAnswer::Refused);

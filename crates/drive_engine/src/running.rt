@@ -189,7 +189,7 @@ impl Running {
             | Line::Soft(_, _)
             | Line::Owns(_, _)
             | Line::Limit(_, _) => Ok(LineAnswer::Refused),
-            Line::Begin(caller) => self.callers.begin_step(alloc, &self.container, caller),
+            Line::Begin(caller) => { self.callers.begin_step(alloc, &mut self.container, caller) },
             Line::Enter(caller, name) => self.call_step(alloc, caller, CallLine::Enter(name)),
             Line::Exit(caller) => self.call_step(alloc, caller, CallLine::Exit),
             Line::Put(caller, table, key, bytes) => {
