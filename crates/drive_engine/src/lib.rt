@@ -3,19 +3,20 @@
 //! `run_command` is the program without its outside. For `drive` it reads a scenario piece by piece, does each
 //! line over a container as soon as the line was read to its end, and writes what the line writes before it does
 //! the next. What it writes is defined in `specs/Transcript`, as a function of the text alone: `transcript_of`, and
-//! `end_of` for how the scenario ends. The engine is proved to do each line exactly so. For `groups` it reads a descriptor text to its end, and writes the lines of
-//! its deployment, `groups_text` of `specs/Groups`.
+//! `end_of` for how the scenario ends. The engine is proved to do each line exactly so. For `groups` it reads a
+//! descriptor text to its end, and writes the lines of its deployment, `groups_text` of `specs/Groups`.
 //!
 //! ```text
 //! let (status, keeper) = run_command(alloc, words, &mut input, &mut out, &mut errors, keeper);
 //! ```
 //!
 //! Which status a text calls for is `CallsFor` of `specs/Command`; the laws `texts_call_for_a_status` and
-//! `texts_call_for_one_status` say that there is exactly one. The law `journals_are_legal` says that the journal
-//! of a scenario is legal, however the scenario ends.
+//! `texts_call_for_one_status` say that there is exactly one. The law `journals_are_legal` says that the container
+//! of a scenario is sound, however the scenario ends: no commit comes after a reboot of a group that its call entered.
 //!
 //! A scenario takes room for one piece and one line, however long it is. A line visits its bytes and those that it
-//! writes, each caller that has begun, and what its call of the container visits. `groups` visits each byte of its text and of its lines.
+//! writes, and what its call of the container visits; a begin also makes a place for each caller of a lesser number
+//! that has none. `groups` visits each byte of its text and of its lines.
 #![tactic(auto)]
 
 mod answer;
