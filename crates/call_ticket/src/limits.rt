@@ -3,7 +3,7 @@
 /// The most open frames of a call.
 pub const MAX_FRAMES: usize = 16;
 
-/// The most steps of a call, and so the most groups that it enters.
+/// The most steps of a call: each enter, exit and put is one.
 pub const MAX_STEPS: u64 = 128;
 
 /// The most reads of a call.

@@ -3,7 +3,7 @@
 use crash_base::{Items, WriteList};
 use journal_model::{MarkList, TouchList};
 
-/// The instances that serve the open frames of a call, the first first.
+/// The instances, which are running copies of components, that serve the open frames of a call, the first first.
 pub type InstanceList = Items<u64>;
 
 /// What a ticket held when its call ended.

@@ -27,7 +27,7 @@ pub struct Journal {
     /// Those of the entries, so that none of them is visited where one is added.
     bytes: u64,
     /// The number of Downs whose Up has not come: a place is kept for each of them.
-    waiting: u64,
+    undone_downs: u64,
     statuses: GroupStatuses,
 }
 
@@ -44,7 +44,7 @@ impl Model for Journal {
       spare = vec_capacity j.entries - places j.entries.items;
     } };
 
-    ghost invariant = { λ j. IsKept j.entries.items j.limits j.bytes j.waiting j.statuses (vec_capacity j.entries) };
+    ghost invariant = { λ j. IsKept j.entries.items j.limits j.bytes j.undone_downs j.statuses (vec_capacity j.entries) };
 }
 
 impl Journal {
@@ -58,7 +58,7 @@ impl Journal {
             entries: Vec::new(alloc),
             limits,
             bytes: 0,
-            waiting: 0,
+            undone_downs: 0,
             statuses: GroupStatuses::first(),
         }
     }
@@ -93,7 +93,7 @@ impl Journal {
         self.entries.get(place.0 as usize)
     }
 
-    /// How often a group was rebooted. It visits no entry.
+    /// The generation of a group: how often it was rebooted. It visits no entry.
     pub fn generation(&self, group: GroupNo) -> u64
         requires { group.0 < MAX_GROUPS }
         ensures { result ≡ generation self.now.entries group.0 }
@@ -137,7 +137,7 @@ impl Journal {
         ensures { result ≡ fullness self.now.entries }
     {
         FullAt {
-            entries: self.entries.len() as u64 + self.waiting,
+            entries: self.entries.len() as u64 + self.undone_downs,
             bytes: self.bytes,
         }
     }
@@ -168,9 +168,8 @@ impl Journal {
         ensures needed { OnErr result (self.old.spare < entries) }
         ensures refused { OnErr result (self.new ≡ self.old) }
     {
-        // No vector has room for the greatest number and one more, so where the sum is greater it is refused
-        // as well.
-        let more = self.waiting.saturating_add(entries);
+        // Where the sum passes the greatest number, no vector has that much room, so `reserve` refuses it.
+        let more = self.undone_downs.saturating_add(entries);
         Ok(self.entries.reserve(more as usize)?)
     }
 
@@ -186,13 +185,13 @@ impl Journal {
     {
         let place = Place(self.entries.len() as u64);
         self.bytes += entry_bytes(&entry);
-        self.waiting = kept_with(self.waiting, &entry);
+        self.undone_downs = kept_with(self.undone_downs, &entry);
         follow(&mut self.statuses, self.entries.as_slice(), &entry);
         self.entries.push_reserved(entry);
         place
     }
 
-    /// The line of the entry at a place, without its line feed.
+    /// The line of the entry at a place, without its line feed. It takes memory for the line alone.
     pub fn print_entry(&self, alloc: Global, place: Place) -> Result<LineText, OutOfMemory>
         requires { place.0 < length self.now.entries }
         ensures { IfOk result (λ text.

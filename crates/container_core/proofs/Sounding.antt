@@ -21,7 +21,7 @@ use Rattle.journal_model.specs.Legal.{MayBegin}
 use Rattle.journal_model.specs.Limits.{entry_bytes, full_for}
 use Rattle.journal_model.specs.Reboots.{IsUndone}
 use Rattle.journal_model.specs.Stale.{stale_in}
-use Rattle.journal_model.proofs.Filling.{bytes_of-push, waiting-commit, waiting-down, waiting-up}
+use Rattle.journal_model.proofs.Filling.{bytes_of-push, undone_downs-commit, undone_downs-down, undone_downs-up}
 use Rattle.journal_model.proofs.Fitting.{fits_commit}
 use Rattle.journal_model.proofs.Growing.{legal_push, legal_in_turn}
 use Rattle.journal_model.proofs.Places.{slice_get_last}
@@ -110,7 +110,7 @@ sound_commit c call action sound fits none =
     record {
       legal = legal_push c.start.base c.entries e sound.legal (fits_commit c.start.base c.entries call action fits.journal free.fresh);
       within = record {
-        entries = omega (arith, room.0, waiting-commit c.entries (entry_of call action), length-append c.entries (e ∷ []));
+        entries = omega (arith, room.0, undone_downs-commit c.entries (entry_of call action), length-append c.entries (e ∷ []));
         bytes = omega (arith, room.1, bytes_of-push c.entries e);
       };
       owned = owned_commit c.start.deployment c.entries call action sound.owned fits.owned;
@@ -123,7 +123,7 @@ sound_down c s sound known none =
     record {
       legal = legal_push c.start.base c.entries (Down s) sound.legal may.begins;
       within = record {
-        entries = omega (arith, room.0, waiting-down c.entries s, length-append c.entries (Down s ∷ []));
+        entries = omega (arith, room.0, undone_downs-down c.entries s, length-append c.entries (Down s ∷ []));
         bytes = omega (arith, room.1, bytes_of-push c.entries (Down s));
       };
       owned = owned_down c.start.deployment c.entries s sound.owned;
@@ -135,7 +135,7 @@ sound_up c s i sound undone =
     record {
       legal = legal_push c.start.base c.entries (Up s) sound.legal (record { place = i; undone = undone });
       within = record {
-        entries = omega (arith, sound.within.entries, waiting-up c.entries s turns (record { place = i; undone = undone }), length-append c.entries (Up s ∷ []));
+        entries = omega (arith, sound.within.entries, undone_downs-up c.entries s turns (record { place = i; undone = undone }), length-append c.entries (Up s ∷ []));
         bytes = omega (arith, sound.within.bytes, bytes_of-push c.entries (Up s));
       };
       owned = owned_up c.start.deployment c.entries s sound.owned;

@@ -30,11 +30,11 @@ use Rattle.container_core.specs.declared.refusals.Refused.{Refused}
 abbrev pub group_no : ℕ → GroupNo
 group_no n = record { 0 = n }
 
--- a step of a stale call is refused
+-- a step of a call that has a stale touch is refused
 abbrev pub revoked : List Entry → Call → Option CallRefusal
 revoked es call = option_map (λ s. Revoked s) (stale_in es call.touched)
 
--- an enter of a component of a group is refused where the call is stale, has opened all its frames or made all its
+-- an enter of a component of a group is refused where the call is stale, has all its frames open or made all its
 -- steps, and where the group is down
 abbrev pub enter_refusal : List Entry → Call → ℕ → Option CallRefusal
 enter_refusal es call g =

@@ -52,7 +52,7 @@ pub struct Container {
     start: Start,
     journal: Journal,
     names: Names,
-    // Contracts do not see these: whether a call has old room or new makes no difference to it.
+    // Not in the Model: a call is the same in a ticket that is used again as in a new one.
     idle: IdleTickets,
 }
 
@@ -125,7 +125,8 @@ impl Container {
         &self.start.deployment
     }
 
-    /// The journal. It is legal and within its limits, and no commit wrote past the components that it entered.
+    /// The journal. It is legal and within its limits, and each commit wrote only rows of tables whose owners' groups
+    /// it entered.
     pub fn journal(&self) -> &Journal
         ensures entries { result.now.entries ≡ self.now.entries }
         ensures limits { result.now.limits ≡ self.now.start.limits }
@@ -135,7 +136,7 @@ impl Container {
     }
 
     /// The current rows, in order of id, each with its last write. For each write of the journal it visits
-    /// each row that is current then.
+    /// each row that is current then. It takes memory for an item for each current row, and lends their bytes.
     pub fn rows(&self, alloc: Global) -> Result<LatestRows<'_>, OutOfMemory>
         ensures { IfOk result (λ rows. rows ≡ rows_after self.now.start.base self.now.entries) }
     {
@@ -168,7 +169,7 @@ impl Container {
     }
 
     /// Whether the call is in no component, or in one that may call this one. It visits each reference up to
-    /// that one.
+    /// the one that allows it.
     pub fn may_enter(&self, ticket: &Ticket, c: ComponentNo) -> bool
         ensures { result ≡ may_enter self.now.start.deployment ticket.now.call c }
     {
@@ -208,6 +209,7 @@ impl Container {
     /// memory, and visits each group that the call has entered.
     ///
     /// That the component may be entered from where the call is, is its caller's duty, and `may_enter` tests it.
+    /// Nothing judges the method now.
     pub fn enter(
         &mut self,
         ticket: &mut Ticket,

@@ -73,8 +73,9 @@ pub fn least_group_is_busy()
 {}
 
 /// A call that entered a group is revoked from the next Down on whose scope holds the group, and stays so whatever
-/// comes. To a call that entered none of its groups a Down or an Up changes nothing: what would be refused before is
-/// refused after, and nothing else. After an Up each group that its scope holds may be entered again.
+/// comes. A Down or an Up revokes no call that entered none of its groups, and changes no refusal of its puts; a Down
+/// changes no refusal of its enters of groups outside the scope. After an Up a new call may enter each group that the
+/// scope holds.
 pub fn reboots_revoke_calls()
     ensures down { (es : List Entry) (call : Call) (t : Touch) (i : ℕ) (s : Scope) →
         slice_get call.touched i ≡ Some t → t.front.0 ≤ length es →

@@ -4,7 +4,7 @@
 //! A call is a ticket that its caller holds. It enters components and leaves them, puts rows, and in the end commits:
 //! then, and only then, its writes become an entry of the journal, whole, or it leaves nothing. A reboot takes a group
 //! of components down and brings it up again while calls go on. From its Down on, each call that entered the group is
-//! revoked: its every further step is refused, and so is its commit. Every other call goes on as if nothing had been.
+//! revoked: its every further step is refused, and so is its commit. No other call is revoked.
 //!
 //! ```text
 //! let mut container = Container::start(alloc, deployment, limits)?;
@@ -27,7 +27,7 @@
 //!
 //! Refusals come in a fixed order; `enter`, `put`, `commit` and `begin_reboot` each have one function in
 //! `specs/Refusals` that says which one comes first, and answer exactly that one. Out of memory is apart: it is
-//! answered only where nothing else refuses the call, and leaves everything as it was. A caller has two duties, and the
+//! answered only where nothing else refuses, and leaves the container as it was; the call of such a commit has ended. A caller has two duties, and the
 //! container offers the test of each: a component is entered only from one that may call it (`may_enter`), and a row is
 //! put only from the component that owns its table (`is_in_owner`).
 //!

@@ -1,4 +1,4 @@
-//! Why a call of the container was refused.
+//! Why the container refused what it was asked.
 
 use commit_journal::{FullAt, MarkList, Stale};
 use crash_base::{GroupNo, Place, RequestNo};
@@ -8,7 +8,7 @@ use crash_base::{GroupNo, Place, RequestNo};
 pub enum CallRefusal {
     /// A group that the call entered was rebooted since: the one that it entered first among these.
     Revoked(Stale),
-    /// The call has opened `MAX_FRAMES` frames.
+    /// `MAX_FRAMES` frames of the call are open.
     Depth,
     /// The call has made `MAX_STEPS` steps.
     Steps,
@@ -25,7 +25,7 @@ pub enum CallRefusal {
 pub enum CommitRefusal {
     /// A group that the call entered was rebooted since: the one that it entered first among these.
     Revoked(Stale),
-    /// The entry would pass a limit of the journal, which is so full now.
+    /// The entry would pass a limit of the journal. This is how full the journal is.
     JournalFull(FullAt),
     /// The allocator had no memory.
     OutOfMemory,
@@ -44,7 +44,7 @@ pub struct Refused {
 pub enum RebootRefusal {
     /// A group of the scope is down already, by the Down at this place: the least such group.
     Busy { group: GroupNo, down: Place },
-    /// The Down and its Up would pass the journal's limit of entries, which is so full now.
+    /// The Down and its Up would pass a limit of the journal. This is how full the journal is.
     JournalFull(FullAt),
     /// The allocator had no memory.
     OutOfMemory,

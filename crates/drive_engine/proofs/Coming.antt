@@ -16,16 +16,16 @@ use Rattle.drive_engine.specs.declared.ending.Ending.TheVariants as endings
 use Rattle.drive_engine.specs.declared.words.Command.TheVariants.{Drive}
 use Rattle.drive_engine.specs.Command.{Runs}
 use Rattle.drive_engine.specs.Drive.{AreRead, AreReadWithFeeds, HasDone, WritesTranscript, StopsAtLine, StopsAtLongLine, StopsAtFailedRead, StopsOutOfMemory, StopsPastLimit}
-use Rattle.drive_engine.specs.Engine.{IsLegalState}
+use Rattle.drive_engine.specs.Engine.{IsSoundState}
 use Rattle.drive_engine.specs.Exchange.{Exchange, exchange, IsRead}
 use Rattle.drive_engine.specs.Play.{PlayState, DoesLine, EndsAtLine, HasCome}
 use Rattle.drive_engine.specs.State.{State}
 use Rattle.drive_engine.specs.Transcript.{first, transcript, transcript_of, end_from, end_of, last_state, Ended}
-use Rattle.drive_engine.proofs.Playing.{end_from-push, transcript-push, legal_after}
+use Rattle.drive_engine.proofs.Playing.{end_from-push, transcript-push, sound_after}
 
--- whatever lines were done, the journal is legal
-abbrev pub LegalLaw : Type 0
-LegalLaw = (lines : List (List ℕ)) → IsLegalState (last_state (end_from first 1 lines))
+-- whatever lines were done, the container is sound
+abbrev pub SoundLaw : Type 0
+SoundLaw = (lines : List (List ℕ)) → IsSoundState (last_state (end_from first 1 lines))
 
 -- the part that was kept and the one that ends the line are that line
 line_joined : (lines : List (List ℕ)) (kept none part rest past : List ℕ) → none ≡ [] → text_of_lines lines ++ (kept ++ ((part ++ 10 ∷ rest) ++ past)) ≡ text_of_lines (lines ++ (kept ++ part) ∷ []) ++ (none ++ (rest ++ past))
@@ -73,11 +73,11 @@ comes_kept left left_now written old more past p q rest one is short h =
     })
 
 -- the lines before were done, and nothing more was written
-has_done : (left left_now written old new : Option (List ℕ)) (more : ℕ) (unread past : List ℕ) (p : PlayState) → LegalLaw → new ≡ old → (h : HasCome (exchange left left_now written old) more unread past p) → HasDone (exchange left left_now written new) h.lines p.state
-has_done left left_now written old new more unread past p law same h = record { done = h.done; written = same ∙ h.written; legal = legal_after p.state h.lines law h.done }
+has_done : (left left_now written old new : Option (List ℕ)) (more : ℕ) (unread past : List ℕ) (p : PlayState) → SoundLaw → new ≡ old → (h : HasCome (exchange left left_now written old) more unread past p) → HasDone (exchange left left_now written new) h.lines p.state
+has_done left left_now written old new more unread past p law same h = record { done = h.done; written = same ∙ h.written; sound = sound_after p.state h.lines law h.done }
 
 -- what was read of a line that is too long
-pub ends_long : (left left_now written old : Option (List ℕ)) (more : ℕ) (past : List ℕ) (p : PlayState) (rest : List ℕ) → LegalLaw → IsOneLine rest → MAX_LINE_BYTES < length (p.part ++ rest) → HasCome (exchange left left_now written old) more rest past p → StopsAtLongLine p.number (exchange left left_now written old)
+pub ends_long : (left left_now written old : Option (List ℕ)) (more : ℕ) (past : List ℕ) (p : PlayState) (rest : List ℕ) → SoundLaw → IsOneLine rest → MAX_LINE_BYTES < length (p.part ++ rest) → HasCome (exchange left left_now written old) more rest past p → StopsAtLongLine p.number (exchange left left_now written old)
 ends_long left left_now written old more past p rest law one long h = record {
   before = h.lines;
   line = p.part ++ rest;
@@ -102,7 +102,7 @@ record HasLine (x : Exchange) (lines : List (List ℕ)) (line : List ℕ) : Type
   pub read : AreRead x (lines ++ line ∷ [])
 
 -- it ends the scenario
-ends_at_line : (e : Ending) (left left_now written old new : Option (List ℕ)) (lines : List (List ℕ)) (s : State) (number : ℕ) (line : List ℕ) → LegalLaw → end_from first 1 lines ≡ Ended s → number ≡ length lines + 1 → old ≡ appended written (transcript first lines) → HasLine (exchange left left_now written new) lines line → EndsAtLine e number s line old new → Runs Drive e (exchange left left_now written new)
+ends_at_line : (e : Ending) (left left_now written old new : Option (List ℕ)) (lines : List (List ℕ)) (s : State) (number : ℕ) (line : List ℕ) → SoundLaw → end_from first 1 lines ≡ Ended s → number ≡ length lines + 1 → old ≡ appended written (transcript first lines) → HasLine (exchange left left_now written new) lines line → EndsAtLine e number s line old new → Runs Drive e (exchange left left_now written new)
 ends_at_line endings.Done left left_now written old new lines s number line law done next so_far h ends = absurd ends
 ends_at_line endings.UnknownCommand left left_now written old new lines s number line law done next so_far h ends = absurd ends
 ends_at_line (endings.LineRefused n) left left_now written old new lines s number line law done next so_far h ends = (
@@ -113,7 +113,7 @@ ends_at_line (endings.LineRefused n) left left_now written old new lines s numbe
     state = s;
     read = h.read;
     number = ends.0 ∙ next;
-    done = record { done = done; written = ends.3 ∙ so_far; legal = legal_after s lines law done };
+    done = record { done = done; written = ends.3 ∙ so_far; sound = sound_after s lines law done };
     short = ends.1;
     refused = ends.2;
   },
@@ -128,7 +128,7 @@ ends_at_line endings.WriteFailed left left_now written old new lines s number li
   prefix = prefix;
   read = h.read;
   done = done;
-  legal = legal_after s lines law done;
+  sound = sound_after s lines law done;
   answer = answer;
   begins = begins;
   written = is ∙ ap (λ o. appended o prefix) so_far ∙ appended_more written (transcript first lines) prefix;
@@ -143,20 +143,20 @@ ends_at_line (endings.LineTooLong n) left left_now written old new lines s numbe
   one = h.one;
   within = h.within;
   number = ends.0 ∙ next;
-  done = record { done = done; written = ends.2 ∙ so_far; legal = legal_after s lines law done };
+  done = record { done = done; written = ends.2 ∙ so_far; sound = sound_after s lines law done };
   long = ends.1;
 }
 ends_at_line endings.OutOfMemory left left_now written old new lines s number line law done next so_far h ends = record {
   before = lines;
   state = s;
   read = record { rest = line ++ h.rest; taken = h.taken; plain = h.plain; within = omega (arith, h.within, length-append (text_of_lines lines) line) };
-  done = record { done = done; written = ends ∙ so_far; legal = legal_after s lines law done };
+  done = record { done = done; written = ends ∙ so_far; sound = sound_after s lines law done };
 }
 ends_at_line endings.DescriptorsRefused left left_now written old new lines s number line law done next so_far h ends = absurd ends
 ends_at_line endings.ScenarioTooLong left left_now written old new lines s number line law done next so_far h ends = absurd ends
 
 -- a line that ends in a piece ends the scenario
-pub ends_in_piece : (e : Ending) (left left_now written old new : Option (List ℕ)) (more : ℕ) (past : List ℕ) (p : PlayState) (part rest : List ℕ) → LegalLaw → IsOneLine part → EndsAtLine e p.number p.state (p.part ++ part) old new → HasCome (exchange left left_now written old) more (part ++ 10 ∷ rest) past p → Runs Drive e (exchange left left_now written new)
+pub ends_in_piece : (e : Ending) (left left_now written old new : Option (List ℕ)) (more : ℕ) (past : List ℕ) (p : PlayState) (part rest : List ℕ) → SoundLaw → IsOneLine part → EndsAtLine e p.number p.state (p.part ++ part) old new → HasCome (exchange left left_now written old) more (part ++ 10 ∷ rest) past p → Runs Drive e (exchange left left_now written new)
 ends_in_piece e left left_now written old new more past p part rest law one ends h =
     let line = p.part ++ part in
     let whole : IsOneLine line = All-append (λ b. b ≢ 10) p.part part h.one one in
@@ -190,7 +190,7 @@ lines_whole : (lines : List (List ℕ)) (part : List ℕ) → All IsOneLine line
 lines_whole lines part plain one some = lines_fed lines part plain ∙ ap (λ ls. lines ++ ls) (line_unfed part one some)
 
 -- the last line, which has no line feed, ends the scenario
-pub ends_at_end : (e : Ending) (left left_now written old new : Option (List ℕ)) (more : ℕ) (p : PlayState) → LegalLaw → p.part ≢ [] → EndsAtLine e p.number p.state p.part old new → HasEnded left_now → HasCome (exchange left left_now written old) more [] [] p → Runs Drive e (exchange left left_now written new)
+pub ends_at_end : (e : Ending) (left left_now written old new : Option (List ℕ)) (more : ℕ) (p : PlayState) → SoundLaw → p.part ≢ [] → EndsAtLine e p.number p.state p.part old new → HasEnded left_now → HasCome (exchange left left_now written old) more [] [] p → Runs Drive e (exchange left left_now written new)
 ends_at_end e left left_now written old new more p law some ends ended h =
     let read = read_whole left left_now written old new more p ended h in
     let has : HasLine (exchange left left_now written new) h.lines p.part = record {
@@ -204,7 +204,7 @@ ends_at_end e left left_now written old new more p law some ends ended h =
     ends_at_line e left left_now written old new h.lines p.state p.number p.part law h.done h.number h.written has ends
 
 -- all lines were done
-writes_transcript : (left left_now written new : Option (List ℕ)) (lines : List (List ℕ)) (text : List ℕ) (s : State) → LegalLaw → IsRead MAX_SCENARIO_BYTES (exchange left left_now written new) text → lines_of text ≡ lines → end_from first 1 lines ≡ Ended s → new ≡ appended written (transcript first lines) → WritesTranscript (exchange left left_now written new)
+writes_transcript : (left left_now written new : Option (List ℕ)) (lines : List (List ℕ)) (text : List ℕ) (s : State) → SoundLaw → IsRead MAX_SCENARIO_BYTES (exchange left left_now written new) text → lines_of text ≡ lines → end_from first 1 lines ≡ Ended s → new ≡ appended written (transcript first lines) → WritesTranscript (exchange left left_now written new)
 unfolding end_of transcript_of
 writes_transcript left left_now written new lines text s law read cut done wrote = record {
   text = text;
@@ -212,17 +212,17 @@ writes_transcript left left_now written new lines text s law read cut done wrote
   state = s;
   ended = ap (end_from first 1) cut ∙ done;
   written = wrote ∙ ap (λ ls. appended written (transcript first ls)) (sym cut);
-  legal = legal_after s lines law done;
+  sound = sound_after s lines law done;
 }
 
 -- and the last one ended with its line feed
-pub ends_with_feed : (left left_now written old : Option (List ℕ)) (more : ℕ) (p : PlayState) → LegalLaw → p.part ≡ [] → HasEnded left_now → HasCome (exchange left left_now written old) more [] [] p → WritesTranscript (exchange left left_now written old)
+pub ends_with_feed : (left left_now written old : Option (List ℕ)) (more : ℕ) (p : PlayState) → SoundLaw → p.part ≡ [] → HasEnded left_now → HasCome (exchange left left_now written old) more [] [] p → WritesTranscript (exchange left left_now written old)
 ends_with_feed left left_now written old more p law none ended h =
     let cut : lines_of (text_of_lines h.lines ++ p.part) ≡ h.lines = lines_fed h.lines p.part h.plain ∙ ap (λ t. h.lines ++ lines_of t) none ∙ append-nil h.lines in
     writes_transcript left left_now written old h.lines (text_of_lines h.lines ++ p.part) p.state law (read_whole left left_now written old old more p ended h) cut h.done h.written
 
 -- and the last one has none
-pub ends_without_feed : (left left_now written old new : Option (List ℕ)) (more : ℕ) (p : PlayState) (t : State) → LegalLaw → p.part ≢ [] → DoesLine p.state t p.part old new → HasEnded left_now → HasCome (exchange left left_now written old) more [] [] p → WritesTranscript (exchange left left_now written new)
+pub ends_without_feed : (left left_now written old new : Option (List ℕ)) (more : ℕ) (p : PlayState) (t : State) → SoundLaw → p.part ≢ [] → DoesLine p.state t p.part old new → HasEnded left_now → HasCome (exchange left left_now written old) more [] [] p → WritesTranscript (exchange left left_now written new)
 ends_without_feed left left_now written old new more p t law some does ended h =
     writes_transcript left left_now written new (h.lines ++ p.part ∷ []) (text_of_lines h.lines ++ p.part) t law (read_whole left left_now written old new more p ended h) (lines_whole h.lines p.part h.plain h.one some)
     (end_from-push p.state t h.lines p.part does.text h.done does.short does.done)
@@ -253,7 +253,7 @@ text_read : (lines : List (List ℕ)) (part past : List ℕ) → text_of_lines l
 text_read lines part past = simp append_assoc
 
 -- a read failed
-pub stops_at_failed_read : (left before now written old : Option (List ℕ)) (more : ℕ) (p : PlayState) → LegalLaw → now ≡ before → HasCome (exchange left before written old) more [] [] p → StopsAtFailedRead (exchange left now written old)
+pub stops_at_failed_read : (left before now written old : Option (List ℕ)) (more : ℕ) (p : PlayState) → SoundLaw → now ≡ before → HasCome (exchange left before written old) more [] [] p → StopsAtFailedRead (exchange left now written old)
 stops_at_failed_read left before now written old more p law same h = record {
   text = text_of_lines h.lines ++ p.part;
   lines = h.lines;
@@ -262,11 +262,11 @@ stops_at_failed_read left before now written old more p law same h = record {
   taken = h.taken ∙ ap (λ t. prepended t before) (text_read h.lines p.part [] ∙ append-nil (text_of_lines h.lines ++ p.part)) ∙ ap (λ b. prepended (text_of_lines h.lines ++ p.part) b) (sym same);
   cut = record { whole = refl; plain = h.plain; one = h.one };
   short = h.short;
-  done = record { done = h.done; written = h.written; legal = legal_after p.state h.lines law h.done };
+  done = record { done = h.done; written = h.written; sound = sound_after p.state h.lines law h.done };
 }
 
 -- bytes were read past the limit
-pub stops_past_limit : (left now written old : Option (List ℕ)) (past : List ℕ) (p : PlayState) → LegalLaw → past ≢ [] → HasCome (exchange left now written old) 0 [] past p → StopsPastLimit (exchange left now written old)
+pub stops_past_limit : (left now written old : Option (List ℕ)) (past : List ℕ) (p : PlayState) → SoundLaw → past ≢ [] → HasCome (exchange left now written old) 0 [] past p → StopsPastLimit (exchange left now written old)
 stops_past_limit left now written old past p law some h = record {
   text = text_of_lines h.lines ++ p.part;
   more = past;
@@ -278,7 +278,7 @@ stops_past_limit left now written old past p law some h = record {
   whole = omega (arith, h.within, ap (λ t. length (text_of_lines h.lines ++ t)) (append-nil p.part));
   cut = record { whole = refl; plain = h.plain; one = h.one };
   short = h.short;
-  done = record { done = h.done; written = h.written; legal = legal_after p.state h.lines law h.done };
+  done = record { done = h.done; written = h.written; sound = sound_after p.state h.lines law h.done };
 }
 
 nothing_read : (left : Option (List ℕ)) → left ≡ prepended [] left
@@ -309,7 +309,7 @@ stops_at_first left written = record {
   before = [];
   state = first;
   read = record { rest = []; taken = nothing_read left; plain = All-nil IsOneLine; within = omega arith };
-  done = record { done = refl; written = nothing_written written; legal = tt };
+  done = record { done = refl; written = nothing_written written; sound = tt };
 }
 
 -- the lines before the last one that was read

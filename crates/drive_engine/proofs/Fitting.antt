@@ -1,5 +1,5 @@
 -- Callers whose live calls fit the container.
-use Rattle.std.proofs.Common.{◌≡◌, ℕ, ◌+◌, ◌-◌, ◌<◌, ◌≤◌, inl, inr, List, [], ◌∷◌, ◌++◌, suc, length, refl, subst, sym, ap, ◌∙◌, arith, length-append}
+use Rattle.std.proofs.Common.{get_or, ◌≡◌, ℕ, ◌+◌, ◌-◌, ◌<◌, ◌≤◌, inl, inr, List, [], ◌∷◌, ◌++◌, suc, length, refl, subst, sym, ap, ◌∙◌, arith, length-append}
 use Rattle.std.specs.Prelude.{replicate, slice_set}
 use Rattle.std.proofs.lemmas.Bool.{cases_lt}
 use Rattle.std.proofs.lemmas.List.{append_assoc, get_or_past, length-replicate}
@@ -18,7 +18,7 @@ pub fit_padded : (c : ContainerValue) (callers : List Caller) (n : ℕ) → AllF
 fit_padded c callers n all = All-append (FitsCaller c) callers (replicate (n + 1 - length callers) Absent) all (All-replicate (FitsCaller c) (n + 1 - length callers) Absent tt)
 
 -- there is a place for the number up to which places were made
-pub padded_holds : (callers now : List Caller) (n : ℕ) → now ≡ padded callers n → n < length now
+padded_holds : (callers now : List Caller) (n : ℕ) → now ≡ padded callers n → n < length now
 padded_holds callers now n made =
     let rest : List Caller = replicate (n + 1 - length callers) Absent in
     let count : length rest ≡ n + 1 - length callers = length-replicate (n + 1 - length callers) Absent in
@@ -41,6 +41,12 @@ padded_more callers n below =
     let now : n + 1 - length (callers ++ Absent ∷ []) ≡ n - length callers = omega (arith, length-append callers (Absent ∷ []), below) in
     let before : suc (n - length callers) ≡ n + 1 - length callers = omega (arith, below) in
     ap (λ k. (callers ++ Absent ∷ []) ++ rest k) now ∙ append_assoc callers (Absent ∷ []) (rest (n - length callers)) ∙ ap (λ k. callers ++ rest k) before
+
+-- the callers fit where the one at a place is another that fits
+pub fit_placed : (c : ContainerValue) (callers now : List Caller) (n : ℕ) (old new : Caller) → now ≡ padded callers n → AllFit c now → old ≡ get_or now n old → (FitsCaller c old → FitsCaller c new) → AllFit c (slice_set now n new)
+fit_placed c callers now n old new made all is fits =
+    let P : Caller → Type 0 = λ x. FitsCaller c x in
+    fit_set c now n new (fits (subst P (sym is) (all n old (padded_holds callers now n made)))) all
 
 -- the calls of callers go on fitting a container that grows
 pub fit_meanwhile : (old new : ContainerValue) (callers : List Caller) → HasGrown old new → AllFit old callers → AllFit new callers

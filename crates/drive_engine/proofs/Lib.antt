@@ -4,7 +4,7 @@ pub mod Deciding
 pub mod Fitting
 pub mod Heading
 pub mod Leaving
-pub mod Legality
+pub mod Soundness
 pub mod Playing
 pub mod Rebooting
 pub mod Reporting

@@ -3,7 +3,7 @@ use Rattle.std.proofs.Common.{◌≡◌, ℕ, suc, ◌+◌, ◌<◌, ◌≤◌, 
 use Rattle.std.proofs.lemmas.Bool.Decides.{nat_tests}
 use Rattle.scenario_text.specs.declared.line.TheConstants.{MAX_LINE_BYTES}
 use Rattle.drive_engine.specs.Answer.{Answer, Done, Refused}
-use Rattle.drive_engine.specs.Engine.{IsLegalState}
+use Rattle.drive_engine.specs.Engine.{IsSoundState}
 use Rattle.drive_engine.specs.State.{State}
 use Rattle.drive_engine.specs.Transcript.{first, transcript, end_from, line_answer, last_state, End, Ended, Stopped, TooLong}
 
@@ -58,6 +58,6 @@ end_from-push s t lines line text h short done = end_from-more first s 1 lines (
 pub transcript-push : (s t : State) (lines : List (List ℕ)) (line text : List ℕ) → end_from first 1 lines ≡ Ended s → line_answer s line ≡ Done t text → transcript first (lines ++ line ∷ []) ≡ transcript first lines ++ text
 transcript-push s t lines line text h done = transcript-more first s 1 lines (line ∷ []) h ∙ ap (λ r. transcript first lines ++ r) (transcript-done s t line text done)
 
--- the journal is legal in the state that lines leave
-pub legal_after : (s : State) (lines : List (List ℕ)) → ((lines : List (List ℕ)) → IsLegalState (last_state (end_from first 1 lines))) → end_from first 1 lines ≡ Ended s → IsLegalState s
-legal_after s lines law h = let P : End → Type 0 = λ e. IsLegalState (last_state e) in subst P h (law lines)
+-- the container is sound in the state that lines leave
+pub sound_after : (s : State) (lines : List (List ℕ)) → ((lines : List (List ℕ)) → IsSoundState (last_state (end_from first 1 lines))) → end_from first 1 lines ≡ Ended s → IsSoundState s
+sound_after s lines law h = let P : End → Type 0 = λ e. IsSoundState (last_state e) in subst P h (law lines)

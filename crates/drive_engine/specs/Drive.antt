@@ -6,7 +6,7 @@ use Rattle.scenario_text.specs.Cutting.{lines_of, text_of_lines, IsOneLine, IsCu
 use Rattle.scenario_text.specs.declared.line.TheConstants.{MAX_LINE_BYTES}
 use Rattle.drive_engine.specs.declared.drive.TheConstants.{MAX_SCENARIO_BYTES}
 use Rattle.drive_engine.specs.Answer.{Done, Refused}
-use Rattle.drive_engine.specs.Engine.{IsLegalState}
+use Rattle.drive_engine.specs.Engine.{IsSoundState}
 use Rattle.drive_engine.specs.Exchange.{Exchange, IsRead, IsWritten}
 use Rattle.drive_engine.specs.State.{State}
 use Rattle.drive_engine.specs.Transcript.{first, Ended, end_from, end_of, line_answer, transcript, transcript_of}
@@ -28,11 +28,11 @@ pub record AreReadToEnd (x : Exchange) (lines : List (List ℕ)) : Type 0 where
 abbrev pub AreRead : Exchange → List (List ℕ) → Type 0
 AreRead x lines = AreReadWithFeeds x lines ⊎ AreReadToEnd x lines
 
--- These lines were done, in order, which leaves this state; what they write was written; and the journal is legal.
+-- These lines were done, in order, which leaves this state; what they write was written; and the container is sound.
 pub record HasDone (x : Exchange) (lines : List (List ℕ)) (state : State) : Type 0 where
   pub done : end_from first 1 lines ≡ Ended state
   pub written : IsWritten x (transcript first lines)
-  pub legal : IsLegalState state
+  pub sound : IsSoundState state
 
 -- A scenario was read and came to its end, and its transcript was written.
 pub record WritesTranscript (x : Exchange) : Type 0 where
@@ -41,7 +41,7 @@ pub record WritesTranscript (x : Exchange) : Type 0 where
   pub state : State
   pub ended : end_of text ≡ Ended state
   pub written : IsWritten x (transcript_of text)
-  pub legal : IsLegalState state
+  pub sound : IsSoundState state
 
 -- The line of this number was read to its end and was refused, after the lines before it were done.
 pub record StopsAtLine (n : ℕ) (x : Exchange) : Type 0 where
@@ -89,7 +89,7 @@ pub record StopsAtFailedWrite (x : Exchange) : Type 0 where
   pub prefix : List ℕ
   pub read : AreRead x (before ++ line ∷ [])
   pub done : end_from first 1 before ≡ Ended state
-  pub legal : IsLegalState state
+  pub sound : IsSoundState state
   pub answer : line_answer state line ≡ Done after wrote
   pub begins : IsPrefix prefix wrote
   pub written : IsWritten x (transcript first before ++ prefix)

@@ -35,7 +35,7 @@ running (Running r) = Running r
 abbrev pub step : State → Line → Answer State
 step s line = stage_line (if is_event line then running s else s) line
 
--- There is no container yet, or it is sound: its journal is legal and within its limits.
-abbrev pub IsLegalState : State → Type 0
-IsLegalState (Heading head) = Unit {0}
-IsLegalState (Running r) = IsSound r.container
+-- There is no container yet, or it is sound.
+abbrev pub IsSoundState : State → Type 0
+IsSoundState (Heading head) = Unit {0}
+IsSoundState (Running r) = IsSound r.container

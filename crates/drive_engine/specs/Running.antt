@@ -65,13 +65,13 @@ caller_commits r caller Ended = Refused
 unfoldable pub commit_step : RunningState → ℕ → Answer RunningState
 commit_step r caller = caller_commits r caller (caller_at r.callers caller)
 
--- the call of a caller is given up, if it is live
+-- the call of a caller is dropped, if it is live
 abbrev pub caller_drops : RunningState → ℕ → Caller → Answer RunningState
 caller_drops r caller Absent = Refused
 caller_drops r caller (Live ticket) = Done (with_callers r (ended r.callers caller)) []
 caller_drops r caller Ended = Refused
 
--- A live caller's call is given up.
+-- A live caller's call is dropped.
 unfoldable pub drop_step : RunningState → ℕ → Answer RunningState
 drop_step r caller = caller_drops r caller (caller_at r.callers caller)
 

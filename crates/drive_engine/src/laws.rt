@@ -4,17 +4,17 @@
 ghost use Rattle.std.specs.Prelude.{◌≡◌, ℕ, List};
 ghost use Rattle.drive_engine.specs.declared.words.Command.{Command};
 ghost use Rattle.drive_engine.specs.Command.{CallsFor};
-ghost use Rattle.drive_engine.specs.Engine.{IsLegalState};
+ghost use Rattle.drive_engine.specs.Engine.{IsSoundState};
 ghost use Rattle.drive_engine.specs.Transcript.{first, end_from, end_of, last_state};
 
 use container_core::{calls_go_on_fitting, containers_stay_sound};
 use descriptor_text::texts_have_an_answer;
 
 /// Whatever the text, or the lines, the container is sound in the state that they leave, also where they
-/// stop at a line: its journal is legal and within its limits.
-pub fn journals_are_legal()
-    ensures texts { (text : List ℕ) → IsLegalState (last_state (end_of text)) }
-    ensures lines { (lines : List (List ℕ)) → IsLegalState (last_state (end_from first 1 lines)) }
+/// stop at a line: no commit comes after a reboot of a group that its call entered.
+pub fn containers_are_sound()
+    ensures texts { (text : List ℕ) → IsSoundState (last_state (end_of text)) }
+    ensures lines { (lines : List (List ℕ)) → IsSoundState (last_state (end_from first 1 lines)) }
 {
     containers_stay_sound();
     calls_go_on_fitting();

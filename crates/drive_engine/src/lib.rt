@@ -11,7 +11,7 @@
 //! ```
 //!
 //! Which status a text calls for is `CallsFor` of `specs/Command`; the laws `texts_call_for_a_status` and
-//! `texts_call_for_one_status` say that there is exactly one. The law `journals_are_legal` says that the container
+//! `texts_call_for_one_status` say that there is exactly one. The law `containers_are_sound` says that the container
 //! of a scenario is sound, however the scenario ends: no commit comes after a reboot of a group that its call entered.
 //!
 //! A scenario takes room for one piece and one line, however long it is. A line visits its bytes and those that it
@@ -39,5 +39,5 @@ pub use command::run_command;
 pub use drive::MAX_SCENARIO_BYTES;
 pub use ending::Ending;
 pub use groups::MAX_DESCRIPTOR_BYTES;
-pub use laws::{journals_are_legal, texts_call_for_a_status, texts_call_for_one_status};
+pub use laws::{containers_are_sound, texts_call_for_a_status, texts_call_for_one_status};
 pub use words::{Command, USAGE};

@@ -13,7 +13,7 @@ use crate::answer::LineAnswer;
 use crate::drive::MAX_SCENARIO_BYTES;
 use crate::ending::Ending;
 use crate::engine::Engine;
-use crate::laws::journals_are_legal;
+use crate::laws::containers_are_sound;
 use crate::words::Command;
 use crash_base::OutOfMemory;
 use outside::{Sink, write_all};
@@ -166,7 +166,7 @@ impl Play {
             → Rose (T.faults out.old) (T.faults out.new) }
         ensures count { T.faults out.old ≤ T.faults out.new }
     {
-        journals_are_legal();
+        containers_are_sound();
         let mut rest = piece;
         while let Some((part, more)) = ended_line(rest) {
             match self.end_line(alloc, part, out) {
@@ -188,7 +188,7 @@ impl Play {
             → Rose (T.faults out.old) (T.faults out.new) }
         ensures count { T.faults out.old ≤ T.faults out.new }
     {
-        journals_are_legal();
+        containers_are_sound();
         if self.part.is_empty() {
             return Ending::Done;
         }

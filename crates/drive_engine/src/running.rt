@@ -84,7 +84,7 @@ impl Running {
         Ok(LineAnswer::Wrote(text))
     }
 
-    /// A live call is given up.
+    /// A live call is dropped.
     #[tactic(auto, unfolding(crate::specs::Running::drop_step))]
     fn drop_step(&mut self, caller: u64) -> LineAnswer
         ensures { answer_of result self.new ≡ drop_step self.old caller }

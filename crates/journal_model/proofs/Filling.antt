@@ -10,7 +10,7 @@ use Rattle.journal_model.specs.declared.entry.CommitEntry.{CommitEntry}
 use Rattle.journal_model.specs.declared.entry.Entry.{Entry}
 use Rattle.journal_model.specs.declared.entry.Entry.TheVariants.{Commit, Down, Up}
 use Rattle.journal_model.specs.Legal.{AreInTurn, MayEnd}
-use Rattle.journal_model.specs.Limits.{waiting, bytes_of, entry_bytes}
+use Rattle.journal_model.specs.Limits.{undone_downs, bytes_of, entry_bytes}
 use Rattle.journal_model.specs.Reboots.{is_up_of, IsUndone}
 use Rattle.journal_model.proofs.OneDown.{one_undone}
 use Rattle.journal_model.proofs.Scopes.{same_scope-self, same_scope-true}
@@ -19,17 +19,17 @@ use Rattle.journal_model.proofs.Undone.{undone_tail, undone_more}
 pub bytes_of-push : (es : List Entry) (e : Entry) → bytes_of (es ++ e ∷ []) ≡ bytes_of es + entry_bytes e
 bytes_of-push es e = omega (arith, sum_by-append entry_bytes es (e ∷ []))
 
-pub waiting-commit : (es : List Entry) (c : CommitEntry) → waiting (es ++ Commit c ∷ []) ≡ waiting es
-waiting-commit [] c = refl
-waiting-commit (Commit e ∷ es) c = omega (arith, waiting-commit es c)
-waiting-commit (Down s ∷ es) c = grind (arith, common_steps, list_any-append (is_up_of s) es (Commit c ∷ []), waiting-commit es c)
-waiting-commit (Up s ∷ es) c = omega (arith, waiting-commit es c)
+pub undone_downs-commit : (es : List Entry) (c : CommitEntry) → undone_downs (es ++ Commit c ∷ []) ≡ undone_downs es
+undone_downs-commit [] c = refl
+undone_downs-commit (Commit e ∷ es) c = omega (arith, undone_downs-commit es c)
+undone_downs-commit (Down s ∷ es) c = grind (arith, common_steps, list_any-append (is_up_of s) es (Commit c ∷ []), undone_downs-commit es c)
+undone_downs-commit (Up s ∷ es) c = omega (arith, undone_downs-commit es c)
 
-pub waiting-down : (es : List Entry) (s : Scope) → waiting (es ++ Down s ∷ []) ≡ waiting es + 1
-waiting-down [] s = refl
-waiting-down (Commit e ∷ es) s = omega (arith, waiting-down es s)
-waiting-down (Down r ∷ es) s = grind (arith, common_steps, list_any-append (is_up_of r) es (Down s ∷ []), waiting-down es s)
-waiting-down (Up r ∷ es) s = omega (arith, waiting-down es s)
+pub undone_downs-down : (es : List Entry) (s : Scope) → undone_downs (es ++ Down s ∷ []) ≡ undone_downs es + 1
+undone_downs-down [] s = refl
+undone_downs-down (Commit e ∷ es) s = omega (arith, undone_downs-down es s)
+undone_downs-down (Down r ∷ es) s = grind (arith, common_steps, list_any-append (is_up_of r) es (Down s ∷ []), undone_downs-down es s)
+undone_downs-down (Up r ∷ es) s = omega (arith, undone_downs-down es s)
 
 -- the number of undone Downs of a scope
 abbrev undone_count : Scope → List Entry → ℕ
@@ -39,11 +39,11 @@ undone_count s (Down r ∷ es) = (if same_scope r s && not (list_any (is_up_of r
 undone_count s (Up r ∷ es) = undone_count s es
 
 -- an Up ends all of its scope
-waiting-ends : (es : List Entry) (s : Scope) → waiting (es ++ Up s ∷ []) + undone_count s es ≡ waiting es
-waiting-ends [] s = refl
-waiting-ends (Commit e ∷ es) s = omega (arith, waiting-ends es s)
-waiting-ends (Down r ∷ es) s = grind (arith, common_steps, list_any-append (is_up_of r) es (Up s ∷ []), waiting-ends es s)
-waiting-ends (Up r ∷ es) s = omega (arith, waiting-ends es s)
+undone_downs-ends : (es : List Entry) (s : Scope) → undone_downs (es ++ Up s ∷ []) + undone_count s es ≡ undone_downs es
+undone_downs-ends [] s = refl
+undone_downs-ends (Commit e ∷ es) s = omega (arith, undone_downs-ends es s)
+undone_downs-ends (Down r ∷ es) s = grind (arith, common_steps, list_any-append (is_up_of r) es (Up s ∷ []), undone_downs-ends es s)
+undone_downs-ends (Up r ∷ es) s = omega (arith, undone_downs-ends es s)
 
 count_none : (es : List Entry) (s : Scope) → ((i : ℕ) → ¬ IsUndone es i s) → undone_count s es ≡ 0
 count_none [] s never = refl
@@ -83,5 +83,5 @@ count_one (Down r ∷ es) s (suc k) undone one =
         absurd (omega (arith, one 0 (suc k) (record { down = ap (λ x. Some (Down x)) is; not_up = ap (λ x. list_any (is_up_of x) es) (sym is) ∙ up }) undone))
     go false b same up later = omega arith
 
-pub waiting-up : (es : List Entry) (s : Scope) → AreInTurn es → MayEnd es s → waiting (es ++ Up s ∷ []) + 1 ≡ waiting es
-waiting-up es s turns may = omega (arith, waiting-ends es s, count_one es s may.place may.undone (λ i j u v. one_undone es s i j turns u v))
+pub undone_downs-up : (es : List Entry) (s : Scope) → AreInTurn es → MayEnd es s → undone_downs (es ++ Up s ∷ []) + 1 ≡ undone_downs es
+undone_downs-up es s turns may = omega (arith, undone_downs-ends es s, count_one es s may.place may.undone (λ i j u v. one_undone es s i j turns u v))

@@ -51,6 +51,6 @@ MayReboot es (Commit e) = Unit {0}
 MayReboot es (Down s) = MayBegin es s
 MayReboot es (Up s) = MayEnd es s
 
--- The reboots of a journal are in turn where each of them might begin or end after the entries before it.
+-- Reboots are in turn: none begins in a group that is down, and none ends that has not begun or has ended.
 pub record AreInTurn (es : List Entry) : Type 0 where
   pub each : (i : ℕ) (e : Entry) → slice_get es i ≡ Some e → MayReboot (take i es) e

@@ -13,19 +13,19 @@ use Rattle.journal_model.specs.declared.limits.JournalLimits.{JournalLimits}
 use Rattle.journal_model.specs.Reboots.{is_up_of}
 
 -- whether an entry is a Down whose Up is not among the entries after it
-abbrev pub is_waiting : Entry → List Entry → Bool
-is_waiting (Commit e) after = false
-is_waiting (Down s) after = not (list_any (is_up_of s) after)
-is_waiting (Up s) after = false
+abbrev pub is_undone_down : Entry → List Entry → Bool
+is_undone_down (Commit e) after = false
+is_undone_down (Down s) after = not (list_any (is_up_of s) after)
+is_undone_down (Up s) after = false
 
 -- the number of Downs whose Up has not come
-abbrev pub waiting : List Entry → ℕ
-waiting [] = 0
-waiting (e ∷ es) = (if is_waiting e es then 1 else 0) + waiting es
+abbrev pub undone_downs : List Entry → ℕ
+undone_downs [] = 0
+undone_downs (e ∷ es) = (if is_undone_down e es then 1 else 0) + undone_downs es
 
 -- the places that a journal takes: one for each entry, and one that is kept for each Up that has not come
 abbrev pub places : List Entry → ℕ
-places es = length es + waiting es
+places es = length es + undone_downs es
 
 -- the bytes of a value, if there is one
 abbrev pub value_bytes : Option (List ℕ) → ℕ

@@ -9,7 +9,7 @@ use Rattle.journal_model.specs.declared.stale.Stale.{Stale}
 use Rattle.journal_model.specs.Reboots.{generation, down_of}
 use Rattle.journal_model.specs.Stale.{IsStale, stale_by}
 
--- This shows the group that was entered first among the stale ones, with its generations then and now.
+-- What is shown is the first stale touch: its group, with the generations at its front and now.
 pub record IsFirstStale (es : List Entry) (touched : List Touch) (shown_stale : Stale) : Type 0 where
   pub before : List Touch
   pub touch : Touch

@@ -16,7 +16,7 @@ pub struct JournalLimits {
     pub bytes: u64,
 }
 
-/// How full a journal is that has no room for what is asked.
+/// How full a journal is.
 #[derive(Clone, Copy)]
 pub struct FullAt {
     /// The entries so far, with the place that is kept for each Up that has not come.

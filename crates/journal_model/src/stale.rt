@@ -1,4 +1,4 @@
-//! What makes a call stale.
+//! What a stale touch shows.
 
 use crash_base::GroupNo;
 

@@ -50,8 +50,8 @@ fn bound_to(bound: &[BoundName], statuses: &GroupStatuses, name: &[u8]) -> Optio
 }
 
 impl Names {
-    /// The names of a deployment's components, whose groups are all up and were never rebooted. It copies
-    /// each byte of each name.
+    /// The names of a deployment's components, whose groups are all up and were never rebooted. It takes
+    /// memory for the names, and copies each of their bytes.
     pub fn new(alloc: Global, deployment: &Deployment) -> Result<Names, OutOfMemory>
         ensures value { IfOk result (λ names. names ≡ new_names deployment.now) }
         ensures follows { IfOk result (λ names. Follows names deployment.now []) }

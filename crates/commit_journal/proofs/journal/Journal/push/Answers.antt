@@ -17,7 +17,7 @@ invariant_of-self c =
     let e = c.args.entry in
     let can = takes _ _ e c.self.invariant.within c.self.view_is c.requires in
     let P : List Entry → Type 0 = λ es. AreStatuses c.follow.new.statuses (es ++ e ∷ []) in
-    let k = kept_push _ e inside.bytes inside.waiting c.kept_with-self-inside.result (vec_capacity inside.entries) inside.statuses c.follow.new.statuses c.self.invariant can refl c.kept_with-self-inside.ensures (subst P c.as_slice.ensures.value c.follow.ensures) in
+    let k = kept_push _ e inside.bytes inside.undone_downs c.kept_with-self-inside.result (vec_capacity inside.entries) inside.statuses c.follow.new.statuses c.self.invariant can refl c.kept_with-self-inside.ensures (subst P c.as_slice.ensures.value c.follow.ensures) in
     rw (c.push_reserved.ensures.items, c.entry_bytes.ensures, c.push_reserved.ensures.capacity) k
 
 pub returns-clause-spare : goal.returns-clause-spare

@@ -59,7 +59,7 @@ use Rattle.drive_engine.specs.declared.head.Head.{Head}
 use Rattle.drive_engine.specs.Answer.{Answer, Refused, Done, refused_if, within}
 use Rattle.drive_engine.specs.CallLines.{step_answer, row, exit_refusal, enter_step, exit_step, put_step, call_line}
 use Rattle.drive_engine.specs.Callers.{caller_at, padded, begins, caller_line, begin_step, call_step, ended, request_of, AllFit, FitsCaller}
-use Rattle.drive_engine.specs.Engine.{running, stage_line, step, IsLegalState}
+use Rattle.drive_engine.specs.Engine.{running, stage_line, step, IsSoundState}
 use Rattle.drive_engine.specs.Head.{head_line, plain, with_parts, with_component, component_step, reference_step, owns_step, limit_step}
 use Rattle.drive_engine.specs.Running.{RunningState, started, with_callers, with_journal, commits, caller_commits, caller_drops, commit_step, drop_step, scope_of, goes_down, reboots, down_step, up_step, reboot_step, table_step, journal_step, event_line}
 use Rattle.drive_engine.specs.State.{State, Heading, Running}
@@ -315,9 +315,9 @@ sound_event laws r lines.Table short run = run
 sound_event laws r lines.Journal short run = run
 
 -- a state with few components, or with a sound container
-abbrev IsSoundState : State → Type 0
-IsSoundState (Heading head) = AreFew head.parts
-IsSoundState (Running r) = IsSoundRun r
+abbrev CanGoOn : State → Type 0
+CanGoOn (Heading head) = AreFew head.parts
+CanGoOn (Running r) = IsSoundRun r
 
 -- a head line leaves few components
 
@@ -373,45 +373,45 @@ few_head head (lines.Reboot name) few = tt
 few_head head lines.Table few = tt
 few_head head lines.Journal few = tt
 
-sound_stage : (laws : ContainerLaws) (s : State) (line : Line) → IsShortLine line → IsSoundState s → Leaves IsSoundState (stage_line s line)
-sound_stage laws (Heading head) line short few = leaves-within IsSoundState Heading (head_line head line) (few_head head line few)
-sound_stage laws (Running r) line short run = leaves-within IsSoundState Running (event_line r line) (sound_event laws r line short run)
+sound_stage : (laws : ContainerLaws) (s : State) (line : Line) → IsShortLine line → CanGoOn s → Leaves CanGoOn (stage_line s line)
+sound_stage laws (Heading head) line short few = leaves-within CanGoOn Heading (head_line head line) (few_head head line few)
+sound_stage laws (Running r) line short run = leaves-within CanGoOn Running (event_line r line) (sound_event laws r line short run)
 
-sound_running : (laws : ContainerLaws) (s : State) → IsSoundState s → IsSoundState (running s)
+sound_running : (laws : ContainerLaws) (s : State) → CanGoOn s → CanGoOn (running s)
 sound_running laws (Heading head) few = record { sound = laws.started head.parts head.limits; few = few; fit = All-nil (FitsCaller (started head).container) }
 sound_running laws (Running r) run = run
 
-sound_step : (laws : ContainerLaws) (s : State) (line : Line) → IsShortLine line → IsSoundState s → Leaves IsSoundState (step s line)
+sound_step : (laws : ContainerLaws) (s : State) (line : Line) → IsShortLine line → CanGoOn s → Leaves CanGoOn (step s line)
 sound_step laws s line short sound = sound_stage laws (cond (is_event line) (running s) s) line short (go (is_event line))
   where
-    go : (b : Bool) → IsSoundState (cond b (running s) s)
+    go : (b : Bool) → CanGoOn (cond b (running s) s)
     go true = sound_running laws s sound
     go false = sound
 
-sound_answer : (laws : ContainerLaws) (s : State) (o : Option Line) → ((line : Line) → o ≡ Some line → IsShortLine line) → IsSoundState s → Leaves IsSoundState (answer_to s o)
+sound_answer : (laws : ContainerLaws) (s : State) (o : Option Line) → ((line : Line) → o ≡ Some line → IsShortLine line) → CanGoOn s → Leaves CanGoOn (answer_to s o)
 sound_answer laws s None short sound = tt
 sound_answer laws s (Some line) short sound = sound_step laws s line (short line refl) sound
 
-sound_line : (laws : ContainerLaws) (s : State) (text : List ℕ) → IsSoundState s → Leaves IsSoundState (line_answer s text)
+sound_line : (laws : ContainerLaws) (s : State) (text : List ℕ) → CanGoOn s → Leaves CanGoOn (line_answer s text)
 unfolding line_answer
 sound_line laws s text sound = sound_answer laws s (line_of text) (λ line is. short_line line (line_in_range text line is)) sound
 
-sound_ending : (laws : ContainerLaws) (s : State) (n : ℕ) (lines : List (List ℕ)) → IsSoundState s → IsSoundState (last_state (end_from s n lines))
+sound_ending : (laws : ContainerLaws) (s : State) (n : ℕ) (lines : List (List ℕ)) → CanGoOn s → CanGoOn (last_state (end_from s n lines))
 sound_ending laws s n [] sound = sound
 sound_ending laws s n (line ∷ lines) sound = go (nat_lt MAX_LINE_BYTES (length line)) (line_answer s line) (sound_line laws s line sound) (λ t later. sound_ending laws t (n + 1) lines later)
   where
-    go : (long : Bool) (a : Answer State) → Leaves IsSoundState a → ((t : State) → IsSoundState t → IsSoundState (last_state (end_from t (n + 1) lines))) → IsSoundState (last_state (cond long (TooLong s n) (elim a [ Refused ↦ Stopped s n | Done t text ↦ end_from t (n + 1) lines ])))
+    go : (long : Bool) (a : Answer State) → Leaves CanGoOn a → ((t : State) → CanGoOn t → CanGoOn (last_state (end_from t (n + 1) lines))) → CanGoOn (last_state (cond long (TooLong s n) (elim a [ Refused ↦ Stopped s n | Done t text ↦ end_from t (n + 1) lines ])))
     go true a left later = sound
     go false Refused left later = sound
     go false (Done t text) left later = later t left
 
-legal_from_sound : (s : State) → IsSoundState s → IsLegalState s
-legal_from_sound (Heading head) few = tt
-legal_from_sound (Running r) run = run.sound
+sound_of_going : (s : State) → CanGoOn s → IsSoundState s
+sound_of_going (Heading head) few = tt
+sound_of_going (Running r) run = run.sound
 
-pub legal_at_end : (laws : ContainerLaws) (lines : List (List ℕ)) → IsLegalState (last_state (end_from first 1 lines))
-legal_at_end laws lines = legal_from_sound (last_state (end_from first 1 lines)) (sound_ending laws first 1 lines (omega arith))
+pub sound_at_end : (laws : ContainerLaws) (lines : List (List ℕ)) → IsSoundState (last_state (end_from first 1 lines))
+sound_at_end laws lines = sound_of_going (last_state (end_from first 1 lines)) (sound_ending laws first 1 lines (omega arith))
 
-pub legal_after_text : (laws : ContainerLaws) (text : List ℕ) → IsLegalState (last_state (end_of text))
+pub sound_after_text : (laws : ContainerLaws) (text : List ℕ) → IsSoundState (last_state (end_of text))
 unfolding end_of
-legal_after_text laws text = legal_at_end laws (lines_of text)
+sound_after_text laws text = sound_at_end laws (lines_of text)

@@ -1,5 +1,5 @@
-use Rattle.drive_engine.proofs.Legality.{ContainerLaws, legal_at_end, legal_after_text}
-use Rattle.drive_engine.proofs.laws.journals_are_legal.Goals as goal
+use Rattle.drive_engine.proofs.Soundness.{ContainerLaws, sound_at_end, sound_after_text}
+use Rattle.drive_engine.proofs.laws.containers_are_sound.Goals as goal
 
 pub returns : goal.returns
 returns c =
@@ -15,4 +15,4 @@ returns c =
       left = fits.left;
       kept = fits.kept;
     } in
-    record { texts = legal_after_text laws; lines = legal_at_end laws }
+    record { texts = sound_after_text laws; lines = sound_at_end laws }
