@@ -35,8 +35,9 @@ pub fn container_of(rt: &impl Abort, alloc: Global, text: &str) -> Container {
 }
 
 /// Begins a call of request 70.
-fn begin(rt: &impl Abort, alloc: Global, container: &Container, worker: u32) -> Ticket
-    ensures { FitsIn container.now result.call }
+fn begin(rt: &impl Abort, alloc: Global, container: &mut Container, worker: u32) -> Ticket
+    ensures same { container.new ≡ container.old }
+    ensures fits { FitsIn container.old result.call }
 {
     container
         .begin(alloc, REQUEST, WorkerNo(worker))
