@@ -44,6 +44,10 @@ enter_refusal es call g =
     ∷ option_map (λ place. Sentinel (group_no g) place) (down_of es g)
     ∷ [])
 
+-- an exit is refused where the call is stale or has made all its steps
+abbrev pub exit_refusal : List Entry → Call → Option CallRefusal
+exit_refusal es call = first_of (revoked es call ∷ only_if (call.steps == MAX_STEPS) Steps ∷ [])
+
 -- a put is refused where the call is stale or has made all its steps, and where its row would be one too many
 abbrev pub put_refusal : List Entry → Call → RowId → Option CallRefusal
 put_refusal es call id =
@@ -57,6 +61,11 @@ abbrev pub CallAnswer : {T : Type 0} → Option CallRefusal → Result T CallRef
 CallAnswer refusal (Ok _) = refusal ≡ None
 CallAnswer refusal (Err OutOfMemory) = refusal ≡ None
 CallAnswer refusal (Err e) = refusal ≡ Some e
+
+-- the journal has room for the entry of a call
+abbrev pub HasRoomFor : JournalLimits → List Entry → Call → Option ActionEntry → Type 0
+HasRoomFor limits es call action =
+    full_for limits es 1 (entry_bytes (Commit (entry_of call action))) ≡ None
 
 -- a commit is refused where the call is stale, and where its entry would pass a limit of the journal
 abbrev pub commit_refusal : JournalLimits → List Entry → Call → Option ActionEntry → Option CommitRefusal
@@ -88,7 +97,7 @@ abbrev pub busy_from : List Entry → Scope → ℕ → ℕ → Option RebootRef
 busy_from es s g zero = None
 busy_from es s g (suc n) = first_of (busy_at es s g ∷ busy_from es s (g + 1) n ∷ [])
 
--- the least group that is busy
+-- the least group that is busy, with the place of the Down that keeps it down: the law `least_group_is_busy` says so
 unfoldable pub busy : List Entry → Scope → Option RebootRefusal
 busy es s = busy_from es s 0 MAX_GROUPS
 

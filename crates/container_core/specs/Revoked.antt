@@ -8,7 +8,7 @@ use Rattle.journal_model.specs.declared.stale.Stale.{Stale}
 use Rattle.journal_model.specs.Calls.{Call}
 use Rattle.journal_model.specs.Revoked.{IsFirstStale}
 use Rattle.journal_model.specs.Stale.{stale_in}
-use Rattle.container_core.specs.Refusals.{enter_refusal, put_refusal, commit_refusal}
+use Rattle.container_core.specs.Refusals.{enter_refusal, exit_refusal, put_refusal, commit_refusal}
 use Rattle.container_core.specs.declared.refusals.CallRefusal.TheVariants as calls
 use Rattle.container_core.specs.declared.refusals.CommitRefusal.TheVariants as commits
 
@@ -19,6 +19,7 @@ pub record IsRevoked (es : List Entry) (call : Call) : Type 0 where
   pub first : IsFirstStale es call.touched shown
   pub check : stale_in es call.touched ≡ Some shown
   pub enter : (g : ℕ) → enter_refusal es call g ≡ Some (calls.Revoked shown)
+  pub exit : exit_refusal es call ≡ Some (calls.Revoked shown)
   pub put : (id : RowId) → put_refusal es call id ≡ Some (calls.Revoked shown)
   pub commit : (limits : JournalLimits) (action : Option ActionEntry) →
       commit_refusal limits es call action ≡ Some (commits.Revoked shown)

@@ -26,11 +26,12 @@ ghost use Rattle.journal_model.specs.Stale.{IsTouch, stale_in};
 ghost use Rattle.container_core.specs.Container.{ContainerValue, new_container, with_entry, HasGrown};
 ghost use Rattle.container_core.specs.Fits.{FitsIn};
 ghost use Rattle.container_core.specs.Owners.{is_in_owner};
-ghost use Rattle.container_core.specs.Refusals.{busy, enter_refusal, put_refusal, commit_refusal, reboot_refusal, IsLeastDown};
+ghost use Rattle.container_core.specs.Refusals.{busy, enter_refusal, put_refusal, commit_refusal, reboot_refusal, HasRoomFor, IsLeastDown};
 ghost use Rattle.container_core.specs.declared.refusals.RebootRefusal.TheVariants.{Busy};
 ghost use Rattle.container_core.specs.Revoked.{IsRevoked};
 ghost use Rattle.container_core.specs.Sound.{IsSound};
 
+use call_ticket::{MAX_FRAMES, MAX_STEPS};
 use crash_base::MAX_GROUPS;
 
 /// A container is sound from its start on: after each commit, each Down and each Up that is not refused.
@@ -73,9 +74,10 @@ pub fn least_group_is_busy()
 {}
 
 /// A call that entered a group is revoked from the next Down on whose scope holds the group, and stays so whatever
-/// comes. A Down or an Up revokes no call that entered none of its groups, and changes no refusal of its puts; a Down
-/// changes no refusal of its enters of groups outside the scope. After an Up a new call may enter each group that the
-/// scope holds.
+/// comes. A Down or an Up leaves a call that entered none of its groups as it was: it is revoked by neither, its puts and
+/// its enters of groups outside the scope are refused exactly as before, and so is its commit where the journal has
+/// room for it before and after. After an Up each call that is not revoked, and has frames and steps left, may enter
+/// each group that the scope holds.
 pub fn reboots_revoke_calls()
     ensures down { (es : List Entry) (call : Call) (t : Touch) (i : ℕ) (s : Scope) →
         slice_get call.touched i ≡ Some t → t.front.0 ≤ length es →
@@ -92,8 +94,20 @@ pub fn reboots_revoke_calls()
         All (IsTouch es) call.touched → All (λ t. holds s t.group.0 ≡ false) call.touched →
         holds s g ≡ false →
         enter_refusal (es ++ Down s ∷ []) call g ≡ enter_refusal es call g }
-    ensures up { (es : List Entry) (s : Scope) (g : ℕ) (request : RequestNo) (worker : WorkerNo) →
+    ensures enter_up { (es : List Entry) (s : Scope) (call : Call) (g : ℕ) →
+        All (IsTouch es) call.touched → holds s g ≡ false →
+        enter_refusal (es ++ Up s ∷ []) call g ≡ enter_refusal es call g }
+    ensures commit { (limits : JournalLimits) (es : List Entry) (e : Entry) (call : Call)
+        (action : Option ActionEntry) →
+        All (IsTouch es) call.touched → All (λ t. is_down_of t.group.0 e ≡ false) call.touched →
+        HasRoomFor limits es call action → HasRoomFor limits (es ++ e ∷ []) call action →
+        commit_refusal limits (es ++ e ∷ []) call action ≡ commit_refusal limits es call action }
+    ensures commit_up { (limits : JournalLimits) (es : List Entry) (s : Scope) (call : Call)
+        (action : Option ActionEntry) → AreInTurn es → MayEnd es s → All (IsTouch es) call.touched →
+        commit_refusal limits (es ++ Up s ∷ []) call action ≡ commit_refusal limits es call action }
+    ensures up { (es : List Entry) (s : Scope) (g : ℕ) (call : Call) →
         AreInTurn es → MayEnd es s → holds s g ≡ true →
-        enter_refusal (es ++ Up s ∷ [])
-        (begun request worker (record { 0 = length es + 1 })) g ≡ None }
+        All (IsTouch es) call.touched → stale_in es call.touched ≡ None →
+        length call.frames < MAX_FRAMES → call.steps < MAX_STEPS →
+        enter_refusal (es ++ Up s ∷ []) call g ≡ None }
 {}

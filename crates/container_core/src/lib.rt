@@ -27,9 +27,9 @@
 //!
 //! Refusals come in a fixed order; `enter`, `put`, `commit` and `begin_reboot` each have one function in
 //! `specs/Refusals` that says which one comes first, and answer exactly that one. Out of memory is apart: it is
-//! answered only where nothing else refuses, and leaves the container as it was; the call of such a commit has ended. A caller has two duties, and the
-//! container offers the test of each: a component is entered only from one that may call it (`may_enter`), and a row is
-//! put only from the component that owns its table (`is_in_owner`).
+//! answered only where nothing else refuses, and leaves the container as it was; the call of such a commit has ended.
+//! A caller has two duties, and the container offers the test of each: a component is entered only from one that may
+//! call it (`may_enter`), and a row is put only from the component that owns its table (`is_in_owner`).
 //!
 //! A call has all the room of its ticket when it begins. That of a call which committed or was given up is kept for
 //! another one, up to sixteen tickets, and else a ticket takes new room. A commit takes exactly the room that its

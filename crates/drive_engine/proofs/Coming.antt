@@ -119,7 +119,7 @@ ends_at_line (endings.LineRefused n) left left_now written old new lines s numbe
   },
 )
 ends_at_line endings.ReadFailed left left_now written old new lines s number line law done next so_far h ends = absurd ends
-ends_at_line endings.WriteFailed left left_now written old new lines s number line law done next so_far h (t, wrote, answer, (prefix, is, begins)) = record {
+ends_at_line endings.WriteFailed left left_now written old new lines s number line law done next so_far h (t, wrote, short, answer, (prefix, is, begins)) = record {
   before = lines;
   line = line;
   state = s;
@@ -129,7 +129,9 @@ ends_at_line endings.WriteFailed left left_now written old new lines s number li
   read = h.read;
   done = done;
   sound = sound_after s lines law done;
+  short = short;
   answer = answer;
+  still_sound = sound_after t (lines ++ line ∷ []) law (end_from-push s t lines line wrote done short answer);
   begins = begins;
   written = is ∙ ap (λ o. appended o prefix) so_far ∙ appended_more written (transcript first lines) prefix;
 }

@@ -1,6 +1,6 @@
 -- The container of a scenario is sound, whatever the lines are.
 use Rattle.std.proofs.Common.{◌≡◌, ℕ, ◌+◌, ◌<◌, ◌≤◌, Bool, true, false, cond, List, [], ◌∷◌, length, Option, Some, None, option_map, refl, sym, subst, arith, length-append}
-use Rattle.std.specs.Prelude.{◌==◌, nat_lt, nat_le, not, is_some, bytes_eq, slice_set}
+use Rattle.std.specs.Prelude.{All, ◌==◌, nat_lt, nat_le, not, is_some, bytes_eq, slice_set}
 use Rattle.std.proofs.lemmas.Bool.Decides.{nat_tests}
 use Rattle.std.proofs.lemmas.List.Elements.{All-nil}
 use Rattle.call_ticket.specs.Ticket.{TicketValue, ticket_kept, ticket_left}
@@ -37,7 +37,7 @@ use Rattle.call_ticket.specs.declared.limits.TheConstants.{MAX_FRAMES, MAX_STEPS
 use Rattle.container_core.proofs.Refusing.{first_none, map_none}
 use Rattle.crash_base.specs.Refusals.{only_if}
 use Rattle.container_core.specs.declared.refusals.CallRefusal.TheVariants.{Depth, Steps, Sentinel}
-use Rattle.container_core.specs.Refusals.{group_no, revoked, enter_refusal, put_refusal, commit_refusal, reboot_refusal}
+use Rattle.container_core.specs.Refusals.{exit_refusal, group_no, revoked, enter_refusal, put_refusal, commit_refusal, reboot_refusal}
 use Rattle.container_core.specs.Sound.{IsSound}
 use Rattle.container_core.specs.Steps.{ticket_entered}
 use Rattle.container_core.specs.declared.refusals.CallRefusal.{CallRefusal}
@@ -57,9 +57,13 @@ use Rattle.drive_engine.specs.declared.callers.Caller.{Caller}
 use Rattle.drive_engine.specs.declared.callers.Caller.TheVariants.{Absent, Live, Ended as CallerEnded}
 use Rattle.drive_engine.specs.declared.head.Head.{Head}
 use Rattle.drive_engine.specs.Answer.{Answer, Refused, Done, refused_if, within}
-use Rattle.drive_engine.specs.CallLines.{step_answer, row, exit_refusal, enter_step, exit_step, put_step, call_line}
+use Rattle.drive_engine.specs.CallLines.{step_answer, row, enter_step, exit_step, put_step, call_line}
 use Rattle.drive_engine.specs.Callers.{caller_at, padded, begins, caller_line, begin_step, call_step, ended, request_of, AllFit, FitsCaller}
-use Rattle.drive_engine.specs.Engine.{running, stage_line, step, IsSoundState}
+use Rattle.drive_engine.specs.Engine.{running, stage_line, step, IsSoundState, AreUnrebooted, entries_of}
+use Rattle.journal_model.specs.declared.entry.CommitEntry.{CommitEntry}
+use Rattle.journal_model.specs.Legal.{IsLegal}
+use Rattle.journal_model.specs.Revoked.{IsUnrebooted}
+use Rattle.std.specs.List.{slice_get}
 use Rattle.drive_engine.specs.Head.{head_line, plain, with_parts, with_component, component_step, reference_step, owns_step, limit_step}
 use Rattle.drive_engine.specs.Running.{RunningState, started, with_callers, with_journal, commits, caller_commits, caller_drops, commit_step, drop_step, scope_of, goes_down, reboots, down_step, up_step, reboot_step, table_step, journal_step, event_line}
 use Rattle.drive_engine.specs.State.{State, Heading, Running}
@@ -415,3 +419,11 @@ sound_at_end laws lines = sound_of_going (last_state (end_from first 1 lines)) (
 pub sound_after_text : (laws : ContainerLaws) (text : List ℕ) → IsSoundState (last_state (end_of text))
 unfolding end_of
 sound_after_text laws text = sound_at_end laws (lines_of text)
+
+-- what journals that are legal promise of their commits
+abbrev CommitLaw : Type 0
+CommitLaw = (base : List RowWrite) (es : List Entry) (place : ℕ) (e : CommitEntry) → IsLegal base es → slice_get es place ≡ Some (Commit e) → All (λ t. IsUnrebooted es t.group.0 t.front.0 place) e.touched
+
+pub unrebooted : CommitLaw → (s : State) → IsSoundState s → AreUnrebooted (entries_of s)
+unrebooted law (Heading head) sound = λ place e there. absurd (cc)
+unrebooted law (Running r) sound = λ place e there. law r.container.start.base r.container.entries place e sound.legal there

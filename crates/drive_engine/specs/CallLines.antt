@@ -10,7 +10,7 @@ use Rattle.journal_model.specs.declared.entry.Entry.{Entry}
 use Rattle.journal_model.specs.Calls.{Call}
 use Rattle.container_core.specs.Container.{ContainerValue}
 use Rattle.container_core.specs.Owners.{is_in_owner, may_enter}
-use Rattle.container_core.specs.Refusals.{revoked, enter_refusal, put_refusal}
+use Rattle.container_core.specs.Refusals.{enter_refusal, exit_refusal, put_refusal}
 use Rattle.container_core.specs.Steps.{ticket_entered}
 use Rattle.container_core.specs.declared.refusals.CallRefusal.{CallRefusal}
 use Rattle.container_core.specs.declared.refusals.CallRefusal.TheVariants.{Steps}
@@ -33,10 +33,6 @@ enter_step c caller ticket name =
     (step_answer caller ticket
     (enter_refusal c.entries ticket.call (group_of c.start.deployment x))
     (ticket_entered c.entries (group_of c.start.deployment x) (component_no x) ticket)))
-
--- an exit is refused where the call is stale, and where it has made all its steps
-abbrev pub exit_refusal : List Entry → Call → Option CallRefusal
-exit_refusal es call = first_of (revoked es call ∷ only_if (call.steps == MAX_STEPS) Steps ∷ [])
 
 -- The component that was entered last is left. Refused is a call that is in none.
 unfoldable pub exit_step : ContainerValue → ℕ → TicketValue → Answer TicketValue

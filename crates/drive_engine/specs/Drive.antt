@@ -90,7 +90,9 @@ pub record StopsAtFailedWrite (x : Exchange) : Type 0 where
   pub read : AreRead x (before ++ line ∷ [])
   pub done : end_from first 1 before ≡ Ended state
   pub sound : IsSoundState state
+  pub short : length line ≤ MAX_LINE_BYTES
   pub answer : line_answer state line ≡ Done after wrote
+  pub still_sound : IsSoundState after
   pub begins : IsPrefix prefix wrote
   pub written : IsWritten x (transcript first before ++ prefix)
 
@@ -101,7 +103,7 @@ pub record StopsOutOfMemory (x : Exchange) : Type 0 where
   pub read : AreReadWithFeeds x before
   pub done : HasDone x before state
 
--- More bytes were read than a scenario may have, after the lines that end within these were done.
+-- More bytes were read than a scenario may have, after the lines that end within its limit were done.
 pub record StopsPastLimit (x : Exchange) : Type 0 where
   pub text : List ℕ
   pub more : List ℕ

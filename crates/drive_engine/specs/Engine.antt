@@ -1,5 +1,9 @@
 -- The state of a scenario, and what a line does to it.
-use Rattle.std.specs.Prelude.{◌≡◌, if◌then◌else◌, None}
+use Rattle.std.specs.Prelude.{◌≡◌, ℕ, if◌then◌else◌, List, [], Some, None, slice_get, All}
+use Rattle.journal_model.specs.declared.entry.CommitEntry.{CommitEntry}
+use Rattle.journal_model.specs.declared.entry.Entry.{Entry}
+use Rattle.journal_model.specs.declared.entry.Entry.TheVariants.{Commit}
+use Rattle.journal_model.specs.Revoked.{IsUnrebooted}
 use Rattle.container_core.specs.Sound.{IsSound}
 use Rattle.deployment.specs.Refusals.{deploy_refusal}
 use Rattle.scenario_text.specs.declared.line.Line.{Line}
@@ -34,6 +38,16 @@ running (Running r) = Running r
 -- one line: the first event line starts the container
 abbrev pub step : State → Line → Answer State
 step s line = stage_line (if is_event line then running s else s) line
+
+-- the journal of a state, which is empty where there is no container yet
+abbrev pub entries_of : State → List Entry
+entries_of (Heading head) = []
+entries_of (Running r) = r.container.entries
+
+-- No group that a commit's call entered was rebooted between the call's first entering of it and the commit.
+abbrev pub AreUnrebooted : List Entry → Type 0
+AreUnrebooted es = (place : ℕ) (e : CommitEntry) → slice_get es place ≡ Some (Commit e) →
+    All (λ t. IsUnrebooted es t.group.0 t.front.0 place) e.touched
 
 -- There is no container yet, or it is sound.
 abbrev pub IsSoundState : State → Type 0

@@ -35,7 +35,8 @@ EndsAtLine (endings.LineRefused n) number s line old new =
     (n ≡ number) × (length line ≤ MAX_LINE_BYTES) × (line_answer s line ≡ Refused) × (new ≡ old)
 EndsAtLine endings.ReadFailed number s line old new = ⊥
 EndsAtLine endings.WriteFailed number s line old new =
-    (t : State) × (text : List ℕ) × (line_answer s line ≡ Done t text) × AppendsPrefix old new text
+    (t : State) × (text : List ℕ) × (length line ≤ MAX_LINE_BYTES)
+    × (line_answer s line ≡ Done t text) × AppendsPrefix old new text
 EndsAtLine (endings.LineTooLong n) number s line old new =
     (n ≡ number) × (MAX_LINE_BYTES < length line) × (new ≡ old)
 EndsAtLine endings.OutOfMemory number s line old new = new ≡ old

@@ -11,8 +11,9 @@
 //! ```
 //!
 //! Which status a text calls for is `CallsFor` of `specs/Command`; the laws `texts_call_for_a_status` and
-//! `texts_call_for_one_status` say that there is exactly one. The law `containers_are_sound` says that the container
-//! of a scenario is sound, however the scenario ends: no commit comes after a reboot of a group that its call entered.
+//! `texts_call_for_one_status` say that there is exactly one. The laws `containers_are_sound` and
+//! `no_text_commits_after_a_reboot` say that the container of a scenario is sound, however the scenario ends, and what
+//! that means for its commits.
 //!
 //! A scenario takes room for one piece and one line, however long it is. A line visits its bytes and those that it
 //! writes, and what its call of the container visits; a begin also makes a place for each caller of a lesser number
@@ -39,5 +40,8 @@ pub use command::run_command;
 pub use drive::MAX_SCENARIO_BYTES;
 pub use ending::Ending;
 pub use groups::MAX_DESCRIPTOR_BYTES;
-pub use laws::{containers_are_sound, texts_call_for_a_status, texts_call_for_one_status};
+pub use laws::{
+    containers_are_sound, no_text_commits_after_a_reboot, texts_call_for_a_status,
+    texts_call_for_one_status,
+};
 pub use words::{Command, USAGE};

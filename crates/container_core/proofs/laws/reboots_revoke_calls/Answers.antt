@@ -1,5 +1,5 @@
 use Rattle.journal_model.proofs.Revoking.{stale_in-beside}
-use Rattle.container_core.proofs.Revoking.{down_revokes, revoked_lasts, put_beside, enter_beside, enter_up}
+use Rattle.container_core.proofs.Revoking.{down_revokes, revoked_lasts, put_beside, enter_beside, enter_up_beside, commit_beside, commit_up, enter_up}
 use Rattle.container_core.proofs.laws.reboots_revoke_calls.Goals as goal
 
 pub returns-clause-down : goal.returns-clause-down
@@ -16,6 +16,15 @@ returns-clause-put c = put_beside
 
 pub returns-clause-enter_down : goal.returns-clause-enter_down
 returns-clause-enter_down c = enter_beside
+
+pub returns-clause-enter_up : goal.returns-clause-enter_up
+returns-clause-enter_up c = enter_up_beside
+
+pub returns-clause-commit : goal.returns-clause-commit
+returns-clause-commit c = commit_beside
+
+pub returns-clause-commit_up : goal.returns-clause-commit_up
+returns-clause-commit_up c = commit_up
 
 pub returns-clause-up : goal.returns-clause-up
 returns-clause-up c = enter_up
