@@ -1,4 +1,5 @@
 -- The search for a group that is down.
+use Rattle.deployment.specs.Groups.{group_no}
 use Rattle.std.proofs.Common.{ℕ, suc, zero, ◌≡◌, ◌+◌, ◌-◌, ◌<◌, ◌≤◌, Option, Some, None, option_map, List, [], ◌∷◌, true, false, Bool, if◌then◌else◌, inl, inr, refl, sym, ◌∙◌, ap, subst, arith}
 use Rattle.std.proofs.lemmas.Bool.{cases_lt}
 use Rattle.crash_base.specs.declared.numbers.GroupNo.{GroupNo}
@@ -11,7 +12,7 @@ use Rattle.journal_model.specs.declared.entry.Entry.{Entry}
 use Rattle.journal_model.specs.Reboots.{down_of}
 use Rattle.container_core.specs.declared.refusals.RebootRefusal.{RebootRefusal}
 use Rattle.container_core.specs.declared.refusals.RebootRefusal.TheVariants.{Busy}
-use Rattle.container_core.specs.Refusals.{busy, busy_from, busy_at, group_no, IsLeastDown}
+use Rattle.container_core.specs.Refusals.{busy, busy_from, busy_at, IsLeastDown}
 use Rattle.container_core.proofs.Refusing.{first_none, map_none}
 
 pub busy_first : (es : List Entry) (s : Scope) → busy es s ≡ busy_from es s 0 MAX_GROUPS

@@ -1,4 +1,5 @@
 -- Which refusal a call of the container meets first.
+use Rattle.deployment.specs.Groups.{group_no}
 use Rattle.std.specs.Prelude.{◌≡◌, ℕ, zero, suc, ◌+◌, ◌<◌, ◌==◌, true, if◌then◌else◌, Option, Some, None, Result, Ok, Err, List, [], ◌∷◌, length, option_map}
 use Rattle.crash_base.specs.declared.numbers.GroupNo.{GroupNo}
 use Rattle.crash_base.specs.declared.numbers.Place.{Place}
@@ -25,10 +26,6 @@ use Rattle.container_core.specs.declared.refusals.CommitRefusal.TheVariants as c
 use Rattle.container_core.specs.declared.refusals.RebootRefusal.{RebootRefusal}
 use Rattle.container_core.specs.declared.refusals.RebootRefusal.TheVariants as reboots
 use Rattle.container_core.specs.declared.refusals.Refused.{Refused}
-
--- the group of a number
-abbrev pub group_no : ℕ → GroupNo
-group_no n = record { 0 = n }
 
 -- a step of a call that has a stale touch is refused
 abbrev pub revoked : List Entry → Call → Option CallRefusal

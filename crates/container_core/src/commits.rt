@@ -27,6 +27,7 @@ fn full_for_call(journal: &Journal, ticket: &Ticket, action: &Option<ActionEntry
     ensures { result ≡ full_for journal.now.limits journal.now.entries 1
         (entry_bytes (Commit (entry_of ticket.now.call action.now))) }
 {
+    // A limit is below 2^64, so an entry of as many bytes passes it.
     let _limits = journal.limits();
     match bytes_of_call(ticket, action) {
         Some(bytes) => journal.full_for(1, bytes),

@@ -18,7 +18,7 @@ use Rattle.crash_base.specs.declared.scope.TheConstants.{MAX_GROUPS}
 use Rattle.crash_base.proofs.Positions.{position-some}
 use Rattle.deployment.specs.declared.parts.ComponentPart.{ComponentPart}
 use Rattle.deployment.specs.declared.parts.Parts.{Parts}
-use Rattle.deployment.specs.Groups.{group_of}
+use Rattle.deployment.specs.Groups.{group_no, group_of}
 use Rattle.deployment.specs.Parts.{component_no, named, owner_of}
 use Rattle.deployment.proofs.Grouping.{group_least}
 use Rattle.journal_model.specs.declared.entry.ActionEntry.{ActionEntry}
@@ -37,7 +37,7 @@ use Rattle.call_ticket.specs.declared.limits.TheConstants.{MAX_FRAMES, MAX_STEPS
 use Rattle.container_core.proofs.Refusing.{first_none, map_none}
 use Rattle.crash_base.specs.Refusals.{only_if}
 use Rattle.container_core.specs.declared.refusals.CallRefusal.TheVariants.{Depth, Steps, Sentinel}
-use Rattle.container_core.specs.Refusals.{exit_refusal, group_no, revoked, enter_refusal, put_refusal, commit_refusal, reboot_refusal}
+use Rattle.container_core.specs.Refusals.{exit_refusal, revoked, enter_refusal, put_refusal, commit_refusal, reboot_refusal}
 use Rattle.container_core.specs.Sound.{IsSound}
 use Rattle.container_core.specs.Steps.{ticket_entered}
 use Rattle.container_core.specs.declared.refusals.CallRefusal.{CallRefusal}

@@ -1,19 +1,14 @@
 -- Lines of one live call.
-use Rattle.std.specs.Prelude.{ℕ, ◌==◌, not, List, [], ◌∷◌, length, Option, Some, None}
+use Rattle.std.specs.Prelude.{ℕ, ◌==◌, not, List, [], length, Option, Some, None}
 use Rattle.crash_base.specs.declared.rows.RowWrite.{RowWrite}
-use Rattle.crash_base.specs.Refusals.{first_of, only_if}
-use Rattle.call_ticket.specs.declared.limits.TheConstants.{MAX_STEPS}
 use Rattle.call_ticket.specs.Ticket.{TicketValue, ticket_kept, ticket_left}
 use Rattle.deployment.specs.Groups.{group_of}
 use Rattle.deployment.specs.Parts.{named, component_no}
-use Rattle.journal_model.specs.declared.entry.Entry.{Entry}
-use Rattle.journal_model.specs.Calls.{Call}
 use Rattle.container_core.specs.Container.{ContainerValue}
 use Rattle.container_core.specs.Owners.{is_in_owner, may_enter}
 use Rattle.container_core.specs.Refusals.{enter_refusal, exit_refusal, put_refusal}
 use Rattle.container_core.specs.Steps.{ticket_entered}
 use Rattle.container_core.specs.declared.refusals.CallRefusal.{CallRefusal}
-use Rattle.container_core.specs.declared.refusals.CallRefusal.TheVariants.{Steps}
 use Rattle.drive_engine.specs.declared.call_lines.CallLine.{CallLine}
 use Rattle.drive_engine.specs.declared.call_lines.CallLine.TheVariants as calls
 use Rattle.drive_engine.specs.Answer.{Answer, Done, refused_if, or_refused}

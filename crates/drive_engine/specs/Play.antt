@@ -43,8 +43,8 @@ EndsAtLine endings.OutOfMemory number s line old new = new ≡ old
 EndsAtLine endings.DescriptorsRefused number s line old new = ⊥
 EndsAtLine endings.ScenarioTooLong number s line old new = ⊥
 
--- A scenario has come so far: of what was taken from the input, these bytes and those past them were not looked at, and
--- the lines before were done. It may have so many bytes more.
+-- A scenario has come so far: of what was taken from the input, first come lines, which were done; then a part of a
+-- line, which is kept; and then bytes that were not looked at, of which the last are past the limit of a scenario.
 pub record HasCome (x : Exchange) (more : ℕ) (unread past : List ℕ) (p : PlayState) : Type 0 where
   pub lines : List (List ℕ)
   pub taken : x.left_before

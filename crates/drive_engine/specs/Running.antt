@@ -5,7 +5,7 @@ use Rattle.crash_base.specs.declared.names.TheConstants.{APPLICATION}
 use Rattle.crash_base.specs.declared.scope.Scope.{Scope}
 use Rattle.crash_base.specs.declared.scope.Scope.TheVariants.{Group, App}
 use Rattle.deployment.specs.declared.parts.Parts.{Parts}
-use Rattle.deployment.specs.Groups.{group_of}
+use Rattle.deployment.specs.Groups.{group_no, group_of}
 use Rattle.deployment.specs.Parts.{named}
 use Rattle.journal_model.specs.declared.entry.Entry.{Entry}
 use Rattle.journal_model.specs.declared.entry.Entry.TheVariants.{Commit, Down, Up}
@@ -15,7 +15,7 @@ use Rattle.journal_model.specs.Rows.{rows_after}
 use Rattle.scenario_text.specs.declared.line.Line.{Line}
 use Rattle.scenario_text.specs.declared.line.Line.TheVariants as lines
 use Rattle.container_core.specs.Container.{ContainerValue, new_container, with_entry}
-use Rattle.container_core.specs.Refusals.{group_no, commit_refusal, reboot_refusal}
+use Rattle.container_core.specs.Refusals.{commit_refusal, reboot_refusal}
 use Rattle.container_core.specs.declared.refusals.CommitRefusal.{CommitRefusal}
 use Rattle.container_core.specs.declared.refusals.RebootRefusal.{RebootRefusal}
 use Rattle.drive_engine.specs.declared.call_lines.CallLine.TheVariants as calls

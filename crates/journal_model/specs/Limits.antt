@@ -64,7 +64,7 @@ pub record IsWithin (limits : JournalLimits) (es : List Entry) : Type 0 where
   pub entries : places es ≤ limits.entries
   pub bytes : bytes_of es ≤ limits.bytes
 
--- a number of bytes, if it is one that a count of bytes may be
+-- a number of bytes, where a u64 holds it
 abbrev pub counted : ℕ → Option ℕ
 counted n = if nat_lt n (2 ^ 64) then Some n else None
 

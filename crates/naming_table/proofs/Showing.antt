@@ -7,14 +7,14 @@ use Rattle.crash_base.specs.declared.numbers.Place.{Place}
 use Rattle.crash_base.proofs.Positions.{position-passes}
 use Rattle.deployment.specs.declared.parts.ComponentPart.{ComponentPart}
 use Rattle.deployment.specs.declared.parts.Parts.{Parts}
-use Rattle.deployment.specs.Groups.{group_of}
+use Rattle.deployment.specs.Groups.{group_no, group_of}
 use Rattle.deployment.specs.Parts.{component_no, named}
 use Rattle.deployment.proofs.Soundness.{unnamed, map_none}
 use Rattle.journal_model.specs.declared.entry.Entry.{Entry}
 use Rattle.journal_model.specs.Reboots.{generation, down_of, status_of}
 use Rattle.naming_table.specs.declared.binding.Binding.{Binding}
 use Rattle.naming_table.specs.declared.binding.Binding.TheVariants.{Live, Sentinel}
-use Rattle.naming_table.specs.Binding.{group_no, live_unless, component_binding, binding_in}
+use Rattle.naming_table.specs.Binding.{live_unless, component_binding, binding_in}
 use Rattle.naming_table.proofs.Finding.{named_part}
 
 abbrev binding_after : Parts → List Entry → ℕ → Binding

@@ -6,7 +6,7 @@ use Rattle.crash_base.specs.declared.numbers.GroupNo.{GroupNo}
 use Rattle.crash_base.specs.declared.numbers.Place.{Place}
 use Rattle.deployment.specs.declared.parts.ComponentPart.{ComponentPart}
 use Rattle.deployment.specs.declared.parts.Parts.{Parts}
-use Rattle.deployment.specs.Groups.{group_of}
+use Rattle.deployment.specs.Groups.{group_no, group_of}
 use Rattle.deployment.specs.Parts.{component_no, named}
 use Rattle.journal_model.specs.declared.entry.Entry.{Entry}
 use Rattle.journal_model.specs.declared.status.GroupStatus.{GroupStatus}
@@ -14,10 +14,6 @@ use Rattle.journal_model.specs.Reboots.{status_of}
 use Rattle.naming_table.specs.declared.binding.Binding.{Binding}
 use Rattle.naming_table.specs.declared.binding.Binding.TheVariants.{Live, Sentinel}
 use Rattle.naming_table.specs.declared.bound.BoundName.{BoundName}
-
--- the group of a number
-abbrev pub group_no : ℕ → GroupNo
-group_no n = record { 0 = n }
 
 -- a component's name, with its group
 abbrev pub bound_name : Parts → ℕ × ComponentPart → BoundName

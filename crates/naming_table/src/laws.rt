@@ -6,7 +6,7 @@ ghost use Rattle.crash_base.specs.declared.numbers.Place.{Place};
 ghost use Rattle.crash_base.specs.declared.scope.Scope.{Scope};
 ghost use Rattle.crash_base.specs.Scope.{holds};
 ghost use Rattle.deployment.specs.declared.parts.Parts.{Parts};
-ghost use Rattle.deployment.specs.Groups.{group_of};
+ghost use Rattle.deployment.specs.Groups.{group_no, group_of};
 ghost use Rattle.deployment.specs.Parts.{named};
 ghost use Rattle.journal_model.specs.declared.entry.CommitEntry.{CommitEntry};
 ghost use Rattle.journal_model.specs.declared.entry.Entry.{Entry};
@@ -16,7 +16,7 @@ ghost use Rattle.journal_model.specs.Reboots.{generation, down_of};
 ghost use Rattle.journal_model.specs.Statuses.{statuses_first};
 ghost use Rattle.naming_table.specs.declared.binding.Binding.TheVariants.{Live, Sentinel};
 ghost use Rattle.naming_table.specs.declared.bound.BoundName.{BoundName};
-ghost use Rattle.naming_table.specs.Binding.{binding_in, component_binding, group_no};
+ghost use Rattle.naming_table.specs.Binding.{binding_in, component_binding};
 ghost use Rattle.naming_table.specs.Names.{NamesValue, new_names, status_at, binding_now, Follows};
 ghost use Rattle.naming_table.specs.Steps.{Step, SetDown, SetUp, after_steps, is_step_of, is_set_down_of};
 

@@ -1,7 +1,6 @@
-use Rattle.std.proofs.Common.{◌<◌, List, length, subst, sym}
-use Rattle.container_core.specs.Container.{ContainerValue}
+use Rattle.std.proofs.Common.{List, subst, sym}
 use Rattle.drive_engine.specs.declared.callers.Caller.{Caller}
-use Rattle.drive_engine.specs.Callers.{AllFit, FitsCaller}
+use Rattle.drive_engine.specs.Callers.{AllFit}
 use Rattle.drive_engine.proofs.Fitting.{fit_placed}
 use Rattle.drive_engine.proofs.callers.Callers.begin_step.Goals as goal
 
