@@ -6,6 +6,7 @@
 //! the laws in `laws` and `reboot_laws` say what the definitions promise to each other.
 #![tactic(auto)]
 
+mod bytes;
 mod entry;
 mod laws;
 mod limits;
@@ -14,6 +15,7 @@ mod stale;
 mod status;
 mod statuses;
 
+pub use bytes::{read_bytes, value_bytes, written_bytes};
 pub use entry::{
     ActionEntry, CommitEntry, DoneText, Entry, Mark, MarkList, ReadMark, SessionChange, Touch,
     TouchList,
