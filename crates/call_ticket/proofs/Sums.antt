@@ -1,6 +1,6 @@
 -- Sums of few small terms.
-use Rattle.std.proofs.Common.{ℕ, ◌+◌, ◌*◌, ◌<◌, ◌≤◌, List, length, take, get_or, sum_by, All, mul-le-mul_right, arith}
-use Rattle.std.proofs.lemmas.List.Sums.{sum_by-le, sum_by_more_le}
+use Rattle.std.proofs.Common.{ℕ, ◌+◌, ◌*◌, ◌≤◌, List, length, sum_by, All, mul-le-mul_right, arith}
+use Rattle.std.proofs.lemmas.List.Sums.{sum_by-le}
 use Rattle.crash_base.specs.declared.rows.RowWrite.{RowWrite}
 use Rattle.crash_base.specs.declared.rows.TheConstants.{MAX_ROW_BYTES}
 use Rattle.journal_model.specs.declared.entry.Mark.{Mark}
@@ -11,10 +11,6 @@ use Rattle.call_ticket.specs.Within.{IsShortMark, IsShortWrite}
 -- the whole sum
 small_sum : {X : Type 0} (f : X → ℕ) (xs : List X) (n m : ℕ) → length xs ≤ n → All (λ x. f x ≤ m) xs → sum_by f xs ≤ n * m
 small_sum f xs n m few small = omega (arith, sum_by-le f m xs small, mul-le-mul_right m few)
-
--- the sum so far, and the next term
-pub small_sum_so_far : {X : Type 0} (f : X → ℕ) (xs : List X) (n m i : ℕ) (d : X) → length xs ≤ n → All (λ x. f x ≤ m) xs → i < length xs → sum_by f (take i xs) + f (get_or xs i d) ≤ n * m
-small_sum_so_far f xs n m i d few small within = omega (arith, sum_by_more_le f xs i d within, small_sum f xs n m few small)
 
 pub small_call : (marks : List Mark) (writes : List RowWrite) → length marks ≤ MAX_MARKS → All IsShortMark marks → length writes ≤ MAX_WRITES → All IsShortWrite writes → call_bytes marks writes ≤ (MAX_MARKS + MAX_WRITES) * MAX_ROW_BYTES
 small_call marks writes reads values puts rows =

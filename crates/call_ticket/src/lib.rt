@@ -22,7 +22,6 @@
 //! `take_parts` moves the items into vectors that are just large enough, so that the ticket can be renewed.
 #![tactic(auto)]
 
-mod bytes;
 mod limits;
 mod parts;
 mod search;

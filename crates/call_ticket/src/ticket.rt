@@ -8,14 +8,13 @@ ghost use Rattle.journal_model.specs.Limits.{call_bytes, value_bytes};
 ghost use Rattle.call_ticket.specs.Ticket.{ticket_begun, top, top_instance, IsFirst, with_touch, with_frame, ticket_left, is_marked, ticket_read, ticket_kept, is_full_for, parts_of};
 ghost use Rattle.call_ticket.specs.Within.{AreOfOtherGroups, IsShortMark, IsShortWrite};
 
-use crate::bytes::{bytes_of_marks, bytes_of_writes};
 use crate::limits::{MAX_FRAMES, MAX_MARKS, MAX_STEPS, MAX_WRITES};
 use crate::parts::TicketParts;
 use crate::search::{add_write, bytes_of_write, is_marked};
 use crash_base::{
     ComponentNo, GroupNo, Items, OutOfMemory, Place, RequestNo, RowBytes, RowId, RowWrite, WorkerNo,
 };
-use journal_model::{Mark, ReadMark, Touch};
+use journal_model::{Mark, ReadMark, Touch, read_bytes, written_bytes};
 use std::alloc::Global;
 use std::marker::Model;
 
@@ -241,7 +240,7 @@ impl Ticket {
         ensures bytes { result ≡ call_bytes self.now.call.marks self.now.call.writes }
         ensures limit { result ≤ (MAX_MARKS + MAX_WRITES) * MAX_ROW_BYTES }
     {
-        bytes_of_marks(&self.marks) + bytes_of_writes(&self.writes)
+        read_bytes(&self.marks) + written_bytes(&self.writes)
     }
 
     /// Opens a frame of a component, which this instance serves, and adds the touch of its group where that

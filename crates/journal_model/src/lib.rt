@@ -6,6 +6,7 @@
 //! the laws in `laws` and `reboot_laws` say what the definitions promise to each other.
 #![tactic(auto)]
 
+mod bytes;
 mod entry;
 mod laws;
 mod limits;
@@ -14,6 +15,7 @@ mod stale;
 mod status;
 mod statuses;
 
+pub use bytes::{read_bytes, value_bytes, written_bytes};
 pub use entry::{
     ActionEntry, CommitEntry, DoneText, Entry, Mark, MarkList, ReadMark, SessionChange, Touch,
     TouchList,
@@ -26,7 +28,7 @@ pub use limits::{FullAt, JournalLimits, MAX_ENTRIES, MAX_JOURNAL_BYTES};
 pub use reboot_laws::{
     downs_are_found, journals_fill, no_commit_after_a_reboot, stale_calls_stay_stale,
     staleness_shows_in_generations, statuses_are_within, statuses_follow_entries,
-    undone_downs_are_found,
+    undone_downs_are_found, what_is_down_can_come_up,
 };
 pub use stale::Stale;
 pub use status::GroupStatus;

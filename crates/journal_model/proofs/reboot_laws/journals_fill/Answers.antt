@@ -2,6 +2,7 @@ use Rattle.std.proofs.Common.{◌∷◌, [], arith, length-append}
 use Rattle.journal_model.specs.declared.entry.Entry.TheVariants.{Commit, Down, Up}
 use Rattle.journal_model.proofs.Filling.{bytes_of-push, undone_downs-commit, undone_downs-down, undone_downs-up}
 use Rattle.journal_model.proofs.Growing.{turns_push}
+use Rattle.journal_model.proofs.Undone.{undone_counted}
 use Rattle.journal_model.proofs.reboot_laws.journals_fill.Goals as goal
 
 pub returns-clause-bytes : goal.returns-clause-bytes
@@ -18,3 +19,6 @@ returns-clause-up c = λ es s turns may. omega (arith, undone_downs-up es s turn
 
 pub returns-clause-turns : goal.returns-clause-turns
 returns-clause-turns c = turns_push
+
+pub returns-clause-counted : goal.returns-clause-counted
+returns-clause-counted c = undone_counted

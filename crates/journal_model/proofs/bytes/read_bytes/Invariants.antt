@@ -1,7 +1,7 @@
 use Rattle.std.proofs.Common.{◌≡◌, ◌+◌, length, sum_by}
 use Rattle.journal_model.specs.declared.entry.Mark.{Mark}
 use Rattle.journal_model.specs.Limits.{value_bytes}
-use Rattle.commit_journal.proofs.bytes.read_bytes.Given as goal
+use Rattle.journal_model.proofs.bytes.read_bytes.Given as goal
 
 abbrev pub invariant-loop-rest : goal.invariant-loop-rest
 invariant-loop-rest l = l.bytes + sum_by (λ (m : Mark). value_bytes m.value) l.rest ≡ sum_by (λ (m : Mark). value_bytes m.value) l.marks
