@@ -1,2 +1,5 @@
 pub mod Prefixes
 pub mod Telling
+pub mod PlaceOrder
+pub mod Placing
+pub mod FailedCalls

@@ -4,4 +4,6 @@ pub mod Sink
 pub mod Keeper
 pub mod Memory
 pub mod Streams
+pub mod Places
+pub mod MapKeeper
 pub use Rattle.crash_base.specs.Rows

@@ -15,9 +15,10 @@
 //! and answers `Failed` only where that count rose (or is 2^64 - 1). So an object whose count
 //! is as it was, and below that, has answered no `Failed` since.
 //!
-//! Kinds in memory fail by a list of call numbers (`BytesSource`, `BytesSink`) or never
+//! Kinds in memory fail by a list of call numbers (`BytesSource`, `BytesSink`, `MapKeeper`) or never
 //! (`SureSource`, `SureSink`, `SureKeeper`), and their contracts say exactly what each call answers
-//! and leaves. `InputSource` and `OutputSink` are adapters over the standard streams.
+//! and leaves. A `MapKeeper` keeps its rows in an ordered map, with one place for each id. A keeper
+//! may be handed to another thread. `InputSource` and `OutputSink` are adapters over the standard streams.
 #![tactic(auto)]
 
 mod bytes_sink;
@@ -29,7 +30,9 @@ mod input_source;
 mod keeper;
 mod laws;
 mod lists;
+mod map_keeper;
 mod output_sink;
+mod row_map;
 mod sink;
 mod source;
 mod sure_keeper;
@@ -44,6 +47,7 @@ pub use input_source::InputSource;
 pub use keeper::{Keeper, KeeperFault};
 pub use laws::{pieces_join, prefixes_join, telling_goes_back};
 pub use lists::{CallList, SizeList};
+pub use map_keeper::MapKeeper;
 pub use output_sink::OutputSink;
 pub use sink::{Sink, write_all};
 pub use source::Source;

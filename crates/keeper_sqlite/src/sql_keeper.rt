@@ -1,0 +1,220 @@
+//! A keeper whose rows stand in a table of a database.
+
+ghost use Rattle.std.specs.Prelude.{◌≡◌, ◌≢◌, ◌↔◌, ◌≤◌, None, OnOk, IfOk, IfErr};
+ghost use Rattle.outside.specs.Faults.{Rose};
+ghost use Rattle.sqlite.specs.Held.{state};
+ghost use Rattle.keeper_sqlite.specs.Faults.{count_after};
+ghost use Rattle.keeper_sqlite.specs.RowsTable.{HasOther};
+
+use crate::rows_table::{MAKE_TABLE, has_other};
+use crash_base::{RowBytes, RowId, RowList, RowWrite, WriteList};
+use outside::{Keeper, KeeperFault};
+use sqlite::types::ValueRef;
+use sqlite::{Alter, Connection, Error, ErrorCode, Row, params};
+use std::alloc::Global;
+use std::marker::Model;
+
+/// All rows, in order of id: the keys are as long as each other, so their bytes are in the order of
+/// the numbers.
+const ALL_ROWS: &str = "SELECT t, k, v FROM crash_rows ORDER BY t, k";
+
+/// Puts a row in the place of the one of its id, if there is one.
+const PUT_ROW: &str =
+    "INSERT INTO crash_rows (t, k, v) VALUES (?1, ?2, ?3) ON CONFLICT (t, k) DO UPDATE SET v = excluded.v";
+
+/// Why no keeper was made over a database.
+#[derive(Clone, Copy, Debug)]
+pub enum OpenFault {
+    /// The allocator had no memory.
+    OutOfMemory,
+    /// Something else than the table of the rows stands under its name.
+    OtherSchema,
+    /// The database failed, or a transaction was open.
+    Failed,
+}
+
+/// A keeper over a connection, which tells nothing of its rows. Contracts see it as the count of its
+/// faults.
+#[derive(Drop)]
+pub struct SqlKeeper<S: Alter> {
+    connection: Connection<S>,
+    faults: u64,
+}
+
+impl<S: Alter> Model for SqlKeeper<S> {
+    ghost use Rattle.std.specs.Prelude.{ℕ};
+
+    ghost Value = { ℕ };
+
+    ghost view = { λ k. k.faults };
+}
+
+/// What a keeper answers for an error of the database.
+fn fault_of(error: Error) -> KeeperFault {
+    match error {
+        Error::SqliteFailure(ErrorCode::OutOfMemory) => KeeperFault::OutOfMemory,
+        _ => KeeperFault::Failed,
+    }
+}
+
+/// The table that a value names. `Failed` where it is no integer from 0 to 255.
+fn table_of(value: ValueRef<'_>) -> Result<u8, KeeperFault> {
+    match value {
+        ValueRef::Int(number) => u8::try_from(number).map_err(|_| KeeperFault::Failed),
+        _ => Err(KeeperFault::Failed),
+    }
+}
+
+/// The bytes of a value. `Failed` where it is no BLOB.
+fn bytes_of<'a>(value: ValueRef<'a>) -> Result<&'a [u8], KeeperFault> {
+    match value {
+        ValueRef::Blob(bytes) => Ok(bytes),
+        _ => Err(KeeperFault::Failed),
+    }
+}
+
+/// The key that a value spells. `Failed` where it is no BLOB of eight bytes.
+fn key_of(value: ValueRef<'_>) -> Result<u64, KeeperFault> {
+    match <[u8; 8]>::try_from(bytes_of(value)?) {
+        Ok(eight) => Ok(u64::from_be_bytes(eight)),
+        Err(_) => Err(KeeperFault::Failed),
+    }
+}
+
+/// The row that the three values of a row spell.
+fn row_of(alloc: Global, row: &Row) -> Result<RowWrite, KeeperFault> {
+    let table = table_of(row.get_ref(0).map_err(fault_of)?)?;
+    let key = key_of(row.get_ref(1).map_err(fault_of)?)?;
+    let bytes = bytes_of(row.get_ref(2).map_err(fault_of)?)?;
+    Ok(RowWrite {
+        id: RowId { table, key },
+        bytes: RowBytes::copied(alloc, bytes)?,
+    })
+}
+
+fn rows_of(alloc: Global, found: &[Row]) -> Result<RowList, KeeperFault> {
+    let mut rows = RowList::new(alloc);
+    for row in found {
+        rows.push(row_of(alloc, row)?)?;
+    }
+    Ok(rows)
+}
+
+fn all_rows<S: Alter>(
+    alloc: Global,
+    connection: &mut Connection<S>,
+) -> Result<RowList, KeeperFault> {
+    let found = connection.query_all(ALL_ROWS, &[]).map_err(fault_of)?;
+    rows_of(alloc, found.as_slice())
+}
+
+/// Puts all rows in one transaction, which is rolled back where it is not committed.
+fn put_all<S: Alter>(connection: &mut Connection<S>, writes: &[RowWrite]) -> Result<(), Error> {
+    if !connection.is_autocommit() {
+        return Err(Error::SqliteFailure(ErrorCode::TransactionState));
+    }
+    let mut transaction = connection.transaction();
+    let put = transaction.prepare(PUT_ROW)?;
+    for write in writes {
+        let key = write.id.key.to_be_bytes();
+        let values = params![
+            i64::from(write.id.table),
+            key.as_slice(),
+            write.bytes.as_slice()
+        ];
+        transaction.execute_prepared(&put, values)?;
+    }
+    transaction.commit()
+}
+
+/// Makes the table where nothing stands under its name. `Failed` where a transaction is open.
+fn make_table<S: Alter>(connection: &mut Connection<S>) -> Result<(), OpenFault>
+    ensures { IfErr result (λ fault. fault ≢ OpenFault.OtherSchema) }
+{
+    if !connection.is_autocommit() {
+        return Err(OpenFault::Failed);
+    }
+    match connection.execute(MAKE_TABLE, &[]) {
+        Ok(_) => Ok(()),
+        Err(Error::SqliteFailure(ErrorCode::OutOfMemory)) => Err(OpenFault::OutOfMemory),
+        Err(_) => Err(OpenFault::Failed),
+    }
+}
+
+impl<S: Alter> SqlKeeper<S> {
+    /// A keeper of the rows that the database has. It makes their table where nothing stands under
+    /// its name, and visits each object of the schema.
+    ///
+    /// # Errors
+    /// `OtherSchema` exactly where something else stands there, and then the database is as it was.
+    pub fn new(mut connection: Connection<S>) -> Result<SqlKeeper<S>, OpenFault>
+    where
+        S: Drop,
+        ensures count { IfOk result (λ keeper. keeper ≡ 0) }
+        ensures other { (result ≡ Err OpenFault.OtherSchema)
+            ↔ HasOther (state S.Store connection).now.schema }
+    {
+        if has_other(connection.schema()) {
+            return Err(OpenFault::OtherSchema);
+        }
+        make_table(&mut connection)?;
+        Ok(SqlKeeper {
+            connection,
+            faults: 0,
+        })
+    }
+
+    /// How often it has failed.
+    pub fn faults(&self) -> u64
+        ensures { result ≡ self.now }
+    {
+        self.faults
+    }
+
+    /// Counts a fault, and answers it.
+    fn count(&mut self, fault: KeeperFault) -> KeeperFault
+        ensures same { result ≡ fault }
+        ensures count { self.new ≡ count_after fault self.old }
+        ensures later { self.old ≤ self.new }
+    {
+        match fault {
+            KeeperFault::OutOfMemory => {}
+            KeeperFault::Failed => self.faults = self.faults.saturating_add(1),
+        }
+        fault
+    }
+}
+
+impl<S: Alter + Send> Keeper for SqlKeeper<S> {
+    ghost told = { λ _. None };
+
+    ghost faults = { λ keeper. keeper };
+
+    /// As of the trait. A row whose table is not from 0 to 255, or whose key has not eight bytes, is
+    /// `Failed`. It holds all rows twice, and copies each byte.
+    fn load(&mut self, alloc: Global) -> Result<RowList, KeeperFault>
+        ensures kept { OnOk result (self.new ≡ self.old) }
+        ensures fault { IfErr result (λ fault. self.new ≡ count_after fault self.old) }
+        ensures cause { result ≡ Err KeeperFault.Failed → Rose self.old self.new }
+        ensures count { self.old ≤ self.new }
+    {
+        match all_rows(alloc, &mut self.connection) {
+            Ok(rows) => Ok(rows),
+            Err(fault) => Err(self.count(fault)),
+        }
+    }
+
+    /// As of the trait. The writes are one transaction. Each is one statement, which looks through
+    /// the table's index by its key.
+    fn apply(&mut self, _alloc: Global, writes: &WriteList) -> Result<(), KeeperFault>
+        ensures kept { OnOk result (self.new ≡ self.old) }
+        ensures fault { IfErr result (λ fault. self.new ≡ count_after fault self.old) }
+        ensures cause { result ≡ Err KeeperFault.Failed → Rose self.old self.new }
+        ensures count { self.old ≤ self.new }
+    {
+        match put_all(&mut self.connection, writes.as_slice()) {
+            Ok(()) => Ok(()),
+            Err(error) => Err(self.count(fault_of(error))),
+        }
+    }
+}
