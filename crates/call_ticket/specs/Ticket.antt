@@ -1,16 +1,13 @@
 -- What a ticket holds, and what each step leaves of it.
 use Rattle.std.specs.Prelude.{◌≡◌, ℕ, ◌+◌, ◌-◌, ◌==◌, ◌&&◌, Bool, false, not, Option, Some, None, List, [], ◌∷◌, ◌++◌, length, take, slice_get}
-use Rattle.std.specs.List.{list_any}
 use Rattle.crash_base.specs.declared.numbers.ComponentNo.{ComponentNo}
 use Rattle.crash_base.specs.declared.numbers.Place.{Place}
 use Rattle.crash_base.specs.declared.numbers.RequestNo.{RequestNo}
 use Rattle.crash_base.specs.declared.numbers.WorkerNo.{WorkerNo}
 use Rattle.crash_base.specs.declared.row_id.RowId.{RowId}
 use Rattle.crash_base.specs.declared.rows.RowWrite.{RowWrite}
-use Rattle.crash_base.specs.RowId.{same_id}
 use Rattle.journal_model.specs.declared.entry.Mark.{Mark}
 use Rattle.journal_model.specs.declared.entry.ReadMark.{ReadMark}
-use Rattle.journal_model.specs.declared.entry.ReadMark.TheVariants.{Row, Table}
 use Rattle.journal_model.specs.declared.entry.Touch.{Touch}
 use Rattle.journal_model.specs.Calls.{Call, begun, left, is_touched, is_put, kept}
 use Rattle.call_ticket.specs.declared.limits.TheConstants.{MAX_WRITES}
@@ -61,27 +58,16 @@ ticket_left ticket = record {
   instances = take (length ticket.instances - 1) ticket.instances;
 }
 
--- whether both are marks of the same row, or of the same table
-abbrev pub same_mark : ReadMark → ReadMark → Bool
-same_mark (Row a) (Row b) = same_id a b
-same_mark (Row a) (Table u) = false
-same_mark (Table t) (Row b) = false
-same_mark (Table t) (Table u) = t == u
-
--- whether this row or table was marked as read
-abbrev pub is_marked : List Mark → ReadMark → Bool
-is_marked marks read = list_any (λ (m : Mark). same_mark m.read read) marks
-
--- a mark is added with its value where there is one
-abbrev pub with_mark : List Mark → Option ReadMark → Option (List ℕ) → List Mark
-with_mark marks None value = marks
-with_mark marks (Some read) value = marks ++ record { read = read; value = value } ∷ []
+-- a read is added with its value where there is one
+abbrev pub with_read : List Mark → Option ReadMark → Option (List ℕ) → List Mark
+with_read marks None value = marks
+with_read marks (Some read) value = marks ++ record { read = read; value = value } ∷ []
 
 -- the ticket of a call that has read
 abbrev pub ticket_read : TicketValue → Option ReadMark → Option (List ℕ) → TicketValue
 ticket_read ticket read value = record ticket {
   call = record (ticket.call) {
-    marks = with_mark ticket.call.marks read value;
+    marks = with_read ticket.call.marks read value;
     steps = ticket.call.steps + 1;
   };
 }

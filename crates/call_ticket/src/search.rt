@@ -1,10 +1,9 @@
 //! Searches of what a call read and wrote.
 
-ghost use Rattle.std.specs.Prelude.{◌≡◌, ◌<◌, ◌≤◌, length, vec_len, vec_capacity, position, option_map, false};
+ghost use Rattle.std.specs.Prelude.{◌≡◌, ◌<◌, ◌≤◌, vec_len, vec_capacity, position, option_map, false};
 ghost use Rattle.crash_base.specs.RowId.{same_id};
 ghost use Rattle.crash_base.specs.Rows.{row_in};
-ghost use Rattle.journal_model.specs.Calls.{is_put, with_write};
-ghost use Rattle.call_ticket.specs.Ticket.{same_mark, is_marked};
+ghost use Rattle.journal_model.specs.Calls.{is_put, with_write, same_mark, is_marked};
 
 use crate::limits::MAX_WRITES;
 use crash_base::{RowBytes, RowId, RowWrite};

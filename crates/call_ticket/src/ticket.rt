@@ -3,9 +3,9 @@
 ghost use Rattle.std.specs.Prelude.{◌≡◌, ◌+◌, ◌*◌, ◌<◌, ◌≤◌, [], ◌++◌, length, vec_len, vec_capacity, option_map, false, IsSome, IfOk, OnOk, OnErr, Some, All};
 ghost use Rattle.crash_base.specs.declared.rows.TheConstants.{MAX_ROW_BYTES};
 ghost use Rattle.crash_base.specs.Rows.{row_in};
-ghost use Rattle.journal_model.specs.Calls.{is_touched, is_put};
+ghost use Rattle.journal_model.specs.Calls.{is_touched, is_put, is_marked};
 ghost use Rattle.journal_model.specs.Limits.{call_bytes, value_bytes};
-ghost use Rattle.call_ticket.specs.Ticket.{ticket_begun, top, top_instance, IsFirst, with_touch, with_frame, ticket_left, is_marked, ticket_read, ticket_kept, is_full_for, parts_of};
+ghost use Rattle.call_ticket.specs.Ticket.{ticket_begun, top, top_instance, IsFirst, with_touch, with_frame, ticket_left, ticket_read, ticket_kept, is_full_for, parts_of};
 ghost use Rattle.call_ticket.specs.Within.{AreOfOtherGroups, IsShortMark, IsShortWrite};
 
 use crate::limits::{MAX_FRAMES, MAX_MARKS, MAX_STEPS, MAX_WRITES};

@@ -31,8 +31,8 @@ mod undone;
 pub use bytes::action_bytes;
 pub use journal::Journal;
 pub use journal_model::{
-    ActionEntry, CommitEntry, DoneText, Entry, FullAt, GroupStatus, GroupStatuses, JournalLimits,
-    MAX_ENTRIES, MAX_JOURNAL_BYTES, Mark, MarkList, ReadMark, SessionChange, Stale, Touch,
-    TouchList,
+    ActionEntry, CommitEntry, Conflict, DoneText, Entry, FullAt, GroupStatus, GroupStatuses,
+    JournalLimits, MAX_ENTRIES, MAX_JOURNAL_BYTES, Mark, MarkList, ReadMark, SessionChange, Stale,
+    Touch, TouchList,
 };
 pub use line::LineText;

@@ -14,3 +14,9 @@ pub mod Ending
 pub mod Filling
 pub mod Following
 pub mod Legality
+pub mod Standing
+pub mod Newest
+pub mod Conflicting
+pub mod Reading
+pub mod Listing
+pub mod Serially

@@ -1,5 +1,5 @@
 -- A call, and what its steps leave.
-use Rattle.std.specs.Prelude.{ℕ, ◌+◌, ◌-◌, ◌==◌, Bool, if◌then◌else◌, List, [], ◌∷◌, ◌++◌, length, take, Option}
+use Rattle.std.specs.Prelude.{ℕ, ◌+◌, ◌-◌, ◌==◌, Bool, false, if◌then◌else◌, List, [], ◌∷◌, ◌++◌, length, take, Option, None}
 use Rattle.std.specs.List.{list_any}
 use Rattle.crash_base.specs.declared.numbers.ComponentNo.{ComponentNo}
 use Rattle.crash_base.specs.declared.numbers.Place.{Place}
@@ -8,11 +8,15 @@ use Rattle.crash_base.specs.declared.row_id.RowId.{RowId}
 use Rattle.crash_base.specs.declared.numbers.WorkerNo.{WorkerNo}
 use Rattle.crash_base.specs.declared.rows.RowWrite.{RowWrite}
 use Rattle.crash_base.specs.RowId.{same_id}
+use Rattle.crash_base.specs.Rows.{row_in, put_all}
 use Rattle.journal_model.specs.declared.entry.ActionEntry.{ActionEntry}
 use Rattle.journal_model.specs.declared.entry.CommitEntry.{CommitEntry}
 use Rattle.journal_model.specs.declared.entry.Entry.{Entry}
 use Rattle.journal_model.specs.declared.entry.Mark.{Mark}
+use Rattle.journal_model.specs.declared.entry.ReadMark.{ReadMark}
+use Rattle.journal_model.specs.declared.entry.ReadMark.TheVariants.{Row, Table}
 use Rattle.journal_model.specs.declared.entry.Touch.{Touch}
+use Rattle.journal_model.specs.Snapshots.{table_rows}
 use Rattle.journal_model.specs.Stale.{new_touch}
 
 -- A call that has not ended. `at` is the length of the journal at its begin, and its open frames are the
@@ -73,6 +77,45 @@ with_write (x ∷ xs) w = if same_id x.id w.id then w ∷ xs else x ∷ with_wri
 -- the call has put a row
 abbrev pub kept : RowWrite → Call → Call
 kept w call = record call { writes = with_write call.writes w; steps = call.steps + 1 }
+
+-- whether both are marks of the same row, or of the same table
+abbrev pub same_mark : ReadMark → ReadMark → Bool
+same_mark (Row a) (Row b) = same_id a b
+same_mark (Row a) (Table u) = false
+same_mark (Table t) (Row b) = false
+same_mark (Table t) (Table u) = t == u
+
+-- whether this row or table was marked as read
+abbrev pub is_marked : List Mark → ReadMark → Bool
+is_marked marks read = list_any (λ (m : Mark). same_mark m.read read) marks
+
+-- what is read is marked where it was not marked before
+abbrev pub marked_with : ReadMark → Option (List ℕ) → List Mark → List Mark
+marked_with read value marks =
+    if is_marked marks read then marks else marks ++ record { read = read; value = value } ∷ []
+
+-- what a call that has put these writes finds in a row: its own put, else the row
+abbrev pub seen : List RowWrite → List RowWrite → RowId → Option (List ℕ)
+seen rows writes id = if is_put writes id then row_in writes id else row_in rows id
+
+-- what it finds in a table: the rows, with its own puts laid over
+abbrev pub listed : List RowWrite → List RowWrite → ℕ → List RowWrite
+listed rows writes t = put_all (table_rows t writes) (table_rows t rows)
+
+-- the marks after a read of a row: its own put adds none
+abbrev pub marks_read : List RowWrite → RowId → Call → List Mark
+marks_read rows id call =
+    if is_put call.writes id then call.marks else marked_with (Row id) (row_in rows id) call.marks
+
+-- the call has read a row of these rows
+abbrev pub has_read : List RowWrite → RowId → Call → Call
+has_read rows id call =
+    record call { marks = marks_read rows id call; steps = call.steps + 1 }
+
+-- the call has listed a table
+abbrev pub has_listed : ℕ → Call → Call
+has_listed t call =
+    record call { marks = marked_with (Table t) None call.marks; steps = call.steps + 1 }
 
 -- the entry of a call that commits, with the action that it made
 abbrev pub entry_of : Call → Option ActionEntry → CommitEntry

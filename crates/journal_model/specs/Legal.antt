@@ -1,5 +1,5 @@
 -- Which journals are legal.
-use Rattle.std.specs.Prelude.{◌≡◌, ℕ, ◌<◌, List, take, true, Some, None, All, slice_get}
+use Rattle.std.specs.Prelude.{◌≡◌, ℕ, ◌<◌, ◌≤◌, List, length, take, true, Some, None, All, slice_get}
 use Rattle.crash_base.specs.declared.scope.Scope.{Scope}
 use Rattle.crash_base.specs.declared.scope.TheConstants.{MAX_GROUPS}
 use Rattle.crash_base.specs.declared.rows.RowWrite.{RowWrite}
@@ -7,8 +7,13 @@ use Rattle.crash_base.specs.Scope.{holds}
 use Rattle.journal_model.specs.declared.entry.CommitEntry.{CommitEntry}
 use Rattle.journal_model.specs.declared.entry.Entry.{Entry}
 use Rattle.journal_model.specs.declared.entry.Entry.TheVariants.{Commit, Down, Up}
+use Rattle.journal_model.specs.declared.entry.Mark.{Mark}
+use Rattle.journal_model.specs.declared.entry.ReadMark.TheVariants.{Row}
 use Rattle.journal_model.specs.Fits.{IsWrite, AreApart}
 use Rattle.journal_model.specs.Reboots.{IsUndone, down_of}
+use Rattle.journal_model.specs.Requests.{commit_of}
+use Rattle.journal_model.specs.Rows.{IsRead}
+use Rattle.journal_model.specs.Snapshots.{newest}
 use Rattle.journal_model.specs.Stale.{IsTouch, IsLive}
 
 -- A commit is whole: its rows may be written, and no two of them are one row.
@@ -16,10 +21,20 @@ pub record IsWhole (e : CommitEntry) : Type 0 where
   pub writes : All IsWrite e.writes
   pub apart : AreApart e.writes
 
--- A commit may come after these entries over this base: it is whole, it entered its groups in this journal, and
--- each of them has been up since.
+-- A commit is current: its call began in these entries, what it read is what the rows had then, and neither what
+-- it read nor a row that it writes was written since.
+pub record IsCurrent (base : List RowWrite) (es : List Entry) (e : CommitEntry) : Type 0 where
+  pub at : e.at.0 ≤ length es
+  pub values : All (IsRead base (take e.at.0 es)) e.reads
+  pub reads : All (λ (m : Mark). newest es m.read ≤ e.at.0) e.reads
+  pub writes : All (λ (w : RowWrite). newest es (Row w.id) ≤ e.at.0) e.writes
+
+-- A commit may come after these entries over this base: it is whole, its request has not committed yet, it is
+-- current, it entered its groups in this journal, and each of them has been up since.
 pub record MayCommit (base : List RowWrite) (es : List Entry) (e : CommitEntry) : Type 0 where
   pub whole : IsWhole e
+  pub once : commit_of es e.request ≡ None
+  pub current : IsCurrent base es e
   pub touches : All (IsTouch es) e.touched
   pub live : All (IsLive es) e.touched
 

@@ -8,3 +8,6 @@ pub mod Fits
 pub mod Legal
 pub mod Limits
 pub mod Requests
+pub mod Snapshots
+pub mod Conflicts
+pub mod Serial

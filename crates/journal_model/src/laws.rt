@@ -11,11 +11,14 @@ ghost use Rattle.crash_base.specs.Rows.{put_all, row_in, last_write, AreOrdered}
 ghost use Rattle.journal_model.specs.declared.entry.ActionEntry.{ActionEntry};
 ghost use Rattle.journal_model.specs.declared.entry.Entry.{Entry};
 ghost use Rattle.journal_model.specs.declared.entry.Entry.TheVariants.{Commit};
-ghost use Rattle.journal_model.specs.Calls.{Call, begun, entered, left, is_put, with_write, kept, entry_of};
+ghost use Rattle.journal_model.specs.Calls.{Call, begun, entered, left, is_put, with_write, has_read, has_listed, kept, entry_of};
+ghost use Rattle.journal_model.specs.Conflicts.{conflict_of};
 ghost use Rattle.journal_model.specs.Fits.{Fits, IsWrite};
 ghost use Rattle.journal_model.specs.Legal.{IsLegal, MayCome, AreInTurn};
 ghost use Rattle.journal_model.specs.Reboots.{generation, down_of};
+ghost use Rattle.journal_model.specs.Requests.{commit_of};
 ghost use Rattle.journal_model.specs.Rows.{writes_of, row_of, rows_after};
+ghost use Rattle.journal_model.specs.Snapshots.{snapshot};
 ghost use Rattle.journal_model.specs.Stale.{stale_in};
 
 use crash_base::MAX_GROUPS;
@@ -29,7 +32,8 @@ pub fn grows_legally()
 {}
 
 /// A call fits from its begin on: after each of its steps, whatever else enters the journal meanwhile, and
-/// until it commits, which it then may where none of its touches is stale.
+/// until it commits, which it then may where its request has not committed, none of its touches is stale, and nothing
+/// that it read or writes was written since it began.
 pub fn fits_until_commit()
     ensures begun { (base : List RowWrite) (es : List Entry)
         (request : RequestNo) (worker : WorkerNo) →
@@ -39,13 +43,18 @@ pub fn fits_until_commit()
         Fits base es call → Fits base es (entered es g c call) }
     ensures left { (base : List RowWrite) (es : List Entry) (call : Call) →
         Fits base es call → Fits base es (left call) }
+    ensures read { (base : List RowWrite) (es : List Entry) (id : RowId) (call : Call) →
+        Fits base es call → Fits base es (has_read (snapshot base es call.at.0) id call) }
+    ensures listed { (base : List RowWrite) (es : List Entry) (t : ℕ) (call : Call) →
+        Fits base es call → Fits base es (has_listed t call) }
     ensures kept { (base : List RowWrite) (es : List Entry) (w : RowWrite) (call : Call) →
         IsWrite w → Fits base es call → Fits base es (kept w call) }
     ensures meanwhile { (base : List RowWrite) (es more : List Entry) (call : Call) →
         Fits base es call → Fits base (es ++ more) call }
     ensures commit { (base : List RowWrite) (es : List Entry)
         (call : Call) (action : Option ActionEntry) →
-        Fits base es call → stale_in es call.touched ≡ None →
+        Fits base es call → commit_of es call.request ≡ None →
+        stale_in es call.touched ≡ None → conflict_of es call ≡ None →
         MayCome base es (Commit (entry_of call action)) }
 {}
 

@@ -12,14 +12,14 @@ use Rattle.std.proofs.lemmas.Slice.Eq.{bytes_eq-Decides}
 use Rattle.scenario_text.specs.declared.line.TheConstants.{MAX_LINE_BYTES}
 use Rattle.scenario_text.specs.Fields.{decimal_number, caller_number, hex_bytes}
 use Rattle.scenario_text.specs.Texts.{hex_text}
-use Rattle.scenario_text.specs.Words.{words_of, no_words, one_word, two_words, four_words}
+use Rattle.scenario_text.specs.Words.{words_of, no_words, one_word, two_words, three_words, four_words}
 use Rattle.scenario_text.specs.Reading.{line_of, line_of_words, put_line, passes, is_comment_byte}
 use Rattle.scenario_text.specs.Spelling.{Spells, IsInRange, IsComment, spelling, words_of_line, caller_word}
 use Rattle.scenario_text.specs.declared.line.Line.{Line}
-use Rattle.scenario_text.specs.declared.line.Line.TheVariants.{Pass, Component, Hard, Soft, Owns, Limit, Begin, Enter, Exit, Put, Commit, Drop, Down, Up, Reboot, Table, Journal}
+use Rattle.scenario_text.specs.declared.line.Line.TheVariants.{Pass, Component, Hard, Soft, Owns, Limit, Begin, Enter, Exit, Read, List as ListLine, Put, Commit, Drop, Down, Up, Reboot, Table, Journal, Reopen}
 use Rattle.scenario_text.proofs.OneWord.{then_some, map_some}
 use Rattle.scenario_text.proofs.Splits.{words_joined, is_whole}
-use Rattle.scenario_text.proofs.WordKinds.{Kind, names, numbers, callers, bytes, one_spelled, two_spelled, four_are}
+use Rattle.scenario_text.proofs.WordKinds.{Kind, names, numbers, callers, bytes, one_spelled, two_spelled, three_spelled, four_are}
 
 -- these words, the first among them, are those of a line in its ranges
 abbrev AreWords : List (List ℕ) → Line → Type 0
@@ -69,7 +69,7 @@ made_form {A} word mk own IsIn fits first words line o later says g =
     same_line (word ∷ words) (mk a) line k there in
     form word first words line (option_map mk o) later here g
 
--- of no further word, of one and of two
+-- of no further word, of one, of two and of three
 no_form : (word : List ℕ) (made : Line) → AreWords (word ∷ []) made → (first : List ℕ) (words : List (List ℕ)) (line : Line) (later : Option Line) → (later ≡ Some line → AreWords (first ∷ words) line) → cond (bytes_eq first word) (option_map (λ _. made) (no_words words)) later ≡ Some line → AreWords (first ∷ words) line
 no_form word made fits first words line later = made_form word (λ _. made) (λ _. []) (λ _. Unit {0}) (λ _ _. fits) first words line (no_words words) later (none words)
   where
@@ -83,6 +83,9 @@ one_form K word mk fits first words line later = made_form word mk (λ a. K.word
 two_form : {A B : Type 0} (K : Kind A) (L : Kind B) (word : List ℕ) (mk : A × B → Line) → ((p : A × B) → K.IsIn p.0 × L.IsIn p.1 → AreWords (word ∷ K.word p.0 ∷ L.word p.1 ∷ []) (mk p)) → (first : List ℕ) (words : List (List ℕ)) (line : Line) (later : Option Line) → (later ≡ Some line → AreWords (first ∷ words) line) → cond (bytes_eq first word) (option_map mk (option_and_then (λ w. option_zip (K.says w.0) (L.says w.1)) (two_words words))) later ≡ Some line → AreWords (first ∷ words) line
 two_form K L word mk fits first words line later = made_form word mk (λ p. K.word p.0 ∷ L.word p.1 ∷ []) (λ p. K.IsIn p.0 × L.IsIn p.1) fits first words line (option_and_then (λ w. option_zip (K.says w.0) (L.says w.1)) (two_words words)) later (two_spelled K L words)
 
+three_form : {A B C : Type 0} (K : Kind A) (L : Kind B) (M : Kind C) (word : List ℕ) (mk : A × (B × C) → Line) → ((p : A × (B × C)) → K.IsIn p.0 × L.IsIn p.1.0 × M.IsIn p.1.1 → AreWords (word ∷ K.word p.0 ∷ L.word p.1.0 ∷ M.word p.1.1 ∷ []) (mk p)) → (first : List ℕ) (words : List (List ℕ)) (line : Line) (later : Option Line) → (later ≡ Some line → AreWords (first ∷ words) line) → cond (bytes_eq first word) (option_map mk (option_and_then (λ w. option_zip (K.says w.0) (option_zip (L.says w.1) (M.says w.2))) (three_words words))) later ≡ Some line → AreWords (first ∷ words) line
+three_form K L M word mk fits first words line later = made_form word mk (λ p. K.word p.0 ∷ L.word p.1.0 ∷ M.word p.1.1 ∷ []) (λ p. K.IsIn p.0 × L.IsIn p.1.0 × M.IsIn p.1.1) fits first words line (option_and_then (λ w. option_zip (K.says w.0) (option_zip (L.says w.1) (M.says w.2))) (three_words words)) later (three_spelled K L M words)
+
 -- what words read as, they spell
 words_spelled : (words : List (List ℕ)) (line : Line) → line_of_words words ≡ Some line → AreWords words line
 words_spelled [] line h = cc
@@ -95,6 +98,8 @@ words_spelled (first ∷ words) line h =
     one_form callers (codes "begin") (λ c. Begin c) (λ _ r. (r, refl)) first words line _ (
     two_form callers names (codes "enter") (λ p. Enter p.0 p.1) (λ _ r. (r, refl)) first words line _ (
     one_form callers (codes "exit") (λ c. Exit c) (λ _ r. (r, refl)) first words line _ (
+    three_form callers numbers numbers (codes "read") (λ p. Read p.0 p.1.0 p.1.1) (λ _ r. (r, refl)) first words line _ (
+    two_form callers numbers (codes "list") (λ p. ListLine p.0 p.1) (λ _ r. (r, refl)) first words line _ (
     form (codes "put") first words line _ _ (put_spelled words line) (
     one_form callers (codes "commit") (λ c. Commit c) (λ _ r. (r, refl)) first words line _ (
     one_form callers (codes "drop") (λ c. Drop c) (λ _ r. (r, refl)) first words line _ (
@@ -103,7 +108,8 @@ words_spelled (first ∷ words) line h =
     one_form names (codes "reboot") (λ n. Reboot n) (λ _ r. (r, refl)) first words line _ (
     no_form (codes "table") Table (tt, refl) first words line _ (
     no_form (codes "journal") Journal (tt, refl) first words line _ (
-    λ k. cc)))))))))))))))) h
+    no_form (codes "reopen") Reopen (tt, refl) first words line _ (
+    λ k. cc))))))))))))))))))) h
 
 -- the test of a byte of a comment decides what the grammar says of it, and so for comments
 comment_byte_decides : (b : ℕ) → Decides (is_comment_byte b) ((b < 128) × (b ≢ 13))
@@ -186,6 +192,8 @@ spelling_read text (Limit entries room) few (h, k) e = two_read numbers numbers 
 spelling_read text (Begin caller) few h e = one_read callers (codes "begin") (λ a. Begin a) caller text few h e refl refl refl refl
 spelling_read text (Enter caller name) few (h, k) e = two_read callers names (codes "enter") (λ a b. Enter a b) caller name text few h k e refl refl refl refl
 spelling_read text (Exit caller) few h e = one_read callers (codes "exit") (λ a. Exit a) caller text few h e refl refl refl refl
+spelling_read text (Read caller table key) few (h, t, k) e = read_short text (Read caller table key) few e (refl, words_joined (codes "read") (caller_word caller ∷ decimal table ∷ decimal key ∷ []) refl (callers.whole caller h, (numbers.whole table t, (numbers.whole key k, tt))), rw (callers.read caller h, numbers.read table t, numbers.read key k) refl)
+spelling_read text (ListLine caller table) few (h, k) e = two_read callers numbers (codes "list") (λ a b. ListLine a b) caller table text few h k e refl refl refl refl
 spelling_read text (Put caller table key row) few (h, t, k, b) e = read_short text (Put caller table key row) few e (refl, words_joined (codes "put") (caller_word caller ∷ decimal table ∷ decimal key ∷ hex_text row ∷ []) refl (callers.whole caller h, (numbers.whole table t, (numbers.whole key k, (bytes.whole row b, tt)))), rw (callers.read caller h, numbers.read table t, numbers.read key k, bytes.read row b) refl)
 spelling_read text (Commit caller) few h e = one_read callers (codes "commit") (λ a. Commit a) caller text few h e refl refl refl refl
 spelling_read text (Drop caller) few h e = one_read callers (codes "drop") (λ a. Drop a) caller text few h e refl refl refl refl
@@ -194,6 +202,7 @@ spelling_read text (Up name) few h e = one_read names (codes "up") (λ a. Up a) 
 spelling_read text (Reboot name) few h e = one_read names (codes "reboot") (λ a. Reboot a) name text few h e refl refl refl refl
 spelling_read text Table few h e = read_short text Table few e (refl, words_joined (codes "table") [] refl tt, refl)
 spelling_read text Journal few h e = read_short text Journal few e (refl, words_joined (codes "journal") [] refl tt, refl)
+spelling_read text Reopen few h e = read_short text Reopen few e (refl, words_joined (codes "reopen") [] refl tt, refl)
 
 -- what a text spells, it is read as
 spelled_read : (text : List ℕ) (line : Line) → Spells text line → line_of text ≡ Some line

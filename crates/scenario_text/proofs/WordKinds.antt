@@ -8,7 +8,7 @@ use Rattle.crash_base.specs.Names.{is_name_byte}
 use Rattle.scenario_text.specs.Fields.{name_of, decimal_number, caller_number, hex_bytes}
 use Rattle.scenario_text.specs.Texts.{hex_text}
 use Rattle.scenario_text.specs.Spelling.{IsName, IsNumber, IsCaller, AreBytes, caller_word}
-use Rattle.scenario_text.specs.Words.{one_word, two_words, four_words}
+use Rattle.scenario_text.specs.Words.{one_word, two_words, three_words, four_words}
 use Rattle.scenario_text.proofs.OneWord.{number_read, number_spelled, decimal_digits, caller_read, caller_spelled, is_name_read, name_read, name_spelled}
 use Rattle.scenario_text.proofs.Splits.{is_whole, whole_more, digits_whole, name_whole}
 use Rattle.scenario_text.proofs.Hexadecimal.{hex_spelled, hex_read, hex_whole}
@@ -64,6 +64,20 @@ two_spelled K L (v ∷ w ∷ []) p h =
     let (b, j) = L.spelled w p.1 f in
     (rw (a, b) refl, (i, j))
 two_spelled K L (v ∷ w ∷ more ∷ words) p h = cc
+
+-- where three are
+pub three_spelled : {A B C : Type 0} (K : Kind A) (L : Kind B) (M : Kind C) (words : List (List ℕ)) (p : A × (B × C)) → option_and_then (λ w. option_zip (K.says w.0) (option_zip (L.says w.1) (M.says w.2))) (three_words words) ≡ Some p → (words ≡ K.word p.0 ∷ L.word p.1.0 ∷ M.word p.1.1 ∷ []) × (K.IsIn p.0 × L.IsIn p.1.0 × M.IsIn p.1.1)
+three_spelled K L M [] p h = cc
+three_spelled K L M (u ∷ []) p h = cc
+three_spelled K L M (u ∷ v ∷ []) p h = cc
+three_spelled K L M (u ∷ v ∷ w ∷ []) p h =
+    let (e, more) = both_some (K.says u) (option_zip (L.says v) (M.says w)) p h in
+    let (f, g) = both_some (L.says v) (M.says w) p.1 more in
+    let (x, i) = K.spelled u p.0 e in
+    let (y, j) = L.spelled v p.1.0 f in
+    let (z, k) = M.spelled w p.1.1 g in
+    (rw (x, y, z) refl, (i, j, k))
+three_spelled K L M (u ∷ v ∷ w ∷ more ∷ words) p h = cc
 
 -- and where four are
 pub four_are : (words : List (List ℕ)) (w : List ℕ × List ℕ × List ℕ × List ℕ) → four_words words ≡ Some w → words ≡ w.0 ∷ w.1 ∷ w.2 ∷ w.3 ∷ []

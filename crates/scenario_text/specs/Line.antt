@@ -1,7 +1,7 @@
 -- Kinds of lines.
 use Rattle.std.specs.Prelude.{Bool, true, false}
 use Rattle.scenario_text.specs.declared.line.Line.{Line}
-use Rattle.scenario_text.specs.declared.line.Line.TheVariants.{Pass, Component, Hard, Soft, Owns, Limit, Begin, Enter, Exit, Put, Commit, Drop, Down, Up, Reboot, Table, Journal}
+use Rattle.scenario_text.specs.declared.line.Line.TheVariants.{Pass, Component, Hard, Soft, Owns, Limit, Begin, Enter, Exit, Read, List as ListLine, Put, Commit, Drop, Down, Up, Reboot, Table, Journal, Reopen}
 
 -- whether a line is an event line: neither passed over nor part of the head
 abbrev pub is_event : Line → Bool
@@ -14,6 +14,8 @@ is_event (Limit entries bytes) = false
 is_event (Begin caller) = true
 is_event (Enter caller name) = true
 is_event (Exit caller) = true
+is_event (Read caller table key) = true
+is_event (ListLine caller table) = true
 is_event (Put caller table key bytes) = true
 is_event (Commit caller) = true
 is_event (Drop caller) = true
@@ -22,3 +24,4 @@ is_event (Up name) = true
 is_event (Reboot name) = true
 is_event Table = true
 is_event Journal = true
+is_event Reopen = true

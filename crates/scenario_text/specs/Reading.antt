@@ -6,9 +6,9 @@ use Rattle.std.specs.Str.{bytes_eq}
 use Rattle.std.specs.List.{list_all}
 use Rattle.scenario_text.specs.declared.line.TheConstants.{MAX_LINE_BYTES}
 use Rattle.scenario_text.specs.declared.line.Line.{Line}
-use Rattle.scenario_text.specs.declared.line.Line.TheVariants.{Pass, Component, Hard, Soft, Owns, Limit, Begin, Enter, Exit, Put, Commit, Drop, Down, Up, Reboot, Table, Journal}
+use Rattle.scenario_text.specs.declared.line.Line.TheVariants.{Pass, Component, Hard, Soft, Owns, Limit, Begin, Enter, Exit, Read, List as ListLine, Put, Commit, Drop, Down, Up, Reboot, Table, Journal, Reopen}
 use Rattle.scenario_text.specs.Fields.{name_of, decimal_number, caller_number, hex_bytes}
-use Rattle.scenario_text.specs.Words.{words_of, no_words, one_word, two_words, four_words}
+use Rattle.scenario_text.specs.Words.{words_of, no_words, one_word, two_words, three_words, four_words}
 
 -- the name that is the only word
 abbrev pub one_name : List (List ℕ) → Option (List ℕ)
@@ -38,6 +38,18 @@ abbrev pub caller_and_name : List (List ℕ) → Option (ℕ × List ℕ)
 caller_and_name words =
     option_and_then (λ w. option_zip (caller_number w.0) (name_of w.1)) (two_words words)
 
+-- two words, a caller and a number
+abbrev pub caller_and_number : List (List ℕ) → Option (ℕ × ℕ)
+caller_and_number words =
+    option_and_then (λ w. option_zip (caller_number w.0) (decimal_number w.1)) (two_words words)
+
+-- three words, a caller and two numbers
+abbrev pub caller_and_two_numbers : List (List ℕ) → Option (ℕ × (ℕ × ℕ))
+caller_and_two_numbers words =
+    option_and_then
+    (λ w. option_zip (caller_number w.0) (option_zip (decimal_number w.1) (decimal_number w.2)))
+    (three_words words)
+
 -- the line of put and these words: a caller, the numbers of a table and a key, and bytes
 abbrev pub put_line : List (List ℕ) → Option Line
 put_line words =
@@ -54,6 +66,8 @@ event_line first words =
     if bytes_eq first (codes "begin") then option_map (λ c. Begin c) (one_caller words) else (
     if bytes_eq first (codes "enter") then option_map (λ p. Enter p.0 p.1) (caller_and_name words) else (
     if bytes_eq first (codes "exit") then option_map (λ c. Exit c) (one_caller words) else (
+    if bytes_eq first (codes "read") then option_map (λ p. Read p.0 p.1.0 p.1.1) (caller_and_two_numbers words) else (
+    if bytes_eq first (codes "list") then option_map (λ p. ListLine p.0 p.1) (caller_and_number words) else (
     if bytes_eq first (codes "put") then put_line words else (
     if bytes_eq first (codes "commit") then option_map (λ c. Commit c) (one_caller words) else (
     if bytes_eq first (codes "drop") then option_map (λ c. Drop c) (one_caller words) else (
@@ -61,7 +75,8 @@ event_line first words =
     if bytes_eq first (codes "up") then option_map (λ n. Up n) (one_name words) else (
     if bytes_eq first (codes "reboot") then option_map (λ n. Reboot n) (one_name words) else (
     if bytes_eq first (codes "table") then option_map (λ _. Table) (no_words words) else (
-    if bytes_eq first (codes "journal") then option_map (λ _. Journal) (no_words words) else None))))))))))
+    if bytes_eq first (codes "journal") then option_map (λ _. Journal) (no_words words) else (
+    if bytes_eq first (codes "reopen") then option_map (λ _. Reopen) (no_words words) else None)))))))))))))
 
 -- the line of the head, or else the event line, that they spell
 abbrev pub line_from : List ℕ → List (List ℕ) → Option Line

@@ -5,7 +5,7 @@ use Rattle.std.specs.List.{join_with_byte}
 use Rattle.crash_base.specs.declared.names.TheConstants.{MAX_NAME_BYTES}
 use Rattle.scenario_text.specs.declared.line.TheConstants.{MAX_LINE_BYTES, MAX_HEX_BYTES, MAX_CALLER}
 use Rattle.scenario_text.specs.declared.line.Line.{Line}
-use Rattle.scenario_text.specs.declared.line.Line.TheVariants.{Pass, Component, Hard, Soft, Owns, Limit, Begin, Enter, Exit, Put, Commit, Drop, Down, Up, Reboot, Table, Journal}
+use Rattle.scenario_text.specs.declared.line.Line.TheVariants.{Pass, Component, Hard, Soft, Owns, Limit, Begin, Enter, Exit, Read, List as ListLine, Put, Commit, Drop, Down, Up, Reboot, Table, Journal, Reopen}
 use Rattle.scenario_text.specs.Texts.{hex_text}
 
 -- from a first number to a last one
@@ -43,6 +43,8 @@ IsInRange (Limit entries bytes) = IsNumber entries × IsNumber bytes
 IsInRange (Begin caller) = IsCaller caller
 IsInRange (Enter caller name) = IsCaller caller × IsName name
 IsInRange (Exit caller) = IsCaller caller
+IsInRange (Read caller table key) = IsCaller caller × IsNumber table × IsNumber key
+IsInRange (ListLine caller table) = IsCaller caller × IsNumber table
 IsInRange (Put caller table key bytes) =
     IsCaller caller × IsNumber table × IsNumber key × AreBytes bytes
 IsInRange (Commit caller) = IsCaller caller
@@ -52,6 +54,7 @@ IsInRange (Up name) = IsName name
 IsInRange (Reboot name) = IsName name
 IsInRange Table = Unit {0}
 IsInRange Journal = Unit {0}
+IsInRange Reopen = Unit {0}
 
 -- a caller's word: c and its number
 abbrev pub caller_word : ℕ → List ℕ
@@ -68,6 +71,9 @@ words_of_line (Limit entries bytes) = codes "limit" ∷ decimal entries ∷ deci
 words_of_line (Begin caller) = codes "begin" ∷ caller_word caller ∷ []
 words_of_line (Enter caller name) = codes "enter" ∷ caller_word caller ∷ name ∷ []
 words_of_line (Exit caller) = codes "exit" ∷ caller_word caller ∷ []
+words_of_line (Read caller table key) =
+    codes "read" ∷ caller_word caller ∷ decimal table ∷ decimal key ∷ []
+words_of_line (ListLine caller table) = codes "list" ∷ caller_word caller ∷ decimal table ∷ []
 words_of_line (Put caller table key bytes) =
     codes "put" ∷ caller_word caller ∷ decimal table ∷ decimal key ∷ hex_text bytes ∷ []
 words_of_line (Commit caller) = codes "commit" ∷ caller_word caller ∷ []
@@ -77,6 +83,7 @@ words_of_line (Up name) = codes "up" ∷ name ∷ []
 words_of_line (Reboot name) = codes "reboot" ∷ name ∷ []
 words_of_line Table = codes "table" ∷ []
 words_of_line Journal = codes "journal" ∷ []
+words_of_line Reopen = codes "reopen" ∷ []
 
 -- its words, with one space between each two; nothing for a line that is passed over
 abbrev pub spelling : Line → List ℕ

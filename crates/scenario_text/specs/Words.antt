@@ -27,9 +27,12 @@ abbrev pub two_words : List (List ℕ) → Option (List ℕ × List ℕ)
 two_words [] = None
 two_words (first ∷ words) = option_map (λ second. (first, second)) (one_word words)
 
+-- the three words
+abbrev pub three_words : List (List ℕ) → Option (List ℕ × List ℕ × List ℕ)
+three_words [] = None
+three_words (first ∷ words) = option_map (λ w. (first, w.0, w.1)) (two_words words)
+
 -- the four words
 abbrev pub four_words : List (List ℕ) → Option (List ℕ × List ℕ × List ℕ × List ℕ)
 four_words [] = None
-four_words (first ∷ []) = None
-four_words (first ∷ second ∷ words) =
-    option_map (λ w. (first, second, w.0, w.1)) (two_words words)
+four_words (first ∷ words) = option_map (λ w. (first, w.0, w.1, w.2)) (three_words words)

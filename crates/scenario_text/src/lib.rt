@@ -12,6 +12,8 @@
 //! begin c1
 //! enter c1 desk
 //! enter c1 ledger
+//! read c1 1 7
+//! list c1 1
 //! put c1 1 7 00ff
 //! exit c1
 //! commit c1
@@ -22,6 +24,7 @@
 //! reboot app
 //! table
 //! journal
+//! reopen
 //! ```
 //!
 //! `ended_line` takes the first line that has ended off a text, and `read_line` answers which line it

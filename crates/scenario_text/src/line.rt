@@ -37,6 +37,10 @@ pub enum Line {
     Enter(u64, ComponentName),
     /// The caller.
     Exit(u64),
+    /// The caller, the table and the key.
+    Read(u64, u64, u64),
+    /// The caller and the table.
+    List(u64, u64),
     /// The caller, the table, the key and the row's bytes.
     Put(u64, u64, u64, HexBytes),
     /// The caller.
@@ -51,6 +55,7 @@ pub enum Line {
     Reboot(ComponentName),
     Table,
     Journal,
+    Reopen,
 }
 
 impl Line {
@@ -68,6 +73,8 @@ impl Line {
             Line::Begin(_)
             | Line::Enter(_, _)
             | Line::Exit(_)
+            | Line::Read(_, _, _)
+            | Line::List(_, _)
             | Line::Put(_, _, _, _)
             | Line::Commit(_)
             | Line::Drop(_)
@@ -75,7 +82,8 @@ impl Line {
             | Line::Up(_)
             | Line::Reboot(_)
             | Line::Table
-            | Line::Journal => true,
+            | Line::Journal
+            | Line::Reopen => true,
         }
     }
 }

@@ -3,11 +3,11 @@
 ghost use Rattle.std.specs.Prelude.{◌≡◌, ◌∷◌, IfOk};
 ghost use Rattle.std.specs.List.{list_all};
 ghost use Rattle.scenario_text.specs.Words.{words_after};
-ghost use Rattle.scenario_text.specs.Reading.{line_of, passes, is_comment_byte, line_from, event_line, put_line, one_name, one_caller, two_names, two_numbers, name_and_number, caller_and_name};
+ghost use Rattle.scenario_text.specs.Reading.{line_of, passes, is_comment_byte, line_from, event_line, put_line, one_name, one_caller, two_names, two_numbers, name_and_number, caller_and_name, caller_and_number, caller_and_two_numbers};
 
 use crate::fields::{caller_number, decimal_number, hex_bytes, name_of};
 use crate::line::{Line, MAX_LINE_BYTES};
-use crate::words::{first_word, four_words, no_words, one_word, two_words};
+use crate::words::{first_word, four_words, no_words, one_word, three_words, two_words};
 use crash_base::{ComponentName, OutOfMemory};
 use std::alloc::Global;
 
@@ -67,6 +67,20 @@ fn caller_and_name(alloc: Global, left: &[u8]) -> Result<Option<(u64, ComponentN
     Ok(caller_number(caller).zip(name))
 }
 
+fn caller_and_number(left: &[u8]) -> Option<(u64, u64)>
+    ensures { result ≡ caller_and_number (words_after left.now) }
+{
+    let (caller, number) = two_words(left)?;
+    caller_number(caller).zip(decimal_number(number))
+}
+
+fn caller_and_two_numbers(left: &[u8]) -> Option<(u64, (u64, u64))>
+    ensures { result ≡ caller_and_two_numbers (words_after left.now) }
+{
+    let (caller, number, other) = three_words(left)?;
+    caller_number(caller).zip(decimal_number(number).zip(decimal_number(other)))
+}
+
 fn put_line(alloc: Global, left: &[u8]) -> Result<Option<Line>, OutOfMemory>
     ensures { IfOk result (λ line. line ≡ put_line (words_after left.now)) }
 {
@@ -96,6 +110,10 @@ fn event_line(alloc: Global, first: &[u8], left: &[u8]) -> Result<Option<Line>, 
         Ok(caller_and_name(alloc, left)?.map(|(caller, name)| Line::Enter(caller, name)))
     } else if first == b"exit".as_slice() {
         Ok(one_caller(left).map(Line::Exit))
+    } else if first == b"read".as_slice() {
+        Ok(caller_and_two_numbers(left).map(|(caller, row)| Line::Read(caller, row.0, row.1)))
+    } else if first == b"list".as_slice() {
+        Ok(caller_and_number(left).map(|(caller, table)| Line::List(caller, table)))
     } else if first == b"put".as_slice() {
         put_line(alloc, left)
     } else if first == b"commit".as_slice() {
@@ -112,6 +130,8 @@ fn event_line(alloc: Global, first: &[u8], left: &[u8]) -> Result<Option<Line>, 
         Ok(no_words(left).map(|()| Line::Table))
     } else if first == b"journal".as_slice() {
         Ok(no_words(left).map(|()| Line::Journal))
+    } else if first == b"reopen".as_slice() {
+        Ok(no_words(left).map(|()| Line::Reopen))
     } else {
         Ok(None)
     }

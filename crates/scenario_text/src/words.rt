@@ -2,7 +2,7 @@
 
 ghost use Rattle.std.specs.Prelude.{◌≡◌, ◌==◌, ◌∷◌, [], position, length, IfSome, IfNone};
 ghost use Rattle.std.specs.Option.{option_copied, option_map};
-ghost use Rattle.scenario_text.specs.Words.{words_of, words_after, no_words, one_word, two_words, four_words};
+ghost use Rattle.scenario_text.specs.Words.{words_of, words_after, no_words, one_word, two_words, three_words, four_words};
 
 /// The place of the first space.
 fn first_space(text: &[u8]) -> Option<usize>
@@ -58,13 +58,22 @@ pub fn two_words(left: &[u8]) -> Option<(&[u8], &[u8])>
     Some((first, second))
 }
 
+/// The three words that are left.
+pub fn three_words(left: &[u8]) -> Option<(&[u8], &[u8], &[u8])>
+    ensures { option_map (λ w. (w.0.now, w.1.now, w.2.now)) result
+        ≡ three_words (words_after left.now) }
+{
+    let (first, left) = next_word(left)?;
+    let (second, third) = two_words(left)?;
+    Some((first, second, third))
+}
+
 /// The four words that are left.
 pub fn four_words(left: &[u8]) -> Option<(&[u8], &[u8], &[u8], &[u8])>
     ensures { option_map (λ w. (w.0.now, w.1.now, w.2.now, w.3.now)) result
         ≡ four_words (words_after left.now) }
 {
     let (first, left) = next_word(left)?;
-    let (second, left) = next_word(left)?;
-    let (third, fourth) = two_words(left)?;
+    let (second, third, fourth) = three_words(left)?;
     Some((first, second, third, fourth))
 }
