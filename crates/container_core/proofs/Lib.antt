@@ -1,8 +1,6 @@
-pub mod Laying
-pub mod Refusing
-pub mod Fitting
-pub mod Busy
-pub mod Sounding
-pub mod Revoking
+pub mod Laid
 pub mod Kept
-pub mod Turning
+pub mod Raising
+pub mod Opening
+pub mod GoodRows
+pub mod Starting

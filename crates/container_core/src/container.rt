@@ -1,413 +1,245 @@
-//! Calls, commits and reboots over one journal.
+//! A boot, and the keeper in which its rows outlive it.
 
-ghost use Rattle.std.specs.Prelude.{◌≡◌, ◌≢◌, ◌<◌, ◌↔◌, ℕ, List, [], ◌∷◌, ◌++◌, length, slice_get, true, Some, IfOk, IfErr, OnOk, OnErr, IsTrue, MatchResult};
+ghost use Rattle.std.specs.Prelude.{◌≡◌, ◌≤◌, ℕ, ◌-◌, ◌^◌, min, [], ◌∷◌, ◌++◌, length, slice_get, if◌then◌else◌, Some, IfOk, IfErr, OnOk, OnErr, MatchResult};
 ghost use Rattle.crash_base.specs.declared.scope.Scope.{Scope};
-ghost use Rattle.call_ticket.specs.Ticket.{ticket_begun, ticket_kept, ticket_left};
+ghost use Rattle.call_ticket.specs.Ticket.{ticket_begun};
 ghost use Rattle.commit_journal.specs.Journal.{IsScope};
-ghost use Rattle.deployment.specs.Groups.{group_of};
-ghost use Rattle.journal_model.specs.declared.entry.Entry.TheVariants.{Commit, Down, Up};
-ghost use Rattle.journal_model.specs.Calls.{entry_of};
-ghost use Rattle.journal_model.specs.Fits.{IsWrite};
-ghost use Rattle.journal_model.specs.Reboots.{IsUndone, undone_of};
-ghost use Rattle.journal_model.specs.Rows.{rows_after};
-ghost use Rattle.journal_model.specs.Stale.{stale_in};
-ghost use Rattle.naming_table.specs.Binding.{binding_in};
-ghost use Rattle.container_core.specs.Container.{new_container, with_entry, HasGrown};
-ghost use Rattle.container_core.specs.Fits.{FitsIn};
-ghost use Rattle.container_core.specs.Owners.{is_in_owner, may_enter};
-ghost use Rattle.container_core.specs.Refusals.{CallAnswer, CommitAnswer, RebootAnswer, enter_refusal, put_refusal, commit_refusal, reboot_refusal};
-ghost use Rattle.container_core.specs.Sound.{IsSound};
-ghost use Rattle.container_core.specs.Steps.{ticket_entered};
+ghost use Rattle.journal_model.specs.declared.entry.Entry.TheVariants.{Down, Up};
+ghost use Rattle.journal_model.specs.Reboots.{IsUndone};
+ghost use Rattle.outside.specs.Faults.{Rose};
+ghost use Rattle.boot_core.specs.Fits.{FitsIn};
+ghost use Rattle.boot_core.specs.Refusals.{CommitAnswer, RebootAnswer, commit_refusal, reboot_refusal};
+ghost use Rattle.container_core.specs.Container.{with_event, event_count, HoldsRows, CommitLeaves, HasGrownBy};
+ghost use Rattle.container_core.specs.History.{entries_in, is_stopped, marks_after};
+ghost use Rattle.container_core.specs.Start.{IsStarted, IsRefusedStart};
+ghost use Rattle.container_core.specs.declared.history.Event.TheVariants.{Stopped};
 
-use crate::commits::{commit_refusal, refused, take_room};
-use crate::idle::IdleTickets;
-use crate::reboots::reboot_refusal;
-use crate::refusals::{CallRefusal, CommitRefusal, RebootRefusal, Refused};
-use crate::rows::rows_in;
-use crate::staleness::stale_in;
-use call_ticket::{MAX_FRAMES, MAX_STEPS, Ticket};
-use commit_journal::{ActionEntry, CommitEntry, Entry, Journal, JournalLimits, Stale, Touch};
-use crash_base::{
-    ComponentName, ComponentNo, GroupNo, LatestRows, MAX_GROUPS, OutOfMemory, Place, RequestNo,
-    RowList, RowWrite, Scope, WorkerNo,
+use crate::history::History;
+use crate::start::{StartFail, open};
+use boot_core::{
+    ActionEntry, Boot, CommitRefusal, JournalLimits, RebootRefusal, Refused, StartRefusal, Ticket,
 };
+use crash_base::{OutOfMemory, Place, RequestNo, Scope, WorkerNo};
 use deployment::Deployment;
-use naming_table::{Binding, Names};
+use outside::Keeper;
 use std::alloc::Global;
 use std::marker::Model;
 
-/// How a container was started: the number of its boot, the rows from before it, the deployment, and the limits of
-/// its journal.
+/// A boot, and the keeper in which its rows outlive it.
 #[derive(Drop)]
-pub struct Start {
-    pub boot: u32,
-    pub base: RowList,
-    pub deployment: Deployment,
-    pub limits: JournalLimits,
+pub struct Container<K: Keeper + Drop> {
+    boot: Boot,
+    history: History,
+    keeper: K,
 }
 
-/// Calls, commits and reboots over one journal.
-#[derive(Drop)]
-pub struct Container {
-    start: Start,
-    journal: Journal,
-    names: Names,
-    // Not in the Model: a call is the same in a ticket that is used again as in a new one.
-    idle: IdleTickets,
-}
-
-impl Model for Container {
-    ghost use Rattle.container_core.specs.Container.{ContainerValue};
-    ghost use Rattle.container_core.specs.Keeping.{IsKept};
+impl<K: Keeper + Drop> Model for Container<K> {
+    ghost use Rattle.container_core.specs.Container.{ContainerValue, PartsAgree};
+    ghost use Rattle.container_core.specs.History.{laid};
 
     ghost Value = { ContainerValue };
 
-    ghost view = { λ c. record { start = c.start; entries = c.journal.entries } };
+    ghost view = { λ c. record {
+      boot = c.boot;
+      since = laid 0 c.boot.entries c.history.marks;
+      told = K.told c.keeper;
+      faults = K.faults c.keeper;
+    } };
 
-    ghost invariant = { λ c. IsKept c.start c.journal c.names };
+    ghost invariant = { λ c. PartsAgree c.boot c.history.marks (K.told c.keeper) };
 }
 
-/// Opens a frame of a component of a group, which is up.
-fn open_frame(journal: &Journal, ticket: &mut Ticket, c: ComponentNo, group: GroupNo)
-    requires known { group.0 < MAX_GROUPS }
-    requires depth { length ticket.old.call.frames < MAX_FRAMES }
-    requires steps { ticket.old.call.steps < MAX_STEPS }
-    ensures { ticket.new ≡ ticket_entered journal.now.entries group.0 c ticket.old }
+/// Marks a commit whose keeper failed.
+fn mark_failure(history: &mut History, place: Place, refused: &Refused)
+    requires { 1 ≤ history.old.spare }
+    ensures { history.new.marks ≡ marks_after refused.now.cause place refused.now.request history.old.marks }
 {
-    let touch = if ticket.is_touched(group) {
-        None
-    } else {
-        Some(Touch {
-            group,
-            generation: journal.generation(group),
-            front: Place(journal.len()),
-        })
-    };
-    ticket.push_frame(c, 0, touch);
+    if let CommitRefusal::KeeperFailed = refused.cause {
+        history.add_failure(place, refused.request);
+    }
 }
 
-impl Container {
-    /// A container with an empty journal over no rows, at its first boot. It copies each byte of each name, and takes
-    /// the room to keep some tickets of calls that have ended.
+impl<K: Keeper + Drop> Container<K> {
+    /// Starts a container over the rows of a keeper: loads them, judges each, and hands the number of this boot, which is
+    /// one more than that of the last, to the keeper. All memory is taken before that. A refused start hands the keeper
+    /// back. Where the keeper gives its rows in order, each row is visited once, and else each visits those before it.
+    ///
+    /// # Errors
+    /// `StartRefusal` says why, and `IsRefusedStart` exactly when.
     pub fn start(
         alloc: Global,
         deployment: Deployment,
+        keeper: K,
         limits: JournalLimits,
-    ) -> Result<Container, OutOfMemory>
-        ensures { IfOk result (λ c. c ≡ new_container deployment limits) }
+    ) -> Result<Container<K>, StartFail<K>>
+        ensures started { IfOk result (λ c. IsStarted deployment limits (K.told keeper) c) }
+        ensures refused { IfErr result (λ fail.
+            IsRefusedStart fail.refusal (K.told keeper) (K.told fail.keeper)) }
+        ensures failed { IfErr result (λ fail. fail.refusal ≡ StartRefusal.KeeperFailed
+            → Rose (K.faults keeper) (K.faults fail.keeper)) }
+        ensures count { MatchResult result (λ c. K.faults keeper ≤ c.faults)
+            (λ fail. K.faults keeper ≤ K.faults fail.keeper) }
     {
-        let names = Names::new(alloc, &deployment)?;
-        let idle = IdleTickets::new(alloc)?;
-        Ok(Container {
-            start: Start {
-                boot: 1,
-                base: RowList::new(alloc),
-                deployment,
-                limits,
-            },
-            journal: Journal::new(alloc, limits),
-            names,
-            idle,
-        })
+        let mut keeper = keeper;
+        match open(alloc, deployment, limits, &mut keeper) {
+            Ok(opened) => Ok(Container {
+                boot: opened.boot,
+                history: opened.history,
+                keeper,
+            }),
+            Err(refusal) => Err(StartFail { refusal, keeper }),
+        }
     }
 
-    /// The number of this boot.
-    pub fn boot(&self) -> u32
-        ensures { result ≡ self.now.start.boot }
+    /// Starts again over the same keeper, with the same deployment and limits: a new boot, over the rows that the keeper
+    /// gives. Calls of this boot are gone. A refused start hands the keeper back.
+    ///
+    /// # Errors
+    /// As of `start`.
+    pub fn reopen(self, alloc: Global) -> Result<Container<K>, StartFail<K>>
+        ensures started { IfOk result (λ c. IsStarted self.boot.start.deployment
+            self.boot.start.limits self.told c) }
+        ensures refused { IfErr result (λ fail.
+            IsRefusedStart fail.refusal self.told (K.told fail.keeper)) }
+        ensures failed { IfErr result (λ fail. fail.refusal ≡ StartRefusal.KeeperFailed
+            → Rose self.faults (K.faults fail.keeper)) }
+        ensures count { MatchResult result (λ c. self.faults ≤ c.faults)
+            (λ fail. self.faults ≤ K.faults fail.keeper) }
+        ensures rows { HoldsRows self.told self.boot }
     {
-        self.start.boot
+        let Container {
+            boot,
+            history: _,
+            keeper,
+        } = self;
+        let limits = boot.journal().limits();
+        Container::start(alloc, boot.into_deployment(), keeper, limits)
     }
 
-    /// What is deployed here.
-    pub fn deployment(&self) -> &Deployment
-        ensures { result.now ≡ self.now.start.deployment }
+    /// The keeper, with the rows of each commit that was answered. It takes no memory.
+    pub fn into_keeper(self) -> K
+        ensures told { K.told result ≡ self.told }
+        ensures faults { K.faults result ≡ self.faults }
+        ensures rows { HoldsRows self.told self.boot }
     {
-        &self.start.deployment
+        self.keeper
     }
 
-    /// The journal. It is legal and within its limits, and each commit wrote only rows of tables whose owners' groups
-    /// it entered.
-    pub fn journal(&self) -> &Journal
-        ensures entries { result.now.entries ≡ self.now.entries }
-        ensures limits { result.now.limits ≡ self.now.start.limits }
-        ensures sound { IsSound self.now }
+    /// The boot, through which calls enter components, read and put rows. It is sound (`Boot::journal` says so), its
+    /// journal is the entries of the history, and a keeper that tells its rows holds just those that the journal leaves.
+    pub fn boot(&self) -> &Boot
+        ensures value { result.now ≡ self.now.boot }
+        ensures events { entries_in self.now.since ≡ self.now.boot.entries }
+        ensures rows { HoldsRows self.now.told self.now.boot }
     {
-        &self.journal
+        &self.boot
     }
 
-    /// The current rows, in order of id, each with its last write. For each write of the journal it visits
-    /// each row that is current then. It takes memory for an item for each current row, and lends their bytes.
-    pub fn rows(&self, alloc: Global) -> Result<LatestRows<'_>, OutOfMemory>
-        ensures { IfOk result (λ rows. rows ≡ rows_after self.now.start.base self.now.entries) }
+    /// The number of events of the history, up to 2^64 - 1: the start, each entry, and each mark.
+    pub fn events(&self) -> u64
+        ensures { result ≡ min (event_count self.now) (2 ^ 64 - 1) }
     {
-        rows_in(alloc, self.start.base.as_slice(), self.journal.entries())
+        let entries = self.boot.journal().len();
+        entries.saturating_add(self.history.len()).saturating_add(1)
     }
 
-    /// What a name is bound to: its component where that one's group is up, and else a sentinel. None exactly
-    /// where no component has the name. It takes no memory, and visits each name up to that one.
-    pub fn find(&self, name: &ComponentName) -> Option<Binding>
-        ensures { result ≡ binding_in self.now.start.deployment self.now.entries name.now }
+    /// Marks that the container is stopped. A second stop changes nothing. It refuses no later call, and takes no memory.
+    pub fn stop(&mut self)
+        ensures stopped { self.new ≡ (if is_stopped self.old.since then self.old
+            else record self.old { since = self.old.since ++ Stopped ∷ [] }) }
+        ensures grown { HasGrownBy self.old self.new }
     {
-        self.names.look(name)
+        let place = Place(self.boot.journal().len());
+        self.history.stop(place);
     }
 
-    /// A call that has done nothing yet. Its ticket has room at once for all that a call may hold: that of a call which
-    /// ended, where one is kept, and else new room, as `Ticket::new` says.
+    /// Whether the container was stopped.
+    pub fn stopped(&self) -> bool
+        ensures { result ≡ is_stopped self.now.since }
+    {
+        self.history.is_stopped()
+    }
+
+    /// A call that has done nothing yet, as `Boot::begin` says.
     pub fn begin(
         &mut self,
         alloc: Global,
         request: RequestNo,
         worker: WorkerNo,
     ) -> Result<Ticket, OutOfMemory>
-        ensures begun { IfOk result (λ ticket.
-            ticket ≡ ticket_begun request worker (record { 0 = length self.old.entries })) }
-        ensures fits { IfOk result (λ ticket. FitsIn self.new ticket.call) }
+        ensures begun { IfOk result (λ ticket. ticket
+            ≡ ticket_begun request worker (record { 0 = length self.old.boot.entries })) }
+        ensures fits { IfOk result (λ ticket. FitsIn self.new.boot ticket.call) }
         ensures same { self.new ≡ self.old }
     {
-        let at = Place(self.journal.len());
-        self.idle.begin(alloc, request, worker, at)
+        self.boot.begin(alloc, request, worker)
     }
 
-    /// Whether the call is in no component, or in one that may call this one. It visits each reference up to
-    /// the one that allows it.
-    pub fn may_enter(&self, ticket: &Ticket, c: ComponentNo) -> bool
-        ensures { result ≡ may_enter self.now.start.deployment ticket.now.call c }
-    {
-        match ticket.top() {
-            None => true,
-            Some(top) => self.start.deployment.may_call(top, c),
-        }
-    }
-
-    /// Whether the frame that was opened last is of the component that owns the table. It visits each
-    /// declared table up to that one.
-    pub fn is_in_owner(&self, ticket: &Ticket, table: u8) -> bool
-        ensures { result ≡ is_in_owner self.now.start.deployment ticket.now.call table }
-    {
-        match (ticket.top(), self.start.deployment.owner_of(table)) {
-            (Some(top), Some(owner)) => top.0 == owner.0,
-            _ => false,
-        }
-    }
-
-    /// Whether the call may go on: no group that it entered was rebooted since, or else the one that it entered
-    /// first among these. It takes no memory, and visits each group that the call entered.
-    pub fn check(&self, ticket: &Ticket) -> Result<(), Stale>
-        requires { FitsIn self.now ticket.now.call }
-        ensures { MatchResult result
-            (λ _. stale_in self.now.entries ticket.now.call.touched ≡ None)
-            (λ stale. stale_in self.now.entries ticket.now.call.touched ≡ Some stale) }
-    {
-        match stale_in(&self.journal, ticket.touched()) {
-            None => Ok(()),
-            Some(stale) => Err(stale),
-        }
-    }
-
-    /// Enters a component: opens a frame, and notes its group where that is new to the call, with its
-    /// generation and the length of the journal. A refused call leaves the ticket as it was. It takes no
-    /// memory, and visits each group that the call has entered.
+    /// Commits a call, which ends: the keeper keeps its writes, all or none, and its entry joins the journal whole, as
+    /// `Boot::commit` says. A keeper that failed is marked in the history; its mark's room is taken before.
     ///
-    /// That the component may be entered from where the call is, is its caller's duty, and `may_enter` tests it.
-    /// Nothing judges the method now.
-    pub fn enter(
-        &mut self,
-        ticket: &mut Ticket,
-        c: ComponentNo,
-        _method: u8,
-    ) -> Result<(), CallRefusal>
-        requires component { c.0 < length self.old.start.deployment.components }
-        requires from { may_enter self.old.start.deployment ticket.old.call c ≡ true }
-        requires fits { FitsIn self.old ticket.old.call }
-        ensures answer { CallAnswer (enter_refusal self.old.entries ticket.old.call
-            (group_of self.old.start.deployment c.0)) result }
-        ensures entered { OnOk result (ticket.new ≡ ticket_entered self.old.entries
-            (group_of self.old.start.deployment c.0) c ticket.old) }
-        ensures refused { OnErr result (ticket.new ≡ ticket.old) }
-        ensures memory { IfErr result (λ e. e ≢ CallRefusal.OutOfMemory) }
-        ensures fits { FitsIn self.new ticket.new.call }
-        ensures same { self.new ≡ self.old }
-    {
-        if let Some(stale) = stale_in(&self.journal, ticket.touched()) {
-            return Err(CallRefusal::Revoked(stale));
-        }
-        if ticket.depth() == MAX_FRAMES {
-            return Err(CallRefusal::Depth);
-        }
-        if ticket.steps() == MAX_STEPS {
-            return Err(CallRefusal::Steps);
-        }
-        let group = self.start.deployment.group_of(c);
-        if let Some(down) = self.journal.down_of(group) {
-            return Err(CallRefusal::Sentinel { group, down });
-        }
-        open_frame(&self.journal, ticket, c, group);
-        Ok(())
-    }
-
-    /// Leaves the component that the call entered last: closes that frame. A refused call leaves the ticket as it
-    /// was. It takes no memory, and visits each group that the call has entered.
-    pub fn exit(&mut self, ticket: &mut Ticket) -> Result<(), Stale>
-        requires open { ticket.old.call.frames ≢ [] }
-        requires steps { ticket.old.call.steps < MAX_STEPS }
-        requires fits { FitsIn self.old ticket.old.call }
-        ensures answer { MatchResult result
-            (λ _. stale_in self.old.entries ticket.old.call.touched ≡ None)
-            (λ stale. stale_in self.old.entries ticket.old.call.touched ≡ Some stale) }
-        ensures left { OnOk result (ticket.new ≡ ticket_left ticket.old) }
-        ensures refused { OnErr result (ticket.new ≡ ticket.old) }
-        ensures fits { FitsIn self.new ticket.new.call }
-        ensures same { self.new ≡ self.old }
-    {
-        if let Some(stale) = stale_in(&self.journal, ticket.touched()) {
-            return Err(stale);
-        }
-        let _instance = ticket.pop_frame();
-        Ok(())
-    }
-
-    /// Puts a row, in place of an earlier put of that row. It is written when the call commits. A refused
-    /// call leaves the ticket as it was. It takes no memory, and visits each group that the call has entered and
-    /// each of its writes.
-    ///
-    /// That the call is in the component that owns the table is its caller's duty, and `is_in_owner` tests
-    /// it: so a reboot of the owner's group revokes the call.
-    pub fn put(&mut self, ticket: &mut Ticket, write: RowWrite) -> Result<(), CallRefusal>
-        requires write { IsWrite write }
-        requires owner { is_in_owner self.old.start.deployment ticket.old.call write.id.table
-            ≡ true }
-        requires fits { FitsIn self.old ticket.old.call }
-        ensures answer { CallAnswer
-            (put_refusal self.old.entries ticket.old.call write.id) result }
-        ensures kept { OnOk result (ticket.new ≡ ticket_kept write ticket.old) }
-        ensures refused { OnErr result (ticket.new ≡ ticket.old) }
-        ensures memory { IfErr result (λ e. e ≢ CallRefusal.OutOfMemory) }
-        ensures fits { FitsIn self.new ticket.new.call }
-        ensures same { self.new ≡ self.old }
-    {
-        if let Some(stale) = stale_in(&self.journal, ticket.touched()) {
-            return Err(CallRefusal::Revoked(stale));
-        }
-        if ticket.steps() == MAX_STEPS {
-            return Err(CallRefusal::Steps);
-        }
-        if ticket.is_full_for(write.id) {
-            return Err(CallRefusal::Writes);
-        }
-        ticket.add_put(write);
-        Ok(())
-    }
-
-    /// Commits a call, which ends: its entry joins the journal whole, at the place that is answered. A
-    /// refused commit leaves the container as it was. What the entry keeps is moved into exactly the room that it
-    /// needs, before anything changes; the journal takes room for one entry more, as `Journal::reserve` says. It
-    /// visits each group that the call entered, each read and each write. Where the call commits, the room of its
-    /// ticket is kept for another call.
+    /// # Errors
+    /// `Refused` says why: `commit_refusal` exactly when, and out of memory or a failed keeper only where that refuses
+    /// nothing.
     pub fn commit(
         &mut self,
         alloc: Global,
         ticket: Ticket,
         action: Option<ActionEntry>,
     ) -> Result<Place, Refused>
-        requires { FitsIn self.old ticket.call }
-        ensures answer { CommitAnswer (commit_refusal self.old.start.limits self.old.entries
-            ticket.call action) result }
-        ensures place { IfOk result (λ place. place.0 ≡ length self.old.entries) }
-        ensures committed { OnOk result
-            (self.new ≡ with_entry self.old (Commit (entry_of ticket.call action))) }
+        requires { FitsIn self.old.boot ticket.call }
+        ensures answer { CommitAnswer (commit_refusal self.old.boot.start.limits
+            self.old.boot.entries ticket.call action) result }
+        ensures leaves { CommitLeaves ticket.call action result self.old self.new }
         ensures request { IfErr result (λ refused. refused.request ≡ ticket.call.request) }
         ensures marks { IfErr result (λ refused. refused.marks ≡ ticket.call.marks) }
-        ensures same { OnErr result (self.new ≡ self.old) }
-        ensures grown { HasGrown self.old self.new }
+        ensures failed { IfErr result (λ refused. refused.cause ≡ CommitRefusal.KeeperFailed
+            → Rose self.old.faults self.new.faults) }
+        ensures count { self.old.faults ≤ self.new.faults }
+        ensures silent { ticket.call.writes ≡ [] → self.new.faults ≡ self.old.faults }
+        ensures grown { HasGrownBy self.old self.new }
     {
-        let mut ticket = ticket;
-        let request = ticket.request();
-        let worker = ticket.worker();
-        let at = ticket.at();
-        if let Some(cause) = commit_refusal(&self.journal, &ticket, &action) {
-            return Err(refused(ticket, cause));
+        if self.history.reserve().is_err() {
+            return Err(self.boot.refuse(ticket, &action));
         }
-        let parts = match take_room(alloc, &mut self.journal, &mut ticket) {
-            Ok(parts) => parts,
-            Err(OutOfMemory) => return Err(refused(ticket, CommitRefusal::OutOfMemory)),
-        };
-        let place = self.journal.push(Entry::Commit(CommitEntry {
-            request,
-            worker,
-            at,
-            touched: parts.touched,
-            reads: parts.marks,
-            writes: parts.writes,
-            action,
-        }));
-        self.idle.keep(ticket);
-        Ok(place)
+        let place = Place(self.boot.journal().len());
+        match self.boot.commit(alloc, &mut self.keeper, ticket, action) {
+            Ok(place) => Ok(place),
+            Err(refused) => {
+                mark_failure(&mut self.history, place, &refused);
+                Err(refused)
+            }
+        }
     }
 
-    /// Gives a call up: what it holds is dropped, and nothing else changes. It takes no memory, and the room of the
-    /// ticket is kept for another call.
+    /// Gives a call up: what it holds is dropped, and nothing else changes. It takes no memory.
     pub fn abandon(&mut self, ticket: Ticket)
         ensures { self.new ≡ self.old }
     {
-        self.idle.keep(ticket);
+        self.boot.abandon(ticket);
     }
 
-    /// Begins the reboot of a scope, at the place that is answered: each group that the scope holds is down, and each
-    /// call that entered one is revoked. A refused reboot leaves the container as it was. The journal takes room for
-    /// the Down and its Up. It asks each of `MAX_GROUPS` groups.
+    /// Begins the reboot of a scope, as `Boot::begin_reboot` says.
     pub fn begin_reboot(&mut self, scope: Scope) -> Result<Place, RebootRefusal>
         requires { IsScope scope }
         ensures answer { RebootAnswer
-            (reboot_refusal self.old.start.limits self.old.entries scope) result }
-        ensures place { IfOk result (λ place. place.0 ≡ length self.old.entries) }
-        ensures down { OnOk result (self.new ≡ with_entry self.old (Down scope)) }
+            (reboot_refusal self.old.boot.start.limits self.old.boot.entries scope) result }
+        ensures place { IfOk result (λ place. place.0 ≡ length self.old.boot.entries) }
+        ensures down { OnOk result (self.new ≡ with_event self.old (Down scope)) }
         ensures same { OnErr result (self.new ≡ self.old) }
-        ensures grown { HasGrown self.old self.new }
+        ensures grown { HasGrownBy self.old self.new }
     {
-        if let Some(refusal) = reboot_refusal(&self.journal, scope) {
-            return Err(refusal);
-        }
-        match self.journal.reserve(2) {
-            Ok(()) => {
-                let place = self.journal.push(Entry::Down(scope));
-                self.names.set_scope_down(scope, place);
-                Ok(place)
-            }
-            Err(OutOfMemory) => Err(RebootRefusal::OutOfMemory),
-        }
+        self.boot.begin_reboot(scope)
     }
 
-    /// The place of the Down of a scope whose Up has not come. None exactly where there is none.
-    pub fn undone_of(&self, scope: Scope) -> Option<Place>
-        requires { IsScope scope }
-        ensures { result ≡ undone_of self.now.entries scope }
-    {
-        self.journal.undone_of(scope)
-    }
-
-    /// Whether the entry at this place is a Down whose Up has not come.
-    pub fn is_undone(&self, place: Place) -> bool
-        ensures { IsTrue result ↔ ((s : Scope) × IsUndone self.now.entries place.0 s) }
-    {
-        self.journal.is_undone(place)
-    }
-
-    /// Ends the reboot that the Down at this place began: each group of its scope is up again. It answers the place
-    /// of the Up, cannot be refused, and takes no memory. It asks each of `MAX_GROUPS` groups.
+    /// Ends the reboot that the Down at this place began, as `Boot::end_reboot` says. It takes no memory.
     pub fn end_reboot(&mut self, down: Place) -> Place
-        requires { (s : Scope) × IsUndone self.old.entries down.0 s }
-        ensures place { result.0 ≡ length self.old.entries }
-        ensures up { (s : Scope) → slice_get self.old.entries down.0 ≡ Some (Down s) →
-            self.new ≡ with_entry self.old (Up s) }
-        ensures grown { HasGrown self.old self.new }
+        requires { (s : Scope) × IsUndone self.old.boot.entries down.0 s }
+        ensures place { result.0 ≡ length self.old.boot.entries }
+        ensures up { (s : Scope) → slice_get self.old.boot.entries down.0 ≡ Some (Down s) →
+            self.new ≡ with_event self.old (Up s) }
+        ensures grown { HasGrownBy self.old self.new }
     {
-        match self.journal.get(down) {
-            Some(Entry::Down(scope)) => {
-                let scope = *scope;
-                self.names.set_scope_up(scope);
-                self.journal.push(Entry::Up(scope))
-            }
-            _ => unreachable!(),
-        }
+        self.boot.end_reboot(down)
     }
 }

@@ -1,12 +1,7 @@
 pub mod Calling
 pub mod Coming
 pub mod Deciding
-pub mod Fitting
-pub mod Heading
-pub mod Leaving
 pub mod Soundness
 pub mod Playing
 pub mod Rebooting
 pub mod Reporting
-pub mod Listing
-pub mod Numbering

@@ -2,7 +2,7 @@
 use Rattle.std.proofs.Common.{◌≡◌, ℕ, suc, ◌+◌, ◌<◌, ◌≤◌, Bool, true, false, cond, nat_lt, List, [], ◌∷◌, ◌++◌, length, refl, ap, sym, subst, ◌∙◌, append_assoc, append-nil, arith}
 use Rattle.std.proofs.lemmas.Bool.Decides.{nat_tests}
 use Rattle.scenario_text.specs.declared.line.TheConstants.{MAX_LINE_BYTES}
-use Rattle.drive_engine.specs.Answer.{Answer, Done, Refused}
+use Rattle.line_steps.specs.Answer.{Answer, Done, Refused}
 use Rattle.drive_engine.specs.Engine.{IsSoundState}
 use Rattle.drive_engine.specs.State.{State}
 use Rattle.drive_engine.specs.Transcript.{first, transcript, end_from, line_answer, last_state, End, Ended, Stopped, TooLong}

@@ -5,7 +5,7 @@ use Rattle.outside.specs.Source.{prepended}
 use Rattle.scenario_text.specs.Cutting.{lines_of, text_of_lines, IsOneLine, IsCut}
 use Rattle.scenario_text.specs.declared.line.TheConstants.{MAX_LINE_BYTES}
 use Rattle.drive_engine.specs.declared.drive.TheConstants.{MAX_SCENARIO_BYTES}
-use Rattle.drive_engine.specs.Answer.{Done, Refused}
+use Rattle.line_steps.specs.Answer.{Done, Refused}
 use Rattle.drive_engine.specs.Engine.{IsSoundState}
 use Rattle.drive_engine.specs.Exchange.{Exchange, IsRead, IsWritten}
 use Rattle.drive_engine.specs.State.{State}
@@ -28,7 +28,7 @@ pub record AreReadToEnd (x : Exchange) (lines : List (List ℕ)) : Type 0 where
 abbrev pub AreRead : Exchange → List (List ℕ) → Type 0
 AreRead x lines = AreReadWithFeeds x lines ⊎ AreReadToEnd x lines
 
--- These lines were done, in order, which leaves this state; what they write was written; and the container is sound.
+-- These lines were done, in order, which leaves this state; what they write was written; and the boot is sound.
 pub record HasDone (x : Exchange) (lines : List (List ℕ)) (state : State) : Type 0 where
   pub done : end_from first 1 lines ≡ Ended state
   pub written : IsWritten x (transcript first lines)

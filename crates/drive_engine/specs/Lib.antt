@@ -1,9 +1,3 @@
-pub mod Answer
-pub mod Tables
-pub mod Texts
-pub mod Head
-pub mod CallLines
-pub mod Callers
 pub mod Running
 pub mod State
 pub mod Engine

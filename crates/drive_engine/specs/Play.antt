@@ -8,7 +8,7 @@ use Rattle.drive_engine.specs.declared.drive.TheConstants.{MAX_SCENARIO_BYTES}
 use Rattle.drive_engine.specs.declared.ending.Ending.{Ending}
 use Rattle.drive_engine.specs.declared.ending.Ending.TheVariants as endings
 use Rattle.drive_engine.specs.declared.words.Command.TheVariants.{Drive}
-use Rattle.drive_engine.specs.Answer.{Done, Refused}
+use Rattle.line_steps.specs.Answer.{Done, Refused}
 use Rattle.drive_engine.specs.Command.{Runs}
 use Rattle.drive_engine.specs.Exchange.{Exchange, exchange, IsWritten}
 use Rattle.drive_engine.specs.State.{State}

@@ -1,4 +1,4 @@
--- Event lines, over a container that is started.
+-- Event lines, over a boot that is started.
 use Rattle.std.specs.Prelude.{ℕ, ◌+◌, if◌then◌else◌, List, [], ◌++◌, length, Option, Some, None, bytes_eq, option_map}
 use Rattle.call_ticket.specs.Ticket.{TicketValue}
 use Rattle.crash_base.specs.declared.names.TheConstants.{APPLICATION}
@@ -14,42 +14,47 @@ use Rattle.journal_model.specs.Reboots.{undone_of}
 use Rattle.journal_model.specs.Rows.{rows_after}
 use Rattle.scenario_text.specs.declared.line.Line.{Line}
 use Rattle.scenario_text.specs.declared.line.Line.TheVariants as lines
-use Rattle.container_core.specs.Container.{ContainerValue, new_container, with_entry}
-use Rattle.container_core.specs.Refusals.{commit_refusal, reboot_refusal}
-use Rattle.container_core.specs.declared.refusals.CommitRefusal.{CommitRefusal}
-use Rattle.container_core.specs.declared.refusals.RebootRefusal.{RebootRefusal}
-use Rattle.drive_engine.specs.declared.call_lines.CallLine.TheVariants as calls
-use Rattle.drive_engine.specs.declared.callers.Caller.{Caller}
-use Rattle.drive_engine.specs.declared.callers.Caller.TheVariants.{Absent, Live, Ended}
-use Rattle.drive_engine.specs.declared.head.Head.{Head}
-use Rattle.drive_engine.specs.Answer.{Answer, Refused, Done, or_refused, within}
-use Rattle.drive_engine.specs.Callers.{caller_at, ended, begin_step, call_step}
-use Rattle.drive_engine.specs.Texts.{committed_text, commit_refusal_text, down_text, up_text, reboot_refusal_text, table_text, journal_text}
+use Rattle.boot_core.specs.Boot.{BootValue, new_boot, with_entry}
+use Rattle.boot_core.specs.declared.boot.Start.{Start}
+use Rattle.boot_core.specs.Refusals.{commit_refusal, reboot_refusal}
+use Rattle.boot_core.specs.declared.refusals.CommitRefusal.{CommitRefusal}
+use Rattle.boot_core.specs.declared.refusals.RebootRefusal.{RebootRefusal}
+use Rattle.line_steps.specs.declared.call_lines.CallLine.TheVariants as calls
+use Rattle.line_steps.specs.declared.callers.Caller.{Caller}
+use Rattle.line_steps.specs.declared.callers.Caller.TheVariants.{Absent, Live}
+use Rattle.line_steps.specs.declared.head.Head.{Head}
+use Rattle.line_steps.specs.Answer.{Answer, Refused, Done, or_refused, within}
+use Rattle.line_steps.specs.Callers.{caller_at, ended, begin_step, call_step}
+use Rattle.line_steps.specs.Texts.{committed_text, commit_refusal_text, down_text, up_text, reboot_refusal_text, table_text, journal_text}
 
 -- what event lines change
 pub record RunningState : Type 0 where
-  pub container : ContainerValue
+  pub boot : BootValue
   pub callers : List Caller
 
--- a container that was just started, which nobody has called
-abbrev pub started : Head → RunningState
-started head = record { container = new_container head.parts head.limits; callers = [] }
+-- the start of a scenario's boot: the first, over no rows
+abbrev pub first_start : Head → Start
+first_start head = record { boot = 1; base = []; deployment = head.parts; limits = head.limits }
 
--- the same container with these callers
+-- a boot that was just started, which nobody has called
+abbrev pub started : Head → RunningState
+started head = record { boot = new_boot (first_start head); callers = [] }
+
+-- the same boot with these callers
 abbrev pub with_callers : RunningState → List Caller → RunningState
 with_callers r callers = record r { callers = callers }
 
--- the same callers of a container whose journal has one entry more
+-- the same callers of a boot whose journal has one entry more
 abbrev pub with_journal : RunningState → Entry → RunningState
-with_journal r e = record r { container = with_entry r.container e }
+with_journal r e = record r { boot = with_entry r.boot e }
 
 -- The call of a caller joins the journal, or is refused; it ends in each case.
 abbrev pub commits : RunningState → ℕ → TicketValue → Option CommitRefusal → Answer RunningState
 commits r caller ticket None =
     Done (record {
-      container = with_entry r.container (Commit (entry_of ticket.call None));
+      boot = with_entry r.boot (Commit (entry_of ticket.call None));
       callers = ended r.callers caller;
-    }) (committed_text caller (length r.container.entries))
+    }) (committed_text caller (length r.boot.entries))
 commits r caller ticket (Some refusal) =
     Done (with_callers r (ended r.callers caller)) (commit_refusal_text caller refusal)
 
@@ -58,8 +63,7 @@ abbrev pub caller_commits : RunningState → ℕ → Caller → Answer RunningSt
 caller_commits r caller Absent = Refused
 caller_commits r caller (Live ticket) =
     commits r caller ticket
-    (commit_refusal r.container.start.limits r.container.entries ticket.call None)
-caller_commits r caller Ended = Refused
+    (commit_refusal r.boot.start.limits r.boot.entries ticket.call None)
 
 -- A live caller's call commits.
 unfoldable pub commit_step : RunningState → ℕ → Answer RunningState
@@ -69,7 +73,6 @@ commit_step r caller = caller_commits r caller (caller_at r.callers caller)
 abbrev pub caller_drops : RunningState → ℕ → Caller → Answer RunningState
 caller_drops r caller Absent = Refused
 caller_drops r caller (Live ticket) = Done (with_callers r (ended r.callers caller)) []
-caller_drops r caller Ended = Refused
 
 -- A live caller's call is dropped.
 unfoldable pub drop_step : RunningState → ℕ → Answer RunningState
@@ -84,44 +87,44 @@ scope_of parts name =
 
 -- a scope goes down, unless that is refused
 abbrev pub goes_down : RunningState → Scope → Option RebootRefusal → Answer RunningState
-goes_down r s None = Done (with_journal r (Down s)) (down_text (length r.container.entries))
+goes_down r s None = Done (with_journal r (Down s)) (down_text (length r.boot.entries))
 goes_down r s (Some refusal) = Done r (reboot_refusal_text refusal)
 
 -- A scope goes down. Refused is an unknown name.
 unfoldable pub down_step : RunningState → List ℕ → Answer RunningState
 down_step r name =
-    or_refused (scope_of r.container.start.deployment name) (λ s.
-    goes_down r s (reboot_refusal r.container.start.limits r.container.entries s))
+    or_refused (scope_of r.boot.start.deployment name) (λ s.
+    goes_down r s (reboot_refusal r.boot.start.limits r.boot.entries s))
 
 -- A scope comes up. Refused are an unknown name, and a scope of which no Down waits for its Up.
 unfoldable pub up_step : RunningState → List ℕ → Answer RunningState
 up_step r name =
-    or_refused (scope_of r.container.start.deployment name) (λ s.
-    or_refused (undone_of r.container.entries s) (λ place.
-    Done (with_journal r (Up s)) (up_text (length r.container.entries))))
+    or_refused (scope_of r.boot.start.deployment name) (λ s.
+    or_refused (undone_of r.boot.entries s) (λ place.
+    Done (with_journal r (Up s)) (up_text (length r.boot.entries))))
 
 -- a scope goes down and comes up, unless that is refused
 abbrev pub reboots : RunningState → Scope → Option RebootRefusal → Answer RunningState
 reboots r s None =
     Done (with_journal (with_journal r (Down s)) (Up s))
-    (down_text (length r.container.entries) ++ up_text (length r.container.entries + 1))
+    (down_text (length r.boot.entries) ++ up_text (length r.boot.entries + 1))
 reboots r s (Some refusal) = Done r (reboot_refusal_text refusal)
 
 -- A scope goes down and comes up at once. Refused is an unknown name.
 unfoldable pub reboot_step : RunningState → List ℕ → Answer RunningState
 reboot_step r name =
-    or_refused (scope_of r.container.start.deployment name) (λ s.
-    reboots r s (reboot_refusal r.container.start.limits r.container.entries s))
+    or_refused (scope_of r.boot.start.deployment name) (λ s.
+    reboots r s (reboot_refusal r.boot.start.limits r.boot.entries s))
 
 -- the current rows, in order of id
 unfoldable pub table_step : RunningState → Answer RunningState
-table_step r = Done r (table_text (rows_after r.container.start.base r.container.entries))
+table_step r = Done r (table_text (rows_after r.boot.start.base r.boot.entries))
 
 -- the journal, in order of place
 unfoldable pub journal_step : RunningState → Answer RunningState
-journal_step r = Done r (journal_text r.container.entries)
+journal_step r = Done r (journal_text r.boot.entries)
 
--- a line after the container is started, which no head line is
+-- a line after the boot is started, which no head line is
 abbrev pub event_line : RunningState → Line → Answer RunningState
 event_line r lines.Pass = Done r []
 event_line r (lines.Component name) = Refused
@@ -129,13 +132,17 @@ event_line r (lines.Hard from to) = Refused
 event_line r (lines.Soft from to) = Refused
 event_line r (lines.Owns name table) = Refused
 event_line r (lines.Limit entries bytes) = Refused
-event_line r (lines.Begin c) = within (with_callers r) (begin_step r.container r.callers c)
+event_line r (lines.Begin c) = within (with_callers r) (begin_step r.boot r.callers c)
 event_line r (lines.Enter c name) =
-    within (with_callers r) (call_step r.container r.callers c (calls.Enter name))
+    within (with_callers r) (call_step r.boot r.callers c (calls.Enter name))
 event_line r (lines.Exit c) =
-    within (with_callers r) (call_step r.container r.callers c calls.Exit)
+    within (with_callers r) (call_step r.boot r.callers c calls.Exit)
+event_line r (lines.Read c table key) =
+    within (with_callers r) (call_step r.boot r.callers c (calls.Read table key))
+event_line r (lines.List c table) =
+    within (with_callers r) (call_step r.boot r.callers c (calls.List table))
 event_line r (lines.Put c table key bytes) =
-    within (with_callers r) (call_step r.container r.callers c (calls.Put table key bytes))
+    within (with_callers r) (call_step r.boot r.callers c (calls.Put table key bytes))
 event_line r (lines.Commit c) = commit_step r c
 event_line r (lines.Drop c) = drop_step r c
 event_line r (lines.Down name) = down_step r name
@@ -143,3 +150,4 @@ event_line r (lines.Up name) = up_step r name
 event_line r (lines.Reboot name) = reboot_step r name
 event_line r lines.Table = table_step r
 event_line r lines.Journal = journal_step r
+event_line r lines.Reopen = Refused

@@ -4,9 +4,9 @@ use Rattle.scenario_text.specs.declared.line.Line.{Line}
 use Rattle.scenario_text.specs.declared.line.TheConstants.{MAX_LINE_BYTES}
 use Rattle.scenario_text.specs.Cutting.{lines_of}
 use Rattle.scenario_text.specs.Reading.{line_of}
-use Rattle.drive_engine.specs.Answer.{Answer, Refused, Done}
+use Rattle.line_steps.specs.Answer.{Answer, Refused, Done}
 use Rattle.drive_engine.specs.Engine.{step}
-use Rattle.drive_engine.specs.Head.{no_head}
+use Rattle.line_steps.specs.Head.{no_head}
 use Rattle.drive_engine.specs.State.{State, Heading}
 
 -- the state before the first line

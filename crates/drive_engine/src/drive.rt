@@ -7,7 +7,7 @@ ghost use Rattle.drive_engine.specs.Exchange.{exchange};
 ghost use Rattle.drive_engine.specs.Transcript.{first};
 
 use crate::ending::Ending;
-use crate::laws::containers_are_sound;
+use crate::laws::boots_are_sound;
 use crate::play::Play;
 use crate::words::Command;
 use crash_base::OutOfMemory;
@@ -30,7 +30,7 @@ fn play_on<S: Source, T: Sink>(alloc: Global, play: &mut Play, input: &mut S, ou
     ensures write_failed { result ≡ Ending.WriteFailed
         → Rose (T.faults out.old) (T.faults out.new) }
 {
-    containers_are_sound();
+    boots_are_sound();
     let mut room = [0u8; PIECE_BYTES];
     let mut more = MAX_SCENARIO_BYTES;
     'pieces: loop {

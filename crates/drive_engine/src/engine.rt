@@ -1,20 +1,19 @@
 //! One scenario, line by line.
 
 ghost use Rattle.std.specs.Prelude.{◌≡◌, IfOk, OnOk};
-ghost use Rattle.drive_engine.specs.Answer.{answer_of};
+ghost use Rattle.line_steps.specs.Answer.{answer_of};
 ghost use Rattle.drive_engine.specs.Engine.{running, stage_line, step};
 ghost use Rattle.drive_engine.specs.Transcript.{first};
 
-use crate::answer::LineAnswer;
-use crate::head::{Head, head_line};
 use crate::running::Running;
 use crash_base::OutOfMemory;
+use line_steps::{Head, LineAnswer, head_line};
 use scenario_text::Line;
 use std::alloc::Global;
 use std::marker::Model;
 use std::mem;
 
-/// What head lines have said, or a container and its callers.
+/// What head lines have said, or a boot and its callers.
 #[derive(Drop)]
 enum Stage {
     Head(Head),
@@ -48,7 +47,7 @@ impl Engine {
         }
     }
 
-    /// Starts the container, where it is not started.
+    /// Starts the boot, where it is not started.
     fn start(&mut self, alloc: Global) -> Result<(), OutOfMemory>
         ensures { OnOk result (self.new ≡ running self.old) }
     {
@@ -69,7 +68,7 @@ impl Engine {
         }
     }
 
-    /// Does one line. The first event line starts the container, also where it is then refused.
+    /// Does one line. The first event line starts the boot, also where it is then refused.
     pub fn step(&mut self, alloc: Global, line: Line) -> Result<LineAnswer, OutOfMemory>
         ensures { IfOk result (λ a. answer_of a self.new ≡ step self.old line) }
     {

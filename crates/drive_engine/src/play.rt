@@ -3,19 +3,19 @@
 ghost use Rattle.std.specs.Prelude.{◌≡◌, ◌≢◌, ℕ, ◌+◌, ◌<◌, ◌≤◌, [], ◌++◌, length, List, Option, IfOk, OnOk, MatchResult};
 ghost use Rattle.outside.specs.Faults.{Rose};
 ghost use Rattle.outside.specs.Source.{HasEnded};
-ghost use Rattle.drive_engine.specs.Answer.{answer_of};
+ghost use Rattle.line_steps.specs.Answer.{answer_of};
 ghost use Rattle.drive_engine.specs.Command.{Runs};
 ghost use Rattle.drive_engine.specs.Exchange.{exchange};
 ghost use Rattle.drive_engine.specs.Play.{DoesLine, EndsAtLine, HasCome, Comes, EndsFrom};
 ghost use Rattle.drive_engine.specs.Transcript.{first, line_answer};
 
-use crate::answer::LineAnswer;
 use crate::drive::MAX_SCENARIO_BYTES;
 use crate::ending::Ending;
 use crate::engine::Engine;
-use crate::laws::containers_are_sound;
+use crate::laws::boots_are_sound;
 use crate::words::Command;
 use crash_base::OutOfMemory;
+use line_steps::LineAnswer;
 use outside::{Sink, write_all};
 use scenario_text::{MAX_LINE_BYTES, ended_line, read_line};
 use std::alloc::Global;
@@ -166,7 +166,7 @@ impl Play {
             → Rose (T.faults out.old) (T.faults out.new) }
         ensures count { T.faults out.old ≤ T.faults out.new }
     {
-        containers_are_sound();
+        boots_are_sound();
         let mut rest = piece;
         while let Some((part, more)) = ended_line(rest) {
             match self.end_line(alloc, part, out) {
@@ -188,7 +188,7 @@ impl Play {
             → Rose (T.faults out.old) (T.faults out.new) }
         ensures count { T.faults out.old ≤ T.faults out.new }
     {
-        containers_are_sound();
+        boots_are_sound();
         if self.part.is_empty() {
             return Ending::Done;
         }

@@ -1,43 +1,46 @@
-//! Event lines, over a container that is started.
+//! Event lines, over a boot that is started.
 
-ghost use Rattle.std.specs.Prelude.{◌≡◌, ◌+◌, ◌++◌, length, None, IfOk, IfSome, option_map};
+ghost use Rattle.std.specs.Prelude.{◌≡◌, ◌≤◌, ◌+◌, ◌++◌, length, None, IfOk, IfSome, option_map};
 ghost use Rattle.commit_journal.specs.Journal.{IsScope};
 ghost use Rattle.deployment.specs.Refusals.{deploy_refusal};
-ghost use Rattle.drive_engine.specs.Answer.{answer_of, within};
-ghost use Rattle.drive_engine.specs.Callers.{call_step};
+ghost use Rattle.line_steps.specs.Answer.{answer_of, within};
+ghost use Rattle.journal_model.specs.Rows.{rows_after};
+ghost use Rattle.boot_core.specs.Fits.{FitsIn};
+ghost use Rattle.line_steps.specs.Callers.{begin_step, call_step, new_ticket};
+ghost use Rattle.scenario_text.specs.declared.line.TheConstants.{MAX_CALLER};
 ghost use Rattle.drive_engine.specs.Running.{started, with_callers, scope_of, commit_step, drop_step, down_step, up_step, reboot_step, table_step, journal_step, event_line};
 
-use crate::answer::LineAnswer;
-use crate::call_lines::CallLine;
-use crate::callers::Callers;
-use crate::head::Head;
-use crate::texts::{
-    commit_refusal_text, committed_text, down_text, journal_text, reboot_refusal_text,
-    rebooted_text, table_text, up_text,
+use crate::no_keeper::NoKeeper;
+use boot_core::{Boot, Start, Ticket};
+use crash_base::{
+    APPLICATION, ComponentName, LatestRows, OutOfMemory, Place, RequestNo, RowList, Scope, WorkerNo,
 };
-use container_core::Container;
-use crash_base::{APPLICATION, ComponentName, OutOfMemory, Scope};
 use deployment::Deployment;
-use scenario_text::Line;
+use line_steps::{
+    CallLine, Callers, Head, LineAnswer, commit_refusal_text, committed_text, down_text,
+    journal_text, reboot_refusal_text, rebooted_text, table_text, up_text,
+};
+use scenario_text::{Line, MAX_CALLER};
 use std::alloc::Global;
 use std::marker::Model;
 
-/// A container that is started, and the callers of it.
+/// A boot that is started, and the callers of it. Its rows are kept nowhere.
 #[derive(Drop)]
 pub struct Running {
-    container: Container,
+    boot: Boot,
     callers: Callers,
+    keeper: NoKeeper,
 }
 
 impl Model for Running {
-    ghost use Rattle.drive_engine.specs.Callers.{AllFit};
+    ghost use Rattle.line_steps.specs.Callers.{AllFit};
     ghost use Rattle.drive_engine.specs.Running.{RunningState};
 
     ghost Value = { RunningState };
 
-    ghost view = { λ a. record { container = a.container; callers = a.callers } };
+    ghost view = { λ a. record { boot = a.boot; callers = a.callers } };
 
-    ghost invariant = { λ a. AllFit a.container a.callers };
+    ghost invariant = { λ a. AllFit a.boot a.callers };
 }
 
 /// The scope of a name: that of the whole application, or the group of a component. None exactly where no component
@@ -53,18 +56,50 @@ fn scope_of(deployment: &Deployment, name: &ComponentName) -> Option<Scope>
     Some(Scope::Group(deployment.group_of(c)))
 }
 
+/// The call of a caller that begins.
+fn new_ticket(alloc: Global, boot: &mut Boot, caller: u64) -> Result<Ticket, OutOfMemory>
+    requires { caller ≤ MAX_CALLER }
+    ensures ticket { IfOk result (λ ticket. ticket ≡ new_ticket boot.old caller) }
+    ensures fits { IfOk result (λ ticket. FitsIn boot.old ticket.call) }
+    ensures same { boot.new ≡ boot.old }
+{
+    let request = RequestNo {
+        boot: boot.number(),
+        serial: (1 << 63) + caller,
+    };
+    boot.begin(alloc, request, WorkerNo(caller as u32))
+}
+
+/// The current rows, in order of id.
+fn current_rows<'a>(alloc: Global, boot: &'a Boot) -> Result<LatestRows<'a>, OutOfMemory>
+    ensures { IfOk result (λ rows. rows ≡ rows_after boot.now.start.base boot.now.entries) }
+{
+    let place = Place(boot.journal().len());
+    let rows = boot.rows().all_at(alloc, place)?;
+    Ok(rows)
+}
+
 impl Running {
-    /// A container over this deployment with these limits, which nobody has called.
+    /// A boot of this deployment with these limits, over no rows, which nobody has called.
     pub fn start(alloc: Global, head: Head) -> Result<Running, OutOfMemory>
         requires { deploy_refusal head.parts ≡ None }
         ensures { IfOk result (λ r. r ≡ started head) }
     {
         let limits = head.limits;
         match Deployment::check(head.parts) {
-            Ok(deployment) => Ok(Running {
-                container: Container::start(alloc, deployment, limits)?,
-                callers: Callers::new(alloc),
-            }),
+            Ok(deployment) => {
+                let start = Start {
+                    boot: 1,
+                    base: RowList::new(alloc),
+                    deployment,
+                    limits,
+                };
+                Ok(Running {
+                    boot: Boot::start(alloc, start)?,
+                    callers: Callers::new(alloc),
+                    keeper: NoKeeper,
+                })
+            }
             Err(_) => unreachable!(),
         }
     }
@@ -77,7 +112,7 @@ impl Running {
         let Some(ticket) = self.callers.take(caller) else {
             return Ok(LineAnswer::Refused);
         };
-        let text = match self.container.commit(alloc, ticket, None) {
+        let text = match self.boot.commit(alloc, &mut self.keeper, ticket, None) {
             Ok(place) => committed_text(alloc, caller, place.0)?,
             Err(refused) => commit_refusal_text(alloc, caller, refused.cause)?,
         };
@@ -92,7 +127,7 @@ impl Running {
         let Some(ticket) = self.callers.take(caller) else {
             return LineAnswer::Refused;
         };
-        self.container.abandon(ticket);
+        self.boot.abandon(ticket);
         LineAnswer::Done
     }
 
@@ -101,10 +136,10 @@ impl Running {
     fn down_step(&mut self, alloc: Global, name: ComponentName) -> Result<LineAnswer, OutOfMemory>
         ensures { IfOk result (λ a. answer_of a self.new ≡ down_step self.old name) }
     {
-        let Some(scope) = scope_of(self.container.deployment(), &name) else {
+        let Some(scope) = scope_of(self.boot.deployment(), &name) else {
             return Ok(LineAnswer::Refused);
         };
-        let text = match self.container.begin_reboot(scope) {
+        let text = match self.boot.begin_reboot(scope) {
             Ok(place) => down_text(alloc, place.0)?,
             Err(refusal) => reboot_refusal_text(alloc, refusal)?,
         };
@@ -116,13 +151,13 @@ impl Running {
     fn up_step(&mut self, alloc: Global, name: ComponentName) -> Result<LineAnswer, OutOfMemory>
         ensures { IfOk result (λ a. answer_of a self.new ≡ up_step self.old name) }
     {
-        let Some(scope) = scope_of(self.container.deployment(), &name) else {
+        let Some(scope) = scope_of(self.boot.deployment(), &name) else {
             return Ok(LineAnswer::Refused);
         };
-        let Some(down) = self.container.undone_of(scope) else {
+        let Some(down) = self.boot.undone_of(scope) else {
             return Ok(LineAnswer::Refused);
         };
-        let place = self.container.end_reboot(down);
+        let place = self.boot.end_reboot(down);
         let text = up_text(alloc, place.0)?;
         Ok(LineAnswer::Wrote(text))
     }
@@ -132,12 +167,12 @@ impl Running {
     fn reboot_step(&mut self, alloc: Global, name: ComponentName) -> Result<LineAnswer, OutOfMemory>
         ensures { IfOk result (λ a. answer_of a self.new ≡ reboot_step self.old name) }
     {
-        let Some(scope) = scope_of(self.container.deployment(), &name) else {
+        let Some(scope) = scope_of(self.boot.deployment(), &name) else {
             return Ok(LineAnswer::Refused);
         };
-        let text = match self.container.begin_reboot(scope) {
+        let text = match self.boot.begin_reboot(scope) {
             Ok(down) => {
-                let up = self.container.end_reboot(down);
+                let up = self.boot.end_reboot(down);
                 rebooted_text(alloc, down.0, up.0)?
             }
             Err(refusal) => reboot_refusal_text(alloc, refusal)?,
@@ -150,7 +185,7 @@ impl Running {
     fn table_step(&mut self, alloc: Global) -> Result<LineAnswer, OutOfMemory>
         ensures { IfOk result (λ a. answer_of a self.new ≡ table_step self.old) }
     {
-        let rows = self.container.rows(alloc)?;
+        let rows = current_rows(alloc, &self.boot)?;
         let text = table_text(alloc, rows.as_slice())?;
         Ok(LineAnswer::Wrote(text))
     }
@@ -160,8 +195,23 @@ impl Running {
     fn journal_step(&mut self, alloc: Global) -> Result<LineAnswer, OutOfMemory>
         ensures { IfOk result (λ a. answer_of a self.new ≡ journal_step self.old) }
     {
-        let text = journal_text(alloc, self.container.journal())?;
+        let text = journal_text(alloc, self.boot.journal())?;
         Ok(LineAnswer::Wrote(text))
+    }
+
+    /// A caller begins a call.
+    #[tactic(auto, unfolding(line_steps::specs::Callers::begin_step))]
+    fn begin_step(&mut self, alloc: Global, caller: u64) -> Result<LineAnswer, OutOfMemory>
+        ensures { IfOk result (λ a. answer_of a self.new ≡ within (with_callers self.old)
+            (begin_step self.old.boot self.old.callers caller)) }
+    {
+        if !self.callers.can_begin(caller) {
+            return Ok(LineAnswer::Refused);
+        }
+        self.callers.pad(caller)?;
+        let ticket = new_ticket(alloc, &mut self.boot, caller)?;
+        self.callers.put(caller, ticket);
+        Ok(LineAnswer::Done)
     }
 
     /// A line of a live call.
@@ -172,13 +222,12 @@ impl Running {
         line: CallLine,
     ) -> Result<LineAnswer, OutOfMemory>
         ensures { IfOk result (λ a. answer_of a self.new ≡ within (with_callers self.old)
-            (call_step self.old.container self.old.callers caller line)) }
+            (call_step self.old.boot self.old.callers caller line)) }
     {
-        self.callers
-            .call_step(alloc, &mut self.container, caller, line)
+        self.callers.call_step(alloc, &self.boot, caller, line)
     }
 
-    /// A line after the container is started.
+    /// A line after the boot is started.
     pub fn event_line(&mut self, alloc: Global, line: Line) -> Result<LineAnswer, OutOfMemory>
         ensures { IfOk result (λ a. answer_of a self.new ≡ event_line self.old line) }
     {
@@ -189,9 +238,13 @@ impl Running {
             | Line::Soft(_, _)
             | Line::Owns(_, _)
             | Line::Limit(_, _) => Ok(LineAnswer::Refused),
-            Line::Begin(caller) => { self.callers.begin_step(alloc, &mut self.container, caller) },
+            Line::Begin(caller) => self.begin_step(alloc, caller),
             Line::Enter(caller, name) => self.call_step(alloc, caller, CallLine::Enter(name)),
             Line::Exit(caller) => self.call_step(alloc, caller, CallLine::Exit),
+            Line::Read(caller, table, key) => {
+                self.call_step(alloc, caller, CallLine::Read(table, key))
+            }
+            Line::List(caller, table) => self.call_step(alloc, caller, CallLine::List(table)),
             Line::Put(caller, table, key, bytes) => {
                 self.call_step(alloc, caller, CallLine::Put(table, key, bytes))
             }
@@ -202,6 +255,7 @@ impl Running {
             Line::Reboot(name) => self.reboot_step(alloc, name),
             Line::Table => self.table_step(alloc),
             Line::Journal => self.journal_step(alloc),
+            Line::Reopen => Ok(LineAnswer::Refused),
         }
     }
 }

@@ -1,35 +1,16 @@
-use Rattle.std.proofs.Common.{◌≡◌, None, [], ◌∷◌, ◌++◌, length, sym, ap, ◌∙◌, arith, length-append}
+use Rattle.std.proofs.Common.{refl}
 use Rattle.journal_model.specs.declared.entry.Entry.TheVariants.{Down}
-use Rattle.container_core.specs.Refusals.{reboot_refusal}
-use Rattle.container_core.proofs.Kept.{kept_down, can_push_down, grown_by}
-use Rattle.container_core.proofs.Sounding.{may_reboot}
-use Rattle.journal_model.proofs.Following.{may_go_down, generations_within}
+use Rattle.container_core.proofs.Kept.{kept_if_pushed, pushed_if, grown_if}
 use Rattle.container_core.proofs.container.Container.begin_reboot.Goals as goal
 
-pub push-place-requires : goal.push-place-requires
-push-place-requires c =
-    let none : reboot_refusal c.self.inside.journal.limits c.self.inside.journal.entries c.args.scope ≡ None = sym c.reboot_refusal.ensures.value ∙ c.in_default.is in
-    can_push_down c.self.inside.journal c.reserve.new.self c.args.scope c.reserve.ensures.entries c.reserve.ensures.limits c.in-Ok.ensures.room (may_reboot c.self.inside.journal.limits c.self.inside.journal.entries c.args.scope c.requires none)
-
-pub set_scope_down-requires-clause-up : goal.set_scope_down-requires-clause-up
-set_scope_down-requires-clause-up c =
-    let none : reboot_refusal c.self.inside.journal.limits c.self.inside.journal.entries c.args.scope ≡ None = sym c.reboot_refusal.ensures.value ∙ c.in_default.is in
-    may_go_down c.self.inside.names.statuses c.self.inside.journal.entries c.args.scope c.self.invariant.follows.statuses (may_reboot c.self.inside.journal.limits c.self.inside.journal.entries c.args.scope c.requires none).begins
-
-pub set_scope_down-requires-clause-few : goal.set_scope_down-requires-clause-few
-set_scope_down-requires-clause-few c = λ g within held.
-    let longer = ap length (c.push-place.ensures.entries ∙ ap (λ es. es ++ Down c.args.scope ∷ []) c.reserve.ensures.entries) ∙ length-append c.self.inside.journal.entries (Down c.args.scope ∷ []) in
-    omega (arith, generations_within c.self.inside.names.statuses c.self.inside.journal.entries g c.self.invariant.follows.statuses within, longer, c.push-place.ensures.few)
-
 pub invariant_of-self : goal.invariant_of-self
-invariant_of-self c =
-    let none : reboot_refusal c.self.inside.journal.limits c.self.inside.journal.entries c.args.scope ≡ None = sym c.reboot_refusal.ensures.value ∙ c.in_default.is in
-    let grown : c.push-place.new.self.entries ≡ c.self.inside.journal.entries ++ Down c.args.scope ∷ [] = c.push-place.ensures.entries ∙ ap (λ es. es ++ Down c.args.scope ∷ []) c.reserve.ensures.entries in
-    let place : c.push-place.result.0 ≡ length c.self.inside.journal.entries = c.push-place.ensures.place ∙ ap length c.reserve.ensures.entries in
-    kept_down c.self.inside.start c.self.inside.journal c.push-place.new.self c.self.inside.names c.set_scope_down.new.self c.args.scope c.self.invariant c.requires none grown (c.push-place.ensures.limits ∙ c.reserve.ensures.limits)
-    (c.set_scope_down.ensures.journal c.self.inside.start.deployment c.self.inside.journal.entries c.self.invariant.follows place)
+invariant_of-self g c =
+    kept_if_pushed c.begin_reboot.result c.self.inside.boot c.begin_reboot.new.self c.self.inside.history.marks (g.K.Keeper.told c.self.inside.keeper) (Down c.args.scope) c.begin_reboot.ensures.down c.begin_reboot.ensures.same refl c.self.invariant
 
-pub returns-in-Ok-clause-grown : goal.returns-in-Ok-clause-grown
-returns-in-Ok-clause-grown c =
-    let grown : c.push-place.new.self.entries ≡ c.self.inside.journal.entries ++ Down c.args.scope ∷ [] = c.push-place.ensures.entries ∙ ap (λ es. es ++ Down c.args.scope ∷ []) c.reserve.ensures.entries in
-    grown_by c.args.self.now c.self.inside.start c.self.inside.journal.entries c.push-place.new.self.entries (Down c.args.scope) c.self.view_is grown
+pub returns-clause-down : goal.returns-clause-down
+returns-clause-down g c =
+    rw (← c.self.view_is) (pushed_if c.begin_reboot.result c.self.inside.boot c.begin_reboot.new.self c.self.inside.history.marks (g.K.Keeper.told c.self.inside.keeper) (g.K.Keeper.faults c.self.inside.keeper) (Down c.args.scope) c.begin_reboot.ensures.down c.self.invariant.marked)
+
+pub returns-clause-grown : goal.returns-clause-grown
+returns-clause-grown g c =
+    rw (← c.self.view_is) (grown_if c.begin_reboot.result c.self.inside.boot c.begin_reboot.new.self c.self.inside.history.marks (g.K.Keeper.told c.self.inside.keeper) (g.K.Keeper.faults c.self.inside.keeper) (Down c.args.scope) c.begin_reboot.ensures.down c.begin_reboot.ensures.same c.self.invariant.marked)

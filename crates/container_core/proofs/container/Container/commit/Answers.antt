@@ -1,21 +1,40 @@
-use Rattle.std.proofs.Common.{◌≡◌, None, [], ◌∷◌, ◌++◌, sym, ap, ◌∙◌, subst}
-use Rattle.call_ticket.specs.declared.parts.TicketParts.{TicketParts}
+use Rattle.std.proofs.Common.{length, ap, ◌∙◌, refl}
 use Rattle.journal_model.specs.declared.entry.Entry.TheVariants.{Commit}
 use Rattle.journal_model.specs.Calls.{entry_of}
-use Rattle.container_core.specs.Container.{ContainerValue}
-use Rattle.container_core.specs.Fits.{FitsIn}
-use Rattle.container_core.specs.Refusals.{commit_refusal}
-use Rattle.container_core.proofs.Kept.{kept_commit, entry_made}
+use Rattle.container_core.proofs.Kept.{kept_push, holds_commit, pushed_is, grown_by, kept_refused, refused_as, grown_by_refused}
 use Rattle.container_core.proofs.container.Container.commit.Goals as goal
 
-pub invariant_of-self-2 : goal.invariant_of-self-2
-invariant_of-self-2 c =
-    let none : commit_refusal c.self.inside.journal.limits c.self.inside.journal.entries c.args.ticket.call c.args.action ≡ None = sym c.commit_refusal.ensures.value ∙ c.in_default.is in
-    let P : ContainerValue → Type 0 = λ v. FitsIn v c.args.ticket.call in
-    let made : c.push-place.new.self.entries ≡ c.self.inside.journal.entries ++ Commit (entry_of c.args.ticket.call c.args.action) ∷ [] =
-    c.push-place.ensures.entries
-    ∙ ap (λ es. es ++ Commit (record { request = c.request-request.result; worker = c.worker-worker.result; at = c.at-at.result; touched = c.in-Ok.parts.touched; reads = c.in-Ok.parts.marks; writes = c.in-Ok.parts.writes; action = c.args.action }) ∷ []) c.take_room.ensures.entries
-    ∙ ap (λ e. c.self.inside.journal.entries ++ Commit e ∷ []) (entry_made c.args.ticket.call c.args.action c.request-request.result c.worker-worker.result c.at-at.result c.in-Ok.parts.touched c.in-Ok.parts.marks c.in-Ok.parts.writes
-    c.request-request.ensures c.worker-worker.ensures c.at-at.ensures
-    (ap (λ (p : TicketParts). p.touched) c.in-Ok.ensures.parts) (ap (λ (p : TicketParts). p.marks) c.in-Ok.ensures.parts) (ap (λ (p : TicketParts). p.writes) c.in-Ok.ensures.parts)) in
-    kept_commit c.self.inside.start c.self.inside.journal c.push-place.new.self c.self.inside.names c.args.ticket.call c.args.action c.self.invariant (subst P (sym c.self.view_is) c.requires) none made (c.push-place.ensures.limits ∙ c.take_room.ensures.limits)
+pub invariant_of-self-in-Ok : goal.invariant_of-self-in-Ok
+invariant_of-self-in-Ok g c =
+    let e = Commit (entry_of c.args.ticket.call c.args.action) in
+    rw (c.reserve.ensures.marks, c.in-Ok.ensures.keeps) (kept_push c.self.inside.boot c.commit.new.self c.self.inside.history.marks (g.K.Keeper.told c.self.inside.keeper) _ e c.in-Ok.ensures.committed c.self.invariant
+    (holds_commit (g.K.Keeper.told c.self.inside.keeper) c.self.inside.boot e c.args.ticket.call.writes refl c.self.invariant.rows))
+
+pub invariant_of-self-in-Err : goal.invariant_of-self-in-Err
+invariant_of-self-in-Err g c =
+    kept_refused c.in-Err.refused.cause c.args.ticket.call.writes c.self.inside.boot c.commit.new.self c.self.inside.history.marks c.mark_failure.new.history.marks (g.K.Keeper.told c.self.inside.keeper) (g.K.Keeper.told c.commit.new.keeper) (record { 0 = c.len.result }) c.in-Err.refused.request
+    c.in-Err.ensures.same (c.len.ensures ∙ ap length c.journal.ensures.entries) (rw c.reserve.ensures.marks at c.mark_failure.ensures) c.in-Err.ensures.keeps c.self.invariant
+
+pub returns-in-Ok-clause-leaves : goal.returns-in-Ok-clause-leaves
+returns-in-Ok-clause-leaves g c =
+    let e = Commit (entry_of c.args.ticket.call c.args.action) in
+    rw (← c.self.view_is) (c.in-Ok.ensures.place, rw (c.reserve.ensures.marks, ← c.in-Ok.ensures.keeps) (pushed_is c.self.inside.boot c.commit.new.self c.self.inside.history.marks (g.K.Keeper.told c.self.inside.keeper) (g.K.Keeper.told c.commit.new.keeper) (g.K.Keeper.faults c.self.inside.keeper) (g.K.Keeper.faults c.commit.new.keeper) e c.in-Ok.ensures.committed c.self.invariant.marked))
+
+pub returns-in-Ok-clause-grown : goal.returns-in-Ok-clause-grown
+returns-in-Ok-clause-grown g c =
+    let e = Commit (entry_of c.args.ticket.call c.args.action) in
+    rw (← c.self.view_is, c.reserve.ensures.marks) (grown_by c.self.inside.boot c.commit.new.self c.self.inside.history.marks (g.K.Keeper.told c.self.inside.keeper) (g.K.Keeper.told c.commit.new.keeper) (g.K.Keeper.faults c.self.inside.keeper) (g.K.Keeper.faults c.commit.new.keeper) e c.in-Ok.ensures.committed c.self.invariant.marked)
+
+pub returns-in-Err-clause-leaves : goal.returns-in-Err-clause-leaves
+returns-in-Err-clause-leaves g c =
+    rw (← c.self.view_is) (
+      refused_as c.in-Err.refused.cause c.args.ticket.call c.self.inside.boot c.commit.new.self c.self.inside.history.marks c.mark_failure.new.history.marks (g.K.Keeper.told c.self.inside.keeper) (g.K.Keeper.told c.commit.new.keeper) (g.K.Keeper.faults c.self.inside.keeper) (g.K.Keeper.faults c.commit.new.keeper) (record { 0 = c.len.result }) c.in-Err.refused.request
+          c.in-Err.ensures.same (c.len.ensures ∙ ap length c.journal.ensures.entries) c.in-Err.ensures.request (rw c.reserve.ensures.marks at c.mark_failure.ensures) c.self.invariant.marked
+          (λ tested. (ap g.K.Keeper.told (c.in-Err.ensures.tested tested), ap g.K.Keeper.faults (c.in-Err.ensures.tested tested))),
+      c.in-Err.ensures.keeps,
+    )
+
+pub returns-in-Err-clause-grown : goal.returns-in-Err-clause-grown
+returns-in-Err-clause-grown g c =
+    rw (← c.self.view_is) (grown_by_refused c.in-Err.refused.cause c.self.inside.boot c.commit.new.self c.self.inside.history.marks c.mark_failure.new.history.marks (g.K.Keeper.told c.self.inside.keeper) (g.K.Keeper.told c.commit.new.keeper) (g.K.Keeper.faults c.self.inside.keeper) (g.K.Keeper.faults c.commit.new.keeper) (record { 0 = c.len.result }) c.in-Err.refused.request
+    c.in-Err.ensures.same (c.len.ensures ∙ ap length c.journal.ensures.entries) (rw c.reserve.ensures.marks at c.mark_failure.ensures) c.self.invariant.marked)

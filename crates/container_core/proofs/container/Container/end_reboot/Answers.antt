@@ -1,17 +1,21 @@
-use Rattle.std.proofs.Common.{Some, sym, ap, ◌∙◌, option_map}
-use Rattle.journal_model.specs.declared.entry.Entry.{Entry}
-use Rattle.journal_model.proofs.Growing.{legal_in_turn}
-use Rattle.journal_model.proofs.Following.{may_come_up}
-use Rattle.container_core.proofs.Kept.{kept_up, undone_here}
+use Rattle.std.proofs.Common.{◌≡◌, Some, slice_get, ap, ◌∙◌, refl}
+use Rattle.journal_model.specs.declared.entry.Entry.TheVariants.{Down, Up}
+use Rattle.container_core.specs.Container.{ContainerValue}
+use Rattle.container_core.proofs.Kept.{kept_push, pushed_is, grown_by, holds_still}
 use Rattle.container_core.proofs.container.Container.end_reboot.Goals as goal
 
-pub set_scope_up-requires : goal.set_scope_up-requires
-set_scope_up-requires c =
-    let undone = undone_here c.args.self.now c.self.inside.start c.self.inside.journal.entries c.args.down.0 c.in-Some-Down.scope c.self.view_is c.requires (sym c.get.ensures ∙ ap (option_map (λ e. e.now)) c.in-Some-Down.is ∙ ap (λ (e : Entry). Some e) c.in-Some-Down.field-0-is) in
-    may_come_up c.self.inside.names.statuses c.self.inside.journal.entries c.in-Some-Down.scope c.self.invariant.follows.statuses (record { place = c.args.down.0; undone = undone })
-
 pub invariant_of-self : goal.invariant_of-self
-invariant_of-self c =
-    let undone = undone_here c.args.self.now c.self.inside.start c.self.inside.journal.entries c.args.down.0 c.in-Some-Down.scope c.self.view_is c.requires (sym c.get.ensures ∙ ap (option_map (λ e. e.now)) c.in-Some-Down.is ∙ ap (λ (e : Entry). Some e) c.in-Some-Down.field-0-is) in
-    kept_up c.self.inside.start c.self.inside.journal c.push.new.self c.self.inside.names c.set_scope_up.new.self c.in-Some-Down.scope c.args.down.0 c.self.invariant undone c.push.ensures.entries c.push.ensures.limits
-    (c.set_scope_up.ensures.journal c.self.inside.start.deployment c.self.inside.journal.entries c.self.invariant.follows (legal_in_turn c.self.inside.start.base c.self.inside.journal.entries c.self.invariant.sound.legal) (record { place = c.args.down.0; undone = undone }))
+invariant_of-self g c =
+    let here : slice_get c.self.inside.boot.entries c.args.down.0 ≡ Some (Down c.requires.0) = ap (λ (v : ContainerValue). slice_get v.boot.entries c.args.down.0) c.self.view_is ∙ c.requires.1.down in
+    kept_push c.self.inside.boot c.end_reboot.new.self c.self.inside.history.marks (g.K.Keeper.told c.self.inside.keeper) (g.K.Keeper.told c.self.inside.keeper) (Up c.requires.0) (c.end_reboot.ensures.up c.requires.0 here) c.self.invariant
+    (holds_still (g.K.Keeper.told c.self.inside.keeper) c.self.inside.boot (Up c.requires.0) refl c.self.invariant.rows)
+
+pub returns-clause-up : goal.returns-clause-up
+returns-clause-up g c = λ s is.
+    let here : slice_get c.self.inside.boot.entries c.args.down.0 ≡ Some (Down s) = ap (λ (v : ContainerValue). slice_get v.boot.entries c.args.down.0) c.self.view_is ∙ is in
+    rw (← c.self.view_is) (pushed_is c.self.inside.boot c.end_reboot.new.self c.self.inside.history.marks (g.K.Keeper.told c.self.inside.keeper) (g.K.Keeper.told c.self.inside.keeper) (g.K.Keeper.faults c.self.inside.keeper) (g.K.Keeper.faults c.self.inside.keeper) (Up s) (c.end_reboot.ensures.up s here) c.self.invariant.marked)
+
+pub returns-clause-grown : goal.returns-clause-grown
+returns-clause-grown g c =
+    let here : slice_get c.self.inside.boot.entries c.args.down.0 ≡ Some (Down c.requires.0) = ap (λ (v : ContainerValue). slice_get v.boot.entries c.args.down.0) c.self.view_is ∙ c.requires.1.down in
+    rw (← c.self.view_is) (grown_by c.self.inside.boot c.end_reboot.new.self c.self.inside.history.marks (g.K.Keeper.told c.self.inside.keeper) (g.K.Keeper.told c.self.inside.keeper) (g.K.Keeper.faults c.self.inside.keeper) (g.K.Keeper.faults c.self.inside.keeper) (Up c.requires.0) (c.end_reboot.ensures.up c.requires.0 here) c.self.invariant.marked)

@@ -1,8 +1,8 @@
 use Rattle.std.proofs.Common.{◌≡◌, sym, subst, refl, None}
 use Rattle.deployment.specs.Refusals.{deploy_refusal}
 use Rattle.deployment.proofs.Growing.{none_of_nothing}
-use Rattle.drive_engine.specs.declared.head.Head.{Head}
-use Rattle.drive_engine.specs.Head.{no_head}
+use Rattle.line_steps.specs.declared.head.Head.{Head}
+use Rattle.line_steps.specs.Head.{no_head}
 use Rattle.drive_engine.proofs.engine.Engine.new.Goals as goal
 
 pub invariant_of-result : goal.invariant_of-result

@@ -17,7 +17,7 @@ returns-in-Err-clause-comes g c =
     let cut = c.in-Some.ensures.ended in
     λ left left_now written room past h.
     let P : List ℕ → Type 0 = λ t. HasCome (exchange left left_now written old) room t past c.loop-part.self in
-    ends_in_piece c.in-Err.ending left left_now written old new room past c.loop-part.self part more c.containers_are_sound.ensures.lines cut.0 c.in-Err.ensures.does (subst P cut.1 (c.loop-part.invariant.comes left left_now written room past h))
+    ends_in_piece c.in-Err.ending left left_now written old new room past c.loop-part.self part more c.boots_are_sound.ensures.lines cut.0 c.in-Err.ensures.does (subst P cut.1 (c.loop-part.invariant.comes left left_now written room past h))
 
 pub loop-part-preserved : goal.loop-part-preserved
 loop-part-preserved g c =
@@ -49,4 +49,4 @@ returns-clause-comes g c =
     (λ x k. λ left left_now written room past h. comes_kept left left_now written new room past p c.keep.new.self rest one k.0 k.1 (come left left_now written room past h))
     (λ ending k. λ left left_now written room past h.
     let P : Ending → Type 0 = λ e. Runs Drive e (exchange left left_now written new) in
-    subst P (sym k.0) (ends_long left left_now written new room past p rest c.containers_are_sound.ensures.lines one k.1 (come left left_now written room past h)))
+    subst P (sym k.0) (ends_long left left_now written new room past p rest c.boots_are_sound.ensures.lines one k.1 (come left left_now written room past h)))

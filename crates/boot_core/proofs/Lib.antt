@@ -1,0 +1,10 @@
+pub mod Refusing
+pub mod Fitting
+pub mod Busy
+pub mod Sounding
+pub mod Revoking
+pub mod Kept
+pub mod Turning
+pub mod Newer
+pub mod Short
+pub mod Found

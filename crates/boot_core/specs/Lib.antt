@@ -1,0 +1,9 @@
+pub mod Boot
+pub mod Steps
+pub mod Owners
+pub mod Fits
+pub mod Refusals
+pub mod Sound
+pub mod Keeping
+pub mod Revoked
+pub mod Keeper

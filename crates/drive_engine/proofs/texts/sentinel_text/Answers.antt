@@ -1,5 +1,0 @@
-use Rattle.std.proofs.lemmas.List.{append_assoc}
-use Rattle.drive_engine.proofs.texts.sentinel_text.Goals as goal
-
-pub returns : goal.returns
-returns c = simp append_assoc (simp c.new-text.ensures.bytes at c.in_ok-write.ensures.bytes)

@@ -1,0 +1,108 @@
+-- Head lines, which build the parts of a deployment and set the limits of the journal.
+use Rattle.std.specs.Prelude.{ℕ, nat_le, nat_lt, not, Bool, true, false, List, [], ◌∷◌, ◌++◌, length, is_some}
+use Rattle.crash_base.specs.Names.{is_component_name}
+use Rattle.crash_base.specs.declared.scope.TheConstants.{MAX_GROUPS}
+use Rattle.journal_model.specs.declared.limits.TheConstants.{MAX_ENTRIES, MAX_JOURNAL_BYTES}
+use Rattle.scenario_text.specs.declared.line.Line.{Line}
+use Rattle.scenario_text.specs.declared.line.Line.TheVariants as lines
+use Rattle.deployment.specs.Parts.{named, owner_of, component_no, one_call}
+use Rattle.deployment.specs.declared.parts.ComponentPart.{ComponentPart}
+use Rattle.deployment.specs.declared.parts.Parts.{Parts}
+use Rattle.deployment.specs.declared.parts.Reference.{Reference}
+use Rattle.line_steps.specs.Answer.{Answer, Refused, Done, refused_if, or_refused, within}
+use Rattle.line_steps.specs.Tables.{table_of}
+use Rattle.line_steps.specs.declared.head.Head.{Head}
+
+-- no parts
+abbrev pub no_parts : Parts
+no_parts = record { components = []; references = []; tables = [] }
+
+-- what there is before the first line: no parts, and the greatest limits
+abbrev pub no_head : Head
+no_head = record {
+  parts = no_parts;
+  limits = record { entries = MAX_ENTRIES; bytes = MAX_JOURNAL_BYTES };
+}
+
+-- the same head with these parts
+abbrev pub with_parts : Head → Parts → Head
+with_parts head parts = record head { parts = parts }
+
+-- a component with one method `call`, which may be called again
+abbrev pub plain : List ℕ → ComponentPart
+plain name = record { name = name; methods = one_call }
+
+-- parts with one plain component more
+abbrev pub with_component : Parts → List ℕ → Parts
+with_component parts name = record parts { components = parts.components ++ plain name ∷ [] }
+
+-- a reference from one component to another
+abbrev pub reference : ℕ → ℕ → Bool → Reference
+reference from to hard =
+    record { from = component_no from; to = component_no to; hard = hard }
+
+-- parts with one reference more
+abbrev pub with_reference : Parts → Reference → Parts
+with_reference parts r = record parts { references = parts.references ++ r ∷ [] }
+
+-- parts with one table more, of the component of this number
+abbrev pub with_table : Parts → ℕ → ℕ → Parts
+with_table parts c table =
+    record parts { tables = parts.tables ++ record { table = table; owner = component_no c } ∷ [] }
+
+-- The next component. Refused are a name that no component may have, a name that is used, and one component too many.
+unfoldable pub component_step : Parts → List ℕ → Answer Parts
+component_step parts name =
+    refused_if (not (is_component_name name))
+    (refused_if (is_some (named parts.components name))
+    (refused_if (nat_le MAX_GROUPS (length parts.components))
+    (Done (with_component parts name) [])))
+
+-- A component refers to another, or to itself. Refused is an unknown name.
+unfoldable pub reference_step : Parts → List ℕ → List ℕ → Bool → Answer Parts
+reference_step parts from to hard =
+    or_refused (named parts.components from) (λ x.
+    or_refused (named parts.components to) (λ y.
+    Done (with_reference parts (reference x y hard)) []))
+
+-- A component owns a table. Refused are an unknown name, a number of no table, and a table that is owned.
+unfoldable pub owns_step : Parts → List ℕ → ℕ → Answer Parts
+owns_step parts name number =
+    or_refused (named parts.components name) (λ c.
+    or_refused (table_of number) (λ table.
+    refused_if (is_some (owner_of parts.tables table))
+    (Done (with_table parts c table) [])))
+
+-- The limits of the journal are set. Refused are limits above the greatest.
+unfoldable pub limit_step : Head → ℕ → ℕ → Answer Head
+limit_step head entries bytes =
+    refused_if (nat_lt MAX_ENTRIES entries)
+    (refused_if (nat_lt MAX_JOURNAL_BYTES bytes)
+    (Done (record head { limits = record { entries = entries; bytes = bytes } }) []))
+
+-- a line before the boot is started, which no event line is
+abbrev pub head_line : Head → Line → Answer Head
+head_line head lines.Pass = Done head []
+head_line head (lines.Component name) =
+    within (with_parts head) (component_step head.parts name)
+head_line head (lines.Hard from to) =
+    within (with_parts head) (reference_step head.parts from to true)
+head_line head (lines.Soft from to) =
+    within (with_parts head) (reference_step head.parts from to false)
+head_line head (lines.Owns name table) =
+    within (with_parts head) (owns_step head.parts name table)
+head_line head (lines.Limit entries bytes) = limit_step head entries bytes
+head_line head (lines.Begin c) = Refused
+head_line head (lines.Enter c name) = Refused
+head_line head (lines.Exit c) = Refused
+head_line head (lines.Read c table key) = Refused
+head_line head (lines.List c table) = Refused
+head_line head (lines.Put c table key bytes) = Refused
+head_line head (lines.Commit c) = Refused
+head_line head (lines.Drop c) = Refused
+head_line head (lines.Down name) = Refused
+head_line head (lines.Up name) = Refused
+head_line head (lines.Reboot name) = Refused
+head_line head lines.Table = Refused
+head_line head lines.Journal = Refused
+head_line head lines.Reopen = Refused

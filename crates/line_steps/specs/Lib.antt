@@ -1,0 +1,6 @@
+pub mod Answer
+pub mod Tables
+pub mod Texts
+pub mod Head
+pub mod CallLines
+pub mod Callers

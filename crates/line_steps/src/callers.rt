@@ -1,0 +1,179 @@
+//! Callers of a scenario.
+
+ghost use Rattle.std.specs.Prelude.{◌≡◌, ◌<◌, ◌≤◌, [], length, slice_set, IfOk, OnOk, MatchOption};
+ghost use Rattle.boot_core.specs.Boot.{BootValue};
+ghost use Rattle.boot_core.specs.Fits.{FitsIn};
+ghost use Rattle.line_steps.specs.Answer.{answer_of};
+ghost use Rattle.line_steps.specs.Callers.{caller_at, padded, request_of, is_live, can_begin, caller_line, call_step, AllFit, FitsCaller, IsAway, TakesCall};
+ghost use Rattle.line_steps.specs.declared.callers.Caller.TheVariants.{Live, Absent};
+
+use crate::answer::LineAnswer;
+use crate::call_lines::{CallLine, call_line};
+use boot_core::{Boot, Ticket};
+use crash_base::{OutOfMemory, RequestNo};
+use scenario_text::MAX_CALLER;
+use std::alloc::Global;
+use std::marker::Model;
+use std::mem;
+
+/// What a caller has in hand.
+#[derive(Drop)]
+pub enum Caller {
+    /// No call: it has not begun one in this boot, or its last one has ended.
+    Absent,
+    /// A call, which has not ended.
+    Live(Ticket),
+}
+
+/// The callers, by their numbers. Those past the end have no call.
+#[derive(Drop)]
+pub struct Callers {
+    callers: Vec<Caller>,
+}
+
+impl Model for Callers {
+    ghost use Rattle.std.specs.Prelude.{List};
+    ghost use Rattle.line_steps.specs.declared.callers.Caller.{Caller};
+
+    ghost Value = { List Caller };
+
+    ghost view = { λ a. a.callers.items };
+}
+
+/// The request that a caller makes in a boot.
+pub fn request_of(boot: u32, caller: u64) -> RequestNo
+    requires { caller ≤ MAX_CALLER }
+    ensures { result ≡ request_of boot caller }
+{
+    RequestNo {
+        boot,
+        serial: (1 << 63) + caller,
+    }
+}
+
+/// Whether a caller has a call that has not ended.
+fn is_live(caller: &Caller) -> bool
+    ensures { result ≡ is_live caller.now }
+{
+    match caller {
+        Caller::Live(_) => true,
+        Caller::Absent => false,
+    }
+}
+
+/// A line of a caller's call, if it is live.
+fn caller_line(
+    alloc: Global,
+    boot: &Boot,
+    caller: &mut Caller,
+    number: u64,
+    line: CallLine,
+) -> Result<LineAnswer, OutOfMemory>
+    requires { FitsCaller boot.now caller.old }
+    ensures answer { IfOk result (λ a.
+        answer_of a caller.new ≡ caller_line boot.now number line caller.old) }
+    ensures fits { FitsCaller boot.now caller.new }
+{
+    match caller {
+        Caller::Live(ticket) => call_line(alloc, boot, ticket, number, line),
+        Caller::Absent => Ok(LineAnswer::Refused),
+    }
+}
+
+/// Takes a caller's call, if it is live: it has ended.
+fn take(caller: &mut Caller) -> Option<Ticket>
+    ensures { MatchOption result ((caller.new ≡ caller.old) × IsAway caller.old)
+        (λ ticket. (caller.old ≡ Live ticket) × (caller.new ≡ Absent)) }
+{
+    match mem::replace(caller, Caller::Absent) {
+        Caller::Live(ticket) => Some(ticket),
+        Caller::Absent => None,
+    }
+}
+
+/// Makes a place for each number up to this one.
+fn pad(callers: &mut Vec<Caller>, number: u64) -> Result<(), OutOfMemory>
+    ensures padded { OnOk result (callers.new.items ≡ padded callers.old.items number) }
+    ensures fits { (b : BootValue) → AllFit b callers.old.items → AllFit b callers.new.items }
+{
+    while callers.len() as u64 <= number {
+        callers.push(Caller::Absent)?;
+    }
+    Ok(())
+}
+
+impl Callers {
+    /// No caller has begun. It takes no memory.
+    pub fn new(alloc: Global) -> Callers
+        ensures { result ≡ [] }
+    {
+        Callers {
+            callers: Vec::new(alloc),
+        }
+    }
+
+    /// Whether a caller may begin a call. It visits that caller.
+    pub fn can_begin(&self, number: u64) -> bool
+        ensures { result ≡ can_begin self.now number }
+    {
+        if number > MAX_CALLER {
+            return false;
+        }
+        if number >= self.callers.len() as u64 {
+            return true;
+        }
+        !is_live(&self.callers[number as usize])
+    }
+
+    /// Makes a place for each number up to this one that has none. Where memory ran out, there may be places for some
+    /// of them.
+    pub fn pad(&mut self, number: u64) -> Result<(), OutOfMemory>
+        ensures padded { OnOk result (self.new ≡ padded self.old number) }
+        ensures fits { (b : BootValue) → AllFit b self.old → AllFit b self.new }
+    {
+        pad(&mut self.callers, number)?;
+        Ok(())
+    }
+
+    /// Gives a caller that has a place this call.
+    pub fn put(&mut self, number: u64, ticket: Ticket)
+        requires { number < length self.old }
+        ensures { self.new ≡ slice_set self.old number (Live ticket) }
+    {
+        self.callers[number as usize] = Caller::Live(ticket);
+    }
+
+    /// A line of a live call. It visits that caller.
+    #[tactic(auto, unfolding(crate::specs::Callers::call_step))]
+    pub fn call_step(
+        &mut self,
+        alloc: Global,
+        boot: &Boot,
+        number: u64,
+        line: CallLine,
+    ) -> Result<LineAnswer, OutOfMemory>
+        requires { AllFit boot.now self.old }
+        ensures answer { IfOk result (λ a.
+            answer_of a self.new ≡ call_step boot.now self.old number line) }
+        ensures fits { AllFit boot.now self.new }
+    {
+        if number >= self.callers.len() as u64 {
+            return Ok(LineAnswer::Refused);
+        }
+        let caller = &mut self.callers[number as usize];
+        let answer = caller_line(alloc, boot, caller, number, line)?;
+        Ok(answer)
+    }
+
+    /// Takes a caller's call, which ends. None exactly where no call of the caller is live.
+    pub fn take(&mut self, number: u64) -> Option<Ticket>
+        ensures { MatchOption result
+            ((self.new ≡ self.old) × IsAway (caller_at self.old number))
+            (λ ticket. TakesCall self.old self.new number ticket) }
+    {
+        if number >= self.callers.len() as u64 {
+            return None;
+        }
+        take(&mut self.callers[number as usize])
+    }
+}

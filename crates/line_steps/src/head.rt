@@ -1,0 +1,153 @@
+//! Head lines, which build the parts of a deployment and set the limits of the journal.
+
+ghost use Rattle.std.specs.Prelude.{◌≡◌, None, IfOk, true, false};
+ghost use Rattle.deployment.specs.Refusals.{deploy_refusal};
+ghost use Rattle.line_steps.specs.Answer.{answer_of, within};
+ghost use Rattle.line_steps.specs.Head.{no_head, component_step, reference_step, owns_step, limit_step, head_line};
+
+use crate::answer::LineAnswer;
+use crate::tables::table_of;
+use boot_core::{JournalLimits, MAX_ENTRIES, MAX_JOURNAL_BYTES};
+use crash_base::{ComponentName, ComponentNo, MAX_GROUPS, OutOfMemory, is_component_name};
+use deployment::{ComponentPart, Parts, Reference, TablePart, one_call};
+use scenario_text::Line;
+use std::alloc::Global;
+
+/// What head lines have said: the parts of a deployment, and the limits of the journal.
+#[derive(Drop)]
+pub struct Head {
+    pub parts: Parts,
+    pub limits: JournalLimits,
+}
+
+/// The next component.
+#[tactic(auto, unfolding(crate::specs::Head::component_step))]
+fn component_step(
+    alloc: Global,
+    parts: &mut Parts,
+    name: ComponentName,
+) -> Result<LineAnswer, OutOfMemory>
+    requires { deploy_refusal parts.old ≡ None }
+    ensures answer { IfOk result (λ a. answer_of a parts.new ≡ component_step parts.old name) }
+    ensures accepted { deploy_refusal parts.new ≡ None }
+{
+    if !is_component_name(name.as_slice()) {
+        return Ok(LineAnswer::Refused);
+    }
+    if parts.named(name.as_slice()).is_some() {
+        return Ok(LineAnswer::Refused);
+    }
+    if parts.components.len() >= MAX_GROUPS as usize {
+        return Ok(LineAnswer::Refused);
+    }
+    let methods = one_call(alloc)?;
+    parts.components.push(ComponentPart { name, methods })?;
+    Ok(LineAnswer::Done)
+}
+
+/// A component refers to another.
+#[tactic(auto, unfolding(crate::specs::Head::reference_step))]
+fn reference_step(
+    parts: &mut Parts,
+    from: ComponentName,
+    to: ComponentName,
+    hard: bool,
+) -> Result<LineAnswer, OutOfMemory>
+    requires { deploy_refusal parts.old ≡ None }
+    ensures answer { IfOk result (λ a.
+        answer_of a parts.new ≡ reference_step parts.old from to hard) }
+    ensures accepted { deploy_refusal parts.new ≡ None }
+{
+    let Some(x) = parts.named(from.as_slice()) else {
+        return Ok(LineAnswer::Refused);
+    };
+    let Some(y) = parts.named(to.as_slice()) else {
+        return Ok(LineAnswer::Refused);
+    };
+    let from = ComponentNo(x as u16);
+    let to = ComponentNo(y as u16);
+    parts.references.push(Reference { from, to, hard })?;
+    Ok(LineAnswer::Done)
+}
+
+/// A component owns a table.
+#[tactic(auto, unfolding(crate::specs::Head::owns_step))]
+fn owns_step(parts: &mut Parts, name: ComponentName, number: u64) -> Result<LineAnswer, OutOfMemory>
+    requires { deploy_refusal parts.old ≡ None }
+    ensures answer { IfOk result (λ a. answer_of a parts.new ≡ owns_step parts.old name number) }
+    ensures accepted { deploy_refusal parts.new ≡ None }
+{
+    let Some(c) = parts.named(name.as_slice()) else {
+        return Ok(LineAnswer::Refused);
+    };
+    let Some(table) = table_of(number) else {
+        return Ok(LineAnswer::Refused);
+    };
+    if parts.owner_of(table).is_some() {
+        return Ok(LineAnswer::Refused);
+    }
+    let owner = ComponentNo(c as u16);
+    parts.tables.push(TablePart { table, owner })?;
+    Ok(LineAnswer::Done)
+}
+
+/// The limits of the journal are set.
+#[tactic(auto, unfolding(crate::specs::Head::limit_step))]
+fn limit_step(head: &mut Head, entries: u64, bytes: u64) -> LineAnswer
+    ensures answer { answer_of result head.new ≡ limit_step head.old entries bytes }
+    ensures parts { head.new.parts ≡ head.old.parts }
+{
+    if entries > MAX_ENTRIES {
+        return LineAnswer::Refused;
+    }
+    if bytes > MAX_JOURNAL_BYTES {
+        return LineAnswer::Refused;
+    }
+    head.limits = JournalLimits { entries, bytes };
+    LineAnswer::Done
+}
+
+impl Head {
+    /// No parts, and the greatest limits. It takes no memory.
+    pub fn new(alloc: Global) -> Head
+        ensures { result ≡ no_head }
+    {
+        Head {
+            parts: Parts::new(alloc),
+            limits: JournalLimits {
+                entries: MAX_ENTRIES,
+                bytes: MAX_JOURNAL_BYTES,
+            },
+        }
+    }
+}
+
+/// A line before the boot is started.
+pub fn head_line(alloc: Global, head: &mut Head, line: Line) -> Result<LineAnswer, OutOfMemory>
+    requires { deploy_refusal head.old.parts ≡ None }
+    ensures answer { IfOk result (λ a. answer_of a head.new ≡ head_line head.old line) }
+    ensures accepted { deploy_refusal head.new.parts ≡ None }
+{
+    match line {
+        Line::Pass => Ok(LineAnswer::Done),
+        Line::Component(name) => component_step(alloc, &mut head.parts, name),
+        Line::Hard(from, to) => reference_step(&mut head.parts, from, to, true),
+        Line::Soft(from, to) => reference_step(&mut head.parts, from, to, false),
+        Line::Owns(name, number) => owns_step(&mut head.parts, name, number),
+        Line::Limit(entries, bytes) => Ok(limit_step(head, entries, bytes)),
+        Line::Begin(_)
+        | Line::Enter(_, _)
+        | Line::Exit(_)
+        | Line::Read(_, _, _)
+        | Line::List(_, _)
+        | Line::Put(_, _, _, _)
+        | Line::Commit(_)
+        | Line::Drop(_)
+        | Line::Down(_)
+        | Line::Up(_)
+        | Line::Reboot(_)
+        | Line::Table
+        | Line::Journal
+        | Line::Reopen => Ok(LineAnswer::Refused),
+    }
+}
