@@ -1,10 +1,11 @@
 //! The kinds in memory at values, and each adapter over a stream that fails in its midst.
 
 use crate::words::{add_number, add_row, add_text, add_word, cut, expect_words, number, rows};
-use crash_base::{InputBytes, WriteList};
+use crash_base::{InputBytes, RowWrite};
 use outside::{
-    BytesSink, BytesSource, CallList, Failed, InputRefusal, InputSource, Keeper, OutputSink, Sink,
-    SizeList, Source, SureKeeper, SureSink, SureSource, read_to_end, write_all,
+    BytesSink, BytesSource, CallList, Failed, InputRefusal, InputSource, Keeper, KeeperFault,
+    MapKeeper, OutputSink, Sink, SizeList, Source, SureKeeper, SureSink, SureSource, read_to_end,
+    write_all,
 };
 use std::alloc::Global;
 use std::cell::Cell;
@@ -164,33 +165,99 @@ fn a_sure_sink_takes_everything(rt: HostRuntime) {
     expect_words(&rt, &words, "whole whole whole 7", "three pieces");
 }
 
-/// Adds the rows that a keeper gives.
-fn add_rows<K: Keeper>(rt: &impl Abort, alloc: Global, words: &mut String, keeper: &mut K) {
-    let rows = keeper.load(alloc).expect(rt, "a load");
-    for row in rows.as_slice() {
+fn add_rows(rt: &impl Abort, words: &mut String, rows: &[RowWrite]) {
+    for row in rows {
         add_row(rt, words, row);
     }
 }
 
-fn apply<K: Keeper>(rt: &impl Abort, alloc: Global, keeper: &mut K, writes: &WriteList) {
-    keeper.apply(alloc, writes).expect(rt, "writes");
+fn add_fault(rt: &impl Abort, words: &mut String, fault: KeeperFault) {
+    match fault {
+        KeeperFault::Failed => add_word(rt, words, "failed"),
+        KeeperFault::OutOfMemory => add_word(rt, words, "out_of_memory"),
+    }
 }
 
-fn add_loads(rt: &impl Abort, alloc: Global, words: &mut String, keeper: &mut SureKeeper) {
-    add_rows(rt, alloc, words, keeper);
-    apply(rt, alloc, keeper, &rows(rt, alloc, "1.9=d 0.5=e 1.9=f"));
-    add_word(rt, words, "then");
-    add_rows(rt, alloc, words, keeper);
-    add_number(rt, words, keeper.calls());
+fn add_load<K: Keeper>(rt: &impl Abort, alloc: Global, words: &mut String, keeper: &mut K) {
+    match keeper.load(alloc) {
+        Ok(rows) => add_rows(rt, words, rows.as_slice()),
+        Err(fault) => add_fault(rt, words, fault),
+    }
+}
+
+fn add_apply<K: Keeper>(
+    rt: &impl Abort,
+    alloc: Global,
+    words: &mut String,
+    keeper: &mut K,
+    writes: &str,
+) {
+    match keeper.apply(alloc, &rows(rt, alloc, writes)) {
+        Ok(()) => add_word(rt, words, "done"),
+        Err(fault) => add_fault(rt, words, fault),
+    }
+}
+
+/// Adds what a keeper answers to calls with a `;` between each two: `load` is a load, and other words
+/// are the writes of an apply.
+fn add_calls<K: Keeper>(
+    rt: &impl Abort,
+    alloc: Global,
+    words: &mut String,
+    keeper: &mut K,
+    calls: &str,
+) {
+    for call in calls.split(';') {
+        if call == "load" {
+            add_load(rt, alloc, words, keeper);
+        } else {
+            add_apply(rt, alloc, words, keeper, call);
+        }
+    }
 }
 
 #[test]
-fn a_keeper_gives_the_last_writes_in_order(rt: HostRuntime) {
+fn a_sure_keeper_gives_the_last_writes_in_order(rt: HostRuntime) {
     let mut keeper = SureKeeper::new(rows(&rt, rt.alloc(), "2.1=a 1.9=b 2.1=c"));
     let mut words = String::new(rt.alloc());
-    add_loads(&rt, rt.alloc(), &mut words, &mut keeper);
-    let want = "1.9=b 2.1=c then 0.5=e 1.9=f 2.1=c 3";
-    expect_words(&rt, &words, want, "two loads");
+    let calls = "load;1.9=d 0.5=e 1.9=f;load";
+    add_calls(&rt, rt.alloc(), &mut words, &mut keeper, calls);
+    add_number(&rt, &mut words, keeper.calls());
+    let want = "1.9=b 2.1=c done 0.5=e 1.9=f 2.1=c 3";
+    expect_words(&rt, &words, want, calls);
+}
+
+/// The numbers of the calls that fail, the first rows, the calls, and what they answer; after that
+/// how many calls and faults the keeper has counted, and its rows.
+const KEPT: &str =
+    "0|2.1=a 1.9=b 2.1=c|load;2.1=d 1.10=e 0.300=f 2.1=g;load|1.9=b 2.1=c done 0.300=f 1.9=b 1.10=e 2.1=g 3 0 0.300=f 1.9=b 1.10=e 2.1=g
+1 3|1.1=a|load;load;1.2=b 1.1=c;load;1.2=b;load|failed 1.1=a failed 1.1=a done 1.1=a 1.2=b 6 2 1.1=a 1.2=b
+2|1.1=a|1.1=;1.1=b;load|done failed 1.1= 3 1 1.1=";
+
+fn add_kept(rt: &impl Abort, alloc: Global, words: &mut String, keeper: &MapKeeper) {
+    add_number(rt, words, keeper.calls());
+    add_number(rt, words, keeper.faults());
+    let rows = keeper.rows(alloc).expect(rt, "the rows of a keeper");
+    add_rows(rt, words, rows.as_slice());
+}
+
+fn expect_kept(rt: &impl Abort, alloc: Global, row: &str) {
+    let (failing, rest) = cut(rt, row, '|');
+    let (first, rest) = cut(rt, rest, '|');
+    let (calls, want) = cut(rt, rest, '|');
+    let failing = numbers(rt, alloc, failing);
+    let mut keeper = MapKeeper::new(alloc, rows(rt, alloc, first), failing).expect(rt, row);
+    let mut words = String::new(alloc);
+    add_calls(rt, alloc, &mut words, &mut keeper, calls);
+    add_kept(rt, alloc, &mut words, &keeper);
+    expect_words(rt, &words, want, row);
+}
+
+#[test]
+fn a_map_keeper_fails_by_the_numbers_of_its_calls(rt: HostRuntime) {
+    for row in KEPT.split('\n') {
+        expect_kept(&rt, rt.alloc(), row);
+    }
 }
 
 /// Gives two bytes a call; the second call is interrupted, the third fails, the fifth is the end.

@@ -53,6 +53,15 @@ fn add_line(rt: &impl Abort, words: &mut String, line: &Line) {
             add_text(rt, words, " ", name.as_slice());
         }
         Line::Exit(caller) => add_numbered(rt, words, "exit", *caller),
+        Line::Read(caller, table, key) => {
+            add_numbered(rt, words, "read", *caller);
+            add_number(rt, words, *table);
+            add_number(rt, words, *key);
+        }
+        Line::List(caller, table) => {
+            add_numbered(rt, words, "list", *caller);
+            add_number(rt, words, *table);
+        }
         Line::Put(caller, table, key, bytes) => {
             add_numbered(rt, words, "put", *caller);
             add_number(rt, words, *table);
@@ -66,6 +75,7 @@ fn add_line(rt: &impl Abort, words: &mut String, line: &Line) {
         Line::Reboot(name) => add_named(rt, words, "reboot", name.as_slice()),
         Line::Table => add_word(rt, words, "table"),
         Line::Journal => add_word(rt, words, "journal"),
+        Line::Reopen => add_word(rt, words, "reopen"),
     }
 }
 
@@ -97,6 +107,10 @@ event begin 65535|begin c65535
 event enter 10 9|enter c10 9
 event exit 1|exit c1
 event exit 65535|exit c65535
+event read 7 10 18446744073709551615|read c7 10 18446744073709551615
+event read 65535 0 0|read c65535 0 0
+event list 7 18446744073709551615|list c7 18446744073709551615
+event list 65535 0|list c65535 0
 event put 7 10 18446744073709551615|put c7 10 18446744073709551615 -
 event put 7 0 9 0 255 26|put c7 0 9 00ff1a
 event put 7 1 2 1 35 69 103 137 171 205 239|put c7 1 2 0123456789abcdef
@@ -110,7 +124,8 @@ event up app|up app
 event reboot Az_09|reboot Az_09
 event reboot app|reboot app
 event table|table
-event journal|journal";
+event journal|journal
+event reopen|reopen";
 
 #[test]
 fn reads_each_form(rt: HostRuntime) {
@@ -128,7 +143,7 @@ fn expect_refused(rt: &impl Abort, alloc: Global, lines: &str) {
 }
 
 const SPACES: &str =
-    " /begin  c1/begin c1 / begin c1/ # comment/hard  a b/hard a  b/hard a b /soft  a b/soft a  b/soft a b /limit  1 2/limit 1  2/limit 1 2 /exit  c1/exit c1 /drop  c1/drop c1 /down  a/down a /up  a/up a /reboot  a/reboot a / table/ journal/journal ";
+    " /begin  c1/begin c1 / begin c1/ # comment/hard  a b/hard a  b/hard a b /soft  a b/soft a  b/soft a b /limit  1 2/limit 1  2/limit 1 2 /exit  c1/exit c1 /read  c1 2 3/read c1  2 3/read c1 2  3/read c1 2 3 /list  c1 2/list c1  2/list c1 2 /drop  c1/drop c1 /down  a/down a /up  a/up a /reboot  a/reboot a / table/ journal/journal / reopen/reopen ";
 
 #[test]
 fn refuses_more_than_single_spaces(rt: HostRuntime) {
@@ -144,7 +159,7 @@ fn refuses_other_bytes(rt: HostRuntime) {
 }
 
 const OTHER_FORMS: &str =
-    "Begin c1/BEGIN c1/begi c1/begins c1/Hard a b/hards a b/Soft a b/LIMIT 1 2/limits 1 2/Exit c1/exits c1/DROP c1/Down a/downs a/Up a/UP a/ups a/u a/Reboot a/rebootapp/Journal/journals";
+    "Begin c1/BEGIN c1/begi c1/begins c1/Hard a b/hards a b/Soft a b/LIMIT 1 2/limits 1 2/Exit c1/exits c1/Read c1 2 3/READ c1 2 3/rea c1 2 3/reads c1 2 3/List c1 2/LIST c1 2/lis c1 2/lists c1 2/DROP c1/Down a/downs a/Up a/UP a/ups a/u a/Reboot a/rebootapp/Journal/journals/Reopen/REOPEN/reope/reopens";
 
 #[test]
 fn refuses_other_first_words(rt: HostRuntime) {
@@ -152,7 +167,7 @@ fn refuses_other_first_words(rt: HostRuntime) {
 }
 
 const NUMBERS: &str =
-    "owns a 00/owns a 01/put c1 02 3 -/put c1 2 03 -/owns a 18446744073709551616/owns a 18446744073709551620/owns a 28446744073709551615/put c1 18446744073709551616 3 -/put c1 2 99999999999999999999999 -/owns a -1/owns a +1/owns a 1a/limit 00 1/limit 01 1/limit 1 00/limit 1 01/limit 18446744073709551616 1/limit 1 18446744073709551616/limit -1 1/limit 1 +1/limit a 1/limit 1 1a/limit c1 1";
+    "owns a 00/owns a 01/put c1 02 3 -/put c1 2 03 -/owns a 18446744073709551616/owns a 18446744073709551620/owns a 28446744073709551615/put c1 18446744073709551616 3 -/put c1 2 99999999999999999999999 -/read c1 02 3/read c1 2 03/read c1 00 3/read c1 18446744073709551616 3/read c1 2 18446744073709551616/read c1 -2 3/read c1 2 +3/read c1 a 3/read c1 2 3a/list c1 02/list c1 00/list c1 18446744073709551616/list c1 -2/list c1 a/owns a -1/owns a +1/owns a 1a/limit 00 1/limit 01 1/limit 1 00/limit 1 01/limit 18446744073709551616 1/limit 1 18446744073709551616/limit -1 1/limit 1 +1/limit a 1/limit 1 1a/limit c1 1";
 
 #[test]
 fn refuses_other_numbers(rt: HostRuntime) {
@@ -160,7 +175,7 @@ fn refuses_other_numbers(rt: HostRuntime) {
 }
 
 const CALLERS: &str =
-    "begin c0/begin c01/begin c65536/begin c18446744073709551617/begin c/begin C1/begin 1/begin cc1/enter c0 a/commit c01/put c65536 1 2 -/exit c0/exit c01/exit c65536/exit c18446744073709551617/exit C1/exit 1/drop c0/drop c01/drop c65536/drop c18446744073709551617/drop C1/drop 1";
+    "begin c0/begin c01/begin c65536/begin c18446744073709551617/begin c/begin C1/begin 1/begin cc1/enter c0 a/commit c01/put c65536 1 2 -/exit c0/exit c01/exit c65536/exit c18446744073709551617/exit C1/exit 1/read c0 2 3/read c01 2 3/read c65536 2 3/read c18446744073709551617 2 3/read C1 2 3/read 1 2 3/list c0 2/list c01 2/list c65536 2/list c18446744073709551617 2/list C1 2/list 1 2/drop c0/drop c01/drop c65536/drop c18446744073709551617/drop C1/drop 1";
 
 #[test]
 fn refuses_other_callers(rt: HostRuntime) {
@@ -184,7 +199,7 @@ fn refuses_other_names(rt: HostRuntime) {
 }
 
 const MISSING: &str =
-    "component/hard/hard a/soft/soft a/owns/owns a/limit/limit 1/begin/enter/enter c1/put/put c1/put c1 2/put c1 2 3/exit/commit/drop/down/up/reboot";
+    "component/hard/hard a/soft/soft a/owns/owns a/limit/limit 1/begin/enter/enter c1/put/put c1/put c1 2/put c1 2 3/exit/read/read c1/read c1 2/list/list c1/commit/drop/down/up/reboot";
 
 #[test]
 fn refuses_missing_words(rt: HostRuntime) {
@@ -192,7 +207,7 @@ fn refuses_missing_words(rt: HostRuntime) {
 }
 
 const FURTHER: &str =
-    "component a b/hard a b c/soft a b c/owns a 1 2/limit 1 2 3/begin c1 c2/enter c1 a b/put c1 2 3 - -/exit c1 c1/commit c1 c1/drop c1 c1/down a b/up a b/reboot a b/table 1/table /journal 1";
+    "component a b/hard a b c/soft a b c/owns a 1 2/limit 1 2 3/begin c1 c2/enter c1 a b/put c1 2 3 - -/exit c1 c1/read c1 2 3 4/list c1 2 3/commit c1 c1/drop c1 c1/down a b/up a b/reboot a b/table 1/table /journal 1/reopen 1/reopen c1";
 
 #[test]
 fn refuses_further_words(rt: HostRuntime) {

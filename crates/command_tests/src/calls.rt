@@ -25,9 +25,9 @@ fn calls_go_in_and_out_of_components(rt: HostRuntime) -> Result<(), Fail> {
     expect_rows(&rt, "drive", "", SOFT)
 }
 
-/// Calls of one table at once: the last commit stays, a call that is dropped or does not commit leaves nothing, and
-/// no call sees another.
-const AT_ONCE: &str = "0||c2 committed 0/40 7 62/c1 committed 1/40 7 61/|\
+/// Calls of one table at once: the first commit of a row stays, and a call that is dropped or does not commit leaves
+/// nothing.
+const AT_ONCE: &str = "0||c2 committed 0/40 7 62/c1 conflict row 40 7 at 0 newest 1/40 7 62/|\
 begin c1/begin c2/enter c1 A/enter c2 A/put c1 40 7 61/put c2 40 7 62/\
 commit c2/table/commit c1/table
 0||c2 committed 0/40 8 62/|\
@@ -40,6 +40,23 @@ commit c65535/table
 #[test]
 fn calls_are_live_at_once(rt: HostRuntime) -> Result<(), Fail> {
     expect_rows(&rt, "drive", PAIR, AT_ONCE)
+}
+
+/// A caller begins again once its call has committed, was dropped, or its commit was refused.
+const AGAIN: &str = "0||c1 committed 0/|begin c1/commit c1/begin c1/table/
+0||c1 committed 0/40 7 61/|\
+begin c1/drop c1/begin c1/enter c1 A/put c1 40 7 61/commit c1/table/
+0||down 0/up 1/c1 revoked group 0 had 0 now 1/c1 committed 2/40 7 61/|\
+begin c1/enter c1 A/reboot A/commit c1/begin c1/enter c1 A/put c1 40 7 61/commit c1/table
+0||c1 full 0 0/c1 committed 0/|\
+limit 9 0/begin c1/enter c1 A/put c1 40 7 61/commit c1/begin c1/commit c1/table
+0||c1 committed 0/c1 already 0/c2 committed 1/c1 already 0/40 7 62/|\
+begin c1/commit c1/begin c1/enter c1 A/put c1 40 7 61/commit c1/\
+begin c2/enter c2 A/put c2 40 7 62/commit c2/begin c1/commit c1/table";
+
+#[test]
+fn callers_begin_again(rt: HostRuntime) -> Result<(), Fail> {
+    expect_rows(&rt, "drive", PAIR, AGAIN)
 }
 
 /// A component that calls itself, and a call.

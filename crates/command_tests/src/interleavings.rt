@@ -191,11 +191,12 @@ fn expect_play(
     expect_over(rt, &play.text, "drive", &play.text, SURE, want)
 }
 
-/// The orders of five steps of each call: bit n is set where step n is of the second one.
-fn orders(alloc: Global) -> Result<Vec<u16>, Fail> {
+/// The orders of so many steps of each of two calls, as numbers below this end: bit n is set where step n is of the
+/// second one.
+pub fn orders(alloc: Global, steps: u32, end: u16) -> Result<Vec<u16>, Fail> {
     let mut orders = Vec::new(alloc);
-    for order in 0..1024u16 {
-        if order.count_ones() == 5 {
+    for order in 0..end {
+        if order.count_ones() == steps {
             orders.push(order)?;
         }
     }
@@ -204,7 +205,7 @@ fn orders(alloc: Global) -> Result<Vec<u16>, Fail> {
 
 /// Asserts what the scenarios of a reboot write.
 fn expect_plays(rt: &(impl Abort + AllocGlobal), reboot: Reboot) -> Result<(), Fail> {
-    let orders = orders(rt.alloc())?;
+    let orders = orders(rt.alloc(), 5, 1024)?;
     assert!(rt; orders.len() == 252);
     for order in orders.as_slice() {
         for at in 0..=10u64 {

@@ -20,6 +20,8 @@ mod limits;
 #[cfg(test)]
 mod long_scenarios;
 #[cfg(test)]
+mod pairs;
+#[cfg(test)]
 mod reboots;
 #[cfg(test)]
 mod refused_lines;
@@ -29,6 +31,8 @@ mod refused_states;
 mod running;
 #[cfg(test)]
 mod scenarios;
+#[cfg(test)]
+mod snapshots;
 #[cfg(test)]
 mod streams;
 #[cfg(test)]

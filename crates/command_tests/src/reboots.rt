@@ -106,13 +106,13 @@ const THREE_CALLERS: &str =
 begin c1/enter c1 A/begin c2/begin c3/enter c3 C/put c1 40 7 61/down B/put c3 41 7 63/commit c3/up A/\
 enter c2 A/put c2 40 7 62/commit c1/commit c2/table
 0||c1 committed 0/down 1/c2 sentinel group 0 down 1/c3 committed 2/down 3/up 4/c2 sentinel group 2 down 3/\
-up 5/c2 committed 6/40 7 61/41 7 62/41 8 63/|\
+up 5/c2 conflict row 41 7 at 0 newest 3/40 7 61/41 7 63/41 8 63/|\
 begin c1/begin c2/begin c3/enter c1 A/put c1 40 7 61/enter c3 C/put c3 41 7 63/commit c1/down A/\
 enter c2 A/put c3 41 8 63/commit c3/down C/up A/enter c2 C/up C/enter c2 C/put c2 41 7 62/commit c2/table
 0||down 0/c2 sentinel group 0 down 0/up 1/c1 revoked group 2 had 0 now 1/c3 committed 2/\
-c2 committed 3/40 7 62/|\
+c2 committed 3/40 7 63/40 8 62/|\
 begin c1/enter c1 C/begin c2/down app/enter c2 B/up app/begin c3/put c1 41 7 61/enter c2 A/enter c3 A/\
-put c3 40 7 63/put c2 40 7 62/commit c3/drop c1/commit c2/table
+put c3 40 7 63/put c2 40 8 62/commit c3/drop c1/commit c2/table
 0||down 0/c1 revoked group 0 had 0 now 1/c2 committed 1/up 2/down 3/c3 revoked group 0 had 1 now 2/\
 up 4/c3 revoked group 0 had 1 now 2/|\
 begin c1/enter c1 A/begin c2/enter c2 C/down A/begin c3/commit c1/commit c2/up A/enter c3 B/down B/\

@@ -60,6 +60,12 @@ const CALLS: &str = "3|line 5/||begin
 3|line 5/||exit
 3|line 5/||exit c1 A
 3|line 5/||exit  c1
+3|line 5/||read c1 40
+3|line 5/||read c1 40 7 61
+3|line 5/||read c1  40 7
+3|line 5/||list c1
+3|line 5/||list c1 40 7
+3|line 5/||list  c1 40
 3|line 5/||put c1 40 7
 3|line 5/||put c1 40 7 61 62
 3|line 5/||put c1 40  7 61
@@ -128,6 +134,9 @@ const NUMBERS: &str = "3|line 2/||owns A 040
 3|line 2/||limit 1 00";
 
 const KEYS: &str = "3|line 5/||put c1 40 07 61
+3|line 5/||read c1 40 07
+3|line 5/||read c1 40 18446744073709551616
+3|line 5/||list c1 040
 3|line 5/||put c1 40 18446744073709551616 61";
 
 #[test]

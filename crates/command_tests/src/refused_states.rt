@@ -82,11 +82,14 @@ fn head_lines_after_an_event_are_refused(rt: HostRuntime) -> Result<(), Fail> {
     expect_rows(&rt, "drive", PAIR, LATE)
 }
 
-/// A caller begins once, whatever became of its call.
+/// A caller whose call is live does not begin.
 const BEGINS: &str = "3|line 8/||begin c1/begin c1
-3|line 9/|c1 committed 0/|begin c1/commit c1/begin c1/table/
-3|line 9/||begin c1/drop c1/begin c1/table/
-3|line 11/|down 0/up 1/c1 revoked group 0 had 0 now 1/|begin c1/enter c1 A/reboot A/commit c1/begin c1";
+3|line 9/||begin c1/enter c1 A/begin c1
+3|line 10/|c2 committed 0/|begin c1/begin c2/commit c2/begin c1
+3|line 10/|c1 committed 0/|begin c1/commit c1/begin c1/begin c1
+3|line 10/||begin c1/drop c1/begin c1/begin c1
+3|line 10/|down 0/up 1/|begin c1/enter c1 A/reboot A/begin c1
+3|line 11/|down 0/up 1/c1 revoked group 0 had 0 now 1/|begin c1/enter c1 A/reboot A/exit c1/begin c1";
 
 #[test]
 fn other_begins_are_refused(rt: HostRuntime) -> Result<(), Fail> {
@@ -96,6 +99,8 @@ fn other_begins_are_refused(rt: HostRuntime) -> Result<(), Fail> {
 /// The lines of a live call.
 const CALL_LINES: &str = "enter c1 A
 exit c1
+read c1 40 7
+list c1 40
 put c1 40 7 61
 commit c1
 drop c1";
@@ -166,20 +171,44 @@ fn other_exits_are_refused(rt: HostRuntime) -> Result<(), Fail> {
     expect_rows(&rt, "drive", PAIR, EXITS)
 }
 
-/// A call puts rows of the tables of the component that it is in.
-const PUTS: &str = "3|line 8/||begin c1/put c1 40 7 61
-3|line 9/||begin c1/enter c1 B/put c1 40 7 61
-3|line 9/||begin c1/enter c1 A/put c1 41 7 61
-3|line 9/||begin c1/enter c1 A/put c1 42 7 61
-3|line 9/||begin c1/enter c1 A/put c1 0 7 61
-3|line 9/||begin c1/enter c1 A/put c1 256 7 61
-3|line 10/||begin c1/enter c1 A/enter c1 B/put c1 40 7 61
-3|line 10/||begin c1/enter c1 A/exit c1/put c1 40 7 61
-3|line 10/|down 0/up 1/|begin c1/enter c1 A/reboot A/put c1 41 7 61";
+/// A call reads, lists and puts rows of the tables of the component that it is in.
+const OTHER_TABLES: &str = "3|line 8/||begin c1/STEP 40
+3|line 9/||begin c1/enter c1 B/STEP 40
+3|line 9/||begin c1/enter c1 A/STEP 41
+3|line 9/||begin c1/enter c1 A/STEP 42
+3|line 9/||begin c1/enter c1 A/STEP 0
+3|line 9/||begin c1/enter c1 A/STEP 256
+3|line 10/||begin c1/enter c1 A/enter c1 B/STEP 40
+3|line 10/||begin c1/enter c1 A/exit c1/STEP 40
+3|line 10/|c1 committed 0/|begin c1/commit c1/begin c1/STEP 40
+3|line 10/|down 0/up 1/|begin c1/enter c1 A/reboot A/STEP 41";
+
+/// Asserts that a step is refused, whose line begins and ends with these words, on each of the other tables.
+fn expect_no_step(rt: &(impl Abort + AllocGlobal), first: &str, last: &str) -> Result<(), Fail> {
+    for row in OTHER_TABLES.split('\n') {
+        let mut row = row.replace(rt.alloc(), "STEP", first)?;
+        row.push_str(last)?;
+        expect_rows(rt, "drive", PAIR, &row)?;
+    }
+    Ok(())
+}
 
 #[test]
-fn other_puts_are_refused(rt: HostRuntime) -> Result<(), Fail> {
-    expect_rows(&rt, "drive", PAIR, PUTS)
+fn steps_on_other_tables_are_refused(rt: HostRuntime) -> Result<(), Fail> {
+    expect_no_step(&rt, "read c1", " 7")?;
+    expect_no_step(&rt, "list c1", "")?;
+    expect_no_step(&rt, "put c1", " 7 61")
+}
+
+/// A scenario is of one boot, whatever it has done.
+const REOPENS: &str = "3|line 7/||reopen
+3|line 8/||begin c1/reopen
+3|line 9/|c1 committed 0/|begin c1/commit c1/reopen/table
+3|line 8/|down 0/up 1/|reboot app/reopen";
+
+#[test]
+fn other_boots_are_refused(rt: HostRuntime) -> Result<(), Fail> {
+    expect_rows(&rt, "drive", PAIR, REOPENS)
 }
 
 /// What goes down or comes up is the application or a component that is there.

@@ -71,10 +71,45 @@ fn a_call_writes_16_rows(rt: HostRuntime) -> Result<(), Fail> {
     expect_puts(&rt, &written, &puts)
 }
 
+/// A 65th mark writes `c1 reads` instead. What is marked already, and a row that the call itself has put, adds none.
+#[test]
+fn a_call_marks_64_reads(rt: HostRuntime) -> Result<(), Fail> {
+    let mut written = "c1 row none/".repeat(rt.alloc(), 64)?;
+    written.push_str("c1 reads/c1 reads/c1 row none/c1 row 61/c1 reads/c1 committed 0/40 65 61/")?;
+    let mut steps = String::new(rt.alloc());
+    add_numbered(&mut steps, "read c1 40 ", 64, "/")?;
+    steps.push_str(
+        "read c1 40 65/list c1 40/read c1 40 64/put c1 40 65 61/read c1 40 65/read c1 40 66/",
+    )?;
+    expect_puts(&rt, &written, &steps)
+}
+
+/// A list is one mark, however many rows it shows, and its rows are marked apart from it.
+#[test]
+fn a_list_is_one_mark(rt: HostRuntime) -> Result<(), Fail> {
+    let mut written = "c1 row 62/c1 list 1 7=62/".to_string(rt.alloc())?;
+    written.push_str(&"c1 row none/".repeat(rt.alloc(), 63)?)?;
+    written.push_str("c1 list 1 7=62/c1 reads/c1 committed 0/40 7 62/")?;
+    let mut steps = "put c1 40 7 62/read c1 40 7/list c1 40/".to_string(rt.alloc())?;
+    add_numbered(&mut steps, "read c1 40 10", 63, "/")?;
+    steps.push_str("list c1 40/read c1 40 8/")?;
+    expect_puts(&rt, &written, &steps)
+}
+
 /// The first step is the call's enter. A 129th writes `c1 steps` instead, and the call goes on.
 #[test]
 fn a_call_makes_128_steps(rt: HostRuntime) -> Result<(), Fail> {
     let mut puts = "put c1 40 7 61/".repeat(rt.alloc(), 127)?;
     puts.push_str("put c1 40 8 61/put c1 40 7 61/")?;
     expect_puts(&rt, "c1 steps/c1 steps/c1 committed 0/40 7 61/", &puts)
+}
+
+/// So is each read and each list a step, also of what was read before.
+#[test]
+fn reads_and_lists_are_steps(rt: HostRuntime) -> Result<(), Fail> {
+    let mut steps = "read c1 40 7/list c1 40/".repeat(rt.alloc(), 63)?;
+    steps.push_str("read c1 40 7/list c1 40/read c1 40 7/put c1 40 7 61/")?;
+    let mut written = "c1 row none/c1 list 0/".repeat(rt.alloc(), 63)?;
+    written.push_str("c1 row none/c1 steps/c1 steps/c1 steps/c1 committed 0/")?;
+    expect_puts(&rt, &written, &steps)
 }

@@ -1,4 +1,4 @@
-//! Tests of deployments, of their descriptors and names, of journals, tickets and the container, through public calls.
+//! Tests of deployments, of their descriptors and names, of rows and of tickets, through public calls.
 //!
 //! Most tests go through a table of rows. What a row's call answers is put into words, each with a
 //! space before it, and these are compared with the words that the row wants. A row that fails is
@@ -6,17 +6,15 @@
 #![tactic(auto)]
 
 #[cfg(test)]
-mod containers;
-#[cfg(test)]
 mod deployments;
 #[cfg(test)]
 mod descriptors;
 #[cfg(test)]
-mod journals;
-#[cfg(test)]
 mod names;
 #[cfg(test)]
 mod parts;
+#[cfg(test)]
+mod rows;
 #[cfg(test)]
 mod tickets;
 #[cfg(test)]

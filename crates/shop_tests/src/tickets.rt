@@ -1,7 +1,6 @@
 //! What a ticket holds of its call.
 
-use crate::containers::add_row;
-use crate::words::{add_number, add_pair, add_text, add_word, expect_words};
+use crate::words::{add_number, add_pair, add_row, add_text, add_word, expect_words};
 use call_ticket::{MAX_FRAMES, MAX_MARKS, MAX_STEPS, Ticket, TicketParts};
 use commit_journal::{Mark, ReadMark, Touch};
 use crash_base::{ComponentNo, GroupNo, Place, RequestNo, RowBytes, RowId, RowWrite, WorkerNo};

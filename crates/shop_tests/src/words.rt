@@ -2,7 +2,7 @@
 //!
 //! Each crate of tests has its own, since only a test may end the process.
 
-use crash_base::ComponentNo;
+use crash_base::{ComponentNo, RowWrite};
 use deployment::{DeployRefusal, MethodPart};
 use std::fmt::Write;
 use std::process::Abort;
@@ -51,6 +51,12 @@ pub fn add_text(rt: &impl Abort, words: &mut String, mark: &str, bytes: &[u8]) {
     words
         .push_str(std::str::from_utf8(bytes).expect(rt, mark))
         .expect(rt, mark);
+}
+
+/// Adds a row: its table, its key and its bytes.
+pub fn add_row(rt: &impl Abort, words: &mut String, row: &RowWrite) {
+    add_pair(rt, words, u64::from(row.id.table), ".", row.id.key);
+    add_text(rt, words, "=", row.bytes.as_slice());
 }
 
 /// Adds methods, each after a dot, of which the idempotent ones have a mark after them.

@@ -2,11 +2,13 @@
 
 ghost use Rattle.commit_journal.specs.Journal.{IsScope};
 
-use crate::containers::{LIMITS, add_row, commit, container_of, end_reboot};
-use crate::words::{add_number, add_pair, add_text, add_word, cut, expect_words, number};
+use crate::boots::{begin_reboot, end_reboot};
+use crate::fixtures::{LIMITS, boot_of, request};
+use crate::steps::call;
+use crate::words::{add_number, add_pair, add_row, add_word, cut, expect_words, number, short};
+use boot_core::Boot;
 use commit_journal::{CommitEntry, Entry, FullAt, Journal};
-use container_core::Container;
-use crash_base::{GroupNo, MAX_GROUPS, Place, RequestNo, Scope, WorkerNo};
+use crash_base::{GroupNo, MAX_GROUPS, Place, Scope};
 use std::alloc::Global;
 use std::process::Abort;
 
@@ -65,47 +67,26 @@ fn scope(rt: &impl Abort, text: &str) -> Scope
     if text == "app" {
         return Scope::App;
     }
-    let group = number(rt, text);
+    let group = short(rt, text);
     assert!(rt; group < MAX_GROUPS);
     Scope::Group(GroupNo(group))
 }
 
-/// The request whose number a text spells.
-fn request(rt: &impl Abort, text: &str) -> RequestNo {
-    RequestNo {
-        boot: 1,
-        serial: u64::from(number(rt, text)),
-    }
-}
-
-/// The place that a text spells.
-fn place(rt: &impl Abort, text: &str) -> Place {
-    Place(u64::from(number(rt, text)))
-}
-
 /// Commits a call of a request, which does nothing.
-fn commit_nothing(rt: &impl Abort, alloc: Global, container: &mut Container, request: RequestNo) {
-    let ticket = container
-        .begin(alloc, request, WorkerNo(4))
-        .expect(rt, "a call");
-    commit(rt, alloc, container, ticket);
-}
-
-fn begin_reboot(rt: &impl Abort, container: &mut Container, scope: Scope)
-    requires { IsScope scope }
-{
-    assert!(rt; container.begin_reboot(scope).is_ok());
+fn commit_nothing(rt: &impl Abort, alloc: Global, boot: &mut Boot, serial: u64) {
+    let mut words = String::new(alloc);
+    call(rt, alloc, &mut words, boot, serial, 4, "");
 }
 
 /// Adds the entry that a word spells: `c70` is a commit of request 70, `d2` a Down of group 2, `dapp` one of the
 /// application, and `u1` the Up of the Down at 1.
-fn do_word(rt: &impl Abort, alloc: Global, container: &mut Container, word: &str) {
+fn do_word(rt: &impl Abort, alloc: Global, boot: &mut Boot, word: &str) {
     if let Some(serial) = word.strip_prefix("c") {
-        commit_nothing(rt, alloc, container, request(rt, serial));
+        commit_nothing(rt, alloc, boot, number(rt, serial));
     } else if let Some(down) = word.strip_prefix("u") {
-        end_reboot(rt, container, place(rt, down));
+        end_reboot(rt, boot, Place(number(rt, down)));
     } else {
-        begin_reboot(rt, container, scope(rt, word.trim_start_matches('d')));
+        begin_reboot(rt, boot, scope(rt, word.trim_start_matches('d')));
     }
 }
 
@@ -146,9 +127,8 @@ fn add_full(rt: &impl Abort, words: &mut String, full: Option<FullAt>) {
 /// Adds whether so many entries and bytes have room.
 fn add_room(rt: &impl Abort, words: &mut String, journal: &Journal, asked: &str) {
     let (entries, bytes) = cut(rt, asked, ' ');
-    let entries = u64::from(number(rt, entries));
-    let bytes = u64::from(number(rt, bytes));
-    add_full(rt, words, journal.full_for(entries, bytes));
+    let full = journal.full_for(number(rt, entries), number(rt, bytes));
+    add_full(rt, words, full);
 }
 
 fn add_answer(
@@ -160,11 +140,11 @@ fn add_answer(
 ) {
     let (asked, rest) = cut(rt, question, ' ');
     match asked {
-        "line" => add_line(rt, alloc, words, journal, place(rt, rest)),
-        "get" => add_found(rt, words, journal.get(place(rt, rest))),
-        "group" => add_group(rt, words, journal, number(rt, rest)),
+        "line" => add_line(rt, alloc, words, journal, Place(number(rt, rest))),
+        "get" => add_found(rt, words, journal.get(Place(number(rt, rest)))),
+        "group" => add_group(rt, words, journal, short(rt, rest)),
         "undone" => add_place(rt, words, journal.undone_of(scope(rt, rest))),
-        "commit" => add_place(rt, words, journal.commit_of(request(rt, rest))),
+        "commit" => add_place(rt, words, journal.commit_of(request(number(rt, rest)))),
         _ => add_room(rt, words, journal, rest),
     }
 }
@@ -178,17 +158,17 @@ fn expect_answer(rt: &impl Abort, alloc: Global, journal: &Journal, row: &str) {
 
 /// A row has a question to the journal of these entries, and after a bar the answer.
 fn expect_answers(rt: &impl Abort, alloc: Global, entries: &str, table: &str) {
-    let mut container = container_of(rt, alloc, "+a +b +c");
+    let mut boot = boot_of(rt, alloc, "a b c");
     for word in entries.split(' ') {
-        do_word(rt, alloc, &mut container, word);
+        do_word(rt, alloc, &mut boot, word);
     }
     for row in table.split('\n') {
-        expect_answer(rt, alloc, container.journal(), row);
+        expect_answer(rt, alloc, boot.journal(), row);
     }
 }
 
 /// Eight entries. The Down of group 2 and that of the application have their Ups, and that of group 1 has not.
-const ENTRIES: &str = "c70 d2 c71 u1 dapp u4 d1 c70";
+const ENTRIES: &str = "c70 d2 c71 u1 dapp u4 d1 c72";
 
 const ANSWERS: &str = "line 0|0 commit 1:70 writes 0
 line 1|1 down group 2
@@ -204,7 +184,8 @@ undone 2|none
 undone app|none
 commit 70|0
 commit 71|2
-commit 72|none
+commit 72|7
+commit 73|none
 room 1 100|room
 room 1 101|9/0
 room 2 0|9/0";

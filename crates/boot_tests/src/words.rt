@@ -1,0 +1,76 @@
+//! Words that a test finds, and what the parts of a row spell.
+//! Each crate of tests has its own, since only a test may end the process.
+
+use crash_base::{RowId, RowWrite};
+use std::fmt::Write;
+use std::process::Abort;
+
+/// Asserts that these words were found, and shows the row where they were not.
+pub fn expect_words(rt: &impl Abort, found: &str, want: &str, row: &str) {
+    assert_eq!(rt; found.trim_start(), want, "{row}");
+}
+
+/// The parts of a row before a mark and after it.
+pub fn cut<'a>(rt: &impl Abort, row: &'a str, mark: char) -> (&'a str, &'a str) {
+    row.split_once(mark).expect(rt, row)
+}
+
+/// The number that a text spells.
+pub fn number(rt: &impl Abort, text: &str) -> u64 {
+    text.parse().expect(rt, text)
+}
+
+/// The number below 2^16 that a text spells.
+pub fn short(rt: &impl Abort, text: &str) -> u16 {
+    u16::try_from(number(rt, text)).expect(rt, text)
+}
+
+/// The byte whose number a text spells.
+pub fn byte(rt: &impl Abort, text: &str) -> u8 {
+    u8::try_from(number(rt, text)).expect(rt, text)
+}
+
+/// The id that a text spells: its table and its key.
+pub fn id(rt: &impl Abort, text: &str) -> RowId {
+    let (table, key) = cut(rt, text, '.');
+    RowId {
+        table: byte(rt, table),
+        key: number(rt, key),
+    }
+}
+
+pub fn add_word(rt: &impl Abort, words: &mut String, word: &str) {
+    write!(words, " {word}").expect(rt, word);
+}
+
+pub fn add_number(rt: &impl Abort, words: &mut String, number: u64) {
+    write!(words, " {number}").expect(rt, "a number");
+}
+
+/// Adds a name and a number.
+pub fn add_named(rt: &impl Abort, words: &mut String, name: &str, number: u64) {
+    write!(words, " {name}{number}").expect(rt, name);
+}
+
+/// Adds two numbers and a sign between them.
+pub fn add_pair(rt: &impl Abort, words: &mut String, first: u64, sign: &str, second: u64) {
+    write!(words, " {first}{sign}{second}").expect(rt, sign);
+}
+
+/// Adds a mark and the text that bytes spell, with no space between them.
+pub fn add_text(rt: &impl Abort, words: &mut String, mark: &str, bytes: &[u8]) {
+    words.push_str(mark).expect(rt, mark);
+    words
+        .push_str(std::str::from_utf8(bytes).expect(rt, mark))
+        .expect(rt, mark);
+}
+
+pub fn add_id(rt: &impl Abort, words: &mut String, id: RowId) {
+    add_pair(rt, words, u64::from(id.table), ".", id.key);
+}
+
+/// Adds a row: its table, its key and its bytes.
+pub fn add_row(rt: &impl Abort, words: &mut String, row: &RowWrite) {
+    add_id(rt, words, row.id);
+    add_text(rt, words, "=", row.bytes.as_slice());
+}

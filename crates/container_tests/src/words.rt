@@ -1,0 +1,76 @@
+//! Words that a test finds, and what the parts of a row spell.
+//!
+//! Each crate of tests has its own, since only a test may end the process.
+
+use crash_base::{RowId, RowWrite};
+use std::fmt::Write;
+use std::process::Abort;
+
+/// Asserts that these words were found, and shows the row where they were not.
+pub fn expect_words(rt: &impl Abort, found: &str, want: &str, row: &str) {
+    assert_eq!(rt; found.trim_start(), want, "{row}");
+}
+
+/// The parts of a row before a mark and after it.
+pub fn cut<'a>(rt: &impl Abort, row: &'a str, mark: char) -> (&'a str, &'a str) {
+    row.split_once(mark).expect(rt, row)
+}
+
+/// The number that a text spells.
+pub fn number(rt: &impl Abort, text: &str) -> u64 {
+    text.parse().expect(rt, text)
+}
+
+/// The byte whose number a text spells.
+pub fn byte(rt: &impl Abort, text: &str) -> u8 {
+    u8::try_from(number(rt, text)).expect(rt, text)
+}
+
+/// The id that a text spells: its table and its key.
+pub fn id(rt: &impl Abort, text: &str) -> RowId {
+    let (table, key) = cut(rt, text, '.');
+    RowId {
+        table: byte(rt, table),
+        key: number(rt, key),
+    }
+}
+
+/// The text that bytes spell.
+pub fn text<'a>(rt: &impl Abort, bytes: &'a [u8]) -> &'a str {
+    std::str::from_utf8(bytes).expect(rt, "a text")
+}
+
+pub fn add_word(rt: &impl Abort, words: &mut String, word: &str) {
+    write!(words, " {word}").expect(rt, word);
+}
+
+/// Adds a name and a number.
+pub fn add_named(rt: &impl Abort, words: &mut String, name: &str, number: u64) {
+    write!(words, " {name}{number}").expect(rt, name);
+}
+
+/// Adds two numbers and a sign between them.
+pub fn add_pair(rt: &impl Abort, words: &mut String, first: u64, sign: &str, second: u64) {
+    write!(words, " {first}{sign}{second}").expect(rt, sign);
+}
+
+pub fn add_id(rt: &impl Abort, words: &mut String, id: RowId) {
+    add_pair(rt, words, u64::from(id.table), ".", id.key);
+}
+
+fn add_bytes(rt: &impl Abort, words: &mut String, bytes: &[u8]) {
+    words.push_str("=").expect(rt, "a sign");
+    for byte in bytes {
+        write!(words, "{byte:02x}").expect(rt, "a byte");
+    }
+}
+
+/// Adds a row, with its bytes in hexadecimal, or where there are more than five of them, how many.
+pub fn add_row(rt: &impl Abort, words: &mut String, row: &RowWrite) {
+    add_id(rt, words, row.id);
+    if row.bytes.len() > 5 {
+        write!(words, "#{}", row.bytes.len()).expect(rt, "a length");
+    } else {
+        add_bytes(rt, words, row.bytes.as_slice());
+    }
+}
