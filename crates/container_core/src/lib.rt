@@ -33,4 +33,4 @@ pub use boot_core::{
 pub use container::Container;
 pub use history::{Event, HistoryMark, MarkedEvent};
 pub use laws::keepers_hold_the_rows;
-pub use start::StartFail;
+pub use start::{StartFail, start_boot};

@@ -1,0 +1,448 @@
+-- The lines of turns, the keeper's rows and which of its calls fail decide all that the turns do.
+use Rattle.std.proofs.Common.{◌≡◌, ℕ, ◌+◌, ◌-◌, ◌^◌, ◌<◌, ◌≤◌, ◌==◌, Bool, true, false, if◌then◌else◌, inl, inr, List, [], ◌∷◌, ◌++◌, length, Option, Some, None, All, refl, sym, ap, ◌∙◌, subst, arith, append_assoc, append-nil}
+use Rattle.std.specs.Prelude.{nat_lt}
+use Rattle.std.proofs.lemmas.List.{append_cancel_left}
+use Rattle.std.proofs.lemmas.List.Elements.{All-nil, All-cons, All-head}
+use Rattle.crash_base.specs.declared.row_id.RowId.{RowId}
+use Rattle.crash_base.specs.declared.rows.RowWrite.{RowWrite}
+use Rattle.deployment.specs.declared.parts.Parts.{Parts}
+use Rattle.journal_model.specs.declared.limits.JournalLimits.{JournalLimits}
+use Rattle.outside.specs.declared.keeper.KeeperFault.TheVariants as faults
+use Rattle.outside.specs.Faults.{counted}
+use Rattle.outside.specs.Keeper.{KeeperTold, after_call, after_writes, after_fault}
+use Rattle.boot_core.specs.declared.refusals.CommitRefusal.{CommitRefusal}
+use Rattle.boot_core.specs.declared.refusals.CommitRefusal.TheVariants as commits
+use Rattle.boot_core.specs.declared.refusals.StartRefusal.TheVariants as refusals
+use Rattle.container_core.specs.Start.{first_bad, last_boot, greatest_boot, boot_row, start_over}
+use Rattle.scenario_text.specs.declared.line.Line.{Line}
+use Rattle.scenario_text.specs.declared.line.TheConstants.{MAX_LINE_BYTES}
+use Rattle.scenario_text.specs.Line.{is_event}
+use Rattle.scenario_text.specs.Reading.{line_of}
+use Rattle.line_steps.specs.declared.callers.Caller.{Caller}
+use Rattle.line_steps.specs.declared.callers.Caller.TheVariants.{Absent, Live}
+use Rattle.line_steps.specs.Callers.{caller_at}
+use Rattle.line_steps.specs.Head.{head_line}
+use Rattle.scenario_engine.specs.declared.kind.LineKind.{LineKind}
+use Rattle.scenario_engine.specs.declared.kind.LineKind.TheVariants as kinds
+use Rattle.scenario_engine.specs.Engine.{Replies, Target, TheHead, TheBoot, NoBoot, opened_target, target_of, target_calls, kind_of, in_head, in_boot, next_opening, reopens, line_over, line_on, step, calls_over as calls_of_kind, calls_on, line_calls}
+use Rattle.scenario_engine.specs.KeeperCalls.{KeeperCall, Gave, Kept, Failed, apply_calls, TellsCalls}
+use Rattle.scenario_engine.specs.Opening.{StartReplies, Opened, Shut, opening, opening_of, opening_over, calls_over, start_calls, start_calls_of}
+use Rattle.scenario_engine.specs.Running.{commit_ends, with_keeper, boot_refusal, keep_calls, caller_commits, caller_calls, commit_step, commit_calls, quiet_line}
+use Rattle.scenario_engine.specs.State.{RunningState, State, Heading, Running, Outcome, RefusedIn, DoneTo, NotStarted}
+use Rattle.scenario_engine.specs.Transcript.{Turn, lines_in, first, answer_to, turn_outcome, calls_to, turn_calls, calls_from, transcript, End, end_from, Ended, Stopped, TooLong, Unstarted}
+use Rattle.scenario_engine.proofs.Telling.{none_after}
+
+-- the last value of a count of calls
+abbrev pub LAST_COUNT : ℕ
+LAST_COUNT = 2 ^ 64 - 1
+
+-- what a keeper that goes on telling tells after a call
+abbrev after : KeeperCall → KeeperTold → KeeperTold
+after (Gave rows) v = after_call v
+after (Kept writes) v = after_writes writes v
+after Failed v = after_fault faults.Failed v
+
+after_first : (call : KeeperCall) (more : List KeeperCall) (v a : KeeperTold) → TellsCalls (call ∷ more) (Some v) (Some a) → TellsCalls more (Some (after call v)) (Some a)
+after_first (Gave rows) more v a (between, (given, is), rest) =
+    let P : Option KeeperTold → Type 0 = λ o. TellsCalls more o (Some a) in subst P is rest
+after_first (Kept writes) more v a (between, is, rest) =
+    let P : Option KeeperTold → Type 0 = λ o. TellsCalls more o (Some a) in subst P is rest
+after_first Failed more v a (between, inl is, rest) =
+    let P : Option KeeperTold → Type 0 = λ o. TellsCalls more o (Some a) in subst P is rest
+after_first Failed more v a (between, inr is, rest) =
+    let P : Option KeeperTold → Type 0 = λ o. TellsCalls more o (Some a) in
+    absurd (cc (none_after more (Some a) (subst P is rest)))
+
+-- the numbers of calls
+
+after_counts : (call : KeeperCall) (v : KeeperTold) → (after call v).calls ≡ counted v.calls
+after_counts (Gave rows) v = refl
+after_counts (Kept writes) v = refl
+after_counts Failed v = refl
+
+abbrev told_of : Option KeeperTold → KeeperTold → KeeperTold
+told_of None v = v
+told_of (Some t) v = t
+
+none_made : (v a : KeeperTold) → TellsCalls [] (Some v) (Some a) → a ≡ v
+none_made v a told = ap (λ o. told_of o v) told
+
+-- the count of calls does not fall, where it was in its range
+counts_up : (calls : List KeeperCall) (v a : KeeperTold) → v.calls ≤ LAST_COUNT → TellsCalls calls (Some v) (Some a) → v.calls ≤ a.calls
+counts_up [] v a low told = omega (arith, ap (λ (t : KeeperTold). t.calls) (none_made v a told))
+counts_up (call ∷ calls) v a low told =
+    let one : (after call v).calls ≡ counted v.calls = after_counts call v in
+    let small : (after call v).calls ≤ LAST_COUNT = omega (arith, one) in
+    let later : (after call v).calls ≤ a.calls = counts_up calls (after call v) a small (after_first call calls v a told) in
+    omega (arith, one, later, low)
+
+-- a keeper that goes on has failed at calls of greater numbers than this, and else at those before
+record HasFailed (n : ℕ) (v a : KeeperTold) : Type 0 where
+  numbers : List ℕ
+  is : a.failed ≡ v.failed ++ numbers
+  later : All (λ k. n < k) numbers
+
+failed_more : (call : KeeperCall) (n : ℕ) (v a : KeeperTold) → n < counted v.calls → HasFailed n (after call v) a → HasFailed n v a
+failed_more (Gave rows) n v a low rest = record { numbers = rest.numbers; is = rest.is; later = rest.later }
+failed_more (Kept writes) n v a low rest = record { numbers = rest.numbers; is = rest.is; later = rest.later }
+failed_more Failed n v a low rest = record {
+  numbers = counted v.calls ∷ rest.numbers;
+  is = rest.is ∙ append_assoc v.failed (counted v.calls ∷ []) rest.numbers;
+  later = All-cons (λ k. n < k) (counted v.calls) rest.numbers low rest.later;
+}
+
+has_failed : (calls : List KeeperCall) (n : ℕ) (v a : KeeperTold) → n < counted v.calls → TellsCalls calls (Some v) (Some a) → HasFailed n v a
+has_failed [] n v a low told = record {
+  numbers = [];
+  is = ap (λ (t : KeeperTold). t.failed) (none_made v a told) ∙ sym (append-nil v.failed);
+  later = All-nil (λ k. n < k);
+}
+has_failed (call ∷ calls) n v a low told =
+    let one : (after call v).calls ≡ counted v.calls = after_counts call v in
+    let next : n < counted (after call v).calls = omega (arith, one, low) in
+    failed_more call n v a low (has_failed calls n (after call v) a next (after_first call calls v a told))
+
+-- a call that failed for one keeper, and not for the other, tells them apart
+clash : (v w a b : KeeperTold) (calls others : List KeeperCall) → w.failed ≡ v.failed → w.calls ≡ counted v.calls → counted v.calls < LAST_COUNT
+    → TellsCalls calls (Some (after Failed v)) (Some a) → TellsCalls others (Some w) (Some b) → a.failed ≡ b.failed → ⊥
+clash v w a b calls others left number few one two same =
+    let k : ℕ = counted v.calls in
+    let next : k < counted w.calls = omega (arith, number, few) in
+    let ones : HasFailed 0 (after Failed v) a = has_failed calls 0 (after Failed v) a (omega arith) one in
+    let twos : HasFailed k w b = has_failed others k w b next two in
+    let whole : v.failed ++ k ∷ ones.numbers ≡ v.failed ++ twos.numbers =
+    sym (append_assoc v.failed (k ∷ []) ones.numbers) ∙ sym ones.is ∙ same ∙ twos.is ∙ ap (λ xs. xs ++ twos.numbers) left in
+    let ends : k ∷ ones.numbers ≡ twos.numbers = append_cancel_left v.failed (k ∷ ones.numbers) twos.numbers whole in
+    let P : List ℕ → Type 0 = λ xs. All (λ j. k < j) xs in
+    let below : k < k = All-head (λ j. k < j) k ones.numbers (subst P (sym ends) twos.later) in
+    omega (arith, below)
+
+-- calls of two keepers that tell the same before, and the same failed calls after
+record Twins (calls others : List KeeperCall) (v a b : KeeperTold) : Type 0 where
+  left : TellsCalls calls (Some v) (Some a)
+  right : TellsCalls others (Some v) (Some b)
+  failed : a.failed ≡ b.failed
+  few : a.calls < LAST_COUNT
+
+few_calls : (call : KeeperCall) (calls others : List KeeperCall) (v a b : KeeperTold) → Twins (call ∷ calls) others v a b → counted v.calls < LAST_COUNT
+few_calls call calls others v a b twins =
+    let one : (after call v).calls ≡ counted v.calls = after_counts call v in
+    let small : (after call v).calls ≤ LAST_COUNT = omega (arith, one) in
+    let later : (after call v).calls ≤ a.calls = counts_up calls (after call v) a small (after_first call calls v a twins.left) in
+    omega (arith, one, later, twins.few)
+
+abbrev has_lost : KeeperCall → Bool
+has_lost (Gave rows) = false
+has_lost (Kept writes) = false
+has_lost Failed = true
+
+lost_left : (call : KeeperCall) (calls others : List KeeperCall) (v a b : KeeperTold) → Twins (Failed ∷ calls) (call ∷ others) v a b → has_lost call ≡ true
+lost_left (Gave rows) calls others v a b twins =
+    absurd (clash v (after (Gave rows) v) a b calls others refl refl (few_calls Failed calls (Gave rows ∷ others) v a b twins) (after_first Failed calls v a twins.left) (after_first (Gave rows) others v b twins.right) twins.failed)
+lost_left (Kept ws) calls others v a b twins =
+    absurd (clash v (after (Kept ws) v) a b calls others refl refl (few_calls Failed calls (Kept ws ∷ others) v a b twins) (after_first Failed calls v a twins.left) (after_first (Kept ws) others v b twins.right) twins.failed)
+lost_left Failed calls others v a b twins = refl
+
+lost_right : (call : KeeperCall) (calls others : List KeeperCall) (v a b : KeeperTold) → Twins (call ∷ calls) (Failed ∷ others) v a b → has_lost call ≡ true
+lost_right (Gave rows) calls others v a b twins =
+    absurd (clash v (after (Gave rows) v) b a others calls refl refl (few_calls (Gave rows) calls (Failed ∷ others) v a b twins) (after_first Failed others v b twins.right) (after_first (Gave rows) calls v a twins.left) (sym twins.failed))
+lost_right (Kept ws) calls others v a b twins =
+    absurd (clash v (after (Kept ws) v) b a others calls refl refl (few_calls (Kept ws) calls (Failed ∷ others) v a b twins) (after_first Failed others v b twins.right) (after_first (Kept ws) calls v a twins.left) (sym twins.failed))
+lost_right Failed calls others v a b twins = refl
+
+twins_next : (call : KeeperCall) (calls others : List KeeperCall) (v a b : KeeperTold) → Twins (call ∷ calls) (call ∷ others) v a b → Twins calls others (after call v) a b
+twins_next call calls others v a b twins = record {
+  left = after_first call calls v a twins.left;
+  right = after_first call others v b twins.right;
+  failed = twins.failed;
+  few = twins.few;
+}
+
+-- what two keepers make of the same is the same, and they go on as twins
+record Decided {X : Type 0} (x y : X) (calls others : List KeeperCall) (a b : KeeperTold) : Type 0 where
+  same : x ≡ y
+  told : KeeperTold
+  twins : Twins calls others told a b
+
+decided_as : {X Y : Type 0} (f : X → Y) (x y : X) (calls others : List KeeperCall) (a b : KeeperTold) → Decided x y calls others a b → Decided (f x) (f y) calls others a b
+decided_as f x y calls others a b decided = record { same = ap f decided.same; told = decided.told; twins = decided.twins }
+
+undecided : {X : Type 0} (x : X) (calls others : List KeeperCall) (v a b : KeeperTold) → Twins calls others v a b → Decided x x calls others a b
+undecided x calls others v a b twins = record { same = refl; told = v; twins = twins }
+
+-- whether writes are kept
+
+apply_decided : (ws : List RowWrite) (keeps other : Bool) (calls others : List KeeperCall) (v a b : KeeperTold)
+    → Twins (apply_calls ws keeps ++ calls) (apply_calls ws other ++ others) v a b → Decided keeps other calls others a b
+apply_decided ws true true calls others v a b twins =
+    record { same = refl; told = after (Kept ws) v; twins = twins_next (Kept ws) calls others v a b twins }
+apply_decided ws false false calls others v a b twins =
+    record { same = refl; told = after Failed v; twins = twins_next Failed calls others v a b twins }
+apply_decided ws true false calls others v a b twins = absurd (cc (lost_right (Kept ws) calls others v a b twins))
+apply_decided ws false true calls others v a b twins = absurd (cc (lost_left (Kept ws) calls others v a b twins))
+
+-- how a boot opens
+
+unspent_decided : (parts : Parts) (limits : JournalLimits) (rows : List RowWrite) (spent keeps other : Bool) (calls others : List KeeperCall) (v a b : KeeperTold)
+    → Twins ((if spent then [] else apply_calls (boot_row (last_boot rows + 1) ∷ []) keeps) ++ calls) ((if spent then [] else apply_calls (boot_row (last_boot rows + 1) ∷ []) other) ++ others) v a b
+    → Decided (if spent then Shut refusals.BootsSpent else (if keeps then Opened (start_over parts limits rows) else Shut refusals.KeeperFailed)) (if spent then Shut refusals.BootsSpent else (if other then Opened (start_over parts limits rows) else Shut refusals.KeeperFailed)) calls others a b
+unspent_decided parts limits rows true keeps other calls others v a b twins = undecided (Shut refusals.BootsSpent) calls others v a b twins
+unspent_decided parts limits rows false keeps other calls others v a b twins =
+    decided_as (λ (keeps : Bool). if keeps then Opened (start_over parts limits rows) else Shut refusals.KeeperFailed) keeps other calls others a b
+    (apply_decided (boot_row (last_boot rows + 1) ∷ []) keeps other calls others v a b twins)
+
+over_decided : (parts : Parts) (limits : JournalLimits) (rows : List RowWrite) (bad : Option RowId) (keeps other : Bool) (calls others : List KeeperCall) (v a b : KeeperTold)
+    → Twins (calls_over rows keeps bad ++ calls) (calls_over rows other bad ++ others) v a b
+    → Decided (opening_over parts limits rows keeps bad) (opening_over parts limits rows other bad) calls others a b
+over_decided parts limits rows (Some id) keeps other calls others v a b twins = undecided (Shut (refusals.BadRow id)) calls others v a b twins
+over_decided parts limits rows None keeps other calls others v a b twins =
+    unspent_decided parts limits rows (last_boot rows == greatest_boot) keeps other calls others v a b twins
+
+given_decided : (parts : Parts) (limits : JournalLimits) (rows more : List RowWrite) (keeps other : Bool) (calls others : List KeeperCall) (v a b : KeeperTold)
+    → Twins (Gave rows ∷ calls_over rows keeps (first_bad rows) ++ calls) (Gave more ∷ calls_over more other (first_bad more) ++ others) v a b
+    → Decided (opening_over parts limits rows keeps (first_bad rows)) (opening_over parts limits more other (first_bad more)) calls others a b
+given_decided parts limits rows more keeps other calls others v a b twins =
+    let P : List RowWrite → Type 0 = λ given. Twins (Gave rows ∷ calls_over rows keeps (first_bad rows) ++ calls) (Gave given ∷ calls_over given other (first_bad given) ++ others) v a b
+    → Decided (opening_over parts limits rows keeps (first_bad rows)) (opening_over parts limits given other (first_bad given)) calls others a b in
+    let same : rows ≡ more = twins.left.1.0.0 ∙ sym twins.right.1.0.0 in
+    let here : P rows = λ both.
+    over_decided parts limits rows (first_bad rows) keeps other calls others (after (Gave rows) v) a b
+    (twins_next (Gave rows) (calls_over rows keeps (first_bad rows) ++ calls) (calls_over rows other (first_bad rows) ++ others) v a b both) in
+    subst P same here twins
+
+replied_decided : (parts : Parts) (limits : JournalLimits) (given more : Option (List RowWrite)) (keeps other : Bool) (calls others : List KeeperCall) (v a b : KeeperTold)
+    → Twins (start_calls_of given keeps ++ calls) (start_calls_of more other ++ others) v a b
+    → Decided (opening_of parts limits given keeps) (opening_of parts limits more other) calls others a b
+replied_decided parts limits None None keeps other calls others v a b twins =
+    record { same = refl; told = after Failed v; twins = twins_next Failed calls others v a b twins }
+replied_decided parts limits None (Some more) keeps other calls others v a b twins =
+    absurd (cc (lost_left (Gave more) calls (calls_over more other (first_bad more) ++ others) v a b twins))
+replied_decided parts limits (Some rows) None keeps other calls others v a b twins =
+    absurd (cc (lost_right (Gave rows) (calls_over rows keeps (first_bad rows) ++ calls) others v a b twins))
+replied_decided parts limits (Some rows) (Some more) keeps other calls others v a b twins =
+    given_decided parts limits rows more keeps other calls others v a b twins
+
+start_decided : (parts : Parts) (limits : JournalLimits) (replies other : StartReplies) (calls others : List KeeperCall) (v a b : KeeperTold)
+    → Twins (start_calls replies ++ calls) (start_calls other ++ others) v a b
+    → Decided (opening parts limits replies) (opening parts limits other) calls others a b
+start_decided parts limits replies other calls others v a b twins =
+    replied_decided parts limits replies.rows other.rows replies.keeps other.keeps calls others v a b twins
+
+target_decided : (s : State) (event : Bool) (replies other : StartReplies) (calls others : List KeeperCall) (v a b : KeeperTold)
+    → Twins (target_calls s event replies ++ calls) (target_calls s event other ++ others) v a b
+    → Decided (target_of s event replies) (target_of s event other) calls others a b
+target_decided (Running r) event replies other calls others v a b twins = undecided (TheBoot r) calls others v a b twins
+target_decided (Heading head) false replies other calls others v a b twins = undecided (TheHead head) calls others v a b twins
+target_decided (Heading head) true replies other calls others v a b twins =
+    decided_as (opened_target head) (opening head.parts head.limits replies) (opening head.parts head.limits other) calls others a b
+    (start_decided head.parts head.limits replies other calls others v a b twins)
+
+-- a commit
+
+keeper_decided : (refusal : Option CommitRefusal) (writes : List RowWrite) (keeps other : Bool) (calls others : List KeeperCall) (v a b : KeeperTold)
+    → Twins (keep_calls refusal writes keeps ++ calls) (keep_calls refusal writes other ++ others) v a b
+    → Decided (with_keeper refusal writes keeps) (with_keeper refusal writes other) calls others a b
+keeper_decided (Some refusal) writes keeps other calls others v a b twins = undecided (Some refusal) calls others v a b twins
+keeper_decided None [] keeps other calls others v a b twins = undecided None calls others v a b twins
+keeper_decided None (w ∷ ws) keeps other calls others v a b twins =
+    decided_as (λ (keeps : Bool). if keeps then None else Some commits.KeeperFailed) keeps other calls others a b
+    (apply_decided (w ∷ ws) keeps other calls others v a b twins)
+
+caller_decided : (r : RunningState) (n : ℕ) (keeps other : Bool) (caller : Caller) (calls others : List KeeperCall) (v a b : KeeperTold)
+    → Twins (caller_calls r keeps caller ++ calls) (caller_calls r other caller ++ others) v a b
+    → Decided (caller_commits r n keeps caller) (caller_commits r n other caller) calls others a b
+caller_decided r n keeps other Absent calls others v a b twins = undecided (caller_commits r n keeps Absent) calls others v a b twins
+caller_decided r n keeps other (Live ticket) calls others v a b twins =
+    let writes = ticket.call.writes in
+    let refusal = boot_refusal r ticket in
+    decided_as (commit_ends r n ticket) (with_keeper refusal writes keeps) (with_keeper refusal writes other) calls others a b
+    (keeper_decided refusal writes keeps other calls others v a b twins)
+
+commit_decided : (r : RunningState) (n : ℕ) (keeps other : Bool) (calls others : List KeeperCall) (v a b : KeeperTold)
+    → Twins (commit_calls r n keeps ++ calls) (commit_calls r n other ++ others) v a b
+    → Decided (commit_step r n keeps) (commit_step r n other) calls others a b
+unfolding commit_calls commit_step
+commit_decided r n keeps other calls others v a b twins = caller_decided r n keeps other (caller_at r.callers n) calls others v a b twins
+
+-- a turn
+
+kind_decided : (r : RunningState) (kind : LineKind) (line : Line) (replies other : Replies) (calls others : List KeeperCall) (v a b : KeeperTold)
+    → Twins (calls_of_kind r kind replies ++ calls) (calls_of_kind r kind other ++ others) v a b
+    → Decided (line_over r kind line replies) (line_over r kind line other) calls others a b
+kind_decided r (kinds.Commits n) line replies other calls others v a b twins =
+    decided_as (in_boot r) (commit_step r n replies.keeps) (commit_step r n other.keeps) calls others a b
+    (commit_decided r n replies.keeps other.keeps calls others v a b twins)
+kind_decided r kinds.Reopens line replies other calls others v a b twins =
+    decided_as (reopens r) (next_opening r replies.again) (next_opening r other.again) calls others a b
+    (start_decided r.boot.start.deployment r.boot.start.limits replies.again other.again calls others v a b twins)
+kind_decided r kinds.Quiet line replies other calls others v a b twins =
+    undecided (in_boot r (quiet_line r line)) calls others v a b twins
+
+line_decided : (target : Target) (line : Line) (replies other : Replies) (calls others : List KeeperCall) (v a b : KeeperTold)
+    → Twins (calls_on target line replies ++ calls) (calls_on target line other ++ others) v a b
+    → Decided (line_on target line replies) (line_on target line other) calls others a b
+line_decided (TheHead head) line replies other calls others v a b twins =
+    undecided (in_head head (head_line head line)) calls others v a b twins
+line_decided (TheBoot r) line replies other calls others v a b twins = kind_decided r (kind_of line) line replies other calls others v a b twins
+line_decided (NoBoot head refusal) line replies other calls others v a b twins =
+    undecided (NotStarted (Heading head) refusal) calls others v a b twins
+
+-- on the targets that were reached
+reached_decided : (target reached : Target) (line : Line) (replies other : Replies) (calls others : List KeeperCall) (a b : KeeperTold)
+    → Decided target reached (calls_on target line replies ++ calls) (calls_on reached line other ++ others) a b
+    → Decided (line_on target line replies) (line_on reached line other) calls others a b
+reached_decided target reached line replies other calls others a b decided =
+    let P : Target → Type 0 = λ there. Twins (calls_on target line replies ++ calls) (calls_on there line other ++ others) decided.told a b
+    → Decided (line_on target line replies) (line_on there line other) calls others a b in
+    let here : P target = line_decided target line replies other calls others decided.told a b in
+    subst P decided.same here decided.twins
+
+joined_twins : (xs ys zs us vs ws : List KeeperCall) (v a b : KeeperTold) → Twins ((xs ++ ys) ++ zs) ((us ++ vs) ++ ws) v a b → Twins (xs ++ (ys ++ zs)) (us ++ (vs ++ ws)) v a b
+joined_twins xs ys zs us vs ws v a b twins =
+    let P : List KeeperCall → Type 0 = λ calls. TellsCalls calls (Some v) (Some a) in
+    let Q : List KeeperCall → Type 0 = λ calls. TellsCalls calls (Some v) (Some b) in
+    record {
+      left = subst P (append_assoc xs ys zs) twins.left;
+      right = subst Q (append_assoc us vs ws) twins.right;
+      failed = twins.failed;
+      few = twins.few;
+    }
+
+step_decided : (s : State) (line : Line) (replies other : Replies) (calls others : List KeeperCall) (v a b : KeeperTold)
+    → Twins (line_calls s line replies ++ calls) (line_calls s line other ++ others) v a b
+    → Decided (step s line replies) (step s line other) calls others a b
+unfolding line_calls step
+step_decided s line replies other calls others v a b twins =
+    let event = is_event line in
+    let target : Target = target_of s event replies.first in
+    let reached : Target = target_of s event other.first in
+    reached_decided target reached line replies other calls others a b
+    (target_decided s event replies.first other.first (calls_on target line replies ++ calls) (calls_on reached line other ++ others) v a b
+    (joined_twins (target_calls s event replies.first) (calls_on target line replies) calls (target_calls s event other.first) (calls_on reached line other) others v a b twins))
+
+answer_decided : (s : State) (o : Option Line) (replies other : Replies) (calls others : List KeeperCall) (v a b : KeeperTold)
+    → Twins (calls_to s o replies ++ calls) (calls_to s o other ++ others) v a b
+    → Decided (answer_to s o replies) (answer_to s o other) calls others a b
+answer_decided s None replies other calls others v a b twins = undecided (RefusedIn s) calls others v a b twins
+answer_decided s (Some line) replies other calls others v a b twins = step_decided s line replies other calls others v a b twins
+
+-- the same line, with other replies
+abbrev replied : Turn → Replies → Turn
+replied turn other = record { line = turn.line; replies = other }
+
+turn_decided : (s : State) (turn : Turn) (other : Replies) (calls others : List KeeperCall) (v a b : KeeperTold)
+    → Twins (turn_calls s turn ++ calls) (turn_calls s (replied turn other) ++ others) v a b
+    → Decided (turn_outcome s turn) (turn_outcome s (replied turn other)) calls others a b
+unfolding turn_calls turn_outcome
+turn_decided s turn other calls others v a b twins = answer_decided s (line_of turn.line) turn.replies other calls others v a b twins
+
+-- all turns
+
+-- a line that is too long spells none
+long_spells_none : (text : List ℕ) → nat_lt MAX_LINE_BYTES (length text) ≡ true → line_of text ≡ None
+unfolding line_of
+long_spells_none text long = rw long refl
+
+long_outcome : (s : State) (turn : Turn) → nat_lt MAX_LINE_BYTES (length turn.line) ≡ true → turn_outcome s turn ≡ RefusedIn s
+unfolding turn_outcome
+long_outcome s turn long = ap (λ o. answer_to s o turn.replies) (long_spells_none turn.line long)
+
+-- two lists of turns have written the same, and ended the same, and so have their keepers
+record AreAlike (text written : List ℕ) (end ending : End) (a b : KeeperTold) : Type 0 where
+  pub texts : text ≡ written
+  pub ends : end ≡ ending
+  pub told : a ≡ b
+
+abbrev Alike : State → ℕ → List Turn → List Turn → KeeperTold → KeeperTold → Type 0
+Alike s n turns others a b = AreAlike (transcript s turns) (transcript s others) (end_from s n turns) (end_from s n others) a b
+
+ended_alike : (text : List ℕ) (end : End) (v a b : KeeperTold) → Twins [] [] v a b → AreAlike text text end end a b
+ended_alike text end v a b twins = record {
+  texts = refl;
+  ends = refl;
+  told = none_made v a twins.left ∙ sym (none_made v b twins.right);
+}
+
+-- after the first turn of each list, both of which are of the same line
+next_alike : (s : State) (n : ℕ) (turn : Turn) (other : Replies) (turns others : List Turn) (v a b : KeeperTold)
+    → ((t : State) (w : KeeperTold) → Twins (calls_from t turns) (calls_from t others) w a b → Alike t (n + 1) turns others a b)
+    → Twins (calls_from s (turn ∷ turns)) (calls_from s (replied turn other ∷ others)) v a b → Alike s n (turn ∷ turns) (replied turn other ∷ others) a b
+next_alike s n turn other turns others v a b later twins =
+    go (nat_lt MAX_LINE_BYTES (length turn.line)) refl twins
+  where
+    calls_after : List Turn → Outcome → List KeeperCall
+    calls_after more outcome = elim outcome [
+      | RefusedIn t ↦ []
+      | DoneTo t text ↦ calls_from t more
+      | NotStarted t refusal ↦ []
+    ]
+
+    text_after : List Turn → Outcome → List ℕ
+    text_after more outcome = elim outcome [
+      | RefusedIn t ↦ []
+      | DoneTo t text ↦ text ++ transcript t more
+      | NotStarted t refusal ↦ []
+    ]
+
+    end_after : List Turn → Outcome → End
+    end_after more outcome = elim outcome [
+      | RefusedIn t ↦ Stopped t n
+      | DoneTo t text ↦ end_from t (n + 1) more
+      | NotStarted t refusal ↦ Unstarted t refusal
+    ]
+
+    short : (outcome : Outcome) (w : KeeperTold) → Twins (calls_after turns outcome) (calls_after others outcome) w a b
+        → AreAlike (text_after turns outcome) (text_after others outcome) (end_after turns outcome) (end_after others outcome) a b
+    short (RefusedIn t) w both = ended_alike [] (Stopped t n) w a b both
+    short (DoneTo t text) w both =
+        let rest : Alike t (n + 1) turns others a b = later t w both in
+        record { texts = ap (λ more. text ++ more) rest.texts; ends = rest.ends; told = rest.told }
+    short (NotStarted t refusal) w both = ended_alike [] (Unstarted t refusal) w a b both
+
+    reached : (one two : Outcome) → Decided one two (calls_after turns one) (calls_after others two) a b
+        → AreAlike (text_after turns one) (text_after others two) (end_after turns one) (end_after others two) a b
+    reached one two decided =
+        let P : Outcome → Type 0 = λ o. Twins (calls_after turns one) (calls_after others o) decided.told a b
+        → AreAlike (text_after turns one) (text_after others o) (end_after turns one) (end_after others o) a b in
+        let here : P one = short one decided.told in
+        subst P decided.same here decided.twins
+
+    go : (long : Bool) → nat_lt MAX_LINE_BYTES (length turn.line) ≡ long
+        → Twins (if long then [] else (turn_calls s turn ++ calls_after turns (turn_outcome s turn))) (if long then [] else (turn_calls s (replied turn other) ++ calls_after others (turn_outcome s (replied turn other)))) v a b
+        → AreAlike (text_after turns (turn_outcome s turn)) (text_after others (turn_outcome s (replied turn other)))
+        (if long then TooLong s n else end_after turns (turn_outcome s turn)) (if long then TooLong s n else end_after others (turn_outcome s (replied turn other))) a b
+    go true is both =
+        let one : turn_outcome s turn ≡ RefusedIn s = long_outcome s turn is in
+        let two : turn_outcome s (replied turn other) ≡ RefusedIn s = long_outcome s (replied turn other) is in
+        rw (one, two) (ended_alike [] (TooLong s n) v a b both)
+    go false is both =
+        reached (turn_outcome s turn) (turn_outcome s (replied turn other))
+        (turn_decided s turn other (calls_after turns (turn_outcome s turn)) (calls_after others (turn_outcome s (replied turn other))) v a b both)
+
+heads_same : (x y : List ℕ) (xs ys : List (List ℕ)) → x ∷ xs ≡ y ∷ ys → x ≡ y
+heads_same x y xs ys same = cc
+
+tails_same : (x y : List ℕ) (xs ys : List (List ℕ)) → x ∷ xs ≡ y ∷ ys → xs ≡ ys
+tails_same x y xs ys same = cc
+
+alike : (s : State) (n : ℕ) (turns others : List Turn) (v a b : KeeperTold) → lines_in turns ≡ lines_in others
+    → Twins (calls_from s turns) (calls_from s others) v a b → Alike s n turns others a b
+alike s n [] [] v a b same twins = ended_alike [] (Ended s) v a b twins
+alike s n [] (other ∷ others) v a b same twins = absurd (cc)
+alike s n (turn ∷ turns) [] v a b same twins = absurd (cc)
+alike s n (turn ∷ turns) (other ∷ others) v a b same twins =
+    let P : List ℕ → Type 0 = λ line. Twins (calls_from s (turn ∷ turns)) (calls_from s (record { line = line; replies = other.replies } ∷ others)) v a b
+    → Alike s n (turn ∷ turns) (record { line = line; replies = other.replies } ∷ others) a b in
+    let line : turn.line ≡ other.line = heads_same turn.line other.line (lines_in turns) (lines_in others) same in
+    let rest : lines_in turns ≡ lines_in others = tails_same turn.line other.line (lines_in turns) (lines_in others) same in
+    let here : P turn.line = next_alike s n turn other.replies turns others v a b (λ t w both. alike t (n + 1) turns others w a b rest both) in
+    subst P line here twins
+
+pub turns_decide : (turns others : List Turn) (t a b : KeeperTold) → lines_in turns ≡ lines_in others
+    → TellsCalls (calls_from first turns) (Some t) (Some a) → TellsCalls (calls_from first others) (Some t) (Some b)
+    → a.failed ≡ b.failed → a.calls < 2 ^ 64 - 1
+    → (transcript first turns ≡ transcript first others) × (end_from first 1 turns ≡ end_from first 1 others) × (a ≡ b)
+turns_decide turns others t a b same left right failed few =
+    let both : Alike first 1 turns others a b =
+    alike first 1 turns others t a b same (record { left = left; right = right; failed = failed; few = few }) in
+    (both.texts, both.ends, both.told)

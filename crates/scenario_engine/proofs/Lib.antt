@@ -1,0 +1,9 @@
+pub mod Calls
+pub mod Committing
+pub mod Deciding
+pub mod Rebooting
+pub mod Soundness
+pub mod Starting
+pub mod Stepping
+pub mod Telling
+pub mod Turns

@@ -1,0 +1,507 @@
+-- What turns leave of a keeper that tells.
+use Rattle.std.proofs.Common.{◌≡◌, ℕ, ◌+◌, ◌==◌, Bool, true, false, if◌then◌else◌, inl, inr, List, [], ◌∷◌, ◌++◌, length, Option, Some, None, refl, sym, ap, ◌∙◌, subst}
+use Rattle.std.specs.Prelude.{nat_lt, IfSome}
+use Rattle.crash_base.specs.declared.row_id.RowId.{RowId}
+use Rattle.crash_base.specs.declared.rows.RowWrite.{RowWrite}
+use Rattle.crash_base.specs.declared.scope.Scope.{Scope}
+use Rattle.crash_base.specs.Rows.{put_all, AreOrdered}
+use Rattle.call_ticket.specs.Ticket.{TicketValue}
+use Rattle.deployment.specs.declared.parts.Parts.{Parts}
+use Rattle.journal_model.specs.declared.entry.Entry.{Entry}
+use Rattle.journal_model.specs.declared.entry.Entry.TheVariants.{Commit, Down, Up}
+use Rattle.journal_model.specs.declared.limits.JournalLimits.{JournalLimits}
+use Rattle.journal_model.specs.Calls.{entry_of}
+use Rattle.journal_model.specs.Reboots.{undone_of}
+use Rattle.journal_model.specs.Rows.{writes_of, rows_after}
+use Rattle.journal_model.proofs.Adding.{rows_after-push}
+use Rattle.outside.specs.Keeper.{KeeperTold, after_call}
+use Rattle.boot_core.specs.declared.boot.Start.{Start}
+use Rattle.boot_core.specs.Boot.{BootValue}
+use Rattle.boot_core.specs.Refusals.{reboot_refusal}
+use Rattle.boot_core.specs.declared.refusals.CommitRefusal.{CommitRefusal}
+use Rattle.boot_core.specs.declared.refusals.RebootRefusal.{RebootRefusal}
+use Rattle.boot_core.specs.declared.refusals.StartRefusal.TheVariants as refusals
+use Rattle.container_core.specs.Start.{first_bad, last_boot, greatest_boot, boot_row, start_over}
+use Rattle.container_core.proofs.Raising.{start_rows}
+use Rattle.scenario_text.specs.declared.line.Line.{Line}
+use Rattle.scenario_text.specs.declared.line.Line.TheVariants as lines
+use Rattle.scenario_text.specs.declared.line.TheConstants.{MAX_LINE_BYTES}
+use Rattle.scenario_text.specs.Line.{is_event}
+use Rattle.scenario_text.specs.Reading.{line_of}
+use Rattle.line_steps.specs.declared.call_lines.CallLine.TheVariants as calls
+use Rattle.line_steps.specs.declared.callers.Caller.{Caller}
+use Rattle.line_steps.specs.declared.callers.Caller.TheVariants.{Absent, Live}
+use Rattle.line_steps.specs.declared.head.Head.{Head}
+use Rattle.line_steps.specs.Answer.{Answer, Refused, Done, within}
+use Rattle.line_steps.specs.Callers.{caller_at, begin_step, call_step}
+use Rattle.line_steps.specs.Head.{head_line}
+use Rattle.line_steps.proofs.Leaving.{Leaves, leaves-or_refused, leaves-within, leaves-weaker, leaves-nothing}
+use Rattle.scenario_engine.specs.declared.kind.LineKind.{LineKind}
+use Rattle.scenario_engine.specs.declared.kind.LineKind.TheVariants as kinds
+use Rattle.scenario_engine.specs.Engine.{Replies, Target, TheHead, TheBoot, NoBoot, opened_target, target_of, target_calls, kind_of, in_head, in_boot, next_opening, reopens, line_over, line_on, step, calls_over as calls_of_kind, calls_on, line_calls, ended_by, ends_over, ends_on, ended_boots}
+use Rattle.scenario_engine.specs.KeeperCalls.{KeeperCall, Gave, Kept, Failed, apply_calls, TellsCall, TellsCalls}
+use Rattle.scenario_engine.specs.Opening.{StartReplies, Opening, Opened, Shut, opening, opening_of, opening_over, calls_over, start_calls, start_calls_of}
+use Rattle.scenario_engine.specs.Running.{with_callers, with_journal, commit_ends, with_keeper, boot_refusal, keep_calls, caller_commits, caller_calls, caller_drops, commit_step, commit_calls, drop_step, scope_of, goes_down, reboots, down_step, up_step, reboot_step, table_step, journal_step, quiet_line}
+use Rattle.scenario_engine.specs.State.{RunningState, State, Heading, Running, Outcome, RefusedIn, DoneTo, NotStarted}
+use Rattle.scenario_engine.specs.Told.{HoldsStateRows, IsOver, AreChained, IsChained, Tells}
+use Rattle.scenario_engine.specs.Transcript.{Turn, first, answer_to, turn_outcome, calls_to, turn_calls, ends_to, turn_ends, calls_from, boots_in, boots_from, end_from, last_state, Stopped, TooLong, Unstarted}
+use Rattle.scenario_engine.proofs.Soundness.{LeavesTo}
+
+-- calls in two parts
+
+-- the keeper tells between the two parts
+record Between (calls more : List KeeperCall) (old new : Option KeeperTold) : Type 0 where
+  between : Option KeeperTold
+  before : TellsCalls calls old between
+  after : TellsCalls more between new
+
+tells-split : (calls more : List KeeperCall) (old new : Option KeeperTold) → TellsCalls (calls ++ more) old new → Between calls more old new
+tells-split [] more old new told = record { between = old; before = refl; after = told }
+tells-split (call ∷ calls) more old new told =
+    let rest : Between calls more told.0 new = tells-split calls more told.0 new told.2 in
+    record { between = rest.between; before = (told.0, told.1, rest.before); after = rest.after }
+
+-- a keeper that has stopped telling never tells again
+
+none_after_call : (call : KeeperCall) (new : Option KeeperTold) → TellsCall call None new → new ≡ None
+none_after_call (Gave rows) new told = told.1
+none_after_call (Kept writes) new told = told
+none_after_call Failed new (inl is) = is
+none_after_call Failed new (inr is) = is
+
+pub none_after : (calls : List KeeperCall) (new : Option KeeperTold) → TellsCalls calls None new → new ≡ None
+none_after [] new told = told
+none_after (call ∷ calls) new told =
+    let P : Option KeeperTold → Type 0 = λ o. TellsCalls calls o new in
+    none_after calls new (subst P (none_after_call call told.0 told.1) told.2)
+
+-- a keeper that tells after calls told between their two parts
+pub record Halves (calls more : List KeeperCall) (t u : KeeperTold) : Type 0 where
+  pub half : KeeperTold
+  pub before : TellsCalls calls (Some t) (Some half)
+  pub after : TellsCalls more (Some half) (Some u)
+
+pub halves : (calls more : List KeeperCall) (t u : KeeperTold) → TellsCalls (calls ++ more) (Some t) (Some u) → Halves calls more t u
+halves calls more t u told = go whole.between whole.before whole.after
+  where
+    whole : Between calls more (Some t) (Some u)
+    whole = tells-split calls more (Some t) (Some u) told
+
+    go : (o : Option KeeperTold) → TellsCalls calls (Some t) o → TellsCalls more o (Some u) → Halves calls more t u
+    go (Some half) before after = record { half = half; before = before; after = after }
+    go None before after = absurd (cc (none_after more (Some u) after))
+
+-- what a start leaves
+
+-- The boot that opens is over the rows that the keeper held, and begins with those that it holds; else they stay.
+abbrev StartLeaves : KeeperTold → KeeperTold → Opening → Type 0
+StartLeaves t u (Opened start) =
+    (start ≡ start_over start.deployment start.limits t.rows) × (u.rows ≡ rows_after start.base [])
+StartLeaves t u (Shut refusal) = u.rows ≡ t.rows
+
+abbrev rows_told : Option KeeperTold → List RowWrite
+rows_told None = []
+rows_told (Some t) = t.rows
+
+-- a call that failed leaves the rows
+rows_failed : (t u : KeeperTold) → TellsCalls (Failed ∷ []) (Some t) (Some u) → u.rows ≡ t.rows
+rows_failed t u (between, inl is, same) = ap rows_told same ∙ ap rows_told is
+rows_failed t u (between, inr is, same) = absurd (cc)
+
+start_kept : (parts : Parts) (limits : JournalLimits) (rows : List RowWrite) (t v u : KeeperTold) (keeps : Bool) → rows ≡ t.rows → AreOrdered rows → v.rows ≡ t.rows
+    → TellsCalls (apply_calls (boot_row (last_boot rows + 1) ∷ []) keeps) (Some v) (Some u)
+    → StartLeaves t u (if keeps then Opened (start_over parts limits rows) else Shut refusals.KeeperFailed)
+start_kept parts limits rows t v u true given ordered same told =
+    let row : List RowWrite = boot_row (last_boot rows + 1) ∷ [] in
+    let put : u.rows ≡ put_all row v.rows = ap rows_told told.2 ∙ ap rows_told told.1 in
+    (ap (start_over parts limits) given, put ∙ ap (put_all row) (same ∙ sym given) ∙ start_rows rows (last_boot rows + 1) ordered)
+start_kept parts limits rows t v u false given ordered same told = rows_failed v u told ∙ same
+
+start_unspent : (parts : Parts) (limits : JournalLimits) (rows : List RowWrite) (t v u : KeeperTold) (spent keeps : Bool) → rows ≡ t.rows → AreOrdered rows → v.rows ≡ t.rows
+    → TellsCalls (if spent then [] else apply_calls (boot_row (last_boot rows + 1) ∷ []) keeps) (Some v) (Some u)
+    → StartLeaves t u (if spent then Shut refusals.BootsSpent else (if keeps then Opened (start_over parts limits rows) else Shut refusals.KeeperFailed))
+start_unspent parts limits rows t v u true keeps given ordered same told = ap rows_told told ∙ same
+start_unspent parts limits rows t v u false keeps given ordered same told = start_kept parts limits rows t v u keeps given ordered same told
+
+start_given : (parts : Parts) (limits : JournalLimits) (rows : List RowWrite) (t v u : KeeperTold) (bad : Option RowId) (keeps : Bool) → rows ≡ t.rows → AreOrdered rows → v.rows ≡ t.rows
+    → TellsCalls (calls_over rows keeps bad) (Some v) (Some u) → StartLeaves t u (opening_over parts limits rows keeps bad)
+start_given parts limits rows t v u (Some id) keeps given ordered same told = ap rows_told told ∙ same
+start_given parts limits rows t v u None keeps given ordered same told =
+    start_unspent parts limits rows t v u (last_boot rows == greatest_boot) keeps given ordered same told
+
+start_replied : (parts : Parts) (limits : JournalLimits) (t u : KeeperTold) (given : Option (List RowWrite)) (keeps : Bool)
+    → TellsCalls (start_calls_of given keeps) (Some t) (Some u) → StartLeaves t u (opening_of parts limits given keeps)
+start_replied parts limits t u None keeps told = rows_failed t u told
+start_replied parts limits t u (Some rows) keeps (between, (given, is), rest) =
+    let P : Option KeeperTold → Type 0 = λ o. TellsCalls (calls_over rows keeps (first_bad rows)) o (Some u) in
+    start_given parts limits rows t (after_call t) u (first_bad rows) keeps given.0 given.1 refl (subst P is rest)
+
+start_leaves : (parts : Parts) (limits : JournalLimits) (replies : StartReplies) (t u : KeeperTold)
+    → TellsCalls (start_calls replies) (Some t) (Some u) → StartLeaves t u (opening parts limits replies)
+start_leaves parts limits replies t u told = start_replied parts limits t u replies.rows replies.keeps told
+
+-- where a keeper that tells stands to a state: it holds the rows that the journal leaves, and the boot is over these rows;
+-- where no boot is started, both are the rows that it held first
+
+abbrev HoldsBoot : List RowWrite → KeeperTold → BootValue → Type 0
+HoldsBoot rows t b = IsOver rows b × (t.rows ≡ rows_after b.start.base b.entries)
+
+abbrev HoldsFirst : List RowWrite → List RowWrite → KeeperTold → Type 0
+HoldsFirst held rows t = (rows ≡ held) × (t.rows ≡ held)
+
+abbrev IsAt : List RowWrite → List RowWrite → KeeperTold → State → Type 0
+IsAt held rows t (Heading head) = HoldsFirst held rows t
+IsAt held rows t (Running r) = HoldsBoot rows t r.boot
+
+abbrev IsOn : List RowWrite → List RowWrite → KeeperTold → Target → Type 0
+IsOn held rows t (TheHead head) = HoldsFirst held rows t
+IsOn held rows t (TheBoot r) = HoldsBoot rows t r.boot
+IsOn held rows t (NoBoot head refusal) = HoldsFirst held rows t
+
+same_told : (P : KeeperTold → Type 0) (t u : KeeperTold) → Some u ≡ Some t → P t → P u
+same_told P t u same h = let Q : Option KeeperTold → Type 0 = λ o. IfSome o P in subst Q (sym same) h
+
+on_opened : (held rows : List RowWrite) (head : Head) (how : Opening) (t u : KeeperTold) → HoldsFirst held rows t → StartLeaves t u how → IsOn held rows u (opened_target head how)
+on_opened held rows head (Opened start) t u holds leaves =
+    (leaves.0 ∙ ap (start_over start.deployment start.limits) (holds.1 ∙ sym holds.0), leaves.1)
+on_opened held rows head (Shut refusal) t u holds leaves = (holds.0, leaves ∙ holds.1)
+
+on_target : (held rows : List RowWrite) (s : State) (event : Bool) (replies : StartReplies) (t u : KeeperTold) → IsAt held rows t s
+    → TellsCalls (target_calls s event replies) (Some t) (Some u) → IsOn held rows u (target_of s event replies)
+on_target held rows (Running r) event replies t u at told = same_told (λ v. HoldsBoot rows v r.boot) t u told at
+on_target held rows (Heading head) false replies t u at told = same_told (HoldsFirst held rows) t u told at
+on_target held rows (Heading head) true replies t u at told =
+    on_opened held rows head (opening head.parts head.limits replies) t u at (start_leaves head.parts head.limits replies t u told)
+
+-- lines that leave the rows
+
+-- the boot is of the same start, and its journal leaves the same rows
+abbrev HasSameRows : RunningState → RunningState → Type 0
+HasSameRows old new =
+    (new.boot.start ≡ old.boot.start)
+    × (rows_after new.boot.start.base new.boot.entries ≡ rows_after old.boot.start.base old.boot.entries)
+
+rows_pushed : (r : RunningState) (e : Entry) → writes_of e ≡ [] → HasSameRows r (with_journal r e)
+rows_pushed r e none =
+    let base = r.boot.start.base in
+    let es = r.boot.entries in
+    (refl, rows_after-push base es e ∙ ap (λ ws. put_all ws (rows_after base es)) none)
+
+rows_called : (r : RunningState) (a : Answer (List Caller)) → Leaves (HasSameRows r) (within (with_callers r) a)
+rows_called r a =
+    leaves-within (HasSameRows r) (with_callers r) a
+    (leaves-weaker (λ callers. Unit {0}) (λ callers. HasSameRows r (with_callers r callers)) a (λ callers h. (refl, refl)) (leaves-nothing a))
+
+rows_dropped : (r : RunningState) (n : ℕ) (caller : Caller) → Leaves (HasSameRows r) (caller_drops r n caller)
+rows_dropped r n Absent = tt
+rows_dropped r n (Live ticket) = (refl, refl)
+
+rows_drop : (r : RunningState) (n : ℕ) → Leaves (HasSameRows r) (drop_step r n)
+unfolding drop_step
+rows_drop r n = rows_dropped r n (caller_at r.callers n)
+
+rows_gone : (r : RunningState) (s : Scope) (refusal : Option RebootRefusal) → Leaves (HasSameRows r) (goes_down r s refusal)
+rows_gone r s None = rows_pushed r (Down s) refl
+rows_gone r s (Some refusal) = (refl, refl)
+
+rows_down : (r : RunningState) (name : List ℕ) → Leaves (HasSameRows r) (down_step r name)
+unfolding down_step
+rows_down r name =
+    leaves-or_refused (HasSameRows r) (scope_of r.boot.start.deployment name) (λ s. goes_down r s (reboot_refusal r.boot.start.limits r.boot.entries s)) (λ s found.
+    rows_gone r s (reboot_refusal r.boot.start.limits r.boot.entries s))
+
+rows_up : (r : RunningState) (name : List ℕ) → Leaves (HasSameRows r) (up_step r name)
+unfolding up_step
+rows_up r name =
+    leaves-or_refused (HasSameRows r) (scope_of r.boot.start.deployment name) _ (λ s known.
+    leaves-or_refused (HasSameRows r) (undone_of r.boot.entries s) _ (λ place found.
+    rows_pushed r (Up s) refl))
+
+rows_rebooted : (r : RunningState) (s : Scope) (refusal : Option RebootRefusal) → Leaves (HasSameRows r) (reboots r s refusal)
+rows_rebooted r s None =
+    let down : HasSameRows r (with_journal r (Down s)) = rows_pushed r (Down s) refl in
+    let up : HasSameRows (with_journal r (Down s)) (with_journal (with_journal r (Down s)) (Up s)) = rows_pushed (with_journal r (Down s)) (Up s) refl in
+    (refl, up.1 ∙ down.1)
+rows_rebooted r s (Some refusal) = (refl, refl)
+
+rows_reboot : (r : RunningState) (name : List ℕ) → Leaves (HasSameRows r) (reboot_step r name)
+unfolding reboot_step
+rows_reboot r name =
+    leaves-or_refused (HasSameRows r) (scope_of r.boot.start.deployment name) (λ s. reboots r s (reboot_refusal r.boot.start.limits r.boot.entries s)) (λ s found.
+    rows_rebooted r s (reboot_refusal r.boot.start.limits r.boot.entries s))
+
+rows_quiet : (r : RunningState) (line : Line) → Leaves (HasSameRows r) (quiet_line r line)
+unfolding table_step journal_step
+rows_quiet r lines.Pass = (refl, refl)
+rows_quiet r (lines.Component name) = tt
+rows_quiet r (lines.Hard from to) = tt
+rows_quiet r (lines.Soft from to) = tt
+rows_quiet r (lines.Owns name table) = tt
+rows_quiet r (lines.Limit entries bytes) = tt
+rows_quiet r (lines.Begin c) = rows_called r (begin_step r.boot r.callers c)
+rows_quiet r (lines.Enter c name) = rows_called r (call_step r.boot r.callers c (calls.Enter name))
+rows_quiet r (lines.Exit c) = rows_called r (call_step r.boot r.callers c calls.Exit)
+rows_quiet r (lines.Read c table key) = rows_called r (call_step r.boot r.callers c (calls.Read table key))
+rows_quiet r (lines.List c table) = rows_called r (call_step r.boot r.callers c (calls.List table))
+rows_quiet r (lines.Put c table key bytes) = rows_called r (call_step r.boot r.callers c (calls.Put table key bytes))
+rows_quiet r (lines.Commit c) = tt
+rows_quiet r (lines.Drop c) = rows_drop r c
+rows_quiet r (lines.Down name) = rows_down r name
+rows_quiet r (lines.Up name) = rows_up r name
+rows_quiet r (lines.Reboot name) = rows_reboot r name
+rows_quiet r lines.Table = (refl, refl)
+rows_quiet r lines.Journal = (refl, refl)
+rows_quiet r lines.Reopen = tt
+
+-- a commit
+
+-- the keeper holds what the journal leaves of the same start
+abbrev HoldsNext : RunningState → KeeperTold → RunningState → Type 0
+HoldsNext old u new =
+    (new.boot.start ≡ old.boot.start) × (u.rows ≡ rows_after new.boot.start.base new.boot.entries)
+
+holds_next : (held rows : List RowWrite) (t u : KeeperTold) (r next : RunningState) → HoldsBoot rows t r.boot → HoldsNext r u next → HoldsBoot rows u next.boot
+holds_next held rows t u r next holds leaves =
+    let P : Start → Type 0 = λ start. start ≡ start_over start.deployment start.limits rows in
+    (subst P (sym leaves.0) holds.0, leaves.1)
+
+holds_kept : (r : RunningState) (n : ℕ) (ticket : TicketValue) (writes : List RowWrite) (t u : KeeperTold) → ticket.call.writes ≡ writes → t.rows ≡ rows_after r.boot.start.base r.boot.entries → u.rows ≡ put_all writes t.rows
+    → Leaves (HoldsNext r u) (commit_ends r n ticket None)
+holds_kept r n ticket writes t u made holds put =
+    let base = r.boot.start.base in
+    let es = r.boot.entries in
+    let e : Entry = Commit (entry_of ticket.call None) in
+    let ends : put_all writes (rows_after base es) ≡ put_all (writes_of e) (rows_after base es) = ap (λ ws. put_all ws (rows_after base es)) (sym made) in
+    (refl, put ∙ ap (put_all writes) holds ∙ ends ∙ sym (rows_after-push base es e))
+
+holds_commit : (r : RunningState) (n : ℕ) (ticket : TicketValue) (refusal : Option CommitRefusal) (writes : List RowWrite) (keeps : Bool) (t u : KeeperTold) → ticket.call.writes ≡ writes → t.rows ≡ rows_after r.boot.start.base r.boot.entries
+    → TellsCalls (keep_calls refusal writes keeps) (Some t) (Some u)
+    → Leaves (HoldsNext r u) (commit_ends r n ticket (with_keeper refusal writes keeps))
+holds_commit r n ticket (Some refusal) writes keeps t u made holds told = (refl, ap rows_told told ∙ holds)
+holds_commit r n ticket None [] keeps t u made holds told = holds_kept r n ticket [] t u made holds (ap rows_told told)
+holds_commit r n ticket None (w ∷ ws) true t u made holds told =
+    holds_kept r n ticket (w ∷ ws) t u made holds (ap rows_told told.2 ∙ ap rows_told told.1)
+holds_commit r n ticket None (w ∷ ws) false t u made holds told = (refl, rows_failed t u told ∙ holds)
+
+holds_caller : (r : RunningState) (n : ℕ) (keeps : Bool) (caller : Caller) (t u : KeeperTold) → t.rows ≡ rows_after r.boot.start.base r.boot.entries
+    → TellsCalls (caller_calls r keeps caller) (Some t) (Some u) → Leaves (HoldsNext r u) (caller_commits r n keeps caller)
+holds_caller r n keeps Absent t u holds told = tt
+holds_caller r n keeps (Live ticket) t u holds told =
+    holds_commit r n ticket (boot_refusal r ticket) ticket.call.writes keeps t u refl holds told
+
+holds_commit_step : (r : RunningState) (n : ℕ) (keeps : Bool) (t u : KeeperTold) → t.rows ≡ rows_after r.boot.start.base r.boot.entries
+    → TellsCalls (commit_calls r n keeps) (Some t) (Some u) → Leaves (HoldsNext r u) (commit_step r n keeps)
+unfolding commit_step commit_calls
+holds_commit_step r n keeps t u holds told = holds_caller r n keeps (caller_at r.callers n) t u holds told
+
+-- one turn
+
+-- Each of these boots is over the rows that the one before leaves, the first over these; and what is left is so.
+abbrev AreChainedTo : List RowWrite → List BootValue → (List RowWrite → Type 0) → Type 0
+AreChainedTo rows [] P = P rows
+AreChainedTo rows (b ∷ bs) P = IsOver rows b × AreChainedTo (rows_after b.start.base b.entries) bs P
+
+-- where the keeper stands after an outcome
+abbrev IsLeft : List RowWrite → KeeperTold → Outcome → List RowWrite → Type 0
+IsLeft held t outcome rows = LeavesTo (IsAt held rows t) outcome
+
+left_in_head : (held rows : List RowWrite) (t : KeeperTold) (head : Head) (a : Answer Head) → HoldsFirst held rows t → IsLeft held t (in_head head a) rows
+left_in_head held rows t head Refused holds = holds
+left_in_head held rows t head (Done next text) holds = holds
+
+left_in_boot : (held rows : List RowWrite) (t u : KeeperTold) (r : RunningState) (a : Answer RunningState) → HoldsBoot rows t r.boot → u.rows ≡ t.rows → Leaves (HasSameRows r) a → IsLeft held u (in_boot r a) rows
+left_in_boot held rows t u r Refused holds same leaves = (holds.0, same ∙ holds.1)
+left_in_boot held rows t u r (Done next text) holds same leaves =
+    holds_next held rows t u r next holds (leaves.0, same ∙ holds.1 ∙ sym leaves.1)
+
+left_by_commit : (held rows : List RowWrite) (t u : KeeperTold) (r : RunningState) (a : Answer RunningState) → HoldsBoot rows t r.boot → (a ≡ Refused → u.rows ≡ t.rows) → Leaves (HoldsNext r u) a → IsLeft held u (in_boot r a) rows
+left_by_commit held rows t u r Refused holds same leaves = (holds.0, same refl ∙ holds.1)
+left_by_commit held rows t u r (Done next text) holds same leaves = holds_next held rows t u r next holds leaves
+
+-- a commit that is refused as a line calls no keeper
+
+ends_done : (r : RunningState) (n : ℕ) (ticket : TicketValue) (refusal : Option CommitRefusal) → commit_ends r n ticket refusal ≡ Refused → ⊥
+ends_done r n ticket None is = cc
+ends_done r n ticket (Some refusal) is = cc
+
+caller_refused : (r : RunningState) (n : ℕ) (keeps : Bool) (caller : Caller) (t u : KeeperTold) → TellsCalls (caller_calls r keeps caller) (Some t) (Some u) → caller_commits r n keeps caller ≡ Refused → u.rows ≡ t.rows
+caller_refused r n keeps Absent t u told is = ap rows_told told
+caller_refused r n keeps (Live ticket) t u told is = absurd (ends_done r n ticket (with_keeper (boot_refusal r ticket) ticket.call.writes keeps) is)
+
+commit_refused : (r : RunningState) (n : ℕ) (keeps : Bool) (t u : KeeperTold) → TellsCalls (commit_calls r n keeps) (Some t) (Some u) → commit_step r n keeps ≡ Refused → u.rows ≡ t.rows
+unfolding commit_step commit_calls
+commit_refused r n keeps t u told is = caller_refused r n keeps (caller_at r.callers n) t u told is
+
+left_reopened : (held rows : List RowWrite) (t u : KeeperTold) (r : RunningState) (how : Opening) → HoldsBoot rows t r.boot → StartLeaves t u how
+    → AreChainedTo rows (ended_by r how) (IsLeft held u (reopens r how))
+left_reopened held rows t u r (Opened start) holds leaves =
+    (holds.0, (leaves.0 ∙ ap (start_over start.deployment start.limits) holds.1, leaves.1))
+left_reopened held rows t u r (Shut refusal) holds leaves = (holds.0, leaves ∙ holds.1)
+
+left_over : (held rows : List RowWrite) (t u : KeeperTold) (r : RunningState) (kind : LineKind) (line : Line) (replies : Replies) → HoldsBoot rows t r.boot
+    → TellsCalls (calls_of_kind r kind replies) (Some t) (Some u)
+    → AreChainedTo rows (ends_over r kind replies) (IsLeft held u (line_over r kind line replies))
+left_over held rows t u r (kinds.Commits n) line replies holds told =
+    left_by_commit held rows t u r (commit_step r n replies.keeps) holds (commit_refused r n replies.keeps t u told)
+    (holds_commit_step r n replies.keeps t u holds.1 told)
+left_over held rows t u r kinds.Reopens line replies holds told =
+    left_reopened held rows t u r (next_opening r replies.again) holds
+    (start_leaves r.boot.start.deployment r.boot.start.limits replies.again t u told)
+left_over held rows t u r kinds.Quiet line replies holds told =
+    left_in_boot held rows t u r (quiet_line r line) holds (ap rows_told told) (rows_quiet r line)
+
+left_on : (held rows : List RowWrite) (t u : KeeperTold) (target : Target) (line : Line) (replies : Replies) → IsOn held rows t target
+    → TellsCalls (calls_on target line replies) (Some t) (Some u)
+    → AreChainedTo rows (ends_on target line replies) (IsLeft held u (line_on target line replies))
+left_on held rows t u (TheHead head) line replies on told =
+    left_in_head held rows u head (head_line head line) (same_told (HoldsFirst held rows) t u told on)
+left_on held rows t u (TheBoot r) line replies on told = left_over held rows t u r (kind_of line) line replies on told
+left_on held rows t u (NoBoot head refusal) line replies on told = same_told (HoldsFirst held rows) t u told on
+
+left_by_step : (held rows : List RowWrite) (t u : KeeperTold) (s : State) (line : Line) (replies : Replies) → IsAt held rows t s
+    → TellsCalls (line_calls s line replies) (Some t) (Some u)
+    → AreChainedTo rows (ended_boots s line replies) (IsLeft held u (step s line replies))
+unfolding step line_calls ended_boots
+left_by_step held rows t u s line replies at told =
+    let target : Target = target_of s (is_event line) replies.first in
+    let two : Halves (target_calls s (is_event line) replies.first) (calls_on target line replies) t u =
+    halves (target_calls s (is_event line) replies.first) (calls_on target line replies) t u told in
+    left_on held rows two.half u target line replies
+    (on_target held rows s (is_event line) replies.first t two.half at two.before) two.after
+
+left_by_answer : (held rows : List RowWrite) (t u : KeeperTold) (s : State) (o : Option Line) (replies : Replies) → IsAt held rows t s
+    → TellsCalls (calls_to s o replies) (Some t) (Some u)
+    → AreChainedTo rows (ends_to s o replies) (IsLeft held u (answer_to s o replies))
+left_by_answer held rows t u s None replies at told = same_told (λ v. IsAt held rows v s) t u told at
+left_by_answer held rows t u s (Some line) replies at told = left_by_step held rows t u s line replies at told
+
+left_by_turn : (held rows : List RowWrite) (t u : KeeperTold) (s : State) (turn : Turn) → IsAt held rows t s
+    → TellsCalls (turn_calls s turn) (Some t) (Some u)
+    → AreChainedTo rows (turn_ends s turn) (IsLeft held u (turn_outcome s turn))
+unfolding turn_outcome turn_calls turn_ends
+left_by_turn held rows t u s turn at told = left_by_answer held rows t u s (line_of turn.line) turn.replies at told
+
+-- all turns
+
+chained-append : (rows : List RowWrite) (bs cs : List BootValue) (P : List RowWrite → Type 0) → AreChainedTo rows bs P
+    → ((later : List RowWrite) → P later → AreChained later cs) → AreChained rows (bs ++ cs)
+chained-append rows [] cs P chained on = on rows chained
+chained-append rows (b ∷ bs) cs P chained on = (chained.0, chained-append (rows_after b.start.base b.entries) bs cs P chained.1 on)
+
+chained_left : (rows : List RowWrite) (bs : List BootValue) (P : List RowWrite → Type 0) (Q : Type 0) → AreChainedTo rows bs P
+    → ((later : List RowWrite) → P later → Q) → Q
+chained_left rows [] P Q chained on = on rows chained
+chained_left rows (b ∷ bs) P Q chained on = chained_left (rows_after b.start.base b.entries) bs P Q chained.1 on
+
+chained_in : (held rows : List RowWrite) (t : KeeperTold) (s : State) → IsAt held rows t s → AreChained rows (boots_in s)
+chained_in held rows t (Heading head) at = tt
+chained_in held rows t (Running r) at = (at.0, tt)
+
+chained_all : (held rows : List RowWrite) (t u : KeeperTold) (s : State) (turns : List Turn) → IsAt held rows t s
+    → TellsCalls (calls_from s turns) (Some t) (Some u) → AreChained rows (boots_from s turns)
+chained_all held rows t u s [] at told = chained_in held rows t s at
+chained_all held rows t u s (turn ∷ turns) at told =
+    go (nat_lt MAX_LINE_BYTES (length turn.line)) (turn_outcome s turn) (λ v made. left_by_turn held rows t v s turn at made)
+    (λ later v next there. chained_all held later v u next turns there) told
+  where
+    go : (long : Bool) (o : Outcome)
+        → ((v : KeeperTold) → TellsCalls (turn_calls s turn) (Some t) (Some v) → AreChainedTo rows (turn_ends s turn) (IsLeft held v o))
+        → ((later : List RowWrite) (v : KeeperTold) (next : State) → IsAt held later v next → TellsCalls (calls_from next turns) (Some v) (Some u) → AreChained later (boots_from next turns))
+        → TellsCalls (if long then [] else (turn_calls s turn ++ (elim o [
+          | RefusedIn t ↦ []
+          | DoneTo t text ↦ calls_from t turns
+          | NotStarted t refusal ↦ []
+        ]))) (Some t) (Some u)
+        → AreChained rows (if long then boots_in s else (turn_ends s turn ++ (elim o [
+          | RefusedIn t ↦ boots_in t
+          | DoneTo t text ↦ boots_from t turns
+          | NotStarted t refusal ↦ boots_in t
+        ])))
+    go true o one all told = chained_in held rows t s at
+    go false (RefusedIn next) one all told =
+        let two : Halves (turn_calls s turn) [] t u = halves (turn_calls s turn) [] t u told in
+        chained-append rows (turn_ends s turn) (boots_in next) (IsLeft held two.half (RefusedIn next)) (one two.half two.before)
+        (λ later there. chained_in held later two.half next there)
+    go false (DoneTo next text) one all told =
+        let two : Halves (turn_calls s turn) (calls_from next turns) t u = halves (turn_calls s turn) (calls_from next turns) t u told in
+        chained-append rows (turn_ends s turn) (boots_from next turns) (IsLeft held two.half (DoneTo next text)) (one two.half two.before)
+        (λ later there. all later two.half next there two.after)
+    go false (NotStarted next refusal) one all told =
+        let two : Halves (turn_calls s turn) [] t u = halves (turn_calls s turn) [] t u told in
+        chained-append rows (turn_ends s turn) (boots_in next) (IsLeft held two.half (NotStarted next refusal)) (one two.half two.before)
+        (λ later there. chained_in held later two.half next there)
+
+-- the rows that are held at the end
+abbrev HoldsAtEnd : List RowWrite → KeeperTold → State → Type 0
+HoldsAtEnd held t (Heading head) = t.rows ≡ held
+HoldsAtEnd held t (Running r) = t.rows ≡ rows_after r.boot.start.base r.boot.entries
+
+held_at : (held rows : List RowWrite) (t : KeeperTold) (s : State) → IsAt held rows t s → HoldsAtEnd held t s
+held_at held rows t (Heading head) at = at.1
+held_at held rows t (Running r) at = at.1
+
+held_all : (held rows : List RowWrite) (t u : KeeperTold) (s : State) (n : ℕ) (turns : List Turn) → IsAt held rows t s
+    → TellsCalls (calls_from s turns) (Some t) (Some u) → HoldsAtEnd held u (last_state (end_from s n turns))
+held_all held rows t u s n [] at told = held_at held rows u s (same_told (λ v. IsAt held rows v s) t u told at)
+held_all held rows t u s n (turn ∷ turns) at told =
+    go (nat_lt MAX_LINE_BYTES (length turn.line)) (turn_outcome s turn) (λ v made. left_by_turn held rows t v s turn at made)
+    (λ later v next there. held_all held later v u next (n + 1) turns there) told
+  where
+    -- at a line that ends the scenario
+    ends : (o : Outcome) (next : State)
+        → ((v : KeeperTold) → TellsCalls (turn_calls s turn) (Some t) (Some v) → AreChainedTo rows (turn_ends s turn) (IsLeft held v o))
+        → ((later : List RowWrite) (v : KeeperTold) → IsLeft held v o later → IsAt held later v next)
+        → TellsCalls (turn_calls s turn ++ []) (Some t) (Some u) → HoldsAtEnd held u next
+    ends o next one is told =
+        let two : Halves (turn_calls s turn) [] t u = halves (turn_calls s turn) [] t u told in
+        chained_left rows (turn_ends s turn) (IsLeft held two.half o) (HoldsAtEnd held u next) (one two.half two.before)
+        (λ later there. held_at held later u next (same_told (λ v. IsAt held later v next) two.half u two.after (is later two.half there)))
+
+    go : (long : Bool) (o : Outcome)
+        → ((v : KeeperTold) → TellsCalls (turn_calls s turn) (Some t) (Some v) → AreChainedTo rows (turn_ends s turn) (IsLeft held v o))
+        → ((later : List RowWrite) (v : KeeperTold) (next : State) → IsAt held later v next → TellsCalls (calls_from next turns) (Some v) (Some u) → HoldsAtEnd held u (last_state (end_from next (n + 1) turns)))
+        → TellsCalls (if long then [] else (turn_calls s turn ++ (elim o [
+          | RefusedIn t ↦ []
+          | DoneTo t text ↦ calls_from t turns
+          | NotStarted t refusal ↦ []
+        ]))) (Some t) (Some u)
+        → HoldsAtEnd held u (last_state (if long then TooLong s n else (elim o [
+          | RefusedIn t ↦ Stopped t n
+          | DoneTo t text ↦ end_from t (n + 1) turns
+          | NotStarted t refusal ↦ Unstarted t refusal
+        ])))
+    go true o one all told = held_at held rows u s (same_told (λ v. IsAt held rows v s) t u told at)
+    go false (RefusedIn next) one all told = ends (RefusedIn next) next one (λ later v there. there) told
+    go false (DoneTo next text) one all told =
+        let two : Halves (turn_calls s turn) (calls_from next turns) t u = halves (turn_calls s turn) (calls_from next turns) t u told in
+        chained_left rows (turn_ends s turn) (IsLeft held two.half (DoneTo next text)) (HoldsAtEnd held u (last_state (end_from next (n + 1) turns))) (one two.half two.before)
+        (λ later there. all later two.half next there two.after)
+    go false (NotStarted next refusal) one all told = ends (NotStarted next refusal) next one (λ later v there. there) told
+
+-- the rows at the end, of a keeper that tells or not
+
+end_rows : (t u : KeeperTold) (s : State) → HoldsAtEnd t.rows u s → HoldsStateRows (Some t) (Some u) s
+end_rows t u (Heading head) holds = holds
+end_rows t u (Running r) holds = holds
+
+no_rows : (old : Option KeeperTold) (s : State) → HoldsStateRows old None s
+no_rows None (Heading head) = tt
+no_rows (Some t) (Heading head) = tt
+no_rows old (Running r) = tt
+
+no_chain : (old : Option KeeperTold) (bs : List BootValue) → IsChained old None bs
+no_chain None bs = tt
+no_chain (Some t) bs = tt
+
+pub turns_tell : (turns : List Turn) (old new : Option KeeperTold) → TellsCalls (calls_from first turns) old new → Tells turns old new
+turns_tell turns old None told = record {
+  calls = told;
+  rows = no_rows old (last_state (end_from first 1 turns));
+  chained = no_chain old (boots_from first turns);
+}
+turns_tell turns None (Some u) told = absurd (cc (none_after (calls_from first turns) (Some u) told))
+turns_tell turns (Some t) (Some u) told = record {
+  calls = told;
+  rows = end_rows t u (last_state (end_from first 1 turns)) (held_all t.rows t.rows t u first 1 turns (refl, refl) told);
+  chained = chained_all t.rows t.rows t u first turns (refl, refl) told;
+}

@@ -1,0 +1,7 @@
+use Rattle.scenario_engine.specs.Engine.{target_in}
+use Rattle.scenario_engine.proofs.Stepping.{uncalled}
+use Rattle.scenario_engine.proofs.engine.Engine.line_on.Goals as goal
+
+pub returns-in-Err-clause-answer : goal.returns-in-Err-clause-answer
+returns-in-Err-clause-answer g c =
+    uncalled (target_in c.args.self.now) c.args.line (g.K.Keeper.told c.args.keeper.now)

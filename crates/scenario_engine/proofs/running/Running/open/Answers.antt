@@ -1,0 +1,16 @@
+use Rattle.std.proofs.Common.{◌≡◌}
+use Rattle.scenario_engine.proofs.Starting.{opened, shut}
+use Rattle.scenario_engine.proofs.running.Running.open.Goals as goal
+
+pub returns-in-Ok-clause-opens : goal.returns-in-Ok-clause-opens
+returns-in-Ok-clause-opens g c =
+    let old = g.K.Keeper.told c.args.keeper.now in
+    let new = g.K.Keeper.told c.start_boot.new.keeper in
+    let h = opened c.args.deployment c.args.limits old new c.in-Ok.boot c.in-Ok.ensures.opens in
+    (h.0, (let boot : c.in-Ok.boot ≡ _ = h.1 in cc), h.2)
+
+pub returns-in-Err-clause-opens : goal.returns-in-Err-clause-opens
+returns-in-Err-clause-opens g c =
+    let old = g.K.Keeper.told c.args.keeper.now in
+    let new = g.K.Keeper.told c.start_boot.new.keeper in
+    shut c.args.deployment c.args.limits old new c.in-Err.refusal c.in-Err.ensures.opens

@@ -1,0 +1,163 @@
+-- What a line does to the state of a scenario, and what it asks of the keeper.
+use Rattle.std.specs.Prelude.{◌≡◌, Bool, true, false, List, [], ◌∷◌, ◌++◌, None}
+use Rattle.boot_core.specs.Boot.{BootValue}
+use Rattle.boot_core.specs.declared.refusals.StartRefusal.{StartRefusal}
+use Rattle.deployment.specs.Refusals.{deploy_refusal}
+use Rattle.line_steps.specs.declared.head.Head.{Head}
+use Rattle.line_steps.specs.Answer.{Answer, Refused, Done}
+use Rattle.line_steps.specs.Head.{head_line}
+use Rattle.line_steps.specs.Texts.{boot_text}
+use Rattle.scenario_text.specs.declared.line.Line.{Line}
+use Rattle.scenario_text.specs.declared.line.Line.TheVariants.{Pass, Component, Hard, Soft, Owns, Limit, Begin, Enter, Exit, Read, List as ListLine, Put, Commit, Drop, Down, Up, Reboot, Table, Journal, Reopen}
+use Rattle.scenario_text.specs.Line.{is_event}
+use Rattle.scenario_engine.specs.declared.engine.Stage.{Stage}
+use Rattle.scenario_engine.specs.declared.engine.Stage.TheVariants as stages
+use Rattle.scenario_engine.specs.declared.kind.LineKind.{LineKind}
+use Rattle.scenario_engine.specs.declared.kind.LineKind.TheVariants as kinds
+use Rattle.scenario_engine.specs.KeeperCalls.{KeeperCall}
+use Rattle.scenario_engine.specs.Opening.{StartReplies, Opening, Opened, Shut, opening, start_calls}
+use Rattle.scenario_engine.specs.Running.{started, quiet_line, commit_step, commit_calls}
+use Rattle.scenario_engine.specs.State.{RunningState, State, Heading, Running, Outcome, RefusedIn, DoneTo, NotStarted}
+
+-- What the keeper replies while one line is done: to the start that the first event line makes, to the start that a `reopen`
+-- makes, and whether it keeps the writes of a commit. A line asks only for some of it.
+pub record Replies : Type 0 where
+  pub first : StartReplies
+  pub again : StartReplies
+  pub keeps : Bool
+
+-- the state that a stage of the engine holds
+abbrev pub state_of : Stage → State
+state_of (stages.Head head) = Heading head
+state_of (stages.Run r) = Running r
+
+-- the parts that head lines have declared are those of a deployment
+abbrev pub IsAccepted : Stage → Type 0
+IsAccepted (stages.Head head) = deploy_refusal head.parts ≡ None
+IsAccepted (stages.Run r) = Unit {0}
+
+-- what a line is done to: the head, a boot, or nothing, since the boot that it needs was not started
+pub data Target : Type 0 where
+  TheHead : (head : Head) → Target
+  TheBoot : (running : RunningState) → Target
+  NoBoot : (head : Head) (refusal : StartRefusal) → Target
+
+-- what a line is done to in a state that does not change before it
+abbrev pub target_in : State → Target
+target_in (Heading head) = TheHead head
+target_in (Running r) = TheBoot r
+
+-- the boot over a head that opens so
+abbrev pub opened_target : Head → Opening → Target
+opened_target head (Opened start) = TheBoot (started start)
+opened_target head (Shut refusal) = NoBoot head refusal
+
+-- what a line is done to that is an event line, or is none
+abbrev pub target_of : State → Bool → StartReplies → Target
+target_of (Running r) event replies = TheBoot r
+target_of (Heading head) false replies = TheHead head
+target_of (Heading head) true replies =
+    opened_target head (opening head.parts head.limits replies)
+
+-- the calls of the keeper until a line has what it is done to
+abbrev pub target_calls : State → Bool → StartReplies → List KeeperCall
+target_calls (Running r) event replies = []
+target_calls (Heading head) false replies = []
+target_calls (Heading head) true replies = start_calls replies
+
+-- what kind a line is of: it commits the call of a caller, starts the next boot, or calls no keeper
+abbrev pub kind_of : Line → LineKind
+kind_of Pass = kinds.Quiet
+kind_of (Component name) = kinds.Quiet
+kind_of (Hard name other) = kinds.Quiet
+kind_of (Soft name other) = kinds.Quiet
+kind_of (Owns name table) = kinds.Quiet
+kind_of (Limit entries bytes) = kinds.Quiet
+kind_of (Begin caller) = kinds.Quiet
+kind_of (Enter caller name) = kinds.Quiet
+kind_of (Exit caller) = kinds.Quiet
+kind_of (Read caller table key) = kinds.Quiet
+kind_of (ListLine caller table) = kinds.Quiet
+kind_of (Put caller table key bytes) = kinds.Quiet
+kind_of (Commit caller) = kinds.Commits caller
+kind_of (Drop caller) = kinds.Quiet
+kind_of (Down name) = kinds.Quiet
+kind_of (Up name) = kinds.Quiet
+kind_of (Reboot name) = kinds.Quiet
+kind_of Table = kinds.Quiet
+kind_of Journal = kinds.Quiet
+kind_of Reopen = kinds.Reopens
+
+-- a line of the head, by its answer
+abbrev pub in_head : Head → Answer Head → Outcome
+in_head head Refused = RefusedIn (Heading head)
+in_head head (Done next text) = DoneTo (Heading next) text
+
+-- a line over a boot, by its answer
+abbrev pub in_boot : RunningState → Answer RunningState → Outcome
+in_boot r Refused = RefusedIn (Running r)
+in_boot r (Done next text) = DoneTo (Running next) text
+
+-- how the next boot of the same deployment and limits opens
+abbrev pub next_opening : RunningState → StartReplies → Opening
+next_opening r replies = opening r.boot.start.deployment r.boot.start.limits replies
+
+-- the next boot, where it opens so; the callers of the boot before are gone
+abbrev pub reopens : RunningState → Opening → Outcome
+reopens r (Opened start) = DoneTo (Running (started start)) (boot_text start.boot)
+reopens r (Shut refusal) = NotStarted (Running r) refusal
+
+-- a line over a boot, by its kind
+abbrev pub line_over : RunningState → LineKind → Line → Replies → Outcome
+line_over r (kinds.Commits caller) line replies = in_boot r (commit_step r caller replies.keeps)
+line_over r kinds.Reopens line replies = reopens r (next_opening r replies.again)
+line_over r kinds.Quiet line replies = in_boot r (quiet_line r line)
+
+-- a line that is done to a target
+abbrev pub line_on : Target → Line → Replies → Outcome
+line_on (TheHead head) line replies = in_head head (head_line head line)
+line_on (TheBoot r) line replies = line_over r (kind_of line) line replies
+line_on (NoBoot head refusal) line replies = NotStarted (Heading head) refusal
+
+-- What a line answers, where the keeper replies so. The first event line starts the boot before it is itself judged.
+unfoldable pub step : State → Line → Replies → Outcome
+step s line replies = line_on (target_of s (is_event line) replies.first) line replies
+
+-- the calls of the keeper that a line over a boot makes, by its kind
+abbrev pub calls_over : RunningState → LineKind → Replies → List KeeperCall
+calls_over r (kinds.Commits caller) replies = commit_calls r caller replies.keeps
+calls_over r kinds.Reopens replies = start_calls replies.again
+calls_over r kinds.Quiet replies = []
+
+-- the calls of the keeper that a line makes which is done to a target
+abbrev pub calls_on : Target → Line → Replies → List KeeperCall
+calls_on (TheHead head) line replies = []
+calls_on (TheBoot r) line replies = calls_over r (kind_of line) replies
+calls_on (NoBoot head refusal) line replies = []
+
+-- The calls of the keeper that a line makes: those of a start, one for a commit with writes, and none else.
+unfoldable pub line_calls : State → Line → Replies → List KeeperCall
+line_calls s line replies =
+    target_calls s (is_event line) replies.first
+    ++ calls_on (target_of s (is_event line) replies.first) line replies
+
+-- the boot that a start of the next one ends
+abbrev pub ended_by : RunningState → Opening → List BootValue
+ended_by r (Opened start) = r.boot ∷ []
+ended_by r (Shut refusal) = []
+
+-- the boot that a line over it ends, by the line's kind
+abbrev pub ends_over : RunningState → LineKind → Replies → List BootValue
+ends_over r (kinds.Commits caller) replies = []
+ends_over r kinds.Reopens replies = ended_by r (next_opening r replies.again)
+ends_over r kinds.Quiet replies = []
+
+-- the boot that a line ends which is done to a target
+abbrev pub ends_on : Target → Line → Replies → List BootValue
+ends_on (TheHead head) line replies = []
+ends_on (TheBoot r) line replies = ends_over r (kind_of line) replies
+ends_on (NoBoot head refusal) line replies = []
+
+-- The boot that a line ends: `reopen` ends one where the next one starts.
+unfoldable pub ended_boots : State → Line → Replies → List BootValue
+ended_boots s line replies = ends_on (target_of s (is_event line) replies.first) line replies

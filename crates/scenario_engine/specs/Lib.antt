@@ -1,0 +1,9 @@
+pub mod KeeperCalls
+pub mod Opening
+pub mod State
+pub mod Running
+pub mod Engine
+pub mod Transcript
+pub mod Telling
+pub mod Told
+pub mod Sound

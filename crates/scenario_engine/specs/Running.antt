@@ -1,0 +1,175 @@
+-- Event lines, over a boot that is started.
+use Rattle.std.specs.Prelude.{ℕ, ◌+◌, Bool, true, if◌then◌else◌, List, [], ◌∷◌, ◌++◌, length, Option, Some, None, bytes_eq, option_map}
+use Rattle.call_ticket.specs.Ticket.{TicketValue}
+use Rattle.crash_base.specs.declared.names.TheConstants.{APPLICATION}
+use Rattle.crash_base.specs.declared.rows.RowWrite.{RowWrite}
+use Rattle.crash_base.specs.declared.scope.Scope.{Scope}
+use Rattle.crash_base.specs.declared.scope.Scope.TheVariants.{Group, App}
+use Rattle.deployment.specs.declared.parts.Parts.{Parts}
+use Rattle.deployment.specs.Groups.{group_no, group_of}
+use Rattle.deployment.specs.Parts.{named}
+use Rattle.journal_model.specs.declared.entry.Entry.{Entry}
+use Rattle.journal_model.specs.declared.entry.Entry.TheVariants.{Commit, Down, Up}
+use Rattle.journal_model.specs.Calls.{entry_of}
+use Rattle.journal_model.specs.Reboots.{undone_of}
+use Rattle.journal_model.specs.Rows.{rows_after}
+use Rattle.scenario_text.specs.declared.line.Line.{Line}
+use Rattle.scenario_text.specs.declared.line.Line.TheVariants as lines
+use Rattle.boot_core.specs.Boot.{new_boot, with_entry}
+use Rattle.boot_core.specs.declared.boot.Start.{Start}
+use Rattle.boot_core.specs.Refusals.{commit_refusal, reboot_refusal}
+use Rattle.boot_core.specs.declared.refusals.CommitRefusal.{CommitRefusal}
+use Rattle.boot_core.specs.declared.refusals.CommitRefusal.TheVariants as commits
+use Rattle.boot_core.specs.declared.refusals.RebootRefusal.{RebootRefusal}
+use Rattle.line_steps.specs.declared.call_lines.CallLine.TheVariants as calls
+use Rattle.line_steps.specs.declared.callers.Caller.{Caller}
+use Rattle.line_steps.specs.declared.callers.Caller.TheVariants.{Absent, Live}
+use Rattle.scenario_engine.specs.KeeperCalls.{KeeperCall, apply_calls}
+use Rattle.scenario_engine.specs.State.{RunningState}
+use Rattle.line_steps.specs.Answer.{Answer, Refused, Done, or_refused, within}
+use Rattle.line_steps.specs.Callers.{caller_at, ended, begin_step, call_step}
+use Rattle.line_steps.specs.Texts.{committed_text, commit_refusal_text, down_text, up_text, reboot_refusal_text, table_text, journal_text}
+
+-- a boot that was just started, which nobody has called
+abbrev pub started : Start → RunningState
+started start = record { boot = new_boot start; callers = [] }
+
+-- the same boot with these callers
+abbrev pub with_callers : RunningState → List Caller → RunningState
+with_callers r callers = record r { callers = callers }
+
+-- the same callers of a boot whose journal has one entry more
+abbrev pub with_journal : RunningState → Entry → RunningState
+with_journal r e = record r { boot = with_entry r.boot e }
+
+-- The call of a caller joins the journal, or is refused; it ends in each case.
+abbrev pub commit_ends : RunningState → ℕ → TicketValue → Option CommitRefusal → Answer RunningState
+commit_ends r caller ticket None =
+    Done (record {
+      boot = with_entry r.boot (Commit (entry_of ticket.call None));
+      callers = ended r.callers caller;
+    }) (committed_text caller (length r.boot.entries))
+commit_ends r caller ticket (Some refusal) =
+    Done (with_callers r (ended r.callers caller)) (commit_refusal_text caller refusal)
+
+-- Whether the keeper keeps the writes of a commit: it is not called where there are none.
+abbrev pub are_kept : List RowWrite → Bool → Bool
+are_kept [] keeps = true
+are_kept (w ∷ ws) keeps = keeps
+
+-- the refusal of a commit: that of the boot, else that of a keeper that does not keep the writes
+abbrev pub with_keeper : Option CommitRefusal → List RowWrite → Bool → Option CommitRefusal
+with_keeper (Some refusal) writes keeps = Some refusal
+with_keeper None writes keeps = if are_kept writes keeps then None else Some commits.KeeperFailed
+
+-- what the boot refuses of a call that would commit
+abbrev pub boot_refusal : RunningState → TicketValue → Option CommitRefusal
+boot_refusal r ticket = commit_refusal r.boot.start.limits r.boot.entries ticket.call None
+
+-- the call of a caller commits, if it is live
+abbrev pub caller_commits : RunningState → ℕ → Bool → Caller → Answer RunningState
+caller_commits r caller keeps Absent = Refused
+caller_commits r caller keeps (Live ticket) =
+    commit_ends r caller ticket (with_keeper (boot_refusal r ticket) ticket.call.writes keeps)
+
+-- A live caller's call commits, where the keeper replies so.
+unfoldable pub commit_step : RunningState → ℕ → Bool → Answer RunningState
+commit_step r caller keeps = caller_commits r caller keeps (caller_at r.callers caller)
+
+-- the call of the keeper that a commit makes: one where it has writes and nothing refuses it
+abbrev pub keep_calls : Option CommitRefusal → List RowWrite → Bool → List KeeperCall
+keep_calls (Some refusal) writes keeps = []
+keep_calls None [] keeps = []
+keep_calls None (w ∷ ws) keeps = apply_calls (w ∷ ws) keeps
+
+-- the calls of the keeper when a caller commits
+abbrev pub caller_calls : RunningState → Bool → Caller → List KeeperCall
+caller_calls r keeps Absent = []
+caller_calls r keeps (Live ticket) = keep_calls (boot_refusal r ticket) ticket.call.writes keeps
+
+-- the calls of the keeper that a commit line makes
+unfoldable pub commit_calls : RunningState → ℕ → Bool → List KeeperCall
+commit_calls r caller keeps = caller_calls r keeps (caller_at r.callers caller)
+
+-- the call of a caller is dropped, if it is live
+abbrev pub caller_drops : RunningState → ℕ → Caller → Answer RunningState
+caller_drops r caller Absent = Refused
+caller_drops r caller (Live ticket) = Done (with_callers r (ended r.callers caller)) []
+
+-- A live caller's call is dropped.
+unfoldable pub drop_step : RunningState → ℕ → Answer RunningState
+drop_step r caller = caller_drops r caller (caller_at r.callers caller)
+
+-- the scope of a name: that of the whole application, or the group of a component
+abbrev pub scope_of : Parts → List ℕ → Option Scope
+scope_of parts name =
+    if bytes_eq name APPLICATION.now
+    then Some App
+    else option_map (λ c. Group (group_no (group_of parts c))) (named parts.components name)
+
+-- a scope goes down, unless that is refused
+abbrev pub goes_down : RunningState → Scope → Option RebootRefusal → Answer RunningState
+goes_down r s None = Done (with_journal r (Down s)) (down_text (length r.boot.entries))
+goes_down r s (Some refusal) = Done r (reboot_refusal_text refusal)
+
+-- A scope goes down. Refused is an unknown name.
+unfoldable pub down_step : RunningState → List ℕ → Answer RunningState
+down_step r name =
+    or_refused (scope_of r.boot.start.deployment name) (λ s.
+    goes_down r s (reboot_refusal r.boot.start.limits r.boot.entries s))
+
+-- A scope comes up. Refused are an unknown name, and a scope of which no Down waits for its Up.
+unfoldable pub up_step : RunningState → List ℕ → Answer RunningState
+up_step r name =
+    or_refused (scope_of r.boot.start.deployment name) (λ s.
+    or_refused (undone_of r.boot.entries s) (λ place.
+    Done (with_journal r (Up s)) (up_text (length r.boot.entries))))
+
+-- a scope goes down and comes up, unless that is refused
+abbrev pub reboots : RunningState → Scope → Option RebootRefusal → Answer RunningState
+reboots r s None =
+    Done (with_journal (with_journal r (Down s)) (Up s))
+    (down_text (length r.boot.entries) ++ up_text (length r.boot.entries + 1))
+reboots r s (Some refusal) = Done r (reboot_refusal_text refusal)
+
+-- A scope goes down and comes up at once. Refused is an unknown name.
+unfoldable pub reboot_step : RunningState → List ℕ → Answer RunningState
+reboot_step r name =
+    or_refused (scope_of r.boot.start.deployment name) (λ s.
+    reboots r s (reboot_refusal r.boot.start.limits r.boot.entries s))
+
+-- the current rows, in order of id
+unfoldable pub table_step : RunningState → Answer RunningState
+table_step r = Done r (table_text (rows_after r.boot.start.base r.boot.entries))
+
+-- the journal, in order of place
+unfoldable pub journal_step : RunningState → Answer RunningState
+journal_step r = Done r (journal_text r.boot.entries)
+
+-- a line over a boot that calls no keeper, which no head line is
+abbrev pub quiet_line : RunningState → Line → Answer RunningState
+quiet_line r lines.Pass = Done r []
+quiet_line r (lines.Component name) = Refused
+quiet_line r (lines.Hard from to) = Refused
+quiet_line r (lines.Soft from to) = Refused
+quiet_line r (lines.Owns name table) = Refused
+quiet_line r (lines.Limit entries bytes) = Refused
+quiet_line r (lines.Begin c) = within (with_callers r) (begin_step r.boot r.callers c)
+quiet_line r (lines.Enter c name) =
+    within (with_callers r) (call_step r.boot r.callers c (calls.Enter name))
+quiet_line r (lines.Exit c) =
+    within (with_callers r) (call_step r.boot r.callers c calls.Exit)
+quiet_line r (lines.Read c table key) =
+    within (with_callers r) (call_step r.boot r.callers c (calls.Read table key))
+quiet_line r (lines.List c table) =
+    within (with_callers r) (call_step r.boot r.callers c (calls.List table))
+quiet_line r (lines.Put c table key bytes) =
+    within (with_callers r) (call_step r.boot r.callers c (calls.Put table key bytes))
+quiet_line r (lines.Commit c) = Refused
+quiet_line r (lines.Drop c) = drop_step r c
+quiet_line r (lines.Down name) = down_step r name
+quiet_line r (lines.Up name) = up_step r name
+quiet_line r (lines.Reboot name) = reboot_step r name
+quiet_line r lines.Table = table_step r
+quiet_line r lines.Journal = journal_step r
+quiet_line r lines.Reopen = Refused

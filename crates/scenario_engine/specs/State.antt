@@ -1,0 +1,23 @@
+-- The state of a scenario, and how a line ends in it.
+use Rattle.std.specs.Prelude.{ℕ, List}
+use Rattle.boot_core.specs.Boot.{BootValue}
+use Rattle.boot_core.specs.declared.refusals.StartRefusal.{StartRefusal}
+use Rattle.line_steps.specs.declared.callers.Caller.{Caller}
+use Rattle.line_steps.specs.declared.head.Head.{Head}
+
+-- a boot that is started, and its callers
+pub record RunningState : Type 0 where
+  pub boot : BootValue
+  pub callers : List Caller
+
+-- Head lines build a deployment and set limits. The first event line starts the boot over them.
+pub data State : Type 0 where
+  Heading : (head : Head) → State
+  Running : (running : RunningState) → State
+
+-- A line is refused by the state, which has a boot by then if it is an event line; or it is done, and writes this text; or
+-- a boot that it needed was not started.
+pub data Outcome : Type 0 where
+  RefusedIn : (state : State) → Outcome
+  DoneTo : (state : State) (text : List ℕ) → Outcome
+  NotStarted : (state : State) (refusal : StartRefusal) → Outcome

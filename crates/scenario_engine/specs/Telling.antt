@@ -1,0 +1,134 @@
+-- What a line answers and asks of the keeper, whatever the keeper replies, and where memory runs out.
+use Rattle.std.specs.Prelude.{◌≡◌, ℕ, Bool, [], Option, string_bytes}
+use Rattle.boot_core.specs.declared.refusals.StartRefusal.{StartRefusal}
+use Rattle.boot_core.specs.declared.refusals.StartRefusal.TheVariants as refusals
+use Rattle.deployment.specs.declared.parts.Parts.{Parts}
+use Rattle.journal_model.specs.declared.limits.JournalLimits.{JournalLimits}
+use Rattle.outside.specs.Keeper.{KeeperTold}
+use Rattle.line_steps.specs.Answer.{Answer}
+use Rattle.line_steps.specs.declared.answer.LineAnswer.{LineAnswer}
+use Rattle.line_steps.specs.declared.answer.LineAnswer.TheVariants as answers
+use Rattle.line_steps.specs.declared.head.Head.{Head}
+use Rattle.scenario_text.specs.declared.line.Line.{Line}
+use Rattle.scenario_engine.specs.Engine.{Replies, Target, NoBoot, target_of, target_calls, line_on, calls_on}
+use Rattle.scenario_engine.specs.KeeperCalls.{TellsCalls, TellsSome}
+use Rattle.scenario_engine.specs.Opening.{StartReplies, Opening, Shut, opening, start_calls}
+use Rattle.scenario_engine.specs.Running.{commit_step, commit_calls}
+use Rattle.scenario_engine.specs.State.{RunningState, State, Outcome, RefusedIn, DoneTo, NotStarted}
+use Rattle.scenario_engine.specs.Transcript.{answer_to, calls_to}
+
+-- A boot opened so.
+pub record Opens (parts : Parts) (limits : JournalLimits) (how : Opening) (old new : Option KeeperTold) : Type 0 where
+  pub replies : StartReplies
+  pub opens : how ≡ opening parts limits replies
+  pub told : TellsCalls (start_calls replies) old new
+
+-- Memory ran out while a boot was opened.
+pub record OpensPartly (old new : Option KeeperTold) : Type 0 where
+  pub replies : StartReplies
+  pub told : TellsSome (start_calls replies) old new
+
+-- A boot was not opened, for this refusal.
+abbrev pub IsShut : StartRefusal → Parts → JournalLimits
+    → Option KeeperTold → Option KeeperTold → Type 0
+IsShut refusals.KeeperFailed parts limits old new =
+    Opens parts limits (Shut refusals.KeeperFailed) old new
+IsShut (refusals.BadRow id) parts limits old new =
+    Opens parts limits (Shut (refusals.BadRow id)) old new
+IsShut refusals.BootsSpent parts limits old new =
+    Opens parts limits (Shut refusals.BootsSpent) old new
+IsShut refusals.OutOfMemory parts limits old new = OpensPartly old new
+
+-- The call of a caller committed, or was refused, with this answer.
+pub record Commits (r : RunningState) (caller : ℕ) (answer : Answer RunningState) (old new : Option KeeperTold) : Type 0 where
+  pub keeps : Bool
+  pub answers : answer ≡ commit_step r caller keeps
+  pub told : TellsCalls (commit_calls r caller keeps) old new
+
+-- Memory ran out while the call of a caller was to commit.
+pub record CommitsPartly (r : RunningState) (caller : ℕ) (old new : Option KeeperTold) : Type 0 where
+  pub keeps : Bool
+  pub told : TellsSome (commit_calls r caller keeps) old new
+
+-- A line, which is an event line or not, has this to be done to.
+pub record Reaches (s : State) (event : Bool) (target : Target) (old new : Option KeeperTold) : Type 0 where
+  pub replies : StartReplies
+  pub is : target ≡ target_of s event replies
+  pub told : TellsCalls (target_calls s event replies) old new
+
+-- Memory ran out before a line had what it is done to.
+pub record ReachesPartly (s : State) (event : Bool) (old new : Option KeeperTold) : Type 0 where
+  pub replies : StartReplies
+  pub told : TellsSome (target_calls s event replies) old new
+
+-- A line has no boot to be done to, for this refusal.
+abbrev pub IsUnreached : StartRefusal → State → Bool
+    → Option KeeperTold → Option KeeperTold → Type 0
+IsUnreached refusals.KeeperFailed s event old new =
+    (head : Head) × Reaches s event (NoBoot head refusals.KeeperFailed) old new
+IsUnreached (refusals.BadRow id) s event old new =
+    (head : Head) × Reaches s event (NoBoot head (refusals.BadRow id)) old new
+IsUnreached refusals.BootsSpent s event old new =
+    (head : Head) × Reaches s event (NoBoot head refusals.BootsSpent) old new
+IsUnreached refusals.OutOfMemory s event old new = ReachesPartly s event old new
+
+-- A line was done to a target, with this outcome.
+pub record DoesOn (target : Target) (line : Line) (outcome : Outcome) (old new : Option KeeperTold) : Type 0 where
+  pub replies : Replies
+  pub answers : outcome ≡ line_on target line replies
+  pub told : TellsCalls (calls_on target line replies) old new
+
+-- A line was done to a target: it was refused, or leaves this state and writes what the code answers.
+abbrev pub AnswersOn : LineAnswer → State → Target → Line
+    → Option KeeperTold → Option KeeperTold → Type 0
+AnswersOn answers.Refused after target line old new =
+    (state : State) × DoesOn target line (RefusedIn state) old new
+AnswersOn answers.Done after target line old new = DoesOn target line (DoneTo after []) old new
+AnswersOn (answers.Wrote text) after target line old new =
+    DoesOn target line (DoneTo after (string_bytes text)) old new
+
+-- Memory ran out while a line was done to a target.
+pub record DoesPartlyOn (target : Target) (line : Line) (old new : Option KeeperTold) : Type 0 where
+  pub replies : Replies
+  pub told : TellsSome (calls_on target line replies) old new
+
+-- A line on a target ended for this refusal.
+abbrev pub EndsOn : StartRefusal → Target → Line → Option KeeperTold → Option KeeperTold → Type 0
+EndsOn refusals.KeeperFailed target line old new =
+    (state : State) × DoesOn target line (NotStarted state refusals.KeeperFailed) old new
+EndsOn (refusals.BadRow id) target line old new =
+    (state : State) × DoesOn target line (NotStarted state (refusals.BadRow id)) old new
+EndsOn refusals.BootsSpent target line old new =
+    (state : State) × DoesOn target line (NotStarted state refusals.BootsSpent) old new
+EndsOn refusals.OutOfMemory target line old new = DoesPartlyOn target line old new
+
+-- A text that spells this line, or none, was done, with this outcome.
+pub record Does (s : State) (line : Option Line) (outcome : Outcome) (old new : Option KeeperTold) : Type 0 where
+  pub replies : Replies
+  pub answers : outcome ≡ answer_to s line replies
+  pub told : TellsCalls (calls_to s line replies) old new
+
+-- A text that spells this line, or none, was done: it was refused, or leaves this state and writes what the code answers.
+abbrev pub Answers : LineAnswer → State → State → Option Line
+    → Option KeeperTold → Option KeeperTold → Type 0
+Answers answers.Refused after s line old new =
+    (state : State) × Does s line (RefusedIn state) old new
+Answers answers.Done after s line old new = Does s line (DoneTo after []) old new
+Answers (answers.Wrote text) after s line old new =
+    Does s line (DoneTo after (string_bytes text)) old new
+
+-- Memory ran out while a text was done that spells this line, or none.
+pub record DoesPartly (s : State) (line : Option Line) (old new : Option KeeperTold) : Type 0 where
+  pub replies : Replies
+  pub told : TellsSome (calls_to s line replies) old new
+
+-- A text that spells this line, or none, was not done for this refusal: a boot that it needs was not started, or memory ran
+-- out.
+abbrev pub Ends : StartRefusal → State → Option Line → Option KeeperTold → Option KeeperTold → Type 0
+Ends refusals.KeeperFailed s line old new =
+    (state : State) × Does s line (NotStarted state refusals.KeeperFailed) old new
+Ends (refusals.BadRow id) s line old new =
+    (state : State) × Does s line (NotStarted state (refusals.BadRow id)) old new
+Ends refusals.BootsSpent s line old new =
+    (state : State) × Does s line (NotStarted state refusals.BootsSpent) old new
+Ends refusals.OutOfMemory s line old new = DoesPartly s line old new

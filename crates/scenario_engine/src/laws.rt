@@ -1,0 +1,63 @@
+//! Laws of scenarios. Each is the contract of a function that does nothing: a caller that needs the law calls the
+//! function.
+
+ghost use Rattle.std.specs.Prelude.{◌≡◌, ◌<◌, ◌-◌, ◌^◌, List, Option, Some, All};
+ghost use Rattle.boot_core.specs.Sound.{IsSound};
+ghost use Rattle.outside.specs.Keeper.{KeeperTold};
+ghost use Rattle.scenario_engine.specs.KeeperCalls.{TellsCalls};
+ghost use Rattle.scenario_engine.specs.Sound.{CommitsUnrebooted, RunsSerially};
+ghost use Rattle.scenario_engine.specs.Told.{Tells};
+ghost use Rattle.scenario_engine.specs.Transcript.{Turn, lines_in, first, transcript, end_from, last_state, calls_from, boots_in, boots_from};
+
+use boot_core::boots_stay_sound;
+use journal_model::{legal_journals_are_serial, no_commit_after_a_reboot};
+
+/// Whatever the turns, each boot is sound, and so is the one at the end, also where they stop at a line: its journal is
+/// legal and within its limits, and each commit wrote only rows of tables whose owners' groups it entered.
+pub fn boots_are_sound()
+    ensures boots { (turns : List Turn) → All IsSound (boots_from first turns) }
+    ensures state { (turns : List Turn) →
+        All IsSound (boots_in (last_state (end_from first 1 turns))) }
+{
+    boots_stay_sound();
+}
+
+/// Whatever the turns, no commit of the journal of a boot comes after a reboot of a group that its call entered, also
+/// where they stop at a line.
+pub fn no_turns_commit_after_a_reboot()
+    ensures { (turns : List Turn) → All CommitsUnrebooted (boots_from first turns) }
+{
+    boots_are_sound();
+    no_commit_after_a_reboot();
+}
+
+/// Whatever the turns, the journal of each boot is a serial execution of its calls, in its order, also where they stop
+/// at a line.
+pub fn no_turns_break_the_order()
+    ensures { (turns : List Turn) → All RunsSerially (boots_from first turns) }
+{
+    boots_are_sound();
+    legal_journals_are_serial();
+}
+
+/// Whatever the turns, a keeper that was called as they say, and that tells, holds just the rows that the journal of the
+/// last boot leaves, or those that it held first where no boot is started; and each boot was started over the rows that
+/// the one before left. So what was answered as committed stays, over all boots, and nothing else comes.
+pub fn keepers_tell()
+    ensures { (turns : List Turn) (old new : Option KeeperTold) →
+        TellsCalls (calls_from first turns) old new → Tells turns old new }
+{}
+
+/// The lines of a scenario, the rows that its keeper holds and which of its calls fail decide all that it does: two lists of
+/// turns with the same lines write the same and end the same, where the keepers tell the same before and the same failed
+/// calls after; and then the keepers tell the same after. The numbers of calls tell them apart, so their count is below its
+/// last value.
+pub fn keepers_decide()
+    ensures { (turns others : List Turn) (t a b : KeeperTold) → lines_in turns ≡ lines_in others →
+        TellsCalls (calls_from first turns) (Some t) (Some a) →
+        TellsCalls (calls_from first others) (Some t) (Some b) →
+        a.failed ≡ b.failed → a.calls < 2 ^ 64 - 1 →
+        (transcript first turns ≡ transcript first others)
+        × (end_from first 1 turns ≡ end_from first 1 others)
+        × (a ≡ b) }
+{}

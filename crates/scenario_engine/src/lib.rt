@@ -1,0 +1,30 @@
+//! A scenario, line by line, over a keeper.
+//!
+//! An `Engine` does one line after the other. Head lines build a deployment; the first event line starts a boot over the
+//! rows of the keeper, `commit` hands its writes to the keeper before it is answered, and `reopen` starts the next boot
+//! over the keeper's rows. The keeper is lent to each line.
+//!
+//! ```text
+//! let mut engine = Engine::new(alloc);
+//! match engine.do_text(alloc, b"begin c1", &mut keeper) { .. }
+//! ```
+//!
+//! A line with what the keeper replies while it is done is a `Turn` of `specs/Transcript`. What turns write, how they
+//! end, and which calls of the keeper they make are functions of the turns alone: `transcript`, `end_from` and
+//! `calls_from`. The engine is proved to answer each line so, and to make just these calls.
+//!
+//! The laws hold for all turns, whatever the keeper replies: `boots_are_sound`, `no_turns_commit_after_a_reboot` and
+//! `no_turns_break_the_order` for the journals of the boots, `keepers_tell` for the rows that the keeper holds, and
+//! `keepers_decide` for what decides the transcript.
+#![tactic(auto)]
+
+mod engine;
+mod kind;
+mod laws;
+mod running;
+
+pub use engine::Engine;
+pub use laws::{
+    boots_are_sound, keepers_decide, keepers_tell, no_turns_break_the_order,
+    no_turns_commit_after_a_reboot,
+};

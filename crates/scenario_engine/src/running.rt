@@ -1,0 +1,329 @@
+//! Event lines, over a boot that is started.
+
+ghost use Rattle.std.specs.Prelude.{◌≡◌, ◌≤◌, ◌+◌, ◌++◌, length, None, IfOk, IfSome, MatchResult, option_map};
+ghost use Rattle.commit_journal.specs.Journal.{IsScope};
+ghost use Rattle.deployment.specs.Refusals.{deploy_refusal};
+ghost use Rattle.line_steps.specs.Answer.{answer_of, within};
+ghost use Rattle.journal_model.specs.Rows.{rows_after};
+ghost use Rattle.boot_core.specs.Fits.{FitsIn};
+ghost use Rattle.line_steps.specs.Callers.{begin_step, call_step, new_ticket};
+ghost use Rattle.scenario_text.specs.declared.line.TheConstants.{MAX_CALLER};
+ghost use Rattle.boot_core.specs.Boot.{new_boot};
+ghost use Rattle.boot_core.specs.declared.boot.Start.{Start};
+ghost use Rattle.outside.specs.Faults.{Rose};
+ghost use Rattle.scenario_engine.specs.Opening.{Opened};
+ghost use Rattle.scenario_engine.specs.Running.{started, with_callers, scope_of, drop_step, down_step, up_step, reboot_step, table_step, journal_step, quiet_line};
+ghost use Rattle.scenario_engine.specs.Telling.{Opens, IsShut, Commits, CommitsPartly};
+
+use boot_core::{Boot, JournalLimits, StartRefusal, Ticket};
+use container_core::start_boot;
+use crash_base::{APPLICATION, ComponentName, LatestRows, OutOfMemory, Place, Scope, WorkerNo};
+use deployment::Deployment;
+use line_steps::{
+    CallLine, Callers, Head, LineAnswer, commit_refusal_text, committed_text, down_text,
+    journal_text, reboot_refusal_text, rebooted_text, request_of, table_text, up_text,
+};
+use outside::Keeper;
+use scenario_text::{Line, MAX_CALLER};
+use std::alloc::Global;
+use std::marker::Model;
+
+/// A boot that is started, and its callers.
+#[derive(Drop)]
+pub(crate) struct Running {
+    boot: Boot,
+    callers: Callers,
+}
+
+impl Model for Running {
+    ghost use Rattle.line_steps.specs.Callers.{AllFit};
+    ghost use Rattle.scenario_engine.specs.State.{RunningState};
+
+    ghost Value = { RunningState };
+
+    ghost view = { λ a. record { boot = a.boot; callers = a.callers } };
+
+    ghost invariant = { λ a. AllFit a.boot a.callers };
+}
+
+/// The scope of a name: that of the whole application, or the group of a component. None exactly where no component
+/// has the name. It visits each component up to that one.
+fn scope_of(deployment: &Deployment, name: &ComponentName) -> Option<Scope>
+    ensures scope { result ≡ scope_of deployment.now name.now }
+    ensures known { IfSome result IsScope }
+{
+    if name.as_slice() == APPLICATION.as_bytes() {
+        return Some(Scope::App);
+    }
+    let c = deployment.named(name.as_slice())?;
+    Some(Scope::Group(deployment.group_of(c)))
+}
+
+/// The call of a caller that begins.
+fn new_ticket(alloc: Global, boot: &mut Boot, caller: u64) -> Result<Ticket, OutOfMemory>
+    requires { caller ≤ MAX_CALLER }
+    ensures ticket { IfOk result (λ ticket. ticket ≡ new_ticket boot.old caller) }
+    ensures fits { IfOk result (λ ticket. FitsIn boot.old ticket.call) }
+    ensures same { boot.new ≡ boot.old }
+{
+    let request = request_of(boot.number(), caller);
+    boot.begin(alloc, request, WorkerNo(caller as u32))
+}
+
+/// The current rows, in order of id.
+fn current_rows<'a>(alloc: Global, boot: &'a Boot) -> Result<LatestRows<'a>, OutOfMemory>
+    ensures { IfOk result (λ rows. rows ≡ rows_after boot.now.start.base boot.now.entries) }
+{
+    let place = Place(boot.journal().len());
+    let rows = boot.rows().all_at(alloc, place)?;
+    Ok(rows)
+}
+
+impl Running {
+    /// Opens a boot over the rows of the keeper, which nobody has called.
+    fn open<K: Keeper>(
+        alloc: Global,
+        deployment: Deployment,
+        limits: JournalLimits,
+        keeper: &mut K,
+    ) -> Result<Running, StartRefusal>
+        ensures opens { MatchResult result
+            (λ r. (start : Start) × (r ≡ started start)
+            × Opens deployment limits (Opened start) (K.told keeper.old) (K.told keeper.new))
+            (λ refusal. IsShut refusal deployment limits (K.told keeper.old) (K.told keeper.new)) }
+        ensures failed { result ≡ Err StartRefusal.KeeperFailed
+            → Rose (K.faults keeper.old) (K.faults keeper.new) }
+        ensures count { K.faults keeper.old ≤ K.faults keeper.new }
+    {
+        match start_boot(alloc, deployment, limits, keeper) {
+            Ok(boot) => Ok(Running {
+                boot,
+                callers: Callers::new(alloc),
+            }),
+            Err(refusal) => Err(refusal),
+        }
+    }
+
+    /// Starts the first boot, over the deployment and the limits of the head.
+    pub(crate) fn start<K: Keeper>(
+        alloc: Global,
+        head: Head,
+        keeper: &mut K,
+    ) -> Result<Running, StartRefusal>
+        requires { deploy_refusal head.parts ≡ None }
+        ensures opens { MatchResult result
+            (λ r. (start : Start) × (r ≡ started start)
+            × Opens head.parts head.limits (Opened start) (K.told keeper.old) (K.told keeper.new))
+            (λ refusal. IsShut refusal head.parts head.limits
+            (K.told keeper.old) (K.told keeper.new)) }
+        ensures failed { result ≡ Err StartRefusal.KeeperFailed
+            → Rose (K.faults keeper.old) (K.faults keeper.new) }
+        ensures count { K.faults keeper.old ≤ K.faults keeper.new }
+    {
+        let limits = head.limits;
+        match Deployment::check(head.parts) {
+            Ok(deployment) => Running::open(alloc, deployment, limits, keeper),
+            Err(_) => unreachable!(),
+        }
+    }
+
+    /// Starts the next boot, over the same deployment and limits. The callers of this one are gone.
+    pub(crate) fn reopen<K: Keeper>(
+        self,
+        alloc: Global,
+        keeper: &mut K,
+    ) -> Result<Running, StartRefusal>
+        ensures opens { MatchResult result
+            (λ r. (start : Start) × (r ≡ started start)
+            × Opens self.boot.start.deployment self.boot.start.limits (Opened start)
+            (K.told keeper.old) (K.told keeper.new))
+            (λ refusal. IsShut refusal self.boot.start.deployment self.boot.start.limits
+            (K.told keeper.old) (K.told keeper.new)) }
+        ensures failed { result ≡ Err StartRefusal.KeeperFailed
+            → Rose (K.faults keeper.old) (K.faults keeper.new) }
+        ensures count { K.faults keeper.old ≤ K.faults keeper.new }
+    {
+        let limits = self.boot.journal().limits();
+        Running::open(alloc, self.boot.into_deployment(), limits, keeper)
+    }
+
+    /// The number of the boot.
+    pub(crate) fn number(&self) -> u32
+        ensures { result ≡ self.now.boot.start.boot }
+    {
+        self.boot.number()
+    }
+
+    /// A live call joins the journal, or is refused.
+    #[tactic(auto, unfolding(crate::specs::Running::commit_step, crate::specs::Running::commit_calls))]
+    pub(crate) fn commit_step<K: Keeper>(
+        &mut self,
+        alloc: Global,
+        caller: u64,
+        keeper: &mut K,
+    ) -> Result<LineAnswer, OutOfMemory>
+        ensures answer { MatchResult result
+            (λ a. Commits self.old caller (answer_of a self.new)
+            (K.told keeper.old) (K.told keeper.new))
+            (λ _. CommitsPartly self.old caller (K.told keeper.old) (K.told keeper.new)) }
+        ensures count { K.faults keeper.old ≤ K.faults keeper.new }
+    {
+        match self.callers.take(caller) {
+            None => Ok(LineAnswer::Refused),
+            Some(ticket) => match self.boot.commit(alloc, keeper, ticket, None) {
+                Ok(place) => match committed_text(alloc, caller, place.0) {
+                    Ok(text) => Ok(LineAnswer::Wrote(text)),
+                    Err(OutOfMemory) => Err(OutOfMemory),
+                },
+                Err(refused) => match commit_refusal_text(alloc, caller, refused.cause) {
+                    Ok(text) => Ok(LineAnswer::Wrote(text)),
+                    Err(OutOfMemory) => Err(OutOfMemory),
+                },
+            },
+        }
+    }
+
+    /// A live call is dropped.
+    #[tactic(auto, unfolding(crate::specs::Running::drop_step))]
+    fn drop_step(&mut self, caller: u64) -> LineAnswer
+        ensures { answer_of result self.new ≡ drop_step self.old caller }
+    {
+        let Some(ticket) = self.callers.take(caller) else {
+            return LineAnswer::Refused;
+        };
+        self.boot.abandon(ticket);
+        LineAnswer::Done
+    }
+
+    /// A scope goes down.
+    #[tactic(auto, unfolding(crate::specs::Running::down_step))]
+    fn down_step(&mut self, alloc: Global, name: ComponentName) -> Result<LineAnswer, OutOfMemory>
+        ensures { IfOk result (λ a. answer_of a self.new ≡ down_step self.old name) }
+    {
+        let Some(scope) = scope_of(self.boot.deployment(), &name) else {
+            return Ok(LineAnswer::Refused);
+        };
+        let text = match self.boot.begin_reboot(scope) {
+            Ok(place) => down_text(alloc, place.0)?,
+            Err(refusal) => reboot_refusal_text(alloc, refusal)?,
+        };
+        Ok(LineAnswer::Wrote(text))
+    }
+
+    /// A scope comes up.
+    #[tactic(auto, unfolding(crate::specs::Running::up_step))]
+    fn up_step(&mut self, alloc: Global, name: ComponentName) -> Result<LineAnswer, OutOfMemory>
+        ensures { IfOk result (λ a. answer_of a self.new ≡ up_step self.old name) }
+    {
+        let Some(scope) = scope_of(self.boot.deployment(), &name) else {
+            return Ok(LineAnswer::Refused);
+        };
+        let Some(down) = self.boot.undone_of(scope) else {
+            return Ok(LineAnswer::Refused);
+        };
+        let place = self.boot.end_reboot(down);
+        let text = up_text(alloc, place.0)?;
+        Ok(LineAnswer::Wrote(text))
+    }
+
+    /// A scope goes down and comes up at once.
+    #[tactic(auto, unfolding(crate::specs::Running::reboot_step))]
+    fn reboot_step(&mut self, alloc: Global, name: ComponentName) -> Result<LineAnswer, OutOfMemory>
+        ensures { IfOk result (λ a. answer_of a self.new ≡ reboot_step self.old name) }
+    {
+        let Some(scope) = scope_of(self.boot.deployment(), &name) else {
+            return Ok(LineAnswer::Refused);
+        };
+        let text = match self.boot.begin_reboot(scope) {
+            Ok(down) => {
+                let up = self.boot.end_reboot(down);
+                rebooted_text(alloc, down.0, up.0)?
+            }
+            Err(refusal) => reboot_refusal_text(alloc, refusal)?,
+        };
+        Ok(LineAnswer::Wrote(text))
+    }
+
+    /// The current rows.
+    #[tactic(auto, unfolding(crate::specs::Running::table_step))]
+    fn table_step(&mut self, alloc: Global) -> Result<LineAnswer, OutOfMemory>
+        ensures { IfOk result (λ a. answer_of a self.new ≡ table_step self.old) }
+    {
+        let rows = current_rows(alloc, &self.boot)?;
+        let text = table_text(alloc, rows.as_slice())?;
+        Ok(LineAnswer::Wrote(text))
+    }
+
+    /// The journal.
+    #[tactic(auto, unfolding(crate::specs::Running::journal_step))]
+    fn journal_step(&mut self, alloc: Global) -> Result<LineAnswer, OutOfMemory>
+        ensures { IfOk result (λ a. answer_of a self.new ≡ journal_step self.old) }
+    {
+        let text = journal_text(alloc, self.boot.journal())?;
+        Ok(LineAnswer::Wrote(text))
+    }
+
+    /// A caller begins a call.
+    #[tactic(auto, unfolding(line_steps::specs::Callers::begin_step))]
+    fn begin_step(&mut self, alloc: Global, caller: u64) -> Result<LineAnswer, OutOfMemory>
+        ensures { IfOk result (λ a. answer_of a self.new ≡ within (with_callers self.old)
+            (begin_step self.old.boot self.old.callers caller)) }
+    {
+        if !self.callers.can_begin(caller) {
+            return Ok(LineAnswer::Refused);
+        }
+        self.callers.pad(caller)?;
+        let ticket = new_ticket(alloc, &mut self.boot, caller)?;
+        self.callers.put(caller, ticket);
+        Ok(LineAnswer::Done)
+    }
+
+    /// A line of a live call.
+    fn call_step(
+        &mut self,
+        alloc: Global,
+        caller: u64,
+        line: CallLine,
+    ) -> Result<LineAnswer, OutOfMemory>
+        ensures { IfOk result (λ a. answer_of a self.new ≡ within (with_callers self.old)
+            (call_step self.old.boot self.old.callers caller line)) }
+    {
+        self.callers.call_step(alloc, &self.boot, caller, line)
+    }
+
+    /// A line over the boot that calls no keeper.
+    pub(crate) fn quiet_line(
+        &mut self,
+        alloc: Global,
+        line: Line,
+    ) -> Result<LineAnswer, OutOfMemory>
+        ensures { IfOk result (λ a. answer_of a self.new ≡ quiet_line self.old line) }
+    {
+        match line {
+            Line::Pass => Ok(LineAnswer::Done),
+            Line::Component(_)
+            | Line::Hard(_, _)
+            | Line::Soft(_, _)
+            | Line::Owns(_, _)
+            | Line::Limit(_, _)
+            | Line::Commit(_)
+            | Line::Reopen => Ok(LineAnswer::Refused),
+            Line::Begin(caller) => self.begin_step(alloc, caller),
+            Line::Enter(caller, name) => self.call_step(alloc, caller, CallLine::Enter(name)),
+            Line::Exit(caller) => self.call_step(alloc, caller, CallLine::Exit),
+            Line::Read(caller, table, key) => {
+                self.call_step(alloc, caller, CallLine::Read(table, key))
+            }
+            Line::List(caller, table) => self.call_step(alloc, caller, CallLine::List(table)),
+            Line::Put(caller, table, key, bytes) => {
+                self.call_step(alloc, caller, CallLine::Put(table, key, bytes))
+            }
+            Line::Drop(caller) => Ok(self.drop_step(caller)),
+            Line::Down(name) => self.down_step(alloc, name),
+            Line::Up(name) => self.up_step(alloc, name),
+            Line::Reboot(name) => self.reboot_step(alloc, name),
+            Line::Table => self.table_step(alloc),
+            Line::Journal => self.journal_step(alloc),
+        }
+    }
+}
