@@ -122,7 +122,7 @@ impl Boot {
         self.number
     }
 
-    /// What this was started with, but for its rows, to start again. Nothing is copied.
+    /// The deployment that this was started with, to start again. All else is dropped, and nothing is copied.
     pub fn into_deployment(self) -> Deployment
         ensures { result ≡ self.start.deployment }
     {
@@ -362,11 +362,11 @@ impl Boot {
 
     /// Commits a call, which ends: the keeper keeps its writes, all or none, and its entry joins the journal whole, at
     /// the place that is answered. A refused commit leaves the boot as it was, and the keeper with none of the writes.
-    /// All memory is taken before the keeper is called: what the entry keeps is moved into exactly the room that it
-    /// needs, its writes are copied for the rows, and the journal takes room for one entry more, as `Journal::reserve`
-    /// says. A call without writes does not call the keeper. It visits each entry up to one of the request, each group
-    /// that the call entered, and for each read and each write each write that was noted. Where the call commits, the room
-    /// of its ticket is kept for another call.
+    /// All memory but the keeper's own is taken before the keeper is called: what the entry keeps is moved into exactly the
+    /// room that it needs, its writes are copied for the rows, and the journal takes room for one entry more, as
+    /// `Journal::reserve` says. A call without writes does not call the keeper. It visits each entry up to one of the
+    /// request, each group that the call entered, and for each read and each write each write that was noted. Where the
+    /// call commits, the room of its ticket is kept for another call.
     pub fn commit<K: Keeper>(
         &mut self,
         alloc: Global,

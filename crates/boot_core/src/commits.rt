@@ -148,8 +148,8 @@ fn hand_over<K: Keeper>(
     }
 }
 
-/// Notes the writes of a commit and hands them to the keeper: all memory is taken before the keeper is called. Where
-/// that was refused, the rows are as they were.
+/// Notes the writes of a commit and hands them to the keeper: all memory but the keeper's own is taken before it is
+/// called. Where it refuses, or no memory is left for the note, the rows are as they were.
 pub(crate) fn keep_writes<K: Keeper>(
     alloc: Global,
     rows: &mut Rows,

@@ -1,5 +1,5 @@
 -- A container whose parts agree, once an entry or a mark came.
-use Rattle.std.proofs.Common.{◌≡◌, ℕ, Bool, true, false, if◌then◌else◌, inl, inr, List, [], ◌∷◌, ◌++◌, length, Option, Some, None, Result, Ok, Err, OnOk, OnErr, refl, sym, ◌∙◌, ap, subst, append-nil, arith, length-append}
+use Rattle.std.proofs.Common.{◌≡◌, ◌≤◌, ℕ, Bool, true, false, if◌then◌else◌, inl, inr, List, [], ◌∷◌, ◌++◌, length, Option, Some, None, Result, Ok, Err, OnOk, OnErr, refl, sym, ◌∙◌, ap, subst, append-nil, arith, length-append}
 use Rattle.crash_base.specs.declared.numbers.Place.{Place}
 use Rattle.crash_base.specs.declared.numbers.RequestNo.{RequestNo}
 use Rattle.crash_base.specs.declared.rows.RowWrite.{RowWrite}
@@ -16,13 +16,13 @@ use Rattle.boot_core.specs.Keeper.{kept_writes, TellsCause}
 use Rattle.boot_core.specs.Refusals.{IsTested}
 use Rattle.boot_core.specs.declared.refusals.CommitRefusal.{CommitRefusal}
 use Rattle.boot_core.specs.declared.refusals.CommitRefusal.TheVariants as commits
-use Rattle.container_core.specs.Container.{ContainerValue, HoldsRows, PartsAgree, HasGrownBy, RefusalLeaves, with_event}
-use Rattle.container_core.specs.History.{laid, AreLaid, has_stop, is_stopped, mark_at, marks_after}
+use Rattle.container_core.specs.Container.{ContainerValue, HoldsRows, PartsAgree, HasGrownBy, RefusalLeaves, with_entry_event}
+use Rattle.container_core.specs.History.{laid, AreLaid, has_stop, stop_count, is_stopped, mark_at, marks_after}
 use Rattle.container_core.specs.declared.history.Event.{Event}
 use Rattle.container_core.specs.declared.history.Event.TheVariants.{Added, KeeperFailed, Stopped}
 use Rattle.container_core.specs.declared.history.HistoryMark.{HistoryMark}
 use Rattle.container_core.specs.declared.history.MarkedEvent.TheVariants as marked
-use Rattle.container_core.proofs.Laid.{laid-push, laid-mark, laid_more, laid_marked, stop_is}
+use Rattle.container_core.proofs.Laid.{laid-push, laid-mark, laid_more, laid_marked, stop_is, stops-first, stops-failure}
 
 -- the container of these parts
 abbrev pub of_parts : BootValue → List HistoryMark → Option KeeperTold → ℕ → ContainerValue
@@ -75,12 +75,13 @@ kept_push boot now marks told after e made kept holds =
     let P : BootValue → Type 0 = λ b. PartsAgree b marks after in
     subst P (sym made) (record {
       marked = laid_more 0 (length boot.entries) (length (boot.entries ++ e ∷ [])) marks kept.marked (omega (arith, length-append boot.entries (e ∷ [])));
+      stops = kept.stops;
       rows = holds;
     })
 
 -- a container has grown by an entry
 pub pushed_is : (boot now : BootValue) (marks : List HistoryMark) (told after : Option KeeperTold) (count later : ℕ) (e : Entry) → now ≡ with_entry boot e → AreLaid 0 marks (length boot.entries)
-    → of_parts now marks after later ≡ (record (with_event (of_parts boot marks told count) e) { told = after; faults = later })
+    → of_parts now marks after later ≡ (record (with_entry_event (of_parts boot marks told count) e) { told = after; faults = later })
 pushed_is boot now marks told after count later e made fits =
     ap (λ (b : BootValue). of_parts b marks after later) made
     ∙ ap (λ (since : List Event). let c : ContainerValue = record { boot = with_entry boot e; since = since; told = after; faults = later } in c) (laid-push 0 boot.entries e marks fits)
@@ -95,21 +96,22 @@ grown_by boot now marks told after count later e made fits =
       since = refl;
     })
 
-marked_with : (boot : BootValue) (marks : List HistoryMark) (told : Option KeeperTold) (place : Place) → place.0 ≡ length boot.entries → PartsAgree boot marks told → PartsAgree boot (marks ++ mark_at place marked.Stopped ∷ []) told
-marked_with boot marks told place at kept = record {
+marked_with : (boot : BootValue) (marks : List HistoryMark) (told : Option KeeperTold) (place : Place) → place.0 ≡ length boot.entries → has_stop marks ≡ false → PartsAgree boot marks told → PartsAgree boot (marks ++ mark_at place marked.Stopped ∷ []) told
+marked_with boot marks told place at none kept = record {
   marked = laid_marked 0 (length boot.entries) place marked.Stopped marks at kept.marked;
+  stops = stops-first place marks none;
   rows = kept.rows;
 }
 
-kept_stop_if : (b : Bool) (boot : BootValue) (marks : List HistoryMark) (told : Option KeeperTold) (place : Place) → place.0 ≡ length boot.entries → PartsAgree boot marks told
+kept_stop_if : (b : Bool) (boot : BootValue) (marks : List HistoryMark) (told : Option KeeperTold) (place : Place) → place.0 ≡ length boot.entries → has_stop marks ≡ b → PartsAgree boot marks told
     → PartsAgree boot (if b then marks else marks ++ mark_at place marked.Stopped ∷ []) told
-kept_stop_if true boot marks told place at kept = kept
-kept_stop_if false boot marks told place at kept = marked_with boot marks told place at kept
+kept_stop_if true boot marks told place at stopped kept = kept
+kept_stop_if false boot marks told place at none kept = marked_with boot marks told place at none kept
 
 pub kept_stop : (boot : BootValue) (marks more : List HistoryMark) (told : Option KeeperTold) (place : Place) → place.0 ≡ length boot.entries → more ≡ (if has_stop marks then marks else marks ++ mark_at place marked.Stopped ∷ []) → PartsAgree boot marks told → PartsAgree boot more told
 kept_stop boot marks more told place at made kept =
     let P : List HistoryMark → Type 0 = λ ms. PartsAgree boot ms told in
-    subst P (sym made) (kept_stop_if (has_stop marks) boot marks told place at kept)
+    subst P (sym made) (kept_stop_if (has_stop marks) boot marks told place at refl kept)
 
 stopped_if : (b : Bool) (boot : BootValue) (marks : List HistoryMark) (told : Option KeeperTold) (count : ℕ) (place : Place) → place.0 ≡ length boot.entries → AreLaid 0 marks (length boot.entries)
     → of_parts boot (if b then marks else marks ++ mark_at place marked.Stopped ∷ []) told count
@@ -162,6 +164,14 @@ marked_after (commits.Revoked x) boot marks place request at fits = fits
 marked_after (commits.Conflict x) boot marks place request at fits = fits
 marked_after (commits.JournalFull x) boot marks place request at fits = fits
 
+few_after : (cause : CommitRefusal) (place : Place) (request : RequestNo) (marks : List HistoryMark) → stop_count marks ≤ 1 → stop_count (marks_after cause place request marks) ≤ 1
+few_after commits.KeeperFailed place request marks few = omega (arith, few, stops-failure place request marks)
+few_after commits.OutOfMemory place request marks few = few
+few_after (commits.Already x) place request marks few = few
+few_after (commits.Revoked x) place request marks few = few
+few_after (commits.Conflict x) place request marks few = few
+few_after (commits.JournalFull x) place request marks few = few
+
 pub kept_refused : (cause : CommitRefusal) (ws : List RowWrite) (boot now : BootValue) (marks more : List HistoryMark) (told after : Option KeeperTold) (place : Place) (request : RequestNo)
     → now ≡ boot → place.0 ≡ length boot.entries → more ≡ marks_after cause place request marks → TellsCause cause ws told after → PartsAgree boot marks told → PartsAgree now more after
 kept_refused cause ws boot now marks more told after place request same at made tells kept =
@@ -169,6 +179,7 @@ kept_refused cause ws boot now marks more told after place request same at made 
     let Q : List HistoryMark → Type 0 = λ ms. PartsAgree boot ms after in
     subst P (sym same) (subst Q (sym made) (record {
       marked = marked_after cause boot marks place request at kept.marked;
+      stops = few_after cause place request marks kept.stops;
       rows = holds_refused cause ws told after boot tells kept.rows;
     }))
 
@@ -208,7 +219,7 @@ kept_if_pushed (Ok x) boot now marks told e ok err none kept = kept_push boot no
 kept_if_pushed (Err x) boot now marks told e ok err none kept = let P : BootValue → Type 0 = λ b. PartsAgree b marks told in subst P (sym err) kept
 
 pub pushed_if : {T E : Type 0} (result : Result T E) (boot now : BootValue) (marks : List HistoryMark) (told : Option KeeperTold) (count : ℕ) (e : Entry) → OnOk result (now ≡ with_entry boot e) → AreLaid 0 marks (length boot.entries)
-    → OnOk result (of_parts now marks told count ≡ with_event (of_parts boot marks told count) e)
+    → OnOk result (of_parts now marks told count ≡ with_entry_event (of_parts boot marks told count) e)
 pushed_if (Ok x) boot now marks told count e ok fits = pushed_is boot now marks told told count count e ok fits
 pushed_if (Err x) boot now marks told count e ok fits = tt
 

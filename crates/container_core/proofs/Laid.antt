@@ -1,11 +1,16 @@
 -- The events of a journal and its marks.
-use Rattle.std.proofs.Common.{◌≡◌, ℕ, ◌+◌, ◌-◌, ◌≤◌, false, ◌||◌, List, [], ◌∷◌, ◌++◌, length, take, drop, map, refl, sym, ◌∙◌, ap, arith, length-append, length-drop, append_assoc, append-nil}
+use Rattle.std.proofs.Common.{◌≡◌, ℕ, ◌+◌, ◌-◌, ◌≤◌, Bool, true, false, ◌||◌, List, [], ◌∷◌, ◌++◌, length, take, drop, map, refl, sym, ◌∙◌, ap, arith, length-append, length-drop, append_assoc, append-nil}
 use Rattle.std.proofs.lemmas.List.{map-append, drop-drop, drop-append-le, take-append-le, take-append-drop, take_rest, drop_at, length-map, length-take-le}
 use Rattle.std.proofs.lemmas.List.Concat.{flat_map-append}
+use Rattle.std.proofs.lemmas.List.Elements.{filter-append}
 use Rattle.std.proofs.lemmas.List.Folds.{list_any-append}
+use Rattle.std.specs.List.{filter}
+use Rattle.std.specs.Prelude.{cond}
 use Rattle.crash_base.specs.declared.numbers.Place.{Place}
+use Rattle.crash_base.specs.declared.numbers.RequestNo.{RequestNo}
 use Rattle.journal_model.specs.declared.entry.Entry.{Entry}
-use Rattle.container_core.specs.History.{entry_in, entries_in, is_stop, is_stopped, is_stop_mark, has_stop, event_of, mark_at, laid, AreLaid}
+use Rattle.container_core.specs.History.{entry_in, entries_in, is_stop, is_stopped, is_stop_mark, has_stop, stop_count, is_start, IsHistory, event_of, mark_at, laid, AreLaid}
+use Rattle.container_core.specs.declared.history.Event.{Event}
 use Rattle.container_core.specs.declared.history.Event.TheVariants.{Added}
 use Rattle.container_core.specs.declared.history.HistoryMark.{HistoryMark}
 use Rattle.container_core.specs.declared.history.MarkedEvent.{MarkedEvent}
@@ -83,6 +88,70 @@ stop_is from es (m ∷ ms) =
     list_any-append is_stop (map Added front) (event_of m.event ∷ laid m.place.0 es ms)
     ∙ ap (λ b. b || (is_stop_mark m || is_stopped (laid m.place.0 es ms))) (stop_in-added front)
     ∙ ap (λ b. is_stop_mark m || b) (stop_is m.place.0 es ms)
+
+-- no entry is a start, and no mark
+starts-added : (es : List Entry) → filter is_start (map Added es) ≡ []
+starts-added [] = refl
+starts-added (e ∷ es) = starts-added es
+
+starts-mark : (m : MarkedEvent) (events : List Event) → filter is_start (event_of m ∷ events) ≡ filter is_start events
+starts-mark (KeeperFailed r) events = refl
+starts-mark Stopped events = refl
+
+starts-laid : (from : ℕ) (es : List Entry) (ms : List HistoryMark) → filter is_start (laid from es ms) ≡ []
+starts-laid from es [] = starts-added (drop from es)
+starts-laid from es (m ∷ ms) =
+    let front = take (m.place.0 - from) (drop from es) in
+    filter-append is_start (map Added front) (event_of m.event ∷ laid m.place.0 es ms)
+    ∙ ap (λ x. x ++ filter is_start (event_of m.event ∷ laid m.place.0 es ms)) (starts-added front)
+    ∙ starts-mark m.event (laid m.place.0 es ms)
+    ∙ starts-laid m.place.0 es ms
+
+-- as many stops are among the events as among the marks
+stops-added : (es : List Entry) → filter is_stop (map Added es) ≡ []
+stops-added [] = refl
+stops-added (e ∷ es) = stops-added es
+
+one_more : {X Y : Type 0} (b : Bool) (x : X) (y : Y) (xs : List X) (ys : List Y) → length xs ≡ length ys → length (cond b (x ∷ xs) xs) ≡ length (cond b (y ∷ ys) ys)
+one_more true x y xs ys same = omega (arith, same)
+one_more false x y xs ys same = same
+
+stops-laid : (from : ℕ) (es : List Entry) (ms : List HistoryMark) → length (filter is_stop (laid from es ms)) ≡ stop_count ms
+stops-laid from es [] = ap length (stops-added (drop from es))
+stops-laid from es (m ∷ ms) =
+    let front = take (m.place.0 - from) (drop from es) in
+    let later = laid m.place.0 es ms in
+    ap length (filter-append is_stop (map Added front) (event_of m.event ∷ later))
+    ∙ ap (λ x. length (x ++ filter is_stop (event_of m.event ∷ later))) (stops-added front)
+    ∙ one_more (is_stop_mark m) (event_of m.event) m (filter is_stop later) (filter is_stop_mark ms) (stops-laid m.place.0 es ms)
+
+-- marks with at most one stop give a history
+pub history_is : (es : List Entry) (ms : List HistoryMark) → stop_count ms ≤ 1 → IsHistory (laid 0 es ms)
+history_is es ms few = record {
+  starts = starts-laid 0 es ms;
+  stops = omega (arith, few, stops-laid 0 es ms);
+}
+
+-- where no stop is among the marks, they are none of its kind
+no_stops : (b : Bool) (m : HistoryMark) (stops : List HistoryMark) (later : Bool) → (b || later) ≡ false → (later ≡ false → stops ≡ []) → cond b (m ∷ stops) stops ≡ []
+no_stops true m stops later none rest = cc
+no_stops false m stops later none rest = rest none
+
+stops-none : (ms : List HistoryMark) → has_stop ms ≡ false → filter is_stop_mark ms ≡ []
+stops-none [] none = refl
+stops-none (m ∷ ms) none = no_stops (is_stop_mark m) m (filter is_stop_mark ms) (has_stop ms) none (stops-none ms)
+
+-- the first stop is the only one
+pub stops-first : (place : Place) (ms : List HistoryMark) → has_stop ms ≡ false → stop_count (ms ++ mark_at place Stopped ∷ []) ≤ 1
+stops-first place ms none =
+    let last = mark_at place Stopped ∷ [] in
+    omega (arith, ap length (filter-append is_stop_mark ms last ∙ ap (λ x. x ++ last) (stops-none ms none)))
+
+-- a keeper that failed is no stop
+pub stops-failure : (place : Place) (request : RequestNo) (ms : List HistoryMark) → stop_count (ms ++ mark_at place (KeeperFailed request) ∷ []) ≡ stop_count ms
+stops-failure place request ms =
+    let last = mark_at place (KeeperFailed request) ∷ [] in
+    ap length (filter-append is_stop_mark ms last ∙ append-nil (filter is_stop_mark ms))
 
 -- each entry and each mark is an event
 pub count_is : (from : ℕ) (es : List Entry) (ms : List HistoryMark) → AreLaid from ms (length es) → from + length (laid from es ms) ≡ length es + length ms

@@ -24,5 +24,6 @@ kept_opened parts limits old new boot marks opened none =
     let R : Option KeeperTold → Type 0 = λ told. HoldsRows told (new_boot (start_over parts limits opened.rows)) in
     subst P (sym none) (record {
       marked = omega arith;
+      stops = omega arith;
       rows = subst Q (sym opened.boot) (subst R (sym opened.kept) (holds_opened old opened.rows parts limits opened.given));
     })

@@ -1,6 +1,6 @@
 -- The history of a container: its start, its entries, and the marks between them.
-use Rattle.std.specs.Prelude.{ℕ, ◌-◌, ◌≤◌, Bool, true, false, List, [], ◌∷◌, ◌++◌, map, take, drop}
-use Rattle.std.specs.List.{flat_map, list_any}
+use Rattle.std.specs.Prelude.{◌≡◌, ℕ, ◌-◌, ◌≤◌, Bool, true, false, List, [], ◌∷◌, ◌++◌, length, map, take, drop}
+use Rattle.std.specs.List.{flat_map, list_any, filter}
 use Rattle.crash_base.specs.declared.numbers.Place.{Place}
 use Rattle.crash_base.specs.declared.numbers.RequestNo.{RequestNo}
 use Rattle.boot_core.specs.declared.refusals.CommitRefusal.{CommitRefusal}
@@ -34,6 +34,18 @@ is_stop Stopped = true
 abbrev pub is_stopped : List Event → Bool
 is_stopped events = list_any is_stop events
 
+-- whether an event is a start
+abbrev pub is_start : Event → Bool
+is_start (Started start) = true
+is_start (Added e) = false
+is_start (KeeperFailed request) = false
+is_start Stopped = false
+
+-- Events that may follow the start of a container: none is another start, and at most one is a stop.
+pub record IsHistory (since : List Event) : Type 0 where
+  pub starts : filter is_start since ≡ []
+  pub stops : length (filter is_stop since) ≤ 1
+
 -- the event of a mark
 abbrev pub event_of : MarkedEvent → Event
 event_of (marked.KeeperFailed request) = KeeperFailed request
@@ -66,6 +78,10 @@ is_stop_mark m = is_stop (event_of m.event)
 -- whether a stop is among the marks
 abbrev pub has_stop : List HistoryMark → Bool
 has_stop marks = list_any is_stop_mark marks
+
+-- how many stops are among the marks
+abbrev pub stop_count : List HistoryMark → ℕ
+stop_count marks = length (filter is_stop_mark marks)
 
 -- the marks after a commit that was refused for this cause: a keeper that failed is marked
 abbrev pub marks_after : CommitRefusal → Place → RequestNo → List HistoryMark → List HistoryMark

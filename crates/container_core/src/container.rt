@@ -9,8 +9,8 @@ ghost use Rattle.journal_model.specs.Reboots.{IsUndone};
 ghost use Rattle.outside.specs.Faults.{Rose};
 ghost use Rattle.boot_core.specs.Fits.{FitsIn};
 ghost use Rattle.boot_core.specs.Refusals.{CommitAnswer, RebootAnswer, commit_refusal, reboot_refusal};
-ghost use Rattle.container_core.specs.Container.{with_event, event_count, HoldsRows, CommitLeaves, HasGrownBy};
-ghost use Rattle.container_core.specs.History.{entries_in, is_stopped, marks_after};
+ghost use Rattle.container_core.specs.Container.{with_entry_event, event_count, HoldsRows, CommitLeaves, HasGrownBy};
+ghost use Rattle.container_core.specs.History.{entries_in, IsHistory, is_stopped, marks_after};
 ghost use Rattle.container_core.specs.Start.{IsStarted, IsRefusedStart};
 ghost use Rattle.container_core.specs.declared.history.Event.TheVariants.{Stopped};
 
@@ -61,8 +61,9 @@ fn mark_failure(history: &mut History, place: Place, refused: &Refused)
 
 impl<K: Keeper + Drop> Container<K> {
     /// Starts a container over the rows of a keeper: loads them, judges each, and hands the number of this boot, which is
-    /// one more than that of the last, to the keeper. All memory is taken before that. A refused start hands the keeper
-    /// back. Where the keeper gives its rows in order, each row is visited once, and else each visits those before it.
+    /// one more than that of the last, to the keeper. The container takes all its own memory before that; the keeper may
+    /// take more. A refused start hands the keeper back. Where the keeper gives its rows in order, each row is visited
+    /// once, and else each visits those before it.
     ///
     /// # Errors
     /// `StartRefusal` says why, and `IsRefusedStart` exactly when.
@@ -126,10 +127,12 @@ impl<K: Keeper + Drop> Container<K> {
     }
 
     /// The boot, through which calls enter components, read and put rows. It is sound (`Boot::journal` says so), its
-    /// journal is the entries of the history, and a keeper that tells its rows holds just those that the journal leaves.
+    /// journal is the entries of the history, whose only start is its first event and which has at most one stop, and a
+    /// keeper that tells its rows holds just those that the journal leaves.
     pub fn boot(&self) -> &Boot
         ensures value { result.now ≡ self.now.boot }
         ensures events { entries_in self.now.since ≡ self.now.boot.entries }
+        ensures history { IsHistory self.now.since }
         ensures rows { HoldsRows self.now.told self.now.boot }
     {
         &self.boot
@@ -225,7 +228,7 @@ impl<K: Keeper + Drop> Container<K> {
         ensures answer { RebootAnswer
             (reboot_refusal self.old.boot.start.limits self.old.boot.entries scope) result }
         ensures place { IfOk result (λ place. place.0 ≡ length self.old.boot.entries) }
-        ensures down { OnOk result (self.new ≡ with_event self.old (Down scope)) }
+        ensures down { OnOk result (self.new ≡ with_entry_event self.old (Down scope)) }
         ensures same { OnErr result (self.new ≡ self.old) }
         ensures grown { HasGrownBy self.old self.new }
     {
@@ -237,7 +240,7 @@ impl<K: Keeper + Drop> Container<K> {
         requires { (s : Scope) × IsUndone self.old.boot.entries down.0 s }
         ensures place { result.0 ≡ length self.old.boot.entries }
         ensures up { (s : Scope) → slice_get self.old.boot.entries down.0 ≡ Some (Down s) →
-            self.new ≡ with_event self.old (Up s) }
+            self.new ≡ with_entry_event self.old (Up s) }
         ensures grown { HasGrownBy self.old self.new }
     {
         self.boot.end_reboot(down)

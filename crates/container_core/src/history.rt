@@ -9,7 +9,7 @@ use crash_base::{OutOfMemory, Place, RequestNo};
 use std::alloc::Global;
 use std::marker::Model;
 
-/// What happened to a container.
+/// What happened to a container. Contracts speak of it, and no call hands one out now.
 #[derive(Drop)]
 pub enum Event {
     /// It was started.
@@ -29,7 +29,7 @@ pub enum MarkedEvent {
     Stopped,
 }
 
-/// A mark of the history: an event that is no entry, and the number of entries before it.
+/// A mark of the history: an event that is no entry, and the number of entries before it. Contracts alone speak of it.
 #[derive(Clone, Copy)]
 pub struct HistoryMark {
     pub place: Place,

@@ -6,7 +6,8 @@ ghost use Rattle.crash_base.specs.Rows.{put_all, AreOrdered};
 ghost use Rattle.journal_model.specs.Rows.{rows_after};
 ghost use Rattle.container_core.specs.Start.{boot_row};
 
-/// A keeper in order that took the number of a boot holds just the rows that the boot begins with.
+/// Where the rows of a keeper are in order, the row of a boot's number put over them gives just the rows that this boot
+/// begins with.
 pub fn keepers_hold_the_rows()
     ensures { (rows : List RowWrite) (n : ℕ) → AreOrdered rows
         → put_all (boot_row n ∷ []) rows ≡ rows_after (rows ++ boot_row n ∷ []) [] }

@@ -2,7 +2,8 @@
 //!
 //! A container is started over the rows that its keeper gives, and hands the writes of each commit to the keeper before
 //! the commit is answered, whole or not at all. So a container that is started over the same keeper later finds just the
-//! rows of the commits that were answered:
+//! rows that this one was started over, with the number of its boot and the writes of the commits that were answered put
+//! over them:
 //!
 //! ```text
 //! let mut container = Container::start(alloc, deployment, keeper, limits)?;
