@@ -40,10 +40,3 @@ some_first calls more old new some = record {
   told = some.told;
   last = some.last;
 }
-
--- the keeper tells between calls in two parts
-pub split_calls : (calls more : List KeeperCall) (old new : Option KeeperTold) → TellsCalls (calls ++ more) old new → (between : Option KeeperTold) × TellsCalls calls old between × TellsCalls more between new
-split_calls [] more old new told = (old, refl, told)
-split_calls (call ∷ calls) more old new told =
-    let rest = split_calls calls more told.0 new told.2 in
-    (rest.0, (told.0, told.1, rest.1), rest.2)

@@ -61,14 +61,6 @@ commits_so r caller ticket ends answer old new live meets is =
       told = subst P (calls_of r caller ticket meets.keeps live) meets.told;
     }
 
-partly_so : (r : RunningState) (caller : ℕ) (ticket : TicketValue) (ends : Option CommitRefusal) (old new : Option KeeperTold) → caller_at r.callers caller ≡ Live ticket → Meets (boot_refusal r ticket) ticket.call.writes ends old new → CommitsPartly r caller old new
-partly_so r caller ticket ends old new live meets =
-    let P : List KeeperCall → Type 0 = λ calls. TellsCalls calls old new in
-    record {
-      keeps = meets.keeps;
-      told = all_made (commit_calls r caller meets.keeps) old new (subst P (calls_of r caller ticket meets.keeps live) meets.told);
-    }
-
 -- a commit that the keeper kept
 kept_so : (refusal : Option CommitRefusal) (writes : List RowWrite) (old new : Option KeeperTold) → refusal ≡ None → new ≡ kept_writes writes old → Meets refusal writes None old new
 kept_so refusal writes old new none is = subst (λ o. Meets o writes None old new) (sym none) (kept writes old new is)
@@ -77,26 +69,41 @@ pub committed : (r : RunningState) (caller : ℕ) (ticket : TicketValue) (answer
 committed r caller ticket answer old new live none is answers =
     commits_so r caller ticket None answer old new live (kept_so (boot_refusal r ticket) ticket.call.writes old new none is) answers
 
-pub committed_partly : (r : RunningState) (caller : ℕ) (ticket : TicketValue) (old new : Option KeeperTold) → caller_at r.callers caller ≡ Live ticket → boot_refusal r ticket ≡ None → new ≡ kept_writes ticket.call.writes old → CommitsPartly r caller old new
-committed_partly r caller ticket old new live none is =
-    partly_so r caller ticket None old new live (kept_so (boot_refusal r ticket) ticket.call.writes old new none is)
-
 pub refused_so : (r : RunningState) (caller : ℕ) (ticket : TicketValue) (cause : CommitRefusal) (answer : Answer RunningState) (old new : Option KeeperTold) → caller_at r.callers caller ≡ Live ticket → cause ≢ commits.OutOfMemory → IsCause (boot_refusal r ticket) cause → TellsCause cause ticket.call.writes old new → answer ≡ commit_ends r caller ticket (Some cause) → Commits r caller answer old new
 refused_so r caller ticket cause answer old new live memory is tells answers =
     commits_so r caller ticket (Some cause) answer old new live (refused (boot_refusal r ticket) cause ticket.call.writes old new memory is tells) answers
 
+-- what the keeper was asked by a commit that was refused, as by one whose writes it does not keep
+unkept_calls : (refusal : Option CommitRefusal) (cause : CommitRefusal) (writes : List RowWrite) (old new : Option KeeperTold) → cause ≢ commits.OutOfMemory → IsCause refusal cause → TellsCause cause writes old new → TellsCalls (keep_calls refusal writes false) old new
+unkept_calls refusal commits.KeeperFailed writes old new memory is tells = subst (λ o. TellsCalls (keep_calls o writes false) old new) (sym is) (go writes tells)
+  where
+    go : (writes : List RowWrite) → TellsCause commits.KeeperFailed writes old new → TellsCalls (keep_calls None writes false) old new
+    go [] (some, tells) = absurd (some refl)
+    go (w ∷ ws) (some, tells) = (new, tells, refl)
+unkept_calls refusal commits.OutOfMemory writes old new memory is tells = absurd (memory refl)
+unkept_calls refusal (commits.Already place) writes old new memory is tells = subst (λ o. TellsCalls (keep_calls o writes false) old new) (sym is) tells
+unkept_calls refusal (commits.Revoked s) writes old new memory is tells = subst (λ o. TellsCalls (keep_calls o writes false) old new) (sym is) tells
+unkept_calls refusal (commits.Conflict c) writes old new memory is tells = subst (λ o. TellsCalls (keep_calls o writes false) old new) (sym is) tells
+unkept_calls refusal (commits.JournalFull full) writes old new memory is tells = subst (λ o. TellsCalls (keep_calls o writes false) old new) (sym is) tells
+
 -- memory ran out before the keeper had the writes
 no_memory : (r : RunningState) (caller : ℕ) (ticket : TicketValue) (old new : Option KeeperTold) → TellsCause commits.OutOfMemory ticket.call.writes old new → CommitsPartly r caller old new
-no_memory r caller ticket old new (inl is) = record { keeps = true; told = record { made = []; more = commit_calls r caller true; begins = refl; between = old; told = refl; last = inl is } }
-no_memory r caller ticket old new (inr (some, tells)) = record { keeps = true; told = record { made = []; more = commit_calls r caller true; begins = refl; between = old; told = refl; last = inr tells } }
+no_memory r caller ticket old new (inl is) = record { made = []; more = commit_calls r caller false; begins = refl; between = old; told = refl; last = inl is }
+no_memory r caller ticket old new (inr (some, tells)) = record { made = []; more = commit_calls r caller false; begins = refl; between = old; told = refl; last = inr tells }
+
+-- memory ran out for what a refused commit writes
+no_text : (r : RunningState) (caller : ℕ) (ticket : TicketValue) (cause : CommitRefusal) (old new : Option KeeperTold) → caller_at r.callers caller ≡ Live ticket → cause ≢ commits.OutOfMemory → IsCause (boot_refusal r ticket) cause → TellsCause cause ticket.call.writes old new → CommitsPartly r caller old new
+no_text r caller ticket cause old new live memory is tells =
+    let P : List KeeperCall → Type 0 = λ calls. TellsCalls calls old new in
+    all_made (commit_calls r caller false) old new (subst P (calls_of r caller ticket false live) (unkept_calls (boot_refusal r ticket) cause ticket.call.writes old new memory is tells))
 
 pub refused_partly : (r : RunningState) (caller : ℕ) (ticket : TicketValue) (cause : CommitRefusal) (old new : Option KeeperTold) → caller_at r.callers caller ≡ Live ticket → IsCause (boot_refusal r ticket) cause → TellsCause cause ticket.call.writes old new → CommitsPartly r caller old new
 refused_partly r caller ticket commits.OutOfMemory old new live is tells = no_memory r caller ticket old new tells
-refused_partly r caller ticket commits.KeeperFailed old new live is tells = partly_so r caller ticket (Some commits.KeeperFailed) old new live (refused (boot_refusal r ticket) commits.KeeperFailed ticket.call.writes old new (λ i. cc) is tells)
-refused_partly r caller ticket (commits.Already place) old new live is tells = partly_so r caller ticket (Some (commits.Already place)) old new live (refused (boot_refusal r ticket) (commits.Already place) ticket.call.writes old new (λ i. cc) is tells)
-refused_partly r caller ticket (commits.Revoked s) old new live is tells = partly_so r caller ticket (Some (commits.Revoked s)) old new live (refused (boot_refusal r ticket) (commits.Revoked s) ticket.call.writes old new (λ i. cc) is tells)
-refused_partly r caller ticket (commits.Conflict c) old new live is tells = partly_so r caller ticket (Some (commits.Conflict c)) old new live (refused (boot_refusal r ticket) (commits.Conflict c) ticket.call.writes old new (λ i. cc) is tells)
-refused_partly r caller ticket (commits.JournalFull full) old new live is tells = partly_so r caller ticket (Some (commits.JournalFull full)) old new live (refused (boot_refusal r ticket) (commits.JournalFull full) ticket.call.writes old new (λ i. cc) is tells)
+refused_partly r caller ticket commits.KeeperFailed old new live is tells = no_text r caller ticket commits.KeeperFailed old new live (λ i. cc) is tells
+refused_partly r caller ticket (commits.Already place) old new live is tells = no_text r caller ticket (commits.Already place) old new live (λ i. cc) is tells
+refused_partly r caller ticket (commits.Revoked s) old new live is tells = no_text r caller ticket (commits.Revoked s) old new live (λ i. cc) is tells
+refused_partly r caller ticket (commits.Conflict c) old new live is tells = no_text r caller ticket (commits.Conflict c) old new live (λ i. cc) is tells
+refused_partly r caller ticket (commits.JournalFull full) old new live is tells = no_text r caller ticket (commits.JournalFull full) old new live (λ i. cc) is tells
 
 -- a caller without a live call
 pub refused_absent : (r : RunningState) (caller : ℕ) (old new : Option KeeperTold) (a : Caller) → caller_at r.callers caller ≡ a → a ≡ Absent → new ≡ old → (keeps : Bool) → TellsCalls (commit_calls r caller keeps) old new

@@ -1,5 +1,5 @@
 -- The lines of turns, the keeper's rows and which of its calls fail decide all that the turns do.
-use Rattle.std.proofs.Common.{◌≡◌, ℕ, ◌+◌, ◌-◌, ◌^◌, ◌<◌, ◌≤◌, ◌==◌, Bool, true, false, if◌then◌else◌, inl, inr, List, [], ◌∷◌, ◌++◌, length, Option, Some, None, All, refl, sym, ap, ◌∙◌, subst, arith, append_assoc, append-nil}
+use Rattle.std.proofs.Common.{◌≡◌, ℕ, ◌+◌, ◌-◌, ◌^◌, ◌<◌, ◌≤◌, Bool, true, false, if◌then◌else◌, inl, inr, List, [], ◌∷◌, ◌++◌, length, Option, Some, None, All, refl, sym, ap, ◌∙◌, subst, arith, append_assoc, append-nil}
 use Rattle.std.specs.Prelude.{nat_lt}
 use Rattle.std.proofs.lemmas.List.{append_cancel_left}
 use Rattle.std.proofs.lemmas.List.Elements.{All-nil, All-cons, All-head}
@@ -13,7 +13,7 @@ use Rattle.outside.specs.Keeper.{KeeperTold, after_call, after_writes, after_fau
 use Rattle.boot_core.specs.declared.refusals.CommitRefusal.{CommitRefusal}
 use Rattle.boot_core.specs.declared.refusals.CommitRefusal.TheVariants as commits
 use Rattle.boot_core.specs.declared.refusals.StartRefusal.TheVariants as refusals
-use Rattle.container_core.specs.Start.{first_bad, last_boot, greatest_boot, boot_row, start_over}
+use Rattle.container_core.specs.Start.{first_bad, last_boot, boot_row, start_over}
 use Rattle.scenario_text.specs.declared.line.Line.{Line}
 use Rattle.scenario_text.specs.declared.line.TheConstants.{MAX_LINE_BYTES}
 use Rattle.scenario_text.specs.Line.{is_event}
@@ -26,10 +26,10 @@ use Rattle.scenario_engine.specs.declared.kind.LineKind.{LineKind}
 use Rattle.scenario_engine.specs.declared.kind.LineKind.TheVariants as kinds
 use Rattle.scenario_engine.specs.Engine.{Replies, Target, TheHead, TheBoot, NoBoot, opened_target, target_of, target_calls, kind_of, in_head, in_boot, next_opening, reopens, line_over, line_on, step, calls_over as calls_of_kind, calls_on, line_calls}
 use Rattle.scenario_engine.specs.KeeperCalls.{KeeperCall, Gave, Kept, Failed, apply_calls, TellsCalls}
-use Rattle.scenario_engine.specs.Opening.{StartReplies, Opened, Shut, opening, opening_of, opening_over, calls_over, start_calls, start_calls_of}
+use Rattle.scenario_engine.specs.Opening.{StartReplies, Opened, Shut, is_spent, opening, opening_of, opening_over, calls_over_rows, start_calls, start_calls_of}
 use Rattle.scenario_engine.specs.Running.{commit_ends, with_keeper, boot_refusal, keep_calls, caller_commits, caller_calls, commit_step, commit_calls, quiet_line}
 use Rattle.scenario_engine.specs.State.{RunningState, State, Heading, Running, Outcome, RefusedIn, DoneTo, NotStarted}
-use Rattle.scenario_engine.specs.Transcript.{Turn, lines_in, first, answer_to, turn_outcome, calls_to, turn_calls, calls_from, transcript, End, end_from, Ended, Stopped, TooLong, Unstarted}
+use Rattle.scenario_engine.specs.Transcript.{Turn, lines_in, first, answer_to, turn_outcome, calls_to, turn_calls, calls_from, transcript, End, end_from, Ended, RefusedAt, TooLong, Unstarted}
 use Rattle.scenario_engine.proofs.Telling.{none_after}
 
 -- the last value of a count of calls
@@ -192,22 +192,22 @@ unspent_decided parts limits rows false keeps other calls others v a b twins =
     (apply_decided (boot_row (last_boot rows + 1) ∷ []) keeps other calls others v a b twins)
 
 over_decided : (parts : Parts) (limits : JournalLimits) (rows : List RowWrite) (bad : Option RowId) (keeps other : Bool) (calls others : List KeeperCall) (v a b : KeeperTold)
-    → Twins (calls_over rows keeps bad ++ calls) (calls_over rows other bad ++ others) v a b
+    → Twins (calls_over_rows rows keeps bad ++ calls) (calls_over_rows rows other bad ++ others) v a b
     → Decided (opening_over parts limits rows keeps bad) (opening_over parts limits rows other bad) calls others a b
 over_decided parts limits rows (Some id) keeps other calls others v a b twins = undecided (Shut (refusals.BadRow id)) calls others v a b twins
 over_decided parts limits rows None keeps other calls others v a b twins =
-    unspent_decided parts limits rows (last_boot rows == greatest_boot) keeps other calls others v a b twins
+    unspent_decided parts limits rows (is_spent rows) keeps other calls others v a b twins
 
 given_decided : (parts : Parts) (limits : JournalLimits) (rows more : List RowWrite) (keeps other : Bool) (calls others : List KeeperCall) (v a b : KeeperTold)
-    → Twins (Gave rows ∷ calls_over rows keeps (first_bad rows) ++ calls) (Gave more ∷ calls_over more other (first_bad more) ++ others) v a b
+    → Twins (Gave rows ∷ calls_over_rows rows keeps (first_bad rows) ++ calls) (Gave more ∷ calls_over_rows more other (first_bad more) ++ others) v a b
     → Decided (opening_over parts limits rows keeps (first_bad rows)) (opening_over parts limits more other (first_bad more)) calls others a b
 given_decided parts limits rows more keeps other calls others v a b twins =
-    let P : List RowWrite → Type 0 = λ given. Twins (Gave rows ∷ calls_over rows keeps (first_bad rows) ++ calls) (Gave given ∷ calls_over given other (first_bad given) ++ others) v a b
+    let P : List RowWrite → Type 0 = λ given. Twins (Gave rows ∷ calls_over_rows rows keeps (first_bad rows) ++ calls) (Gave given ∷ calls_over_rows given other (first_bad given) ++ others) v a b
     → Decided (opening_over parts limits rows keeps (first_bad rows)) (opening_over parts limits given other (first_bad given)) calls others a b in
     let same : rows ≡ more = twins.left.1.0.0 ∙ sym twins.right.1.0.0 in
     let here : P rows = λ both.
     over_decided parts limits rows (first_bad rows) keeps other calls others (after (Gave rows) v) a b
-    (twins_next (Gave rows) (calls_over rows keeps (first_bad rows) ++ calls) (calls_over rows other (first_bad rows) ++ others) v a b both) in
+    (twins_next (Gave rows) (calls_over_rows rows keeps (first_bad rows) ++ calls) (calls_over_rows rows other (first_bad rows) ++ others) v a b both) in
     subst P same here twins
 
 replied_decided : (parts : Parts) (limits : JournalLimits) (given more : Option (List RowWrite)) (keeps other : Bool) (calls others : List KeeperCall) (v a b : KeeperTold)
@@ -216,9 +216,9 @@ replied_decided : (parts : Parts) (limits : JournalLimits) (given more : Option 
 replied_decided parts limits None None keeps other calls others v a b twins =
     record { same = refl; told = after Failed v; twins = twins_next Failed calls others v a b twins }
 replied_decided parts limits None (Some more) keeps other calls others v a b twins =
-    absurd (cc (lost_left (Gave more) calls (calls_over more other (first_bad more) ++ others) v a b twins))
+    absurd (cc (lost_left (Gave more) calls (calls_over_rows more other (first_bad more) ++ others) v a b twins))
 replied_decided parts limits (Some rows) None keeps other calls others v a b twins =
-    absurd (cc (lost_right (Gave rows) (calls_over rows keeps (first_bad rows) ++ calls) others v a b twins))
+    absurd (cc (lost_right (Gave rows) (calls_over_rows rows keeps (first_bad rows) ++ calls) others v a b twins))
 replied_decided parts limits (Some rows) (Some more) keeps other calls others v a b twins =
     given_decided parts limits rows more keeps other calls others v a b twins
 
@@ -386,14 +386,14 @@ next_alike s n turn other turns others v a b later twins =
 
     end_after : List Turn → Outcome → End
     end_after more outcome = elim outcome [
-      | RefusedIn t ↦ Stopped t n
+      | RefusedIn t ↦ RefusedAt t n
       | DoneTo t text ↦ end_from t (n + 1) more
       | NotStarted t refusal ↦ Unstarted t refusal
     ]
 
     short : (outcome : Outcome) (w : KeeperTold) → Twins (calls_after turns outcome) (calls_after others outcome) w a b
         → AreAlike (text_after turns outcome) (text_after others outcome) (end_after turns outcome) (end_after others outcome) a b
-    short (RefusedIn t) w both = ended_alike [] (Stopped t n) w a b both
+    short (RefusedIn t) w both = ended_alike [] (RefusedAt t n) w a b both
     short (DoneTo t text) w both =
         let rest : Alike t (n + 1) turns others a b = later t w both in
         record { texts = ap (λ more. text ++ more) rest.texts; ends = rest.ends; told = rest.told }

@@ -12,7 +12,7 @@ use Rattle.boot_core.specs.declared.refusals.RebootRefusal.{RebootRefusal}
 use Rattle.boot_core.specs.declared.refusals.RebootRefusal.TheVariants.{Busy, JournalFull, OutOfMemory}
 use Rattle.line_steps.specs.Answer.{Answer, Done, or_refused}
 use Rattle.scenario_engine.specs.State.{RunningState}
-use Rattle.scenario_engine.specs.Running.{scope_of, with_journal, reboots, up_step, reboot_step}
+use Rattle.scenario_engine.specs.Running.{scope_of, with_boot_entry, reboots, up_step, reboot_step}
 use Rattle.line_steps.specs.Texts.{down_text, up_text, reboot_refusal_text}
 
 -- the same callers of another boot
@@ -34,10 +34,10 @@ undone_first old now s i down place =
 pub up_done : (r : RunningState) (name : List ℕ) (s : Scope) (place : Place) (now : BootValue) (text : List ℕ) → scope_of r.boot.start.deployment name ≡ Some s → undone_of r.boot.entries s ≡ Some place → now ≡ with_entry r.boot (Up s) → text ≡ up_text (length r.boot.entries) → Done (over r now) text ≡ up_step r name
 unfolding up_step
 up_done r name s place now text found undone came wrote =
-    let up : Scope → Answer RunningState = λ s. or_refused (undone_of r.boot.entries s) (λ place. Done (with_journal r (Up s)) (up_text (length r.boot.entries))) in
-    let one : Done (over r now) text ≡ Done (with_journal r (Up s)) (up_text (length r.boot.entries)) = cc in
+    let up : Scope → Answer RunningState = λ s. or_refused (undone_of r.boot.entries s) (λ place. Done (with_boot_entry r (Up s)) (up_text (length r.boot.entries))) in
+    let one : Done (over r now) text ≡ Done (with_boot_entry r (Up s)) (up_text (length r.boot.entries)) = cc in
     let two : up_step r name ≡ up s = ap (λ o. or_refused o up) found in
-    let three : up s ≡ Done (with_journal r (Up s)) (up_text (length r.boot.entries)) = ap (λ o. or_refused o (λ place. Done (with_journal r (Up s)) (up_text (length r.boot.entries)))) undone in
+    let three : up s ≡ Done (with_boot_entry r (Up s)) (up_text (length r.boot.entries)) = ap (λ o. or_refused o (λ place. Done (with_boot_entry r (Up s)) (up_text (length r.boot.entries)))) undone in
     one ∙ sym (two ∙ three)
 
 -- the answer to a reboot of a scope of the name

@@ -1,5 +1,6 @@
 -- What a start of a boot shows of the keeper's replies.
-use Rattle.std.proofs.Common.{◌≡◌, ℕ, ◌+◌, ◌<◌, ◌==◌, Bool, true, false, cond, inl, inr, List, [], ◌∷◌, Option, Some, None, refl, sym, ap, ◌∙◌, subst, arith}
+use Rattle.std.proofs.Common.{◌≡◌, ℕ, ◌+◌, ◌<◌, Bool, true, false, cond, inl, inr, List, [], ◌∷◌, Option, Some, None, refl, sym, ap, ◌∙◌, subst, arith}
+use Rattle.std.specs.Prelude.{nat_le}
 use Rattle.std.proofs.lemmas.Bool.Decides.{nat_tests}
 use Rattle.crash_base.specs.declared.rows.RowWrite.{RowWrite}
 use Rattle.deployment.specs.declared.parts.Parts.{Parts}
@@ -11,14 +12,15 @@ use Rattle.boot_core.specs.declared.refusals.StartRefusal.{StartRefusal}
 use Rattle.boot_core.specs.declared.refusals.StartRefusal.TheVariants as refusals
 use Rattle.container_core.specs.Start.{boot_row, first_bad, last_boot, greatest_boot, start_over, IsOpened, IsRefusedStart}
 use Rattle.scenario_engine.specs.KeeperCalls.{KeeperCall, Gave, TellsCalls, apply_calls}
-use Rattle.scenario_engine.specs.Opening.{StartReplies, Opened, Shut, opening_over, opening_of, calls_over, start_calls_of}
+use Rattle.scenario_engine.specs.Opening.{StartReplies, Opened, Shut, is_spent, opening_over, opening_of, calls_over_rows, start_calls_of}
 use Rattle.scenario_engine.specs.Telling.{Opens, IsShut}
 
--- a number below another is not that one
-below : (n m : ℕ) → n < m → (n == m) ≡ false
+-- whether a number has come up to another
+
+below : (n m : ℕ) → n < m → nat_le m n ≡ false
 below n m less = grind (arith, nat_tests)
 
-same_number : (n m : ℕ) → n ≡ m → (n == m) ≡ true
+same_number : (n m : ℕ) → n ≡ m → nat_le m n ≡ true
 same_number n m same = grind (arith, nat_tests)
 
 -- how a boot opens over good rows
@@ -29,7 +31,7 @@ good_opening parts limits rows keeps good left =
 
 good_calls : (rows : List RowWrite) (keeps : Bool) → first_bad rows ≡ None → last_boot rows < greatest_boot → Gave rows ∷ apply_calls (boot_row (last_boot rows + 1) ∷ []) keeps ≡ start_calls_of (Some rows) keeps
 good_calls rows keeps good left =
-    sym (ap (λ o. Gave rows ∷ calls_over rows keeps o) good
+    sym (ap (λ o. Gave rows ∷ calls_over_rows rows keeps o) good
     ∙ ap (λ b. Gave rows ∷ cond b [] (apply_calls (boot_row (last_boot rows + 1) ∷ []) keeps)) (below (last_boot rows) greatest_boot left))
 
 -- replies that give these rows
@@ -63,7 +65,7 @@ shut parts limits old new refusals.KeeperFailed (inr (rows, good, tells)) =
     }
 shut parts limits old new (refusals.BadRow id) (rows, given, bad, is) =
     let P : List KeeperCall → Type 0 = λ calls. TellsCalls calls old new in
-    let none : Gave rows ∷ [] ≡ start_calls_of (Some rows) true = ap (λ o. Gave rows ∷ calls_over rows true o) (sym bad) in
+    let none : Gave rows ∷ [] ≡ start_calls_of (Some rows) true = ap (λ o. Gave rows ∷ calls_over_rows rows true o) (sym bad) in
     record {
       replies = record { rows = Some rows; keeps = true };
       opens = ap (λ o. opening_over parts limits rows true o) (sym bad);
@@ -71,8 +73,8 @@ shut parts limits old new (refusals.BadRow id) (rows, given, bad, is) =
     }
 shut parts limits old new refusals.BootsSpent (rows, given, good, last, is) =
     let P : List KeeperCall → Type 0 = λ calls. TellsCalls calls old new in
-    let spent : (last_boot rows == greatest_boot) ≡ true = same_number (last_boot rows) greatest_boot last in
-    let none : start_calls_of (Some rows) true ≡ Gave rows ∷ [] = ap (λ o. Gave rows ∷ calls_over rows true o) good ∙ ap (λ b. Gave rows ∷ cond b [] (apply_calls (boot_row (last_boot rows + 1) ∷ []) true)) spent in
+    let spent : is_spent rows ≡ true = same_number (last_boot rows) greatest_boot last in
+    let none : start_calls_of (Some rows) true ≡ Gave rows ∷ [] = ap (λ o. Gave rows ∷ calls_over_rows rows true o) good ∙ ap (λ b. Gave rows ∷ cond b [] (apply_calls (boot_row (last_boot rows + 1) ∷ []) true)) spent in
     let shuts : opening_of parts limits (Some rows) true ≡ Shut refusals.BootsSpent = ap (λ o. opening_over parts limits rows true o) good ∙ ap (λ b. cond b (Shut refusals.BootsSpent) (Opened (start_over parts limits rows))) spent in
     record {
       replies = record { rows = Some rows; keeps = true };

@@ -29,7 +29,7 @@ abbrev no_start : StartReplies
 no_start = record { rows = None; keeps = true }
 
 abbrev no_replies : Replies
-no_replies = record { first = no_start; again = no_start; keeps = true }
+no_replies = record { first = no_start; again = no_start; keeps = false }
 
 -- a state that has a boot, or whose line is no event line, needs no start
 pub reached : (s : State) (told : Option KeeperTold) → Reaches s false (target_in s) told told
@@ -127,12 +127,12 @@ commit_over_boot a line r next caller old new kind h =
 
 pub commit_partly : (line : Line) (r : RunningState) (caller : ℕ) (old new : Option KeeperTold) → kind_of line ≡ kinds.Commits caller → CommitsPartly r caller old new → DoesPartlyOn (TheBoot r) line old new
 commit_partly line r caller old new kind h =
-    let replies : Replies = to_commit h.keeps in
-    record { replies = replies; told = subst (λ k. TellsSome (calls_over r k replies) old new) (sym kind) h.told }
+    let replies : Replies = to_commit false in
+    record { replies = replies; unkept = refl; told = subst (λ k. TellsSome (calls_over r k replies) old new) (sym kind) h }
 
 -- replies to a `reopen`
 abbrev to_reopen : StartReplies → Replies
-to_reopen again = record { first = no_start; again = again; keeps = true }
+to_reopen again = record { first = no_start; again = again; keeps = false }
 
 pub reopened : (line : Line) (r : RunningState) (start : Start) (text : List ℕ) (old new : Option KeeperTold) → kind_of line ≡ kinds.Reopens → Opens r.boot.start.deployment r.boot.start.limits (Opened start) old new → text ≡ boot_text start.boot → DoesOn (TheBoot r) line (DoneTo (Running (started start)) text) old new
 reopened line r start text old new kind h wrote =
@@ -146,7 +146,7 @@ reopened line r start text old new kind h wrote =
 pub reopened_partly : (line : Line) (r : RunningState) (start : Start) (old new : Option KeeperTold) → kind_of line ≡ kinds.Reopens → Opens r.boot.start.deployment r.boot.start.limits (Opened start) old new → DoesPartlyOn (TheBoot r) line old new
 reopened_partly line r start old new kind h =
     let replies : Replies = to_reopen h.replies in
-    record { replies = replies; told = subst (λ k. TellsSome (calls_over r k replies) old new) (sym kind) (all_made (start_calls h.replies) old new h.told) }
+    record { replies = replies; unkept = refl; told = subst (λ k. TellsSome (calls_over r k replies) old new) (sym kind) (all_made (start_calls h.replies) old new h.told) }
 
 not_reopened : (line : Line) (r : RunningState) (refusal : StartRefusal) (old new : Option KeeperTold) → kind_of line ≡ kinds.Reopens → Opens r.boot.start.deployment r.boot.start.limits (Shut refusal) old new → (state : State) × DoesOn (TheBoot r) line (NotStarted state refusal) old new
 not_reopened line r refusal old new kind h =
@@ -165,7 +165,7 @@ reopen_ends line r (refusals.BadRow id) old new kind h = not_reopened line r (re
 reopen_ends line r refusals.BootsSpent old new kind h = not_reopened line r refusals.BootsSpent old new kind h
 reopen_ends line r refusals.OutOfMemory old new kind h =
     let replies : Replies = to_reopen h.replies in
-    record { replies = replies; told = subst (λ k. TellsSome (calls_over r k replies) old new) (sym kind) h.told }
+    record { replies = replies; unkept = refl; told = subst (λ k. TellsSome (calls_over r k replies) old new) (sym kind) h.told }
 
 -- the replies to a line, by those to its start and those to the rest
 abbrev both : StartReplies → Replies → Replies
@@ -212,6 +212,7 @@ does_partly s line target old between new reach h =
     let calls : calls_on target line h.replies ≡ calls_on (target_of s (is_event line) reach.replies) line replies = same_calls target line reach.replies h.replies ∙ ap (λ t. calls_on t line replies) reach.is in
     record {
       replies = replies;
+      unkept = h.unkept;
       told = then_some first _ old between new reach.told (subst (λ cs. TellsSome cs between new) calls h.told);
     }
 
@@ -238,7 +239,7 @@ ends_unreached (refusals.BadRow id) s line old new (head, h) = no_boot s line he
 ends_unreached refusals.BootsSpent s line old new (head, h) = no_boot s line head refusals.BootsSpent old new h
 ends_unreached refusals.OutOfMemory s line old new h =
     let replies : Replies = both h.replies no_replies in
-    record { replies = replies; told = some_first (target_calls s (is_event line) h.replies) _ old new h.told }
+    record { replies = replies; unkept = refl; told = some_first (target_calls s (is_event line) h.replies) _ old new h.told }
 
 -- how a line on the target of a state ended
 abbrev pub LineEnded : Result LineAnswer StartRefusal → State → State → Line → Option KeeperTold → Option KeeperTold → Type 0
@@ -258,11 +259,11 @@ line_done (Err refusal) s t after line old between new reach h = ends_line refus
 
 -- a text for which memory ran out before it was read
 pub unread : (s : State) (line : Option Line) (told : Option KeeperTold) → DoesPartly s line told told
-unread s line told = record { replies = no_replies; told = record { made = []; more = _; begins = refl; between = told; told = refl; last = inl refl } }
+unread s line told = record { replies = no_replies; unkept = refl; told = record { made = []; more = _; begins = refl; between = told; told = refl; last = inl refl } }
 
 -- a line for which memory ran out before the keeper was called
 pub uncalled : (target : Target) (line : Line) (told : Option KeeperTold) → DoesPartlyOn target line told told
-uncalled target line told = record { replies = no_replies; told = record { made = []; more = _; begins = refl; between = told; told = refl; last = inl refl } }
+uncalled target line told = record { replies = no_replies; unkept = refl; told = record { made = []; more = _; begins = refl; between = told; told = refl; last = inl refl } }
 
 -- a text that spells no line
 pub spells_none : (s : State) (line : Option Line) (after : State) (told : Option KeeperTold) → line ≡ None → Answers answers.Refused after s line told told

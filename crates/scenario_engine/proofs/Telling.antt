@@ -1,6 +1,7 @@
 -- What turns leave of a keeper that tells.
-use Rattle.std.proofs.Common.{◌≡◌, ℕ, ◌+◌, ◌==◌, Bool, true, false, if◌then◌else◌, inl, inr, List, [], ◌∷◌, ◌++◌, length, Option, Some, None, refl, sym, ap, ◌∙◌, subst}
-use Rattle.std.specs.Prelude.{nat_lt, IfSome}
+use Rattle.std.proofs.Common.{◌≡◌, ℕ, ◌+◌, ◌<◌, arith, Bool, true, false, if◌then◌else◌, inl, inr, List, [], ◌∷◌, ◌++◌, length, Option, Some, None, refl, sym, ap, ◌∙◌, subst}
+use Rattle.std.specs.Prelude.{nat_le, nat_lt, IfSome, All}
+use Rattle.std.proofs.lemmas.Bool.Decides.{nat_tests}
 use Rattle.crash_base.specs.declared.row_id.RowId.{RowId}
 use Rattle.crash_base.specs.declared.rows.RowWrite.{RowWrite}
 use Rattle.crash_base.specs.declared.scope.Scope.{Scope}
@@ -18,6 +19,7 @@ use Rattle.outside.specs.Keeper.{KeeperTold, after_call}
 use Rattle.boot_core.specs.declared.boot.Start.{Start}
 use Rattle.boot_core.specs.Boot.{BootValue}
 use Rattle.boot_core.specs.Refusals.{reboot_refusal}
+use Rattle.boot_core.specs.Sound.{IsSound}
 use Rattle.boot_core.specs.declared.refusals.CommitRefusal.{CommitRefusal}
 use Rattle.boot_core.specs.declared.refusals.RebootRefusal.{RebootRefusal}
 use Rattle.boot_core.specs.declared.refusals.StartRefusal.TheVariants as refusals
@@ -40,12 +42,13 @@ use Rattle.scenario_engine.specs.declared.kind.LineKind.{LineKind}
 use Rattle.scenario_engine.specs.declared.kind.LineKind.TheVariants as kinds
 use Rattle.scenario_engine.specs.Engine.{Replies, Target, TheHead, TheBoot, NoBoot, opened_target, target_of, target_calls, kind_of, in_head, in_boot, next_opening, reopens, line_over, line_on, step, calls_over as calls_of_kind, calls_on, line_calls, ended_by, ends_over, ends_on, ended_boots}
 use Rattle.scenario_engine.specs.KeeperCalls.{KeeperCall, Gave, Kept, Failed, apply_calls, TellsCall, TellsCalls}
-use Rattle.scenario_engine.specs.Opening.{StartReplies, Opening, Opened, Shut, opening, opening_of, opening_over, calls_over, start_calls, start_calls_of}
-use Rattle.scenario_engine.specs.Running.{with_callers, with_journal, commit_ends, with_keeper, boot_refusal, keep_calls, caller_commits, caller_calls, caller_drops, commit_step, commit_calls, drop_step, scope_of, goes_down, reboots, down_step, up_step, reboot_step, table_step, journal_step, quiet_line}
+use Rattle.scenario_engine.specs.Opening.{StartReplies, Opening, Opened, Shut, is_spent, opening, opening_of, opening_over, calls_over_rows, start_calls, start_calls_of}
+use Rattle.scenario_engine.specs.Running.{with_callers, with_boot_entry, commit_ends, with_keeper, boot_refusal, keep_calls, caller_commits, caller_calls, caller_drops, commit_step, commit_calls, drop_step, scope_of, goes_down, reboots, down_step, up_step, reboot_step, table_step, journal_step, quiet_line}
 use Rattle.scenario_engine.specs.State.{RunningState, State, Heading, Running, Outcome, RefusedIn, DoneTo, NotStarted}
-use Rattle.scenario_engine.specs.Told.{HoldsStateRows, IsOver, AreChained, IsChained, Tells}
-use Rattle.scenario_engine.specs.Transcript.{Turn, first, answer_to, turn_outcome, calls_to, turn_calls, ends_to, turn_ends, calls_from, boots_in, boots_from, end_from, last_state, Stopped, TooLong, Unstarted}
-use Rattle.scenario_engine.proofs.Soundness.{LeavesTo}
+use Rattle.scenario_engine.specs.Told.{HoldsStateRows, IsOver, IsChained, Tells}
+use Rattle.scenario_engine.specs.Transcript.{Turn, first, answer_to, turn_outcome, calls_to, turn_calls, ends_to, turn_ends, calls_from, boots_in, boots_from, end_from, last_state, RefusedAt, TooLong, Unstarted}
+use Rattle.scenario_engine.proofs.Numbering.{GoesOn, AreLinked, chained_over}
+use Rattle.scenario_engine.proofs.Keeping.{LeavesTo}
 
 -- calls in two parts
 
@@ -93,11 +96,17 @@ halves calls more t u told = go whole.between whole.before whole.after
 
 -- what a start leaves
 
--- The boot that opens is over the rows that the keeper held, and begins with those that it holds; else they stay.
-abbrev StartLeaves : KeeperTold → KeeperTold → Opening → Type 0
-StartLeaves t u (Opened start) =
-    (start ≡ start_over start.deployment start.limits t.rows) × (u.rows ≡ rows_after start.base [])
-StartLeaves t u (Shut refusal) = u.rows ≡ t.rows
+-- The boot that opens is over the rows that the keeper held, of these parts and limits, and begins with those that it holds;
+-- else they stay.
+record OpensOver (parts : Parts) (limits : JournalLimits) (t u : KeeperTold) (start : Start) : Type 0 where
+  over : IsOver t.rows start
+  deployment : start.deployment ≡ parts
+  limited : start.limits ≡ limits
+  rows : u.rows ≡ rows_after start.base []
+
+abbrev StartLeaves : Parts → JournalLimits → KeeperTold → KeeperTold → Opening → Type 0
+StartLeaves parts limits t u (Opened start) = OpensOver parts limits t u start
+StartLeaves parts limits t u (Shut refusal) = u.rows ≡ t.rows
 
 abbrev rows_told : Option KeeperTold → List RowWrite
 rows_told None = []
@@ -108,70 +117,89 @@ rows_failed : (t u : KeeperTold) → TellsCalls (Failed ∷ []) (Some t) (Some u
 rows_failed t u (between, inl is, same) = ap rows_told same ∙ ap rows_told is
 rows_failed t u (between, inr is, same) = absurd (cc)
 
+above : (n m : ℕ) → nat_le n m ≡ false → m < n
+above n m less = grind (arith, nat_tests)
+
+-- where a number is left, it is below the greatest
+is_left : (rows : List RowWrite) → is_spent rows ≡ false → last_boot rows < greatest_boot
+is_left rows left = above greatest_boot (last_boot rows) left
+
 start_kept : (parts : Parts) (limits : JournalLimits) (rows : List RowWrite) (t v u : KeeperTold) (keeps : Bool) → rows ≡ t.rows → AreOrdered rows → v.rows ≡ t.rows
+    → first_bad rows ≡ None → is_spent rows ≡ false
     → TellsCalls (apply_calls (boot_row (last_boot rows + 1) ∷ []) keeps) (Some v) (Some u)
-    → StartLeaves t u (if keeps then Opened (start_over parts limits rows) else Shut refusals.KeeperFailed)
-start_kept parts limits rows t v u true given ordered same told =
+    → StartLeaves parts limits t u (if keeps then Opened (start_over parts limits rows) else Shut refusals.KeeperFailed)
+start_kept parts limits rows t v u true given ordered same good left told =
     let row : List RowWrite = boot_row (last_boot rows + 1) ∷ [] in
     let put : u.rows ≡ put_all row v.rows = ap rows_told told.2 ∙ ap rows_told told.1 in
-    (ap (start_over parts limits) given, put ∙ ap (put_all row) (same ∙ sym given) ∙ start_rows rows (last_boot rows + 1) ordered)
-start_kept parts limits rows t v u false given ordered same told = rows_failed v u told ∙ same
+    let P : List RowWrite → Type 0 = λ held. IsOver held (start_over parts limits rows) in
+    record {
+      over = subst P given (record { over = refl; good = good; unspent = is_left rows left });
+      deployment = refl;
+      limited = refl;
+      rows = put ∙ ap (put_all row) (same ∙ sym given) ∙ start_rows rows (last_boot rows + 1) ordered;
+    }
+start_kept parts limits rows t v u false given ordered same good left told = rows_failed v u told ∙ same
 
 start_unspent : (parts : Parts) (limits : JournalLimits) (rows : List RowWrite) (t v u : KeeperTold) (spent keeps : Bool) → rows ≡ t.rows → AreOrdered rows → v.rows ≡ t.rows
+    → first_bad rows ≡ None → is_spent rows ≡ spent
     → TellsCalls (if spent then [] else apply_calls (boot_row (last_boot rows + 1) ∷ []) keeps) (Some v) (Some u)
-    → StartLeaves t u (if spent then Shut refusals.BootsSpent else (if keeps then Opened (start_over parts limits rows) else Shut refusals.KeeperFailed))
-start_unspent parts limits rows t v u true keeps given ordered same told = ap rows_told told ∙ same
-start_unspent parts limits rows t v u false keeps given ordered same told = start_kept parts limits rows t v u keeps given ordered same told
+    → StartLeaves parts limits t u (if spent then Shut refusals.BootsSpent else (if keeps then Opened (start_over parts limits rows) else Shut refusals.KeeperFailed))
+start_unspent parts limits rows t v u true keeps given ordered same good left told = ap rows_told told ∙ same
+start_unspent parts limits rows t v u false keeps given ordered same good left told = start_kept parts limits rows t v u keeps given ordered same good left told
 
 start_given : (parts : Parts) (limits : JournalLimits) (rows : List RowWrite) (t v u : KeeperTold) (bad : Option RowId) (keeps : Bool) → rows ≡ t.rows → AreOrdered rows → v.rows ≡ t.rows
-    → TellsCalls (calls_over rows keeps bad) (Some v) (Some u) → StartLeaves t u (opening_over parts limits rows keeps bad)
-start_given parts limits rows t v u (Some id) keeps given ordered same told = ap rows_told told ∙ same
-start_given parts limits rows t v u None keeps given ordered same told =
-    start_unspent parts limits rows t v u (last_boot rows == greatest_boot) keeps given ordered same told
+    → first_bad rows ≡ bad
+    → TellsCalls (calls_over_rows rows keeps bad) (Some v) (Some u) → StartLeaves parts limits t u (opening_over parts limits rows keeps bad)
+start_given parts limits rows t v u (Some id) keeps given ordered same good told = ap rows_told told ∙ same
+start_given parts limits rows t v u None keeps given ordered same good told =
+    start_unspent parts limits rows t v u (is_spent rows) keeps given ordered same good refl told
 
 start_replied : (parts : Parts) (limits : JournalLimits) (t u : KeeperTold) (given : Option (List RowWrite)) (keeps : Bool)
-    → TellsCalls (start_calls_of given keeps) (Some t) (Some u) → StartLeaves t u (opening_of parts limits given keeps)
+    → TellsCalls (start_calls_of given keeps) (Some t) (Some u) → StartLeaves parts limits t u (opening_of parts limits given keeps)
 start_replied parts limits t u None keeps told = rows_failed t u told
 start_replied parts limits t u (Some rows) keeps (between, (given, is), rest) =
-    let P : Option KeeperTold → Type 0 = λ o. TellsCalls (calls_over rows keeps (first_bad rows)) o (Some u) in
-    start_given parts limits rows t (after_call t) u (first_bad rows) keeps given.0 given.1 refl (subst P is rest)
+    let P : Option KeeperTold → Type 0 = λ o. TellsCalls (calls_over_rows rows keeps (first_bad rows)) o (Some u) in
+    start_given parts limits rows t (after_call t) u (first_bad rows) keeps given.0 given.1 refl refl (subst P is rest)
 
 start_leaves : (parts : Parts) (limits : JournalLimits) (replies : StartReplies) (t u : KeeperTold)
-    → TellsCalls (start_calls replies) (Some t) (Some u) → StartLeaves t u (opening parts limits replies)
+    → TellsCalls (start_calls replies) (Some t) (Some u) → StartLeaves parts limits t u (opening parts limits replies)
 start_leaves parts limits replies t u told = start_replied parts limits t u replies.rows replies.keeps told
 
--- where a keeper that tells stands to a state: it holds the rows that the journal leaves, and the boot is over these rows;
--- where no boot is started, both are the rows that it held first
+-- where a keeper that tells stands to a state: it holds the rows that the journal leaves, and the boot is started as the next
+-- one has to be; where no boot is started, it holds the rows that it held first, and the next one has to be over these
 
-abbrev HoldsBoot : List RowWrite → KeeperTold → BootValue → Type 0
-HoldsBoot rows t b = IsOver rows b × (t.rows ≡ rows_after b.start.base b.entries)
+abbrev HoldsBoot : (Start → Type 0) → KeeperTold → BootValue → Type 0
+HoldsBoot P t b = P b.start × (t.rows ≡ rows_after b.start.base b.entries)
 
-abbrev HoldsFirst : List RowWrite → List RowWrite → KeeperTold → Type 0
-HoldsFirst held rows t = (rows ≡ held) × (t.rows ≡ held)
+abbrev HoldsFirst : List RowWrite → (Start → Type 0) → KeeperTold → Type 0
+HoldsFirst held P t = ((start : Start) → IsOver held start → P start) × (t.rows ≡ held)
 
-abbrev IsAt : List RowWrite → List RowWrite → KeeperTold → State → Type 0
-IsAt held rows t (Heading head) = HoldsFirst held rows t
-IsAt held rows t (Running r) = HoldsBoot rows t r.boot
+abbrev IsAt : List RowWrite → (Start → Type 0) → KeeperTold → State → Type 0
+IsAt held P t (Heading head) = HoldsFirst held P t
+IsAt held P t (Running r) = HoldsBoot P t r.boot
 
-abbrev IsOn : List RowWrite → List RowWrite → KeeperTold → Target → Type 0
-IsOn held rows t (TheHead head) = HoldsFirst held rows t
-IsOn held rows t (TheBoot r) = HoldsBoot rows t r.boot
-IsOn held rows t (NoBoot head refusal) = HoldsFirst held rows t
+abbrev IsOn : List RowWrite → (Start → Type 0) → KeeperTold → Target → Type 0
+IsOn held P t (TheHead head) = HoldsFirst held P t
+IsOn held P t (TheBoot r) = HoldsBoot P t r.boot
+IsOn held P t (NoBoot head refusal) = HoldsFirst held P t
 
 same_told : (P : KeeperTold → Type 0) (t u : KeeperTold) → Some u ≡ Some t → P t → P u
 same_told P t u same h = let Q : Option KeeperTold → Type 0 = λ o. IfSome o P in subst Q (sym same) h
 
-on_opened : (held rows : List RowWrite) (head : Head) (how : Opening) (t u : KeeperTold) → HoldsFirst held rows t → StartLeaves t u how → IsOn held rows u (opened_target head how)
-on_opened held rows head (Opened start) t u holds leaves =
-    (leaves.0 ∙ ap (start_over start.deployment start.limits) (holds.1 ∙ sym holds.0), leaves.1)
-on_opened held rows head (Shut refusal) t u holds leaves = (holds.0, leaves ∙ holds.1)
+first_over : (held : List RowWrite) (P : Start → Type 0) (t : KeeperTold) (start : Start) → HoldsFirst held P t → IsOver t.rows start → P start
+first_over held P t start holds over = let Q : List RowWrite → Type 0 = λ rows. IsOver rows start in holds.0 start (subst Q holds.1 over)
 
-on_target : (held rows : List RowWrite) (s : State) (event : Bool) (replies : StartReplies) (t u : KeeperTold) → IsAt held rows t s
-    → TellsCalls (target_calls s event replies) (Some t) (Some u) → IsOn held rows u (target_of s event replies)
-on_target held rows (Running r) event replies t u at told = same_told (λ v. HoldsBoot rows v r.boot) t u told at
-on_target held rows (Heading head) false replies t u at told = same_told (HoldsFirst held rows) t u told at
-on_target held rows (Heading head) true replies t u at told =
-    on_opened held rows head (opening head.parts head.limits replies) t u at (start_leaves head.parts head.limits replies t u told)
+on_opened : (held : List RowWrite) (P : Start → Type 0) (head : Head) (how : Opening) (t u : KeeperTold) → HoldsFirst held P t → StartLeaves head.parts head.limits t u how → IsOn held P u (opened_target head how)
+on_opened held P head (Opened start) t u holds leaves =
+    (first_over held P t start holds leaves.over, leaves.rows)
+on_opened held P head (Shut refusal) t u holds leaves = (holds.0, leaves ∙ holds.1)
+
+on_target : (held : List RowWrite) (P : Start → Type 0) (s : State) (event : Bool) (replies : StartReplies) (t u : KeeperTold) → IsAt held P t s
+    → TellsCalls (target_calls s event replies) (Some t) (Some u) → IsOn held P u (target_of s event replies)
+on_target held P (Running r) event replies t u at told = same_told (λ v. HoldsBoot P v r.boot) t u told at
+on_target held P (Heading head) false replies t u at told = same_told (HoldsFirst held P) t u told at
+on_target held P (Heading head) true replies t u at told =
+    on_opened held P head (opening head.parts head.limits replies) t u at (start_leaves head.parts head.limits replies t u told)
 
 -- lines that leave the rows
 
@@ -181,7 +209,7 @@ HasSameRows old new =
     (new.boot.start ≡ old.boot.start)
     × (rows_after new.boot.start.base new.boot.entries ≡ rows_after old.boot.start.base old.boot.entries)
 
-rows_pushed : (r : RunningState) (e : Entry) → writes_of e ≡ [] → HasSameRows r (with_journal r e)
+rows_pushed : (r : RunningState) (e : Entry) → writes_of e ≡ [] → HasSameRows r (with_boot_entry r e)
 rows_pushed r e none =
     let base = r.boot.start.base in
     let es = r.boot.entries in
@@ -219,8 +247,8 @@ rows_up r name =
 
 rows_rebooted : (r : RunningState) (s : Scope) (refusal : Option RebootRefusal) → Leaves (HasSameRows r) (reboots r s refusal)
 rows_rebooted r s None =
-    let down : HasSameRows r (with_journal r (Down s)) = rows_pushed r (Down s) refl in
-    let up : HasSameRows (with_journal r (Down s)) (with_journal (with_journal r (Down s)) (Up s)) = rows_pushed (with_journal r (Down s)) (Up s) refl in
+    let down : HasSameRows r (with_boot_entry r (Down s)) = rows_pushed r (Down s) refl in
+    let up : HasSameRows (with_boot_entry r (Down s)) (with_boot_entry (with_boot_entry r (Down s)) (Up s)) = rows_pushed (with_boot_entry r (Down s)) (Up s) refl in
     (refl, up.1 ∙ down.1)
 rows_rebooted r s (Some refusal) = (refl, refl)
 
@@ -260,9 +288,8 @@ abbrev HoldsNext : RunningState → KeeperTold → RunningState → Type 0
 HoldsNext old u new =
     (new.boot.start ≡ old.boot.start) × (u.rows ≡ rows_after new.boot.start.base new.boot.entries)
 
-holds_next : (held rows : List RowWrite) (t u : KeeperTold) (r next : RunningState) → HoldsBoot rows t r.boot → HoldsNext r u next → HoldsBoot rows u next.boot
-holds_next held rows t u r next holds leaves =
-    let P : Start → Type 0 = λ start. start ≡ start_over start.deployment start.limits rows in
+holds_next : (held : List RowWrite) (P : Start → Type 0) (t u : KeeperTold) (r next : RunningState) → HoldsBoot P t r.boot → HoldsNext r u next → HoldsBoot P u next.boot
+holds_next held P t u r next holds leaves =
     (subst P (sym leaves.0) holds.0, leaves.1)
 
 holds_kept : (r : RunningState) (n : ℕ) (ticket : TicketValue) (writes : List RowWrite) (t u : KeeperTold) → ticket.call.writes ≡ writes → t.rows ≡ rows_after r.boot.start.base r.boot.entries → u.rows ≡ put_all writes t.rows
@@ -296,27 +323,27 @@ holds_commit_step r n keeps t u holds told = holds_caller r n keeps (caller_at r
 
 -- one turn
 
--- Each of these boots is over the rows that the one before leaves, the first over these; and what is left is so.
-abbrev AreChainedTo : List RowWrite → List BootValue → (List RowWrite → Type 0) → Type 0
-AreChainedTo rows [] P = P rows
-AreChainedTo rows (b ∷ bs) P = IsOver rows b × AreChainedTo (rows_after b.start.base b.entries) bs P
+-- The first of these boots is started so, and each other one goes on from the one before; and what is left is so.
+abbrev AreLinkedTo : (Start → Type 0) → List BootValue → ((Start → Type 0) → Type 0) → Type 0
+AreLinkedTo P [] Q = Q P
+AreLinkedTo P (b ∷ bs) Q = P b.start × AreLinkedTo (GoesOn b) bs Q
 
 -- where the keeper stands after an outcome
-abbrev IsLeft : List RowWrite → KeeperTold → Outcome → List RowWrite → Type 0
-IsLeft held t outcome rows = LeavesTo (IsAt held rows t) outcome
+abbrev IsLeft : List RowWrite → KeeperTold → Outcome → (Start → Type 0) → Type 0
+IsLeft held t outcome P = LeavesTo (IsAt held P t) outcome
 
-left_in_head : (held rows : List RowWrite) (t : KeeperTold) (head : Head) (a : Answer Head) → HoldsFirst held rows t → IsLeft held t (in_head head a) rows
-left_in_head held rows t head Refused holds = holds
-left_in_head held rows t head (Done next text) holds = holds
+left_in_head : (held : List RowWrite) (P : Start → Type 0) (t : KeeperTold) (head : Head) (a : Answer Head) → HoldsFirst held P t → IsLeft held t (in_head head a) P
+left_in_head held P t head Refused holds = holds
+left_in_head held P t head (Done next text) holds = holds
 
-left_in_boot : (held rows : List RowWrite) (t u : KeeperTold) (r : RunningState) (a : Answer RunningState) → HoldsBoot rows t r.boot → u.rows ≡ t.rows → Leaves (HasSameRows r) a → IsLeft held u (in_boot r a) rows
-left_in_boot held rows t u r Refused holds same leaves = (holds.0, same ∙ holds.1)
-left_in_boot held rows t u r (Done next text) holds same leaves =
-    holds_next held rows t u r next holds (leaves.0, same ∙ holds.1 ∙ sym leaves.1)
+left_in_boot : (held : List RowWrite) (P : Start → Type 0) (t u : KeeperTold) (r : RunningState) (a : Answer RunningState) → HoldsBoot P t r.boot → u.rows ≡ t.rows → Leaves (HasSameRows r) a → IsLeft held u (in_boot r a) P
+left_in_boot held P t u r Refused holds same leaves = (holds.0, same ∙ holds.1)
+left_in_boot held P t u r (Done next text) holds same leaves =
+    holds_next held P t u r next holds (leaves.0, same ∙ holds.1 ∙ sym leaves.1)
 
-left_by_commit : (held rows : List RowWrite) (t u : KeeperTold) (r : RunningState) (a : Answer RunningState) → HoldsBoot rows t r.boot → (a ≡ Refused → u.rows ≡ t.rows) → Leaves (HoldsNext r u) a → IsLeft held u (in_boot r a) rows
-left_by_commit held rows t u r Refused holds same leaves = (holds.0, same refl ∙ holds.1)
-left_by_commit held rows t u r (Done next text) holds same leaves = holds_next held rows t u r next holds leaves
+left_by_commit : (held : List RowWrite) (P : Start → Type 0) (t u : KeeperTold) (r : RunningState) (a : Answer RunningState) → HoldsBoot P t r.boot → (a ≡ Refused → u.rows ≡ t.rows) → Leaves (HoldsNext r u) a → IsLeft held u (in_boot r a) P
+left_by_commit held P t u r Refused holds same leaves = (holds.0, same refl ∙ holds.1)
+left_by_commit held P t u r (Done next text) holds same leaves = holds_next held P t u r next holds leaves
 
 -- a commit that is refused as a line calls no keeper
 
@@ -332,149 +359,151 @@ commit_refused : (r : RunningState) (n : ℕ) (keeps : Bool) (t u : KeeperTold) 
 unfolding commit_step commit_calls
 commit_refused r n keeps t u told is = caller_refused r n keeps (caller_at r.callers n) t u told is
 
-left_reopened : (held rows : List RowWrite) (t u : KeeperTold) (r : RunningState) (how : Opening) → HoldsBoot rows t r.boot → StartLeaves t u how
-    → AreChainedTo rows (ended_by r how) (IsLeft held u (reopens r how))
-left_reopened held rows t u r (Opened start) holds leaves =
-    (holds.0, (leaves.0 ∙ ap (start_over start.deployment start.limits) holds.1, leaves.1))
-left_reopened held rows t u r (Shut refusal) holds leaves = (holds.0, leaves ∙ holds.1)
+left_reopened : (held : List RowWrite) (P : Start → Type 0) (t u : KeeperTold) (r : RunningState) (how : Opening) → HoldsBoot P t r.boot → StartLeaves r.boot.start.deployment r.boot.start.limits t u how
+    → AreLinkedTo P (ended_by r how) (IsLeft held u (reopens r how))
+left_reopened held P t u r (Opened start) holds leaves =
+    let Q : List RowWrite → Type 0 = λ rows. IsOver rows start in
+    let next : GoesOn r.boot start = record { over = subst Q holds.1 leaves.over; deployment = leaves.deployment; limits = leaves.limited } in
+    (holds.0, (next, leaves.rows))
+left_reopened held P t u r (Shut refusal) holds leaves = (holds.0, leaves ∙ holds.1)
 
-left_over : (held rows : List RowWrite) (t u : KeeperTold) (r : RunningState) (kind : LineKind) (line : Line) (replies : Replies) → HoldsBoot rows t r.boot
+left_over : (held : List RowWrite) (P : Start → Type 0) (t u : KeeperTold) (r : RunningState) (kind : LineKind) (line : Line) (replies : Replies) → HoldsBoot P t r.boot
     → TellsCalls (calls_of_kind r kind replies) (Some t) (Some u)
-    → AreChainedTo rows (ends_over r kind replies) (IsLeft held u (line_over r kind line replies))
-left_over held rows t u r (kinds.Commits n) line replies holds told =
-    left_by_commit held rows t u r (commit_step r n replies.keeps) holds (commit_refused r n replies.keeps t u told)
+    → AreLinkedTo P (ends_over r kind replies) (IsLeft held u (line_over r kind line replies))
+left_over held P t u r (kinds.Commits n) line replies holds told =
+    left_by_commit held P t u r (commit_step r n replies.keeps) holds (commit_refused r n replies.keeps t u told)
     (holds_commit_step r n replies.keeps t u holds.1 told)
-left_over held rows t u r kinds.Reopens line replies holds told =
-    left_reopened held rows t u r (next_opening r replies.again) holds
+left_over held P t u r kinds.Reopens line replies holds told =
+    left_reopened held P t u r (next_opening r replies.again) holds
     (start_leaves r.boot.start.deployment r.boot.start.limits replies.again t u told)
-left_over held rows t u r kinds.Quiet line replies holds told =
-    left_in_boot held rows t u r (quiet_line r line) holds (ap rows_told told) (rows_quiet r line)
+left_over held P t u r kinds.Quiet line replies holds told =
+    left_in_boot held P t u r (quiet_line r line) holds (ap rows_told told) (rows_quiet r line)
 
-left_on : (held rows : List RowWrite) (t u : KeeperTold) (target : Target) (line : Line) (replies : Replies) → IsOn held rows t target
+left_on : (held : List RowWrite) (P : Start → Type 0) (t u : KeeperTold) (target : Target) (line : Line) (replies : Replies) → IsOn held P t target
     → TellsCalls (calls_on target line replies) (Some t) (Some u)
-    → AreChainedTo rows (ends_on target line replies) (IsLeft held u (line_on target line replies))
-left_on held rows t u (TheHead head) line replies on told =
-    left_in_head held rows u head (head_line head line) (same_told (HoldsFirst held rows) t u told on)
-left_on held rows t u (TheBoot r) line replies on told = left_over held rows t u r (kind_of line) line replies on told
-left_on held rows t u (NoBoot head refusal) line replies on told = same_told (HoldsFirst held rows) t u told on
+    → AreLinkedTo P (ends_on target line replies) (IsLeft held u (line_on target line replies))
+left_on held P t u (TheHead head) line replies on told =
+    left_in_head held P u head (head_line head line) (same_told (HoldsFirst held P) t u told on)
+left_on held P t u (TheBoot r) line replies on told = left_over held P t u r (kind_of line) line replies on told
+left_on held P t u (NoBoot head refusal) line replies on told = same_told (HoldsFirst held P) t u told on
 
-left_by_step : (held rows : List RowWrite) (t u : KeeperTold) (s : State) (line : Line) (replies : Replies) → IsAt held rows t s
+left_by_step : (held : List RowWrite) (P : Start → Type 0) (t u : KeeperTold) (s : State) (line : Line) (replies : Replies) → IsAt held P t s
     → TellsCalls (line_calls s line replies) (Some t) (Some u)
-    → AreChainedTo rows (ended_boots s line replies) (IsLeft held u (step s line replies))
+    → AreLinkedTo P (ended_boots s line replies) (IsLeft held u (step s line replies))
 unfolding step line_calls ended_boots
-left_by_step held rows t u s line replies at told =
+left_by_step held P t u s line replies at told =
     let target : Target = target_of s (is_event line) replies.first in
     let two : Halves (target_calls s (is_event line) replies.first) (calls_on target line replies) t u =
     halves (target_calls s (is_event line) replies.first) (calls_on target line replies) t u told in
-    left_on held rows two.half u target line replies
-    (on_target held rows s (is_event line) replies.first t two.half at two.before) two.after
+    left_on held P two.half u target line replies
+    (on_target held P s (is_event line) replies.first t two.half at two.before) two.after
 
-left_by_answer : (held rows : List RowWrite) (t u : KeeperTold) (s : State) (o : Option Line) (replies : Replies) → IsAt held rows t s
+left_by_answer : (held : List RowWrite) (P : Start → Type 0) (t u : KeeperTold) (s : State) (o : Option Line) (replies : Replies) → IsAt held P t s
     → TellsCalls (calls_to s o replies) (Some t) (Some u)
-    → AreChainedTo rows (ends_to s o replies) (IsLeft held u (answer_to s o replies))
-left_by_answer held rows t u s None replies at told = same_told (λ v. IsAt held rows v s) t u told at
-left_by_answer held rows t u s (Some line) replies at told = left_by_step held rows t u s line replies at told
+    → AreLinkedTo P (ends_to s o replies) (IsLeft held u (answer_to s o replies))
+left_by_answer held P t u s None replies at told = same_told (λ v. IsAt held P v s) t u told at
+left_by_answer held P t u s (Some line) replies at told = left_by_step held P t u s line replies at told
 
-left_by_turn : (held rows : List RowWrite) (t u : KeeperTold) (s : State) (turn : Turn) → IsAt held rows t s
+left_by_turn : (held : List RowWrite) (P : Start → Type 0) (t u : KeeperTold) (s : State) (turn : Turn) → IsAt held P t s
     → TellsCalls (turn_calls s turn) (Some t) (Some u)
-    → AreChainedTo rows (turn_ends s turn) (IsLeft held u (turn_outcome s turn))
+    → AreLinkedTo P (turn_ends s turn) (IsLeft held u (turn_outcome s turn))
 unfolding turn_outcome turn_calls turn_ends
-left_by_turn held rows t u s turn at told = left_by_answer held rows t u s (line_of turn.line) turn.replies at told
+left_by_turn held P t u s turn at told = left_by_answer held P t u s (line_of turn.line) turn.replies at told
 
 -- all turns
 
-chained-append : (rows : List RowWrite) (bs cs : List BootValue) (P : List RowWrite → Type 0) → AreChainedTo rows bs P
-    → ((later : List RowWrite) → P later → AreChained later cs) → AreChained rows (bs ++ cs)
-chained-append rows [] cs P chained on = on rows chained
-chained-append rows (b ∷ bs) cs P chained on = (chained.0, chained-append (rows_after b.start.base b.entries) bs cs P chained.1 on)
+linked-append : (P : Start → Type 0) (bs cs : List BootValue) (Q : (Start → Type 0) → Type 0) → AreLinkedTo P bs Q
+    → ((later : Start → Type 0) → Q later → AreLinked later cs) → AreLinked P (bs ++ cs)
+linked-append P [] cs Q linked on = on P linked
+linked-append P (b ∷ bs) cs Q linked on = (linked.0, linked-append (GoesOn b) bs cs Q linked.1 on)
 
-chained_left : (rows : List RowWrite) (bs : List BootValue) (P : List RowWrite → Type 0) (Q : Type 0) → AreChainedTo rows bs P
-    → ((later : List RowWrite) → P later → Q) → Q
-chained_left rows [] P Q chained on = on rows chained
-chained_left rows (b ∷ bs) P Q chained on = chained_left (rows_after b.start.base b.entries) bs P Q chained.1 on
+linked_left : (P : Start → Type 0) (bs : List BootValue) (Q : (Start → Type 0) → Type 0) (R : Type 0) → AreLinkedTo P bs Q
+    → ((later : Start → Type 0) → Q later → R) → R
+linked_left P [] Q R linked on = on P linked
+linked_left P (b ∷ bs) Q R linked on = linked_left (GoesOn b) bs Q R linked.1 on
 
-chained_in : (held rows : List RowWrite) (t : KeeperTold) (s : State) → IsAt held rows t s → AreChained rows (boots_in s)
-chained_in held rows t (Heading head) at = tt
-chained_in held rows t (Running r) at = (at.0, tt)
+linked_in : (held : List RowWrite) (P : Start → Type 0) (t : KeeperTold) (s : State) → IsAt held P t s → AreLinked P (boots_in s)
+linked_in held P t (Heading head) at = tt
+linked_in held P t (Running r) at = (at.0, tt)
 
-chained_all : (held rows : List RowWrite) (t u : KeeperTold) (s : State) (turns : List Turn) → IsAt held rows t s
-    → TellsCalls (calls_from s turns) (Some t) (Some u) → AreChained rows (boots_from s turns)
-chained_all held rows t u s [] at told = chained_in held rows t s at
-chained_all held rows t u s (turn ∷ turns) at told =
-    go (nat_lt MAX_LINE_BYTES (length turn.line)) (turn_outcome s turn) (λ v made. left_by_turn held rows t v s turn at made)
-    (λ later v next there. chained_all held later v u next turns there) told
+linked_all : (held : List RowWrite) (P : Start → Type 0) (t u : KeeperTold) (s : State) (turns : List Turn) → IsAt held P t s
+    → TellsCalls (calls_from s turns) (Some t) (Some u) → AreLinked P (boots_from s turns)
+linked_all held P t u s [] at told = linked_in held P t s at
+linked_all held P t u s (turn ∷ turns) at told =
+    go (nat_lt MAX_LINE_BYTES (length turn.line)) (turn_outcome s turn) (λ v made. left_by_turn held P t v s turn at made)
+    (λ later v next there. linked_all held later v u next turns there) told
   where
     go : (long : Bool) (o : Outcome)
-        → ((v : KeeperTold) → TellsCalls (turn_calls s turn) (Some t) (Some v) → AreChainedTo rows (turn_ends s turn) (IsLeft held v o))
-        → ((later : List RowWrite) (v : KeeperTold) (next : State) → IsAt held later v next → TellsCalls (calls_from next turns) (Some v) (Some u) → AreChained later (boots_from next turns))
+        → ((v : KeeperTold) → TellsCalls (turn_calls s turn) (Some t) (Some v) → AreLinkedTo P (turn_ends s turn) (IsLeft held v o))
+        → ((later : Start → Type 0) (v : KeeperTold) (next : State) → IsAt held later v next → TellsCalls (calls_from next turns) (Some v) (Some u) → AreLinked later (boots_from next turns))
         → TellsCalls (if long then [] else (turn_calls s turn ++ (elim o [
           | RefusedIn t ↦ []
           | DoneTo t text ↦ calls_from t turns
           | NotStarted t refusal ↦ []
         ]))) (Some t) (Some u)
-        → AreChained rows (if long then boots_in s else (turn_ends s turn ++ (elim o [
+        → AreLinked P (if long then boots_in s else (turn_ends s turn ++ (elim o [
           | RefusedIn t ↦ boots_in t
           | DoneTo t text ↦ boots_from t turns
           | NotStarted t refusal ↦ boots_in t
         ])))
-    go true o one all told = chained_in held rows t s at
+    go true o one all told = linked_in held P t s at
     go false (RefusedIn next) one all told =
         let two : Halves (turn_calls s turn) [] t u = halves (turn_calls s turn) [] t u told in
-        chained-append rows (turn_ends s turn) (boots_in next) (IsLeft held two.half (RefusedIn next)) (one two.half two.before)
-        (λ later there. chained_in held later two.half next there)
+        linked-append P (turn_ends s turn) (boots_in next) (IsLeft held two.half (RefusedIn next)) (one two.half two.before)
+        (λ later there. linked_in held later two.half next there)
     go false (DoneTo next text) one all told =
         let two : Halves (turn_calls s turn) (calls_from next turns) t u = halves (turn_calls s turn) (calls_from next turns) t u told in
-        chained-append rows (turn_ends s turn) (boots_from next turns) (IsLeft held two.half (DoneTo next text)) (one two.half two.before)
+        linked-append P (turn_ends s turn) (boots_from next turns) (IsLeft held two.half (DoneTo next text)) (one two.half two.before)
         (λ later there. all later two.half next there two.after)
     go false (NotStarted next refusal) one all told =
         let two : Halves (turn_calls s turn) [] t u = halves (turn_calls s turn) [] t u told in
-        chained-append rows (turn_ends s turn) (boots_in next) (IsLeft held two.half (NotStarted next refusal)) (one two.half two.before)
-        (λ later there. chained_in held later two.half next there)
+        linked-append P (turn_ends s turn) (boots_in next) (IsLeft held two.half (NotStarted next refusal)) (one two.half two.before)
+        (λ later there. linked_in held later two.half next there)
 
 -- the rows that are held at the end
 abbrev HoldsAtEnd : List RowWrite → KeeperTold → State → Type 0
 HoldsAtEnd held t (Heading head) = t.rows ≡ held
 HoldsAtEnd held t (Running r) = t.rows ≡ rows_after r.boot.start.base r.boot.entries
 
-held_at : (held rows : List RowWrite) (t : KeeperTold) (s : State) → IsAt held rows t s → HoldsAtEnd held t s
-held_at held rows t (Heading head) at = at.1
-held_at held rows t (Running r) at = at.1
+held_at : (held : List RowWrite) (P : Start → Type 0) (t : KeeperTold) (s : State) → IsAt held P t s → HoldsAtEnd held t s
+held_at held P t (Heading head) at = at.1
+held_at held P t (Running r) at = at.1
 
-held_all : (held rows : List RowWrite) (t u : KeeperTold) (s : State) (n : ℕ) (turns : List Turn) → IsAt held rows t s
+held_all : (held : List RowWrite) (P : Start → Type 0) (t u : KeeperTold) (s : State) (n : ℕ) (turns : List Turn) → IsAt held P t s
     → TellsCalls (calls_from s turns) (Some t) (Some u) → HoldsAtEnd held u (last_state (end_from s n turns))
-held_all held rows t u s n [] at told = held_at held rows u s (same_told (λ v. IsAt held rows v s) t u told at)
-held_all held rows t u s n (turn ∷ turns) at told =
-    go (nat_lt MAX_LINE_BYTES (length turn.line)) (turn_outcome s turn) (λ v made. left_by_turn held rows t v s turn at made)
+held_all held P t u s n [] at told = held_at held P u s (same_told (λ v. IsAt held P v s) t u told at)
+held_all held P t u s n (turn ∷ turns) at told =
+    go (nat_lt MAX_LINE_BYTES (length turn.line)) (turn_outcome s turn) (λ v made. left_by_turn held P t v s turn at made)
     (λ later v next there. held_all held later v u next (n + 1) turns there) told
   where
     -- at a line that ends the scenario
     ends : (o : Outcome) (next : State)
-        → ((v : KeeperTold) → TellsCalls (turn_calls s turn) (Some t) (Some v) → AreChainedTo rows (turn_ends s turn) (IsLeft held v o))
-        → ((later : List RowWrite) (v : KeeperTold) → IsLeft held v o later → IsAt held later v next)
+        → ((v : KeeperTold) → TellsCalls (turn_calls s turn) (Some t) (Some v) → AreLinkedTo P (turn_ends s turn) (IsLeft held v o))
+        → ((later : Start → Type 0) (v : KeeperTold) → IsLeft held v o later → IsAt held later v next)
         → TellsCalls (turn_calls s turn ++ []) (Some t) (Some u) → HoldsAtEnd held u next
     ends o next one is told =
         let two : Halves (turn_calls s turn) [] t u = halves (turn_calls s turn) [] t u told in
-        chained_left rows (turn_ends s turn) (IsLeft held two.half o) (HoldsAtEnd held u next) (one two.half two.before)
+        linked_left P (turn_ends s turn) (IsLeft held two.half o) (HoldsAtEnd held u next) (one two.half two.before)
         (λ later there. held_at held later u next (same_told (λ v. IsAt held later v next) two.half u two.after (is later two.half there)))
 
     go : (long : Bool) (o : Outcome)
-        → ((v : KeeperTold) → TellsCalls (turn_calls s turn) (Some t) (Some v) → AreChainedTo rows (turn_ends s turn) (IsLeft held v o))
-        → ((later : List RowWrite) (v : KeeperTold) (next : State) → IsAt held later v next → TellsCalls (calls_from next turns) (Some v) (Some u) → HoldsAtEnd held u (last_state (end_from next (n + 1) turns)))
+        → ((v : KeeperTold) → TellsCalls (turn_calls s turn) (Some t) (Some v) → AreLinkedTo P (turn_ends s turn) (IsLeft held v o))
+        → ((later : Start → Type 0) (v : KeeperTold) (next : State) → IsAt held later v next → TellsCalls (calls_from next turns) (Some v) (Some u) → HoldsAtEnd held u (last_state (end_from next (n + 1) turns)))
         → TellsCalls (if long then [] else (turn_calls s turn ++ (elim o [
           | RefusedIn t ↦ []
           | DoneTo t text ↦ calls_from t turns
           | NotStarted t refusal ↦ []
         ]))) (Some t) (Some u)
         → HoldsAtEnd held u (last_state (if long then TooLong s n else (elim o [
-          | RefusedIn t ↦ Stopped t n
+          | RefusedIn t ↦ RefusedAt t n
           | DoneTo t text ↦ end_from t (n + 1) turns
           | NotStarted t refusal ↦ Unstarted t refusal
         ])))
-    go true o one all told = held_at held rows u s (same_told (λ v. IsAt held rows v s) t u told at)
+    go true o one all told = held_at held P u s (same_told (λ v. IsAt held P v s) t u told at)
     go false (RefusedIn next) one all told = ends (RefusedIn next) next one (λ later v there. there) told
     go false (DoneTo next text) one all told =
         let two : Halves (turn_calls s turn) (calls_from next turns) t u = halves (turn_calls s turn) (calls_from next turns) t u told in
-        chained_left rows (turn_ends s turn) (IsLeft held two.half (DoneTo next text)) (HoldsAtEnd held u (last_state (end_from next (n + 1) turns))) (one two.half two.before)
+        linked_left P (turn_ends s turn) (IsLeft held two.half (DoneTo next text)) (HoldsAtEnd held u (last_state (end_from next (n + 1) turns))) (one two.half two.before)
         (λ later there. all later two.half next there two.after)
     go false (NotStarted next refusal) one all told = ends (NotStarted next refusal) next one (λ later v there. there) told
 
@@ -493,15 +522,16 @@ no_chain : (old : Option KeeperTold) (bs : List BootValue) → IsChained old Non
 no_chain None bs = tt
 no_chain (Some t) bs = tt
 
-pub turns_tell : (turns : List Turn) (old new : Option KeeperTold) → TellsCalls (calls_from first turns) old new → Tells turns old new
-turns_tell turns old None told = record {
-  calls = told;
+-- where a keeper tells nothing at first, it tells nothing in the end
+pub turns_tell : (turns : List Turn) (old new : Option KeeperTold) → All IsSound (boots_from first turns) → TellsCalls (calls_from first turns) old new → Tells turns old new
+turns_tell turns old None sound told = record {
   rows = no_rows old (last_state (end_from first 1 turns));
   chained = no_chain old (boots_from first turns);
 }
-turns_tell turns None (Some u) told = absurd (cc (none_after (calls_from first turns) (Some u) told))
-turns_tell turns (Some t) (Some u) told = record {
-  calls = told;
-  rows = end_rows t u (last_state (end_from first 1 turns)) (held_all t.rows t.rows t u first 1 turns (refl, refl) told);
-  chained = chained_all t.rows t.rows t u first turns (refl, refl) told;
-}
+turns_tell turns None (Some u) sound told = absurd (cc (none_after (calls_from first turns) (Some u) told))
+turns_tell turns (Some t) (Some u) sound told =
+    let begins : IsAt t.rows (IsOver t.rows) t first = (λ start over. over, refl) in
+    record {
+      rows = end_rows t u (last_state (end_from first 1 turns)) (held_all t.rows (IsOver t.rows) t u first 1 turns begins told);
+      chained = chained_over t.rows (boots_from first turns) sound (linked_all t.rows (IsOver t.rows) t u first turns begins told);
+    }

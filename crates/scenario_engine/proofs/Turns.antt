@@ -9,9 +9,9 @@ use Rattle.scenario_text.specs.declared.line.TheConstants.{MAX_LINE_BYTES}
 use Rattle.scenario_engine.specs.Engine.{Replies}
 use Rattle.scenario_engine.specs.KeeperCalls.{KeeperCall, TellsCalls}
 use Rattle.scenario_engine.specs.State.{State, Outcome, RefusedIn, DoneTo, NotStarted}
-use Rattle.scenario_engine.specs.Telling.{Does, DoesPartly}
-use Rattle.scenario_engine.specs.Transcript.{calls_to, Turn, lines_in, first, turn_outcome, turn_calls, transcript, End, Ended, Stopped, TooLong, Unstarted, end_from, calls_from}
-use Rattle.scenario_engine.proofs.Calls.{all_made, then_calls, split_calls}
+use Rattle.scenario_engine.specs.Telling.{Does}
+use Rattle.scenario_engine.specs.Transcript.{Turn, lines_in, first, turn_outcome, turn_calls, transcript, End, Ended, RefusedAt, TooLong, Unstarted, end_from, calls_from}
+use Rattle.scenario_engine.proofs.Calls.{then_calls}
 
 -- the lines of turns, and of one more
 pub lines_in-push : (turns : List Turn) (turn : Turn) → lines_in (turns ++ turn ∷ []) ≡ lines_in turns ++ turn.line ∷ []
@@ -42,7 +42,7 @@ end_from-more s t n [] more h =
     ap (λ u. end_from u n more) same ∙ ap (λ m. end_from t m more) none
 end_from-more s t n (turn ∷ turns) more h = go (nat_lt MAX_LINE_BYTES (length turn.line)) (turn_outcome s turn) (λ u k. end_from-more u t (n + 1) turns more k) h
   where
-    go : (long : Bool) (o : Outcome) → ((u : State) → end_from u (n + 1) turns ≡ Ended t → end_from u (n + 1) (turns ++ more) ≡ end_from t (n + 1 + length turns) more) → cond long (TooLong s n) (elim o [ RefusedIn u ↦ Stopped u n | DoneTo u text ↦ end_from u (n + 1) turns | NotStarted u r ↦ Unstarted u r ]) ≡ Ended t → cond long (TooLong s n) (elim o [ RefusedIn u ↦ Stopped u n | DoneTo u text ↦ end_from u (n + 1) (turns ++ more) | NotStarted u r ↦ Unstarted u r ]) ≡ end_from t (n + suc (length turns)) more
+    go : (long : Bool) (o : Outcome) → ((u : State) → end_from u (n + 1) turns ≡ Ended t → end_from u (n + 1) (turns ++ more) ≡ end_from t (n + 1 + length turns) more) → cond long (TooLong s n) (elim o [ RefusedIn u ↦ RefusedAt u n | DoneTo u text ↦ end_from u (n + 1) turns | NotStarted u r ↦ Unstarted u r ]) ≡ Ended t → cond long (TooLong s n) (elim o [ RefusedIn u ↦ RefusedAt u n | DoneTo u text ↦ end_from u (n + 1) (turns ++ more) | NotStarted u r ↦ Unstarted u r ]) ≡ end_from t (n + suc (length turns)) more
     go true o later k = cc
     go false (RefusedIn u) later k = cc
     go false (DoneTo u text) later k = let next : n + 1 + length turns ≡ n + suc (length turns) = omega arith in later u k ∙ ap (λ m. end_from t m more) next
@@ -53,7 +53,7 @@ pub transcript-more : (s t : State) (n : ℕ) (turns more : List Turn) → end_f
 transcript-more s t n [] more h = let same : s ≡ t = cc in ap (λ u. transcript u more) same
 transcript-more s t n (turn ∷ turns) more h = go (nat_lt MAX_LINE_BYTES (length turn.line)) (turn_outcome s turn) (λ u k. transcript-more u t (n + 1) turns more k) h
   where
-    go : (long : Bool) (o : Outcome) → ((u : State) → end_from u (n + 1) turns ≡ Ended t → transcript u (turns ++ more) ≡ transcript u turns ++ transcript t more) → cond long (TooLong s n) (elim o [ RefusedIn u ↦ Stopped u n | DoneTo u text ↦ end_from u (n + 1) turns | NotStarted u r ↦ Unstarted u r ]) ≡ Ended t → elim o [ RefusedIn u ↦ [] | DoneTo u text ↦ text ++ transcript u (turns ++ more) | NotStarted u r ↦ [] ] ≡ elim o [ RefusedIn u ↦ [] | DoneTo u text ↦ text ++ transcript u turns | NotStarted u r ↦ [] ] ++ transcript t more
+    go : (long : Bool) (o : Outcome) → ((u : State) → end_from u (n + 1) turns ≡ Ended t → transcript u (turns ++ more) ≡ transcript u turns ++ transcript t more) → cond long (TooLong s n) (elim o [ RefusedIn u ↦ RefusedAt u n | DoneTo u text ↦ end_from u (n + 1) turns | NotStarted u r ↦ Unstarted u r ]) ≡ Ended t → elim o [ RefusedIn u ↦ [] | DoneTo u text ↦ text ++ transcript u (turns ++ more) | NotStarted u r ↦ [] ] ≡ elim o [ RefusedIn u ↦ [] | DoneTo u text ↦ text ++ transcript u turns | NotStarted u r ↦ [] ] ++ transcript t more
     go true o later k = cc
     go false (RefusedIn u) later k = cc
     go false (DoneTo u text) later k = ap (λ r. text ++ r) (later u k) ∙ sym (append_assoc text (transcript u turns) (transcript t more))
@@ -64,7 +64,7 @@ pub calls_from-more : (s t : State) (n : ℕ) (turns more : List Turn) → end_f
 calls_from-more s t n [] more h = let same : s ≡ t = cc in ap (λ u. calls_from u more) same
 calls_from-more s t n (turn ∷ turns) more h = go (nat_lt MAX_LINE_BYTES (length turn.line)) (turn_outcome s turn) (λ u k. calls_from-more u t (n + 1) turns more k) h
   where
-    go : (long : Bool) (o : Outcome) → ((u : State) → end_from u (n + 1) turns ≡ Ended t → calls_from u (turns ++ more) ≡ calls_from u turns ++ calls_from t more) → cond long (TooLong s n) (elim o [ RefusedIn u ↦ Stopped u n | DoneTo u text ↦ end_from u (n + 1) turns | NotStarted u r ↦ Unstarted u r ]) ≡ Ended t → cond long [] (turn_calls s turn ++ elim o [ RefusedIn u ↦ [] | DoneTo u text ↦ calls_from u (turns ++ more) | NotStarted u r ↦ [] ]) ≡ cond long [] (turn_calls s turn ++ elim o [ RefusedIn u ↦ [] | DoneTo u text ↦ calls_from u turns | NotStarted u r ↦ [] ]) ++ calls_from t more
+    go : (long : Bool) (o : Outcome) → ((u : State) → end_from u (n + 1) turns ≡ Ended t → calls_from u (turns ++ more) ≡ calls_from u turns ++ calls_from t more) → cond long (TooLong s n) (elim o [ RefusedIn u ↦ RefusedAt u n | DoneTo u text ↦ end_from u (n + 1) turns | NotStarted u r ↦ Unstarted u r ]) ≡ Ended t → cond long [] (turn_calls s turn ++ elim o [ RefusedIn u ↦ [] | DoneTo u text ↦ calls_from u (turns ++ more) | NotStarted u r ↦ [] ]) ≡ cond long [] (turn_calls s turn ++ elim o [ RefusedIn u ↦ [] | DoneTo u text ↦ calls_from u turns | NotStarted u r ↦ [] ]) ++ calls_from t more
     go true o later k = cc
     go false (RefusedIn u) later k = cc
     go false (DoneTo u text) later k = ap (λ r. turn_calls s turn ++ r) (later u k) ∙ sym (append_assoc (turn_calls s turn) (calls_from u turns) (calls_from t more))
@@ -73,7 +73,7 @@ calls_from-more s t n (turn ∷ turns) more h = go (nat_lt MAX_LINE_BYTES (lengt
 -- a scenario has ended before all turns were done, or at the last one
 abbrev pub Stops : End → Type 0
 Stops (Ended s) = ⊥
-Stops (Stopped s n) = Unit {0}
+Stops (RefusedAt s n) = Unit {0}
 Stops (TooLong s n) = Unit {0}
 Stops (Unstarted s r) = Unit {0}
 
@@ -82,7 +82,7 @@ pub end_from-stopped : (s : State) (n : ℕ) (turns more : List Turn) → Stops 
 end_from-stopped s n [] more h = absurd h
 end_from-stopped s n (turn ∷ turns) more h = go (nat_lt MAX_LINE_BYTES (length turn.line)) (turn_outcome s turn) (λ u k. end_from-stopped u (n + 1) turns more k) h
   where
-    go : (long : Bool) (o : Outcome) → ((u : State) → Stops (end_from u (n + 1) turns) → end_from u (n + 1) (turns ++ more) ≡ end_from u (n + 1) turns) → Stops (cond long (TooLong s n) (elim o [ RefusedIn u ↦ Stopped u n | DoneTo u text ↦ end_from u (n + 1) turns | NotStarted u r ↦ Unstarted u r ])) → cond long (TooLong s n) (elim o [ RefusedIn u ↦ Stopped u n | DoneTo u text ↦ end_from u (n + 1) (turns ++ more) | NotStarted u r ↦ Unstarted u r ]) ≡ cond long (TooLong s n) (elim o [ RefusedIn u ↦ Stopped u n | DoneTo u text ↦ end_from u (n + 1) turns | NotStarted u r ↦ Unstarted u r ])
+    go : (long : Bool) (o : Outcome) → ((u : State) → Stops (end_from u (n + 1) turns) → end_from u (n + 1) (turns ++ more) ≡ end_from u (n + 1) turns) → Stops (cond long (TooLong s n) (elim o [ RefusedIn u ↦ RefusedAt u n | DoneTo u text ↦ end_from u (n + 1) turns | NotStarted u r ↦ Unstarted u r ])) → cond long (TooLong s n) (elim o [ RefusedIn u ↦ RefusedAt u n | DoneTo u text ↦ end_from u (n + 1) (turns ++ more) | NotStarted u r ↦ Unstarted u r ]) ≡ cond long (TooLong s n) (elim o [ RefusedIn u ↦ RefusedAt u n | DoneTo u text ↦ end_from u (n + 1) turns | NotStarted u r ↦ Unstarted u r ])
     go true o later k = refl
     go false (RefusedIn u) later k = refl
     go false (DoneTo u text) later k = later u k
@@ -93,7 +93,7 @@ pub calls_from-stopped : (s : State) (n : ℕ) (turns more : List Turn) → Stop
 calls_from-stopped s n [] more h = absurd h
 calls_from-stopped s n (turn ∷ turns) more h = go (nat_lt MAX_LINE_BYTES (length turn.line)) (turn_outcome s turn) (λ u k. calls_from-stopped u (n + 1) turns more k) h
   where
-    go : (long : Bool) (o : Outcome) → ((u : State) → Stops (end_from u (n + 1) turns) → calls_from u (turns ++ more) ≡ calls_from u turns) → Stops (cond long (TooLong s n) (elim o [ RefusedIn u ↦ Stopped u n | DoneTo u text ↦ end_from u (n + 1) turns | NotStarted u r ↦ Unstarted u r ])) → cond long [] (turn_calls s turn ++ elim o [ RefusedIn u ↦ [] | DoneTo u text ↦ calls_from u (turns ++ more) | NotStarted u r ↦ [] ]) ≡ cond long [] (turn_calls s turn ++ elim o [ RefusedIn u ↦ [] | DoneTo u text ↦ calls_from u turns | NotStarted u r ↦ [] ])
+    go : (long : Bool) (o : Outcome) → ((u : State) → Stops (end_from u (n + 1) turns) → calls_from u (turns ++ more) ≡ calls_from u turns) → Stops (cond long (TooLong s n) (elim o [ RefusedIn u ↦ RefusedAt u n | DoneTo u text ↦ end_from u (n + 1) turns | NotStarted u r ↦ Unstarted u r ])) → cond long [] (turn_calls s turn ++ elim o [ RefusedIn u ↦ [] | DoneTo u text ↦ calls_from u (turns ++ more) | NotStarted u r ↦ [] ]) ≡ cond long [] (turn_calls s turn ++ elim o [ RefusedIn u ↦ [] | DoneTo u text ↦ calls_from u turns | NotStarted u r ↦ [] ])
     go true o later k = refl
     go false (RefusedIn u) later k = refl
     go false (DoneTo u text) later k = ap (λ r. turn_calls s turn ++ r) (later u k)
@@ -113,7 +113,7 @@ pub transcript-done : (s t : State) (turn : Turn) (text : List ℕ) → turn_out
 transcript-done s t turn text done = ap (λ (o : Outcome). elim o [ RefusedIn u ↦ [] | DoneTo u w ↦ w ++ [] | NotStarted u r ↦ [] ]) done ∙ append-nil text
 
 -- a turn that is refused
-pub end_from-refused : (s t : State) (n : ℕ) (turn : Turn) → length turn.line ≤ MAX_LINE_BYTES → turn_outcome s turn ≡ RefusedIn t → end_from s n (turn ∷ []) ≡ Stopped t n
+pub end_from-refused : (s t : State) (n : ℕ) (turn : Turn) → length turn.line ≤ MAX_LINE_BYTES → turn_outcome s turn ≡ RefusedIn t → end_from s n (turn ∷ []) ≡ RefusedAt t n
 end_from-refused s t n turn short refused = rw (short_test turn.line short, refused) refl
 
 -- a turn that needs a boot which was not started
@@ -159,11 +159,3 @@ told-push s turns line o old between new h short told d =
     let turn : Turn = record { line = line; replies = d.replies } in
     let P : List KeeperCall → Type 0 = λ cs. TellsCalls cs old new in
     subst P (sym (calls_from-push s turns turn h short)) (then_calls (calls_from first turns) (turn_calls s turn) old between new told d.told)
-
--- a keeper that was called as turns say, the last of which it was called for after the others
-pub told-split : (s : State) (turns : List Turn) (turn : Turn) (old new : Option KeeperTold) → end_from first 1 turns ≡ Ended s → length turn.line ≤ MAX_LINE_BYTES → TellsCalls (calls_from first (turns ++ turn ∷ [])) old new → (between : Option KeeperTold) × TellsCalls (calls_from first turns) old between × DoesPartly s (line_of turn.line) between new
-unfolding turn_calls
-told-split s turns turn old new h short told =
-    let P : List KeeperCall → Type 0 = λ cs. TellsCalls cs old new in
-    let parts = split_calls (calls_from first turns) (turn_calls s turn) old new (subst P (calls_from-push s turns turn h short) told) in
-    (parts.0, parts.1, record { replies = turn.replies; told = all_made (calls_to s (line_of turn.line) turn.replies) parts.0 new parts.2 })

@@ -135,7 +135,8 @@ calls_on (TheHead head) line replies = []
 calls_on (TheBoot r) line replies = calls_over r (kind_of line) replies
 calls_on (NoBoot head refusal) line replies = []
 
--- The calls of the keeper that a line makes: those of a start, one for a commit with writes, and none else.
+-- The calls of the keeper that a line makes: those of a start, one for a commit with writes that the boot does not refuse,
+-- and none else.
 unfoldable pub line_calls : State → Line → Replies → List KeeperCall
 line_calls s line replies =
     target_calls s (is_event line) replies.first

@@ -28,7 +28,7 @@ TellsCalls [] old new = new ≡ old
 TellsCalls (call ∷ calls) old new =
     (between : Option KeeperTold) × TellsCall call old between × TellsCalls calls between new
 
--- The keeper made some of these calls, the first ones, and then maybe one for which it had no memory.
+-- The first of these calls of the keeper were made, and then maybe one for which it had no memory.
 pub record TellsSome (calls : List KeeperCall) (old new : Option KeeperTold) : Type 0 where
   pub made : List KeeperCall
   pub more : List KeeperCall

@@ -1,5 +1,5 @@
 -- How a boot of a scenario opens over the rows of its keeper, by what the keeper replies.
-use Rattle.std.specs.Prelude.{◌+◌, ◌==◌, Bool, if◌then◌else◌, List, [], ◌∷◌, Option, Some, None}
+use Rattle.std.specs.Prelude.{◌+◌, nat_le, Bool, if◌then◌else◌, List, [], ◌∷◌, Option, Some, None}
 use Rattle.crash_base.specs.declared.row_id.RowId.{RowId}
 use Rattle.crash_base.specs.declared.rows.RowWrite.{RowWrite}
 use Rattle.deployment.specs.declared.parts.Parts.{Parts}
@@ -20,11 +20,15 @@ pub data Opening : Type 0 where
   Opened : (start : Start) → Opening
   Shut : (refusal : StartRefusal) → Opening
 
+-- whether the last boot of these rows leaves no number for a next one
+abbrev pub is_spent : List RowWrite → Bool
+is_spent rows = nat_le greatest_boot (last_boot rows)
+
 -- over rows of which this is the id of the first bad one: it takes the number after that of the last boot
 abbrev pub opening_over : Parts → JournalLimits → List RowWrite → Bool → Option RowId → Opening
 opening_over parts limits rows keeps (Some id) = Shut (refusals.BadRow id)
 opening_over parts limits rows keeps None =
-    if last_boot rows == greatest_boot then Shut refusals.BootsSpent else (
+    if is_spent rows then Shut refusals.BootsSpent else (
     if keeps then Opened (start_over parts limits rows) else Shut refusals.KeeperFailed)
 
 -- over the rows that the keeper gives, if it does
@@ -37,15 +41,15 @@ abbrev pub opening : Parts → JournalLimits → StartReplies → Opening
 opening parts limits replies = opening_of parts limits replies.rows replies.keeps
 
 -- the calls after rows were given, of which this is the id of the first bad one
-abbrev pub calls_over : List RowWrite → Bool → Option RowId → List KeeperCall
-calls_over rows keeps (Some id) = []
-calls_over rows keeps None =
-    if last_boot rows == greatest_boot then [] else apply_calls (boot_row (last_boot rows + 1) ∷ []) keeps
+abbrev pub calls_over_rows : List RowWrite → Bool → Option RowId → List KeeperCall
+calls_over_rows rows keeps (Some id) = []
+calls_over_rows rows keeps None =
+    if is_spent rows then [] else apply_calls (boot_row (last_boot rows + 1) ∷ []) keeps
 
 -- the calls of a start that is given rows, if it is
 abbrev pub start_calls_of : Option (List RowWrite) → Bool → List KeeperCall
 start_calls_of None keeps = Failed ∷ []
-start_calls_of (Some rows) keeps = Gave rows ∷ calls_over rows keeps (first_bad rows)
+start_calls_of (Some rows) keeps = Gave rows ∷ calls_over_rows rows keeps (first_bad rows)
 
 -- The calls that a start makes: one `load`, and one `apply` where the rows are good and a number is left.
 abbrev pub start_calls : StartReplies → List KeeperCall

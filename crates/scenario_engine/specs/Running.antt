@@ -30,7 +30,7 @@ use Rattle.line_steps.specs.Answer.{Answer, Refused, Done, or_refused, within}
 use Rattle.line_steps.specs.Callers.{caller_at, ended, begin_step, call_step}
 use Rattle.line_steps.specs.Texts.{committed_text, commit_refusal_text, down_text, up_text, reboot_refusal_text, table_text, journal_text}
 
--- a boot that was just started, which nobody has called
+-- a boot that was just started, without callers
 abbrev pub started : Start → RunningState
 started start = record { boot = new_boot start; callers = [] }
 
@@ -39,8 +39,8 @@ abbrev pub with_callers : RunningState → List Caller → RunningState
 with_callers r callers = record r { callers = callers }
 
 -- the same callers of a boot whose journal has one entry more
-abbrev pub with_journal : RunningState → Entry → RunningState
-with_journal r e = record r { boot = with_entry r.boot e }
+abbrev pub with_boot_entry : RunningState → Entry → RunningState
+with_boot_entry r e = record r { boot = with_entry r.boot e }
 
 -- The call of a caller joins the journal, or is refused; it ends in each case.
 abbrev pub commit_ends : RunningState → ℕ → TicketValue → Option CommitRefusal → Answer RunningState
@@ -109,7 +109,7 @@ scope_of parts name =
 
 -- a scope goes down, unless that is refused
 abbrev pub goes_down : RunningState → Scope → Option RebootRefusal → Answer RunningState
-goes_down r s None = Done (with_journal r (Down s)) (down_text (length r.boot.entries))
+goes_down r s None = Done (with_boot_entry r (Down s)) (down_text (length r.boot.entries))
 goes_down r s (Some refusal) = Done r (reboot_refusal_text refusal)
 
 -- A scope goes down. Refused is an unknown name.
@@ -123,12 +123,12 @@ unfoldable pub up_step : RunningState → List ℕ → Answer RunningState
 up_step r name =
     or_refused (scope_of r.boot.start.deployment name) (λ s.
     or_refused (undone_of r.boot.entries s) (λ place.
-    Done (with_journal r (Up s)) (up_text (length r.boot.entries))))
+    Done (with_boot_entry r (Up s)) (up_text (length r.boot.entries))))
 
 -- a scope goes down and comes up, unless that is refused
 abbrev pub reboots : RunningState → Scope → Option RebootRefusal → Answer RunningState
 reboots r s None =
-    Done (with_journal (with_journal r (Down s)) (Up s))
+    Done (with_boot_entry (with_boot_entry r (Down s)) (Up s))
     (down_text (length r.boot.entries) ++ up_text (length r.boot.entries + 1))
 reboots r s (Some refusal) = Done r (reboot_refusal_text refusal)
 

@@ -14,3 +14,8 @@ CommitsUnrebooted b = (place : ℕ) (e : CommitEntry) → slice_get b.entries pl
 -- The journal of a boot is a serial execution of its calls, in its order.
 abbrev pub RunsSerially : BootValue → Type 0
 RunsSerially b = IsSerial b.start.base b.entries
+
+-- Each commit of a boot is of a request of this boot.
+abbrev pub CommitsOwnRequests : BootValue → Type 0
+CommitsOwnRequests b = (place : ℕ) (e : CommitEntry) → slice_get b.entries place ≡ Some (Commit e) →
+    e.request.boot ≡ b.start.boot

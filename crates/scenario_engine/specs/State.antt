@@ -15,8 +15,8 @@ pub data State : Type 0 where
   Heading : (head : Head) → State
   Running : (running : RunningState) → State
 
--- A line is refused by the state, which has a boot by then if it is an event line; or it is done, and writes this text; or
--- a boot that it needed was not started.
+-- A line is refused, in this state: an event line has a boot there, which it has started where there was none. Or it is
+-- done, which leaves this state, and writes this text. Or a boot that it needed was not started.
 pub data Outcome : Type 0 where
   RefusedIn : (state : State) → Outcome
   DoneTo : (state : State) (text : List ℕ) → Outcome

@@ -1,7 +1,10 @@
--- What a line answers and asks of the keeper, whatever the keeper replies, and where memory runs out.
-use Rattle.std.specs.Prelude.{◌≡◌, ℕ, Bool, [], Option, string_bytes}
+-- What a line answers and asks of the keeper: that there are replies of the keeper by which it is so. Where memory runs out,
+-- what a line has asked of the keeper by then.
+use Rattle.std.specs.Prelude.{◌≡◌, ℕ, Bool, false, List, [], map, Option, IfSome, string_bytes}
 use Rattle.boot_core.specs.declared.refusals.StartRefusal.{StartRefusal}
 use Rattle.boot_core.specs.declared.refusals.StartRefusal.TheVariants as refusals
+use Rattle.container_core.specs.Start.{boot_row}
+use Rattle.crash_base.specs.Rows.{put_all}
 use Rattle.deployment.specs.declared.parts.Parts.{Parts}
 use Rattle.journal_model.specs.declared.limits.JournalLimits.{JournalLimits}
 use Rattle.outside.specs.Keeper.{KeeperTold}
@@ -45,10 +48,9 @@ pub record Commits (r : RunningState) (caller : ℕ) (answer : Answer RunningSta
   pub answers : answer ≡ commit_step r caller keeps
   pub told : TellsCalls (commit_calls r caller keeps) old new
 
--- Memory ran out while the call of a caller was to commit.
-pub record CommitsPartly (r : RunningState) (caller : ℕ) (old new : Option KeeperTold) : Type 0 where
-  pub keeps : Bool
-  pub told : TellsSome (commit_calls r caller keeps) old new
+-- Memory ran out before the commit of a caller was answered: the keeper has not kept its writes.
+abbrev pub CommitsPartly : RunningState → ℕ → Option KeeperTold → Option KeeperTold → Type 0
+CommitsPartly r caller old new = TellsSome (commit_calls r caller false) old new
 
 -- A line, which is an event line or not, has this to be done to.
 pub record Reaches (s : State) (event : Bool) (target : Target) (old new : Option KeeperTold) : Type 0 where
@@ -87,9 +89,10 @@ AnswersOn answers.Done after target line old new = DoesOn target line (DoneTo af
 AnswersOn (answers.Wrote text) after target line old new =
     DoesOn target line (DoneTo after (string_bytes text)) old new
 
--- Memory ran out while a line was done to a target.
+-- Memory ran out while a line was done to a target: the keeper has not kept the writes of a commit.
 pub record DoesPartlyOn (target : Target) (line : Line) (old new : Option KeeperTold) : Type 0 where
   pub replies : Replies
+  pub unkept : replies.keeps ≡ false
   pub told : TellsSome (calls_on target line replies) old new
 
 -- A line on a target ended for this refusal.
@@ -117,10 +120,18 @@ Answers answers.Done after s line old new = Does s line (DoneTo after []) old ne
 Answers (answers.Wrote text) after s line old new =
     Does s line (DoneTo after (string_bytes text)) old new
 
--- Memory ran out while a text was done that spells this line, or none.
+-- Memory ran out while a text was done that spells this line, or none: the first of its calls of the keeper were made, and
+-- the keeper has not kept the writes of a commit.
 pub record DoesPartly (s : State) (line : Option Line) (old new : Option KeeperTold) : Type 0 where
   pub replies : Replies
+  pub unkept : replies.keeps ≡ false
   pub told : TellsSome (calls_to s line replies) old new
+
+-- Of the rows that the keeper held, at most that of the boot's number is another.
+abbrev pub HoldsRowsButNumber : Option KeeperTold → Option KeeperTold → Type 0
+HoldsRowsButNumber old new =
+    IfSome old (λ o. IfSome new (λ n.
+    (numbers : List ℕ) × (n.rows ≡ put_all (map boot_row numbers) o.rows)))
 
 -- A text that spells this line, or none, was not done for this refusal: a boot that it needs was not started, or memory ran
 -- out.

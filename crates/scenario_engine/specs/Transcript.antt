@@ -23,7 +23,7 @@ lines_in turns = map (λ (turn : Turn). turn.line) turns
 abbrev pub first : State
 first = Heading no_head
 
--- what a text answers that spells this line; one that spells none is refused, and starts no boot
+-- what is answered to a text that spells this line; one that spells none is refused, and starts no boot
 abbrev pub answer_to : State → Option Line → Replies → Outcome
 answer_to s None replies = RefusedIn s
 answer_to s (Some line) replies = step s line replies
@@ -32,7 +32,7 @@ answer_to s (Some line) replies = step s line replies
 unfoldable pub turn_outcome : State → Turn → Outcome
 turn_outcome s turn = answer_to s (line_of turn.line) turn.replies
 
--- the calls of the keeper that a text makes which spells this line
+-- the calls of the keeper by a text that spells this line, or none
 abbrev pub calls_to : State → Option Line → Replies → List KeeperCall
 calls_to s None replies = []
 calls_to s (Some line) replies = line_calls s line replies
@@ -41,7 +41,7 @@ calls_to s (Some line) replies = line_calls s line replies
 unfoldable pub turn_calls : State → Turn → List KeeperCall
 turn_calls s turn = calls_to s (line_of turn.line) turn.replies
 
--- the boot that a text ends which spells this line
+-- the boot that ends by a text which spells this line, or none
 abbrev pub ends_to : State → Option Line → Replies → List BootValue
 ends_to s None replies = []
 ends_to s (Some line) replies = ended_boots s line replies
@@ -63,7 +63,7 @@ transcript s (turn ∷ turns) = elim (turn_outcome s turn) [
 -- started. It leaves this state.
 pub data End : Type 0 where
   Ended : (state : State) → End
-  Stopped : (state : State) (number : ℕ) → End
+  RefusedAt : (state : State) (number : ℕ) → End
   TooLong : (state : State) (number : ℕ) → End
   Unstarted : (state : State) (refusal : StartRefusal) → End
 
@@ -73,7 +73,7 @@ end_from s n [] = Ended s
 end_from s n (turn ∷ turns) =
     if nat_lt MAX_LINE_BYTES (length turn.line) then TooLong s n else
     (elim (turn_outcome s turn) [
-      | RefusedIn t ↦ Stopped t n
+      | RefusedIn t ↦ RefusedAt t n
       | DoneTo t text ↦ end_from t (n + 1) turns
       | NotStarted t refusal ↦ Unstarted t refusal
     ])
@@ -109,6 +109,6 @@ boots_from s (turn ∷ turns) =
 -- the state at the end
 abbrev pub last_state : End → State
 last_state (Ended state) = state
-last_state (Stopped state number) = state
+last_state (RefusedAt state number) = state
 last_state (TooLong state number) = state
 last_state (Unstarted state refusal) = state

@@ -229,7 +229,8 @@ impl Engine {
     /// `reopen` starts the next boot over the keeper's rows.
     ///
     /// # Errors
-    /// `StartRefusal` says why a boot was not started, or that memory ran out. The scenario ends there.
+    /// `StartRefusal` says why a boot was not started, or that memory ran out. The scenario ends there, as it does where the
+    /// line was refused, and what the engine holds then is not told.
     pub fn do_text<K: Keeper>(
         &mut self,
         alloc: Global,

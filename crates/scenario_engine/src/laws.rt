@@ -5,7 +5,10 @@ ghost use Rattle.std.specs.Prelude.{◌≡◌, ◌<◌, ◌-◌, ◌^◌, List, 
 ghost use Rattle.boot_core.specs.Sound.{IsSound};
 ghost use Rattle.outside.specs.Keeper.{KeeperTold};
 ghost use Rattle.scenario_engine.specs.KeeperCalls.{TellsCalls};
-ghost use Rattle.scenario_engine.specs.Sound.{CommitsUnrebooted, RunsSerially};
+ghost use Rattle.scenario_engine.specs.Sound.{CommitsUnrebooted, RunsSerially, CommitsOwnRequests};
+ghost use Rattle.scenario_text.specs.declared.line.Line.{Line};
+ghost use Rattle.scenario_engine.specs.State.{State};
+ghost use Rattle.scenario_engine.specs.Telling.{DoesPartly, HoldsRowsButNumber};
 ghost use Rattle.scenario_engine.specs.Told.{Tells};
 ghost use Rattle.scenario_engine.specs.Transcript.{Turn, lines_in, first, transcript, end_from, last_state, calls_from, boots_in, boots_from};
 
@@ -40,18 +43,28 @@ pub fn no_turns_break_the_order()
     legal_journals_are_serial();
 }
 
+/// Whatever the turns, each commit of a boot is of a request of this boot, also where they stop at a line. A boot commits a
+/// request once at most, since its journal is legal, and boots that a keeper tells of have numbers of their own: so a request
+/// commits once at most over all boots.
+pub fn commits_are_of_their_boot()
+    ensures { (turns : List Turn) → All CommitsOwnRequests (boots_from first turns) }
+{}
+
 /// Whatever the turns, a keeper that was called as they say, and that tells, holds just the rows that the journal of the
 /// last boot leaves, or those that it held first where no boot is started; and each boot was started over the rows that
-/// the one before left. So what was answered as committed stays, over all boots, and nothing else comes.
+/// the one before left, with its deployment, its limits and the next number. So what was answered as committed stays,
+/// over all boots, and nothing else comes.
 pub fn keepers_tell()
     ensures { (turns : List Turn) (old new : Option KeeperTold) →
         TellsCalls (calls_from first turns) old new → Tells turns old new }
-{}
+{
+    boots_are_sound();
+}
 
 /// The lines of a scenario, the rows that its keeper holds and which of its calls fail decide all that it does: two lists of
 /// turns with the same lines write the same and end the same, where the keepers tell the same before and the same failed
-/// calls after; and then the keepers tell the same after. The numbers of calls tell them apart, so their count is below its
-/// last value.
+/// calls after; and then the keepers tell the same after. A call is known by its number, so the count of calls must not have
+/// come to its last value.
 pub fn keepers_decide()
     ensures { (turns others : List Turn) (t a b : KeeperTold) → lines_in turns ≡ lines_in others →
         TellsCalls (calls_from first turns) (Some t) (Some a) →
@@ -60,4 +73,11 @@ pub fn keepers_decide()
         (transcript first turns ≡ transcript first others)
         × (end_from first 1 turns ≡ end_from first 1 others)
         × (a ≡ b) }
+{}
+
+/// Where memory runs out while a line is done, no commit was kept: of the rows that a telling keeper held, at most that of
+/// the boot's number is another.
+pub fn no_commit_is_kept_partly()
+    ensures { (s : State) (line : Option Line) (old new : Option KeeperTold) →
+        DoesPartly s line old new → HoldsRowsButNumber old new }
 {}

@@ -13,8 +13,8 @@
 //! end, and which calls of the keeper they make are functions of the turns alone: `transcript`, `end_from` and
 //! `calls_from`. The engine is proved to answer each line so, and to make just these calls.
 //!
-//! The laws hold for all turns, whatever the keeper replies: `boots_are_sound`, `no_turns_commit_after_a_reboot` and
-//! `no_turns_break_the_order` for the journals of the boots, `keepers_tell` for the rows that the keeper holds, and
+//! The laws hold for all turns, whatever the keeper replies: `boots_are_sound`, `no_turns_commit_after_a_reboot`,
+//! `no_turns_break_the_order` and `commits_are_of_their_boot` for the journals of the boots, `keepers_tell` for the rows that the keeper holds, and
 //! `keepers_decide` for what decides the transcript.
 #![tactic(auto)]
 
@@ -25,6 +25,6 @@ mod running;
 
 pub use engine::Engine;
 pub use laws::{
-    boots_are_sound, keepers_decide, keepers_tell, no_turns_break_the_order,
-    no_turns_commit_after_a_reboot,
+    boots_are_sound, commits_are_of_their_boot, keepers_decide, keepers_tell,
+    no_commit_is_kept_partly, no_turns_break_the_order, no_turns_commit_after_a_reboot,
 };

@@ -1,11 +1,12 @@
 //! Event lines, over a boot that is started.
 
-ghost use Rattle.std.specs.Prelude.{◌≡◌, ◌≤◌, ◌+◌, ◌++◌, length, None, IfOk, IfSome, MatchResult, option_map};
+ghost use Rattle.std.specs.Prelude.{◌≡◌, ◌≤◌, ◌+◌, ◌++◌, length, None, IfOk, IfSome, MatchResult, option_map, string_bytes};
 ghost use Rattle.commit_journal.specs.Journal.{IsScope};
 ghost use Rattle.deployment.specs.Refusals.{deploy_refusal};
 ghost use Rattle.line_steps.specs.Answer.{answer_of, within};
 ghost use Rattle.journal_model.specs.Rows.{rows_after};
 ghost use Rattle.boot_core.specs.Fits.{FitsIn};
+ghost use Rattle.line_steps.specs.Texts.{committed_text};
 ghost use Rattle.line_steps.specs.Callers.{begin_step, call_step, new_ticket};
 ghost use Rattle.scenario_text.specs.declared.line.TheConstants.{MAX_CALLER};
 ghost use Rattle.boot_core.specs.Boot.{new_boot};
@@ -80,7 +81,7 @@ fn current_rows<'a>(alloc: Global, boot: &'a Boot) -> Result<LatestRows<'a>, Out
 }
 
 impl Running {
-    /// Opens a boot over the rows of the keeper, which nobody has called.
+    /// Opens a boot over the rows of the keeper, without callers.
     fn open<K: Keeper>(
         alloc: Global,
         deployment: Deployment,
@@ -154,7 +155,16 @@ impl Running {
         self.boot.number()
     }
 
-    /// A live call joins the journal, or is refused.
+    /// What a caller's commit writes that comes next.
+    fn next_committed_text(&self, alloc: Global, caller: u64) -> Result<String, OutOfMemory>
+        ensures { IfOk result (λ text. string_bytes text
+            ≡ committed_text caller (length self.now.boot.entries)) }
+    {
+        committed_text(alloc, caller, self.boot.journal().len())
+    }
+
+    /// A live call joins the journal, or is refused. What it writes where it commits is made before the keeper is called,
+    /// so no commit is kept that is not answered.
     #[tactic(auto, unfolding(crate::specs::Running::commit_step, crate::specs::Running::commit_calls))]
     pub(crate) fn commit_step<K: Keeper>(
         &mut self,
@@ -168,16 +178,16 @@ impl Running {
             (λ _. CommitsPartly self.old caller (K.told keeper.old) (K.told keeper.new)) }
         ensures count { K.faults keeper.old ≤ K.faults keeper.new }
     {
-        match self.callers.take(caller) {
-            None => Ok(LineAnswer::Refused),
-            Some(ticket) => match self.boot.commit(alloc, keeper, ticket, None) {
-                Ok(place) => match committed_text(alloc, caller, place.0) {
-                    Ok(text) => Ok(LineAnswer::Wrote(text)),
-                    Err(OutOfMemory) => Err(OutOfMemory),
-                },
-                Err(refused) => match commit_refusal_text(alloc, caller, refused.cause) {
-                    Ok(text) => Ok(LineAnswer::Wrote(text)),
-                    Err(OutOfMemory) => Err(OutOfMemory),
+        match self.next_committed_text(alloc, caller) {
+            Err(OutOfMemory) => Err(OutOfMemory),
+            Ok(text) => match self.callers.take(caller) {
+                None => Ok(LineAnswer::Refused),
+                Some(ticket) => match self.boot.commit(alloc, keeper, ticket, None) {
+                    Ok(_) => Ok(LineAnswer::Wrote(text)),
+                    Err(refused) => match commit_refusal_text(alloc, caller, refused.cause) {
+                        Ok(text) => Ok(LineAnswer::Wrote(text)),
+                        Err(OutOfMemory) => Err(OutOfMemory),
+                    },
                 },
             },
         }

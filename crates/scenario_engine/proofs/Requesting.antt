@@ -1,0 +1,268 @@
+-- Each commit of a boot is of a request of its own.
+use Rattle.std.proofs.Common.{◌≡◌, ℕ, ◌+◌, ◌-◌, Bool, inl, inr, List, [], length, Option, Some, None, refl, sym, subst}
+use Rattle.std.specs.Prelude.{◌==◌, not, All, replicate, slice_set}
+use Rattle.std.proofs.lemmas.Bool.{cases_lt}
+use Rattle.std.proofs.lemmas.List.{get_or_past}
+use Rattle.std.proofs.lemmas.List.Elements.{All-nil, All-append, All-push, All-replicate, All-set}
+use Rattle.call_ticket.specs.Ticket.{TicketValue, ticket_kept, ticket_left}
+use Rattle.crash_base.specs.declared.scope.Scope.{Scope}
+use Rattle.deployment.specs.Groups.{group_of}
+use Rattle.deployment.specs.Parts.{component_no, named}
+use Rattle.journal_model.specs.declared.entry.Entry.{Entry}
+use Rattle.journal_model.specs.declared.entry.Entry.TheVariants.{Commit, Down, Up}
+use Rattle.journal_model.specs.Calls.{entry_of, seen, listed}
+use Rattle.journal_model.specs.Reboots.{undone_of}
+use Rattle.journal_model.proofs.Places.{all_there}
+use Rattle.boot_core.specs.Boot.{BootValue}
+use Rattle.boot_core.specs.Owners.{is_in_owner, may_enter}
+use Rattle.boot_core.specs.Refusals.{enter_refusal, exit_refusal, read_refusal, list_refusal, put_refusal, reboot_refusal}
+use Rattle.boot_core.specs.Steps.{ticket_entered, ticket_has_read, ticket_has_listed}
+use Rattle.boot_core.specs.declared.refusals.CallRefusal.{CallRefusal}
+use Rattle.boot_core.specs.declared.refusals.CommitRefusal.{CommitRefusal}
+use Rattle.boot_core.specs.declared.refusals.RebootRefusal.{RebootRefusal}
+use Rattle.scenario_text.specs.declared.line.Line.{Line}
+use Rattle.scenario_text.specs.declared.line.Line.TheVariants as lines
+use Rattle.line_steps.specs.declared.call_lines.CallLine.{CallLine}
+use Rattle.line_steps.specs.declared.call_lines.CallLine.TheVariants as calls
+use Rattle.line_steps.specs.declared.callers.Caller.{Caller}
+use Rattle.line_steps.specs.declared.callers.Caller.TheVariants.{Absent, Live}
+use Rattle.line_steps.specs.Answer.{Answer, Done, refused_if, or_refused, within}
+use Rattle.line_steps.specs.CallLines.{step_answer, row, row_id, rows_then, enter_step, exit_step, read_step, list_step, put_step, call_line}
+use Rattle.line_steps.specs.Callers.{caller_at, padded, can_begin, new_ticket, caller_line, begin_step, call_step, ended}
+use Rattle.line_steps.specs.Head.{head_line}
+use Rattle.line_steps.specs.Tables.{table_of}
+use Rattle.line_steps.specs.Texts.{row_answer_text, list_answer_text}
+use Rattle.line_steps.proofs.Leaving.{Leaves, leaves-refused_if, leaves-or_refused, leaves-within, leaves-weaker, leaves-nothing}
+use Rattle.scenario_engine.specs.Running.{with_callers, with_boot_entry, commit_ends, with_keeper, boot_refusal, caller_commits, caller_drops, commit_step, drop_step, scope_of, goes_down, reboots, down_step, up_step, reboot_step, table_step, journal_step, quiet_line}
+use Rattle.scenario_engine.specs.Sound.{CommitsOwnRequests}
+use Rattle.scenario_engine.specs.State.{RunningState}
+use Rattle.scenario_engine.specs.Transcript.{Turn, first, boots_from}
+use Rattle.scenario_engine.proofs.Keeping.{Keeps, kept_boots}
+
+-- the call of a ticket makes a request of this boot
+abbrev IsOwn : ℕ → TicketValue → Type 0
+IsOwn boot ticket = ticket.call.request.boot ≡ boot
+
+abbrev OwnCaller : ℕ → Caller → Type 0
+OwnCaller boot Absent = Unit {0}
+OwnCaller boot (Live ticket) = IsOwn boot ticket
+
+-- an entry commits no request of another boot
+abbrev OwnEntry : ℕ → Entry → Type 0
+OwnEntry boot (Commit e) = e.request.boot ≡ boot
+OwnEntry boot (Down s) = Unit {0}
+OwnEntry boot (Up s) = Unit {0}
+
+-- so do the entries of a boot, and its callers
+record IsOwnRun (r : RunningState) : Type 0 where
+  entries : All (OwnEntry r.boot.start.boot) r.boot.entries
+  callers : All (OwnCaller r.boot.start.boot) r.callers
+
+-- one call
+
+own_step : (boot caller : ℕ) (ticket next : TicketValue) (text : List ℕ) (refusal : Option CallRefusal) → IsOwn boot ticket → IsOwn boot next → Leaves (IsOwn boot) (step_answer caller ticket refusal next text)
+own_step boot caller ticket next text None own after = after
+own_step boot caller ticket next text (Some refusal) own after = own
+
+own_judged : (boot caller : ℕ) (ticket next : TicketValue) (text : List ℕ) (refusal : Option CallRefusal) (barred : Bool) → IsOwn boot ticket → IsOwn boot next
+    → Leaves (IsOwn boot) (refused_if barred (step_answer caller ticket refusal next text))
+own_judged boot caller ticket next text refusal barred own after =
+    leaves-refused_if (IsOwn boot) barred (step_answer caller ticket refusal next text) (λ free. own_step boot caller ticket next text refusal own after)
+
+-- a step that needs a component or a table, which is found by this number
+own_found : (boot caller : ℕ) (ticket : TicketValue) (o : Option ℕ) (next : ℕ → TicketValue) (text : ℕ → List ℕ) (refusal : ℕ → Option CallRefusal) (barred : ℕ → Bool) → IsOwn boot ticket → ((x : ℕ) → IsOwn boot (next x))
+    → Leaves (IsOwn boot) (or_refused o (λ x. refused_if (barred x) (step_answer caller ticket (refusal x) (next x) (text x))))
+own_found boot caller ticket o next text refusal barred own after =
+    leaves-or_refused (IsOwn boot) o (λ x. refused_if (barred x) (step_answer caller ticket (refusal x) (next x) (text x))) (λ x is.
+    own_judged boot caller ticket (next x) (text x) (refusal x) (barred x) own (after x))
+
+-- whether the call is outside of the component that owns a table
+abbrev is_outside : BootValue → TicketValue → ℕ → Bool
+is_outside b ticket table = not (is_in_owner b.start.deployment ticket.call table)
+
+own_enter : (b : BootValue) (boot caller : ℕ) (ticket : TicketValue) (name : List ℕ) → IsOwn boot ticket → Leaves (IsOwn boot) (enter_step b caller ticket name)
+unfolding enter_step
+own_enter b boot caller ticket name own =
+    let parts = b.start.deployment in
+    own_found boot caller ticket (named parts.components name)
+    (λ x. ticket_entered b.entries (group_of parts x) (component_no x) ticket)
+    (λ x. [])
+    (λ x. enter_refusal b.entries ticket.call (group_of parts x))
+    (λ x. not (may_enter parts ticket.call (component_no x))) own (λ x. own)
+
+own_exit : (b : BootValue) (boot caller : ℕ) (ticket : TicketValue) → IsOwn boot ticket → Leaves (IsOwn boot) (exit_step b caller ticket)
+unfolding exit_step
+own_exit b boot caller ticket own =
+    own_judged boot caller ticket (ticket_left ticket) [] (exit_refusal b.entries ticket.call) (length ticket.call.frames == 0) own own
+
+own_read : (b : BootValue) (boot caller : ℕ) (ticket : TicketValue) (number key : ℕ) → IsOwn boot ticket → Leaves (IsOwn boot) (read_step b caller ticket number key)
+unfolding read_step
+own_read b boot caller ticket number key own =
+    own_found boot caller ticket (table_of number)
+    (λ table. ticket_has_read (rows_then b ticket) (row_id table key) ticket)
+    (λ table. row_answer_text caller (seen (rows_then b ticket) ticket.call.writes (row_id table key)))
+    (λ table. read_refusal b.entries ticket.call (row_id table key))
+    (is_outside b ticket) own (λ table. own)
+
+own_list : (b : BootValue) (boot caller : ℕ) (ticket : TicketValue) (number : ℕ) → IsOwn boot ticket → Leaves (IsOwn boot) (list_step b caller ticket number)
+unfolding list_step
+own_list b boot caller ticket number own =
+    own_found boot caller ticket (table_of number)
+    (λ table. ticket_has_listed table ticket)
+    (λ table. list_answer_text caller (listed (rows_then b ticket) ticket.call.writes table))
+    (λ table. list_refusal b.entries ticket.call table)
+    (is_outside b ticket) own (λ table. own)
+
+own_put : (b : BootValue) (boot caller : ℕ) (ticket : TicketValue) (number key : ℕ) (bytes : List ℕ) → IsOwn boot ticket → Leaves (IsOwn boot) (put_step b caller ticket number key bytes)
+unfolding put_step
+own_put b boot caller ticket number key bytes own =
+    own_found boot caller ticket (table_of number)
+    (λ table. ticket_kept (row table key bytes) ticket)
+    (λ table. [])
+    (λ table. put_refusal b.entries ticket.call (row_id table key))
+    (is_outside b ticket) own (λ table. own)
+
+own_call_line : (b : BootValue) (boot caller : ℕ) (line : CallLine) (ticket : TicketValue) → IsOwn boot ticket → Leaves (IsOwn boot) (call_line b caller ticket line)
+own_call_line b boot caller (calls.Enter name) ticket own = own_enter b boot caller ticket name own
+own_call_line b boot caller calls.Exit ticket own = own_exit b boot caller ticket own
+own_call_line b boot caller (calls.Read table key) ticket own = own_read b boot caller ticket table key own
+own_call_line b boot caller (calls.List table) ticket own = own_list b boot caller ticket table own
+own_call_line b boot caller (calls.Put table key bytes) ticket own = own_put b boot caller ticket table key bytes own
+
+own_caller_line : (b : BootValue) (boot n : ℕ) (line : CallLine) (caller : Caller) → OwnCaller boot caller → Leaves (OwnCaller boot) (caller_line b n line caller)
+own_caller_line b boot n line Absent own = tt
+own_caller_line b boot n line (Live ticket) own =
+    leaves-within (OwnCaller boot) (λ t. Live t) (call_line b n ticket line) (own_call_line b boot n line ticket own)
+
+-- callers
+
+own_at : (boot : ℕ) (callers : List Caller) (n : ℕ) → All (OwnCaller boot) callers → OwnCaller boot (caller_at callers n)
+own_at boot callers n all = elim (cases_lt n (length callers)) [
+  | inl within ↦ all n Absent within
+  | inr past ↦ (let P : Caller → Type 0 = λ x. OwnCaller boot x in subst P (sym (get_or_past callers n Absent past)) tt)
+]
+
+own_callers : (r : RunningState) (a : Answer (List Caller)) → IsOwnRun r → Leaves (All (OwnCaller r.boot.start.boot)) a → Leaves IsOwnRun (within (with_callers r) a)
+own_callers r a run h =
+    leaves-within IsOwnRun (with_callers r) a
+    (leaves-weaker (All (OwnCaller r.boot.start.boot)) (λ callers. IsOwnRun (with_callers r callers)) a (λ callers own. record { entries = run.entries; callers = own }) h)
+
+own_begin : (r : RunningState) (n : ℕ) → IsOwnRun r → Leaves IsOwnRun (within (with_callers r) (begin_step r.boot r.callers n))
+unfolding begin_step
+own_begin r n run =
+    let P : Caller → Type 0 = OwnCaller r.boot.start.boot in
+    let more : ℕ = n + 1 - length r.callers in
+    let all : All P (padded r.callers n) = All-append P r.callers (replicate more Absent) run.callers (All-replicate P more Absent tt) in
+    own_callers r _ run
+    (leaves-refused_if (All P) (not (can_begin r.callers n)) (Done (slice_set (padded r.callers n) n (Live (new_ticket r.boot n))) []) (λ free.
+    All-set P (padded r.callers n) n (Live (new_ticket r.boot n)) refl all))
+
+own_call : (r : RunningState) (n : ℕ) (line : CallLine) → IsOwnRun r → Leaves IsOwnRun (within (with_callers r) (call_step r.boot r.callers n line))
+unfolding call_step
+own_call r n line run =
+    let P : Caller → Type 0 = OwnCaller r.boot.start.boot in
+    let a : Answer Caller = caller_line r.boot n line (caller_at r.callers n) in
+    own_callers r (within (slice_set r.callers n) a) run
+    (leaves-within (All P) (slice_set r.callers n) a
+    (leaves-weaker P (λ x. All P (slice_set r.callers n x)) a (λ x own. All-set P r.callers n x own run.callers)
+    (own_caller_line r.boot r.boot.start.boot n line (caller_at r.callers n) (own_at r.boot.start.boot r.callers n run.callers))))
+
+-- a caller's call ends
+own_ended : (r : RunningState) (n : ℕ) → IsOwnRun r → IsOwnRun (with_callers r (ended r.callers n))
+own_ended r n run = record { entries = run.entries; callers = All-set (OwnCaller r.boot.start.boot) r.callers n Absent tt run.callers }
+
+-- the journal has one entry more
+own_entry : (r : RunningState) (e : Entry) → OwnEntry r.boot.start.boot e → IsOwnRun r → IsOwnRun (with_boot_entry r e)
+own_entry r e own run = record { entries = All-push (OwnEntry r.boot.start.boot) r.boot.entries e run.entries own; callers = run.callers }
+
+-- commits
+
+own_commit_ends : (r : RunningState) (n : ℕ) (ticket : TicketValue) (refusal : Option CommitRefusal) → IsOwn r.boot.start.boot ticket → IsOwnRun r → Leaves IsOwnRun (commit_ends r n ticket refusal)
+own_commit_ends r n ticket None own run =
+    own_entry (with_callers r (ended r.callers n)) (Commit (entry_of ticket.call None)) own (own_ended r n run)
+own_commit_ends r n ticket (Some refusal) own run = own_ended r n run
+
+own_caller_commits : (r : RunningState) (n : ℕ) (keeps : Bool) (caller : Caller) → OwnCaller r.boot.start.boot caller → IsOwnRun r → Leaves IsOwnRun (caller_commits r n keeps caller)
+own_caller_commits r n keeps Absent own run = tt
+own_caller_commits r n keeps (Live ticket) own run =
+    own_commit_ends r n ticket (with_keeper (boot_refusal r ticket) ticket.call.writes keeps) own run
+
+own_commit : (r : RunningState) (n : ℕ) (keeps : Bool) → IsOwnRun r → Leaves IsOwnRun (commit_step r n keeps)
+unfolding commit_step
+own_commit r n keeps run = own_caller_commits r n keeps (caller_at r.callers n) (own_at r.boot.start.boot r.callers n run.callers) run
+
+own_caller_drops : (r : RunningState) (n : ℕ) (caller : Caller) → IsOwnRun r → Leaves IsOwnRun (caller_drops r n caller)
+own_caller_drops r n Absent run = tt
+own_caller_drops r n (Live ticket) run = own_ended r n run
+
+own_drop : (r : RunningState) (n : ℕ) → IsOwnRun r → Leaves IsOwnRun (drop_step r n)
+unfolding drop_step
+own_drop r n run = own_caller_drops r n (caller_at r.callers n) run
+
+-- reboots
+
+own_goes_down : (r : RunningState) (s : Scope) (refusal : Option RebootRefusal) → IsOwnRun r → Leaves IsOwnRun (goes_down r s refusal)
+own_goes_down r s None run = own_entry r (Down s) tt run
+own_goes_down r s (Some refusal) run = run
+
+own_down : (r : RunningState) (name : List ℕ) → IsOwnRun r → Leaves IsOwnRun (down_step r name)
+unfolding down_step
+own_down r name run =
+    leaves-or_refused IsOwnRun (scope_of r.boot.start.deployment name) _ (λ s known.
+    own_goes_down r s (reboot_refusal r.boot.start.limits r.boot.entries s) run)
+
+own_up : (r : RunningState) (name : List ℕ) → IsOwnRun r → Leaves IsOwnRun (up_step r name)
+unfolding up_step
+own_up r name run =
+    leaves-or_refused IsOwnRun (scope_of r.boot.start.deployment name) _ (λ s known.
+    leaves-or_refused IsOwnRun (undone_of r.boot.entries s) _ (λ place found. own_entry r (Up s) tt run))
+
+own_reboots : (r : RunningState) (s : Scope) (refusal : Option RebootRefusal) → IsOwnRun r → Leaves IsOwnRun (reboots r s refusal)
+own_reboots r s None run = own_entry (with_boot_entry r (Down s)) (Up s) tt (own_entry r (Down s) tt run)
+own_reboots r s (Some refusal) run = run
+
+own_reboot : (r : RunningState) (name : List ℕ) → IsOwnRun r → Leaves IsOwnRun (reboot_step r name)
+unfolding reboot_step
+own_reboot r name run =
+    leaves-or_refused IsOwnRun (scope_of r.boot.start.deployment name) _ (λ s known.
+    own_reboots r s (reboot_refusal r.boot.start.limits r.boot.entries s) run)
+
+own_quiet : (r : RunningState) (line : Line) → IsOwnRun r → Leaves IsOwnRun (quiet_line r line)
+unfolding table_step journal_step
+own_quiet r lines.Pass run = run
+own_quiet r (lines.Component name) run = tt
+own_quiet r (lines.Hard from to) run = tt
+own_quiet r (lines.Soft from to) run = tt
+own_quiet r (lines.Owns name table) run = tt
+own_quiet r (lines.Limit entries bytes) run = tt
+own_quiet r (lines.Begin c) run = own_begin r c run
+own_quiet r (lines.Enter c name) run = own_call r c (calls.Enter name) run
+own_quiet r (lines.Exit c) run = own_call r c calls.Exit run
+own_quiet r (lines.Read c table key) run = own_call r c (calls.Read table key) run
+own_quiet r (lines.List c table) run = own_call r c (calls.List table) run
+own_quiet r (lines.Put c table key bytes) run = own_call r c (calls.Put table key bytes) run
+own_quiet r (lines.Commit c) run = tt
+own_quiet r (lines.Drop c) run = own_drop r c run
+own_quiet r (lines.Down name) run = own_down r name run
+own_quiet r (lines.Up name) run = own_up r name run
+own_quiet r (lines.Reboot name) run = own_reboot r name run
+own_quiet r lines.Table run = run
+own_quiet r lines.Journal run = run
+own_quiet r lines.Reopen run = tt
+
+-- all turns
+
+own_keeps : Keeps (λ head. Unit {0}) IsOwnRun
+own_keeps = record {
+  heads = (λ head line h. leaves-nothing (head_line head line));
+  opens = (λ head replies start h opened. record { entries = All-nil (OwnEntry start.boot); callers = All-nil (OwnCaller start.boot) });
+  reopens = (λ r replies start run opened. record { entries = All-nil (OwnEntry start.boot); callers = All-nil (OwnCaller start.boot) });
+  commits = own_commit;
+  quiet = (λ r line short run. own_quiet r line run);
+}
+
+own_boot : (r : RunningState) → IsOwnRun r → CommitsOwnRequests r.boot
+own_boot r run = λ place e there. all_there (OwnEntry r.boot.start.boot) r.boot.entries place (Commit e) run.entries there
+
+pub own_in_all : (turns : List Turn) → All CommitsOwnRequests (boots_from first turns)
+own_in_all turns = kept_boots (λ head. Unit {0}) IsOwnRun CommitsOwnRequests own_keeps own_boot first turns tt
