@@ -35,7 +35,7 @@ fn expect_status(rt: &impl Abort, found: u8, wanted: u8, row: &str) {
 }
 
 /// Asserts that this text came.
-fn expect_text(rt: &impl Abort, found: &str, wanted: &str, row: &str) {
+pub fn expect_text(rt: &impl Abort, found: &str, wanted: &str, row: &str) {
     assert_eq!(rt; found, wanted, "{row}");
 }
 
@@ -53,7 +53,7 @@ fn expect_lines(
 }
 
 /// Asserts what a command did.
-fn expect_ran(
+pub fn expect_ran(
     rt: &(impl Abort + AllocGlobal),
     ran: &Ran,
     row: &str,

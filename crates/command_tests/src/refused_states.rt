@@ -200,17 +200,6 @@ fn steps_on_other_tables_are_refused(rt: HostRuntime) -> Result<(), Fail> {
     expect_no_step(&rt, "put c1", " 7 61")
 }
 
-/// A scenario is of one boot, whatever it has done.
-const REOPENS: &str = "3|line 7/||reopen
-3|line 8/||begin c1/reopen
-3|line 9/|c1 committed 0/|begin c1/commit c1/reopen/table
-3|line 8/|down 0/up 1/|reboot app/reopen";
-
-#[test]
-fn other_boots_are_refused(rt: HostRuntime) -> Result<(), Fail> {
-    expect_rows(&rt, "drive", PAIR, REOPENS)
-}
-
 /// What goes down or comes up is the application or a component that is there.
 const SCOPES: &str = "3|line 7/||down D
 3|line 7/||up D

@@ -2,7 +2,7 @@
 
 use crash_base::{InputBytes, Items, RowList, WordText};
 use drive_engine::run_command;
-use outside::{BytesSink, BytesSource, CallList, SizeList, SureKeeper};
+use outside::{BytesSink, BytesSource, CallList, Keeper, SizeList, SureKeeper};
 use std::alloc::Global;
 use std::test::Fail;
 
@@ -41,7 +41,7 @@ pub struct Case<'a> {
 }
 
 /// A list of one call.
-fn failing(alloc: Global, call: u64) -> Result<CallList, Fail> {
+pub fn one_call(alloc: Global, call: u64) -> Result<CallList, Fail> {
     let mut calls = CallList::new(alloc);
     calls.push(call)?;
     Ok(calls)
@@ -61,13 +61,13 @@ fn pieces_of(alloc: Global, text: &[u8], piece: u64) -> Result<SizeList, Fail> {
 /// A text in memory.
 fn source_of(alloc: Global, text: &[u8], outside: Outside) -> Result<BytesSource, Fail> {
     let pieces = pieces_of(alloc, text, outside.piece)?;
-    let calls = failing(alloc, outside.failing_read)?;
+    let calls = one_call(alloc, outside.failing_read)?;
     Ok(BytesSource::new(InputBytes::copied(alloc, text)?, pieces, calls))
 }
 
 /// Room for so many bytes.
 fn sink_of(alloc: Global, room: u64, call: u64) -> Result<BytesSink, Fail> {
-    Ok(BytesSink::new(alloc, room, failing(alloc, call)?)?)
+    Ok(BytesSink::new(alloc, room, one_call(alloc, call)?)?)
 }
 
 /// Nothing was written yet.
@@ -90,29 +90,42 @@ pub fn words_of(alloc: Global, words: &[&str]) -> Result<Items<WordText>, Fail> 
     Ok(all)
 }
 
-/// Runs a command, and notes its status.
-fn run_words(alloc: Global, words: &[WordText], input: &mut BytesSource, ran: &mut Ran) {
-    let keeper = SureKeeper::new(RowList::new(alloc));
-    let (status, _) = run_command(alloc, words, input, &mut ran.out, &mut ran.errors, keeper);
+/// Runs a command over its input and a keeper, and notes its status.
+fn run_words<K: Keeper + Drop>(
+    alloc: Global,
+    words: &[WordText],
+    input: &mut BytesSource,
+    ran: &mut Ran,
+    keeper: K,
+) -> K {
+    let (status, keeper) = run_command(alloc, words, input, &mut ran.out, &mut ran.errors, keeper);
     ran.status = status;
+    keeper
 }
 
-/// Runs a command over its input.
-fn run_over(
+/// Runs a command over its input and a keeper.
+fn run_over<K: Keeper + Drop>(
     alloc: Global,
     words: &[&str],
     input: &mut BytesSource,
     ran: &mut Ran,
-) -> Result<(), Fail> {
+    keeper: K,
+) -> Result<K, Fail> {
     let words = words_of(alloc, words)?;
-    run_words(alloc, words.as_slice(), input, ran);
-    Ok(())
+    Ok(run_words(alloc, words.as_slice(), input, ran, keeper))
 }
 
-/// Runs a command over a text in memory.
-pub fn run(alloc: Global, case: Case) -> Result<Ran, Fail> {
+/// Runs a command over a text in memory and a keeper, and hands the keeper back.
+pub fn run_with<K: Keeper + Drop>(alloc: Global, case: Case, keeper: K) -> Result<(Ran, K), Fail> {
     let mut input = source_of(alloc, case.text, case.outside)?;
     let mut ran = nothing_ran(alloc, case.outside)?;
-    run_over(alloc, case.words, &mut input, &mut ran)?;
+    let keeper = run_over(alloc, case.words, &mut input, &mut ran, keeper)?;
+    Ok((ran, keeper))
+}
+
+/// Runs a command over a text in memory, and a keeper that holds no rows and never fails.
+pub fn run(alloc: Global, case: Case) -> Result<Ran, Fail> {
+    let keeper = SureKeeper::new(RowList::new(alloc));
+    let (ran, _) = run_with(alloc, case, keeper)?;
     Ok(ran)
 }

@@ -1,14 +1,15 @@
 //! The program `crash`: its words, its streams and its exit status.
 //!
-//! Everything else is `drive_engine::run_command`, which is proved over any source and sink. Here it gets the
-//! standard streams.
+//! Everything else is `drive_engine::run_command`, which is proved over any source, sink and keeper. Here it gets the
+//! standard streams, and a keeper in memory.
 #![tactic(auto)]
 
 mod words;
 
-use crash_base::{RowList, WordText};
+use crash_base::{OutOfMemory, RowList, WordText};
 use drive_engine::{USAGE, run_command};
-use outside::{Failed, InputSource, OutputSink, Sink, SureKeeper, write_all};
+use outside::{CallList, Failed, InputSource, MapKeeper, OutputSink, Sink, write_all};
+use std::alloc::Global;
 use std::process::ExitCode;
 use words::Invocation;
 
@@ -38,6 +39,17 @@ fn answer<T: Sink, E: Sink>(out: &mut T, errors: &mut E, texts: &[&str]) -> u8 {
     0
 }
 
+/// A keeper in memory that holds no rows, and of which no call fails.
+fn empty_keeper(alloc: Global) -> Result<MapKeeper, OutOfMemory> {
+    MapKeeper::new(alloc, RowList::new(alloc), CallList::new(alloc))
+}
+
+/// Reports that there was no memory to begin with, and answers the status of that.
+fn out_of_memory<E: Sink>(errors: &mut E) -> u8 {
+    let _ = write_all(errors, b"out of memory\n");
+    9
+}
+
 /// Runs what the words ask for, and answers the status.
 fn run(rt: &HostRuntime, words: &[WordText]) -> u8 {
     let mut out = OutputSink::new(rt.stdout());
@@ -48,7 +60,9 @@ fn run(rt: &HostRuntime, words: &[WordText]) -> u8 {
         Invocation::Command => {
             let alloc = rt.alloc();
             let mut input = InputSource::new(rt.stdin());
-            let keeper = SureKeeper::new(RowList::new(alloc));
+            let Ok(keeper) = empty_keeper(alloc) else {
+                return out_of_memory(&mut errors);
+            };
             let (status, _) = run_command(alloc, words, &mut input, &mut out, &mut errors, keeper);
             status
         }
@@ -58,10 +72,7 @@ fn run(rt: &HostRuntime, words: &[WordText]) -> u8 {
 fn main(rt: HostRuntime) -> ExitCode {
     let status = match words::read(&rt) {
         Ok(words) => run(&rt, words.as_slice()),
-        Err(_) => {
-            let _ = write_all(&mut OutputSink::new(rt.stderr()), b"out of memory\n");
-            9
-        }
+        Err(_) => out_of_memory(&mut OutputSink::new(rt.stderr())),
     };
     ExitCode::from(status)
 }

@@ -1,66 +1,64 @@
--- Each text calls for one status, and a run that ends by its text ends with that.
-use Rattle.std.proofs.Common.{◌≡◌, ◌≢◌, inl, inr, ◌⊎◌, ℕ, ◌<◌, ◌≤◌, List, [], ◌∷◌, ◌++◌, suc, length, take, Option, Some, None, Result, Ok, Err, refl, ap, sym, ◌∙◌, arith}
+-- Each text calls for one status, whatever the keeper replies.
+use Rattle.std.proofs.Common.{◌≡◌, ◌≢◌, inl, inr, ℕ, ◌≤◌, List, [], ◌∷◌, length, take, Result, Ok, Err, refl, ap, sym, subst, ◌∙◌, arith}
 use Rattle.std.proofs.lemmas.Bool.{cases_lt}
 use Rattle.deployment.specs.declared.parts.Parts.{Parts}
 use Rattle.descriptor_text.specs.Text.{IsAnswer}
 use Rattle.descriptor_text.specs.declared.refusals.TextRefusal.{TextRefusal}
 use Rattle.descriptor_text.specs.declared.refusals.TextRefusal.TheVariants.{OutOfMemory}
 use Rattle.descriptor_text.proofs.Exactness.{one_answer}
-use Rattle.outside.specs.Source.{prepended}
-use Rattle.scenario_text.specs.Cutting.{IsCut}
-use Rattle.scenario_text.specs.declared.line.TheConstants.{MAX_LINE_BYTES}
-use Rattle.scenario_text.proofs.EndedLines.{cut_of, cut_once, FirstHas}
+use Rattle.scenario_text.specs.Cutting.{lines_of, IsCut}
+use Rattle.scenario_text.proofs.EndedLines.{cut_of, cut_once}
+use Rattle.scenario_engine.specs.Transcript.{Turn, lines_in, first, end_from}
 use Rattle.drive_engine.specs.declared.drive.TheConstants.{MAX_SCENARIO_BYTES}
 use Rattle.drive_engine.specs.declared.groups.TheConstants.{MAX_DESCRIPTOR_BYTES}
 use Rattle.drive_engine.specs.declared.words.Command.{Command}
 use Rattle.drive_engine.specs.declared.words.Command.TheVariants.{Drive, Groups}
-use Rattle.drive_engine.specs.Command.{CallsFor, status_past_limit}
-use Rattle.drive_engine.specs.State.{State}
-use Rattle.drive_engine.specs.Transcript.{first, end_from, TooLong}
-use Rattle.drive_engine.proofs.Playing.{end_from-long}
+use Rattle.drive_engine.specs.Command.{CallsFor, DescriptorsCallFor, status_past_limit}
+
+-- a text has lines, and calls for a status whatever the keeper replies to them
+abbrev pub CallsForAny : Command → List ℕ → Type 0
+CallsForAny command text = (lines : List (List ℕ)) × ((turns : List Turn) → lines_in turns ≡ lines → (status : ℕ) × CallsFor command text turns status)
 
 -- a text of descriptors that is short enough calls for 0 or for 10, by its answer
-called_by_answer : (text : List ℕ) (a : Result Parts TextRefusal) → length text ≤ MAX_DESCRIPTOR_BYTES → a ≢ Err OutOfMemory → IsAnswer text a → (status : ℕ) × CallsFor Groups text status
+called_by_answer : (text : List ℕ) (a : Result Parts TextRefusal) → length text ≤ MAX_DESCRIPTOR_BYTES → a ≢ Err OutOfMemory → IsAnswer text a → (status : ℕ) × DescriptorsCallFor text status
 called_by_answer text (Ok parts) short found answer = (0, inr (inl (refl, (short, (parts, answer)))))
 called_by_answer text (Err cause) short found answer = (10, inr (inr (refl, (short, record { cause = cause; found = λ is. found (ap Err is); answer = answer }))))
 
-pub status_called : ((text : List ℕ) → (a : Result Parts TextRefusal) × (a ≢ Err OutOfMemory) × IsAnswer text a) → (command : Command) (text : List ℕ) → (status : ℕ) × CallsFor command text status
-status_called answers Drive text = elim (cases_lt MAX_SCENARIO_BYTES (length text)) [
-  | inl long ↦ (let h = cut_of (take MAX_SCENARIO_BYTES text) in (_, inr (record { long = long; lines = h.0; part = h.1; cut = h.2; called = refl })))
-  | inr short ↦ (_, inl (refl, short))
-]
-status_called answers Groups text = elim (cases_lt MAX_DESCRIPTOR_BYTES (length text)) [
+called_for_groups : ((text : List ℕ) → (a : Result Parts TextRefusal) × (a ≢ Err OutOfMemory) × IsAnswer text a) → (text : List ℕ) → (status : ℕ) × DescriptorsCallFor text status
+called_for_groups answers text = elim (cases_lt MAX_DESCRIPTOR_BYTES (length text)) [
   | inl long ↦ (8, inl (refl, long))
   | inr short ↦ (let a = answers text in called_by_answer text a.0 short a.1 a.2)
 ]
 
-called_past_limit_once : (text head : List ℕ) (a b : ℕ) (ls ms : List (List ℕ)) (p q : List ℕ) → IsCut head ls p → IsCut head ms q → a ≡ status_past_limit (end_from first 1 ls) (length p) → b ≡ status_past_limit (end_from first 1 ms) (length q) → a ≡ b
-called_past_limit_once text head a b ls ms p q h k e f =
-    let same = cut_once head ls ms p q h k in
-    e ∙ ap (λ ls. status_past_limit (end_from first 1 ls) (length p)) same.0 ∙ ap (λ p. status_past_limit (end_from first 1 ms) (length p)) same.1 ∙ sym f
+-- turns of no lines are none
+no_turns : (turns : List Turn) → lines_in turns ≡ [] → turns ≡ []
+no_turns [] is = refl
+no_turns (turn ∷ turns) is = cc
+
+pub status_called : ((text : List ℕ) → (a : Result Parts TextRefusal) × (a ≢ Err OutOfMemory) × IsAnswer text a) → (command : Command) (text : List ℕ) → CallsForAny command text
+status_called answers Drive text = elim (cases_lt MAX_SCENARIO_BYTES (length text)) [
+  | inl long ↦ (let h = cut_of (take MAX_SCENARIO_BYTES text) in (h.0, λ turns is. (status_past_limit (end_from first 1 turns) (length h.1), inr (record { long = long; part = h.1; cut = subst (λ ls. IsCut (take MAX_SCENARIO_BYTES text) ls h.1) (sym is) h.2; called = refl }))))
+  | inr short ↦ (lines_of text, λ turns is. (_, inl (record { short = short; lines = is; called = refl })))
+]
+status_called answers Groups text = ([], λ turns is. (let called = called_for_groups answers text in (called.0, (no_turns turns is, called.1))))
+
+called_once_for_groups : (text : List ℕ) (a b : ℕ) → DescriptorsCallFor text a → DescriptorsCallFor text b → a ≡ b
+called_once_for_groups text a b (inl h) (inl k) = h.0 ∙ sym k.0
+called_once_for_groups text a b (inl h) (inr (inl k)) = absurd (omega (arith, h.1, k.1.0))
+called_once_for_groups text a b (inl h) (inr (inr k)) = absurd (omega (arith, h.1, k.1.0))
+called_once_for_groups text a b (inr (inl h)) (inl k) = absurd (omega (arith, k.1, h.1.0))
+called_once_for_groups text a b (inr (inl h)) (inr (inl k)) = h.0 ∙ sym k.0
+called_once_for_groups text a b (inr (inl (e, (short, (parts, d))))) (inr (inr (f, (short', r)))) = let same = one_answer text (Ok parts) (Err r.cause) d r.answer (λ i. cc) (λ i. r.found (cc)) in cc
+called_once_for_groups text a b (inr (inr h)) (inl k) = absurd (omega (arith, k.1, h.1.0))
+called_once_for_groups text a b (inr (inr (f, (short', r)))) (inr (inl (e, (short, (parts, d))))) = let same = one_answer text (Ok parts) (Err r.cause) d r.answer (λ i. cc) (λ i. r.found (cc)) in cc
+called_once_for_groups text a b (inr (inr h)) (inr (inr k)) = h.0 ∙ sym k.0
 
 -- each calls for one status at most
-pub called_once : (command : Command) (text : List ℕ) (a b : ℕ) → CallsFor command text a → CallsFor command text b → a ≡ b
-called_once Drive text a b (inl h) (inl k) = h.0 ∙ sym k.0
-called_once Drive text a b (inl h) (inr k) = absurd (omega (arith, h.1, k.long))
-called_once Drive text a b (inr h) (inl k) = absurd (omega (arith, h.long, k.1))
-called_once Drive text a b (inr h) (inr k) = called_past_limit_once text (take MAX_SCENARIO_BYTES text) a b h.lines k.lines h.part k.part h.cut k.cut h.called k.called
-called_once Groups text a b (inl h) (inl k) = h.0 ∙ sym k.0
-called_once Groups text a b (inl h) (inr (inl k)) = absurd (omega (arith, h.1, k.1.0))
-called_once Groups text a b (inl h) (inr (inr k)) = absurd (omega (arith, h.1, k.1.0))
-called_once Groups text a b (inr (inl h)) (inl k) = absurd (omega (arith, k.1, h.1.0))
-called_once Groups text a b (inr (inl h)) (inr (inl k)) = h.0 ∙ sym k.0
-called_once Groups text a b (inr (inl (e, (short, (parts, d))))) (inr (inr (f, (short', r)))) = let same = one_answer text (Ok parts) (Err r.cause) d r.answer (λ i. cc) (λ i. r.found (cc)) in cc
-called_once Groups text a b (inr (inr h)) (inl k) = absurd (omega (arith, k.1, h.1.0))
-called_once Groups text a b (inr (inr (f, (short', r)))) (inr (inl (e, (short, (parts, d))))) = let same = one_answer text (Ok parts) (Err r.cause) d r.answer (λ i. cc) (λ i. r.found (cc)) in cc
-called_once Groups text a b (inr (inr h)) (inr (inr k)) = h.0 ∙ sym k.0
-
--- a text that was read, before what is left, where the source tells
-told : (taken text : List ℕ) (now : Option (List ℕ)) → Some text ≡ prepended taken now → (more : List ℕ) × (now ≡ Some more) × (text ≡ taken ++ more)
-told taken text None h = cc
-told taken text (Some more) h = (more, refl, cc)
-
--- how lines end, the first of which, or else what follows them, is too long
-end_of_long : (s : State) (n : ℕ) (lines : List (List ℕ)) (part : List ℕ) → FirstHas (suc MAX_LINE_BYTES) lines part → ((lines ≡ []) × (MAX_LINE_BYTES < length part)) ⊎ (end_from s n lines ≡ TooLong s n)
-end_of_long s n [] part h = inl (refl, omega (arith, h))
-end_of_long s n (line ∷ lines) part h = inr (end_from-long s n line lines (omega (arith, h)))
+pub called_once : (command : Command) (text : List ℕ) (turns : List Turn) (a b : ℕ) → CallsFor command text turns a → CallsFor command text turns b → a ≡ b
+called_once Drive text turns a b (inl h) (inl k) = h.called ∙ sym k.called
+called_once Drive text turns a b (inl h) (inr k) = absurd (omega (arith, h.short, k.long))
+called_once Drive text turns a b (inr h) (inl k) = absurd (omega (arith, h.long, k.short))
+called_once Drive text turns a b (inr h) (inr k) =
+    let same = cut_once (take MAX_SCENARIO_BYTES text) (lines_in turns) (lines_in turns) h.part k.part h.cut k.cut in
+    h.called ∙ ap (λ p. status_past_limit (end_from first 1 turns) (length p)) same.1 ∙ sym k.called
+called_once Groups text turns a b h k = called_once_for_groups text a b h.1 k.1

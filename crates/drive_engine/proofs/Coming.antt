@@ -3,29 +3,35 @@ use Rattle.std.proofs.Common.{◌≡◌, ◌≢◌, ℕ, ◌+◌, ◌-◌, ◌<�
 use Rattle.std.proofs.Math.Seq.{take-add}
 use Rattle.std.proofs.lemmas.List.{length-take-le}
 use Rattle.std.proofs.lemmas.List.Elements.{All-nil, All-cons, All-append}
+use Rattle.boot_core.specs.declared.refusals.StartRefusal.{StartRefusal}
+use Rattle.boot_core.specs.declared.refusals.StartRefusal.TheVariants as refusals
+use Rattle.outside.specs.Keeper.{KeeperTold}
 use Rattle.outside.specs.Sink.{appended}
 use Rattle.outside.specs.Source.{prepended, HasEnded}
 use Rattle.outside.proofs.Prefixes.{appended_more, prepended_more}
 use Rattle.scenario_text.specs.Cutting.{lines_of, text_of_lines, IsOneLine}
+use Rattle.scenario_text.specs.Reading.{line_of}
 use Rattle.scenario_text.specs.declared.line.TheConstants.{MAX_LINE_BYTES}
 use Rattle.scenario_text.proofs.Cuts.{lines_fed, line_unfed, all_left}
 use Rattle.scenario_text.proofs.EndedLines.{text_of_lines-push, lines_before}
+use Rattle.scenario_engine.specs.KeeperCalls.{TellsCalls}
+use Rattle.scenario_engine.specs.State.{State, RefusedIn, DoneTo, NotStarted}
+use Rattle.scenario_engine.specs.Telling.{Does}
+use Rattle.scenario_engine.specs.Transcript.{Turn, lines_in, first, transcript, end_from, Ended, calls_from}
+use Rattle.scenario_engine.proofs.Unkept.{numbers_alone}
+use Rattle.scenario_engine.proofs.Turns.{lines_in-push, end_from-push, transcript-push, turn_done, told-push}
 use Rattle.drive_engine.specs.declared.drive.TheConstants.{MAX_SCENARIO_BYTES}
 use Rattle.drive_engine.specs.declared.ending.Ending.{Ending}
 use Rattle.drive_engine.specs.declared.ending.Ending.TheVariants as endings
 use Rattle.drive_engine.specs.declared.words.Command.TheVariants.{Drive}
 use Rattle.drive_engine.specs.Command.{Runs}
-use Rattle.drive_engine.specs.Drive.{AreRead, AreReadWithFeeds, HasDone, WritesTranscript, StopsAtLine, StopsAtLongLine, StopsAtFailedRead, StopsOutOfMemory, StopsPastLimit}
-use Rattle.drive_engine.specs.Engine.{IsSoundState}
+use Rattle.drive_engine.specs.Drive.{AreRead, AreReadWithFeeds, HasDone, BootsStand, WritesTranscript, StopsAtStart, StopsAtLongLine, StopsAtFailedRead, StopsOutOfMemory, StopsPastLimit}
 use Rattle.drive_engine.specs.Exchange.{Exchange, exchange, IsRead}
-use Rattle.drive_engine.specs.Play.{PlayState, DoesLine, EndsAtLine, HasCome}
-use Rattle.drive_engine.specs.State.{State}
-use Rattle.drive_engine.specs.Transcript.{first, transcript, transcript_of, end_from, end_of, last_state, Ended}
-use Rattle.drive_engine.proofs.Playing.{end_from-push, transcript-push, sound_after}
+use Rattle.drive_engine.specs.Play.{PlayState, DoesLine, WritesNoText, EndsAtLine, HasCome}
 
--- whatever lines were done, the container is sound
-abbrev pub SoundLaw : Type 0
-SoundLaw = (lines : List (List ℕ)) → IsSoundState (last_state (end_from first 1 lines))
+-- a keeper that was called as turns say tells so
+abbrev pub BootsDoStand : Type 0
+BootsDoStand = (turns : List Turn) (old new : Option KeeperTold) → TellsCalls (calls_from first turns) old new → BootsStand turns old new
 
 -- the part that was kept and the one that ends the line are that line
 line_joined : (lines : List (List ℕ)) (kept none part rest past : List ℕ) → none ≡ [] → text_of_lines lines ++ (kept ++ ((part ++ 10 ∷ rest) ++ past)) ≡ text_of_lines (lines ++ (kept ++ part) ∷ []) ++ (none ++ (rest ++ past))
@@ -40,56 +46,60 @@ line_joined_alone lines kept none part rest e =
     ap (λ t. text_of_lines lines ++ t) same ∙ sym (text_of_lines-push lines (kept ++ part) rest) ∙ ap (λ t. text_of_lines (lines ++ (kept ++ part) ∷ []) ++ (t ++ rest)) (sym e)
 
 -- a line that ends in a piece is done
-pub comes_line : (left left_now written old new : Option (List ℕ)) (more : ℕ) (past : List ℕ) (p q : PlayState) (part rest : List ℕ) → IsOneLine part → DoesLine p.state q.state (p.part ++ part) old new → q.part ≡ [] → q.number ≡ p.number + 1 → HasCome (exchange left left_now written old) more (part ++ 10 ∷ rest) past p → HasCome (exchange left left_now written new) more rest past q
-comes_line left left_now written old new more past p q part rest one does none next h =
+pub comes_line : (left left_now written old new : Option (List ℕ)) (told before after : Option KeeperTold) (more : ℕ) (past : List ℕ) (p q : PlayState) (part rest : List ℕ) → IsOneLine part → DoesLine p.state q.state (p.part ++ part) old new before after → q.part ≡ [] → q.number ≡ p.number + 1 → HasCome (exchange left left_now written old told before) more (part ++ 10 ∷ rest) past p → HasCome (exchange left left_now written new told after) more rest past q
+comes_line left left_now written old new told before after more past p q part rest one does none next h =
     let line = p.part ++ part in
+    let lines = lines_in h.turns in
+    let turn : Turn = record { line = line; replies = does.done.replies } in
+    let done = turn_done p.state line (DoneTo q.state does.text) before after does.done in
+    let pushed : lines_in (h.turns ++ turn ∷ []) ≡ lines ++ line ∷ [] = lines_in-push h.turns turn in
     let empty : length q.part ≡ 0 = ap length none in
     record {
-      lines = h.lines ++ line ∷ [];
-      taken = h.taken ∙ ap (λ t. prepended t left_now) (line_joined h.lines p.part q.part part rest past none);
-      plain = All-append IsOneLine h.lines (line ∷ []) h.plain (All-cons IsOneLine line [] (All-append (λ b. b ≢ 10) p.part part h.one one) (All-nil IsOneLine));
+      turns = h.turns ++ turn ∷ [];
+      taken = h.taken ∙ ap (λ t. prepended t left_now) (line_joined lines p.part q.part part rest past none) ∙ ap (λ ls. prepended (text_of_lines ls ++ (q.part ++ (rest ++ past))) left_now) (sym pushed);
+      plain = subst (λ ls. All IsOneLine ls) (sym pushed) (All-append IsOneLine lines (line ∷ []) h.plain (All-cons IsOneLine line [] (All-append (λ b. b ≢ 10) p.part part h.one one) (All-nil IsOneLine)));
       one = subst IsOneLine (sym none) (All-nil (λ b. b ≢ 10));
       short = omega arith;
-      within = ap (λ t. length t + more) (sym (line_joined_alone h.lines p.part q.part part rest none)) ∙ h.within;
-      number = omega (arith, next, h.number, length-append h.lines (line ∷ []));
-      done = end_from-push p.state q.state h.lines line does.text h.done does.short does.done;
-      written = does.written ∙ ap (λ o. appended o does.text) h.written ∙ appended_more written (transcript first h.lines) does.text ∙ ap (appended written) (sym (transcript-push p.state q.state h.lines line does.text h.done does.done));
+      within = ap (λ ls. length (text_of_lines ls ++ (q.part ++ rest)) + more) pushed ∙ ap (λ t. length t + more) (sym (line_joined_alone lines p.part q.part part rest none)) ∙ h.within;
+      number = omega (arith, next, h.number, length-append h.turns (turn ∷ []));
+      done = end_from-push p.state q.state h.turns turn does.text h.done does.short done;
+      written = does.written ∙ ap (λ o. appended o does.text) h.written ∙ appended_more written (transcript first h.turns) does.text ∙ ap (appended written) (sym (transcript-push p.state q.state h.turns turn does.text h.done done));
+      told = told-push p.state h.turns line (DoneTo q.state does.text) told before after h.done does.short h.told does.done;
     }
 
 -- the beginning of a line is kept
-pub comes_kept : (left left_now written old : Option (List ℕ)) (more : ℕ) (past : List ℕ) (p q : PlayState) (rest : List ℕ) → IsOneLine rest → q ≡ record p { part = p.part ++ rest } → length (p.part ++ rest) ≤ MAX_LINE_BYTES → HasCome (exchange left left_now written old) more rest past p → HasCome (exchange left left_now written old) more [] past q
-comes_kept left left_now written old more past p q rest one is short h =
-    let P : PlayState → Type 0 = λ r. HasCome (exchange left left_now written old) more [] past r in
+pub comes_kept : (left left_now written old : Option (List ℕ)) (told before : Option KeeperTold) (more : ℕ) (past : List ℕ) (p q : PlayState) (rest : List ℕ) → IsOneLine rest → q ≡ record p { part = p.part ++ rest } → length (p.part ++ rest) ≤ MAX_LINE_BYTES → HasCome (exchange left left_now written old told before) more rest past p → HasCome (exchange left left_now written old told before) more [] past q
+comes_kept left left_now written old told before more past p q rest one is short h =
+    let P : PlayState → Type 0 = λ r. HasCome (exchange left left_now written old told before) more [] past r in
+    let text = text_of_lines (lines_in h.turns) in
     subst P (sym is) (record {
-      lines = h.lines;
-      taken = h.taken ∙ ap (λ t. prepended (text_of_lines h.lines ++ t) left_now) (sym (append_assoc p.part rest past));
+      turns = h.turns;
+      taken = h.taken ∙ ap (λ t. prepended (text ++ t) left_now) (sym (append_assoc p.part rest past));
       plain = h.plain;
       one = All-append (λ b. b ≢ 10) p.part rest h.one one;
       short = short;
-      within = ap (λ t. length (text_of_lines h.lines ++ t) + more) (append-nil (p.part ++ rest)) ∙ h.within;
+      within = ap (λ t. length (text ++ t) + more) (append-nil (p.part ++ rest)) ∙ h.within;
       number = h.number;
       done = h.done;
       written = h.written;
+      told = h.told;
     })
 
--- the lines before were done, and nothing more was written
-has_done : (left left_now written old new : Option (List ℕ)) (more : ℕ) (unread past : List ℕ) (p : PlayState) → SoundLaw → new ≡ old → (h : HasCome (exchange left left_now written old) more unread past p) → HasDone (exchange left left_now written new) h.lines p.state
-has_done left left_now written old new more unread past p law same h = record { done = h.done; written = same ∙ h.written; sound = sound_after p.state h.lines law h.done }
-
 -- what was read of a line that is too long
-pub ends_long : (left left_now written old : Option (List ℕ)) (more : ℕ) (past : List ℕ) (p : PlayState) (rest : List ℕ) → SoundLaw → IsOneLine rest → MAX_LINE_BYTES < length (p.part ++ rest) → HasCome (exchange left left_now written old) more rest past p → StopsAtLongLine p.number (exchange left left_now written old)
-ends_long left left_now written old more past p rest law one long h = record {
-  before = h.lines;
+pub ends_long : (left left_now written old : Option (List ℕ)) (told before : Option KeeperTold) (more : ℕ) (past : List ℕ) (p : PlayState) (rest : List ℕ) → BootsDoStand → IsOneLine rest → MAX_LINE_BYTES < length (p.part ++ rest) → HasCome (exchange left left_now written old told before) more rest past p → StopsAtLongLine p.number (exchange left left_now written old told before)
+ends_long left left_now written old told before more past p rest law one long h = record {
+  before = h.turns;
   line = p.part ++ rest;
   rest = past;
   state = p.state;
-  taken = h.taken ∙ ap (λ t. prepended (text_of_lines h.lines ++ t) left_now) (sym (append_assoc p.part rest past));
+  taken = h.taken ∙ ap (λ t. prepended (text_of_lines (lines_in h.turns) ++ t) left_now) (sym (append_assoc p.part rest past));
   plain = h.plain;
   one = All-append (λ b. b ≢ 10) p.part rest h.one one;
   within = omega (arith, h.within);
   number = h.number;
-  done = has_done left left_now written old old more rest past p law refl h;
+  done = record { done = h.done; written = h.written };
   long = long;
+  boots = law h.turns told before h.told;
 }
 
 -- A line was read after lines that were done.
@@ -101,42 +111,63 @@ record HasLine (x : Exchange) (lines : List (List ℕ)) (line : List ℕ) : Type
   pub within : length (text_of_lines lines ++ line) ≤ MAX_SCENARIO_BYTES
   pub read : AreRead x (lines ++ line ∷ [])
 
+-- the turns before were done, and nothing more was written
+has_done : (left left_now written old new : Option (List ℕ)) (told after : Option KeeperTold) (turns : List Turn) (s : State) → end_from first 1 turns ≡ Ended s → old ≡ appended written (transcript first turns) → new ≡ old → HasDone (exchange left left_now written new told after) turns s
+has_done left left_now written old new told after turns s done so_far same = record { done = done; written = same ∙ so_far }
+
+-- a boot that it needs was not started
+ends_at_start : (r : StartRefusal) (left left_now written old new : Option (List ℕ)) (told before after : Option KeeperTold) (turns : List Turn) (s t : State) (line : List ℕ) → BootsDoStand → end_from first 1 turns ≡ Ended s → old ≡ appended written (transcript first turns) → TellsCalls (calls_from first turns) told before → HasLine (exchange left left_now written new told after) (lines_in turns) line → WritesNoText line old new → Does s (line_of line) (NotStarted t r) before after → StopsAtStart r (exchange left left_now written new told after)
+ends_at_start r left left_now written old new told before after turns s t line law done so_far tells h (short, same) d = record {
+  before = turns;
+  turn = record { line = line; replies = d.replies };
+  state = s;
+  after = t;
+  read = h.read;
+  done = has_done left left_now written old new told after turns s done so_far same;
+  short = short;
+  unstarted = turn_done s line (NotStarted t r) before after d;
+  boots = law (turns ++ record { line = line; replies = d.replies } ∷ []) told after (told-push s turns line (NotStarted t r) told before after done short tells d);
+}
+
 -- it ends the scenario
-ends_at_line : (e : Ending) (left left_now written old new : Option (List ℕ)) (lines : List (List ℕ)) (s : State) (number : ℕ) (line : List ℕ) → SoundLaw → end_from first 1 lines ≡ Ended s → number ≡ length lines + 1 → old ≡ appended written (transcript first lines) → HasLine (exchange left left_now written new) lines line → EndsAtLine e number s line old new → Runs Drive e (exchange left left_now written new)
-ends_at_line endings.Done left left_now written old new lines s number line law done next so_far h ends = absurd ends
-ends_at_line endings.UnknownCommand left left_now written old new lines s number line law done next so_far h ends = absurd ends
-ends_at_line (endings.LineRefused n) left left_now written old new lines s number line law done next so_far h ends = (
+ends_at_line : (e : Ending) (left left_now written old new : Option (List ℕ)) (told before after : Option KeeperTold) (turns : List Turn) (s : State) (number : ℕ) (line : List ℕ) → BootsDoStand → end_from first 1 turns ≡ Ended s → number ≡ length turns + 1 → old ≡ appended written (transcript first turns) → TellsCalls (calls_from first turns) told before → HasLine (exchange left left_now written new told after) (lines_in turns) line → EndsAtLine e number s line old new before after → Runs Drive e (exchange left left_now written new told after)
+ends_at_line endings.Done left left_now written old new told before after turns s number line law done next so_far tells h ends = absurd ends
+ends_at_line endings.UnknownCommand left left_now written old new told before after turns s number line law done next so_far tells h ends = absurd ends
+ends_at_line (endings.LineRefused n) left left_now written old new told before after turns s number line law done next so_far tells h (is, (short, same), (t, d)) = (
   refl,
   record {
-    before = lines;
-    line = line;
+    before = turns;
+    turn = record { line = line; replies = d.replies };
     state = s;
+    after = t;
     read = h.read;
-    number = ends.0 ∙ next;
-    done = record { done = done; written = ends.3 ∙ so_far; sound = sound_after s lines law done };
-    short = ends.1;
-    refused = ends.2;
+    number = is ∙ next;
+    done = has_done left left_now written old new told after turns s done so_far same;
+    short = short;
+    refused = turn_done s line (RefusedIn t) before after d;
+    boots = law (turns ++ record { line = line; replies = d.replies } ∷ []) told after (told-push s turns line (RefusedIn t) told before after done short tells d);
   },
 )
-ends_at_line endings.ReadFailed left left_now written old new lines s number line law done next so_far h ends = absurd ends
-ends_at_line endings.WriteFailed left left_now written old new lines s number line law done next so_far h (t, wrote, short, answer, (prefix, is, begins)) = record {
-  before = lines;
-  line = line;
+ends_at_line endings.ReadFailed left left_now written old new told before after turns s number line law done next so_far tells h ends = absurd ends
+ends_at_line endings.WriteFailed left left_now written old new told before after turns s number line law done next so_far tells h (t, wrote, short, d, (prefix, is, begins)) = record {
+  before = turns;
+  turn = record { line = line; replies = d.replies };
   state = s;
   after = t;
   wrote = wrote;
   prefix = prefix;
   read = h.read;
   done = done;
-  sound = sound_after s lines law done;
   short = short;
-  answer = answer;
-  still_sound = sound_after t (lines ++ line ∷ []) law (end_from-push s t lines line wrote done short answer);
+  answer = turn_done s line (DoneTo t wrote) before after d;
   begins = begins;
-  written = is ∙ ap (λ o. appended o prefix) so_far ∙ appended_more written (transcript first lines) prefix;
+  written = is ∙ ap (λ o. appended o prefix) so_far ∙ appended_more written (transcript first turns) prefix;
+  boots = law (turns ++ record { line = line; replies = d.replies } ∷ []) told after (told-push s turns line (DoneTo t wrote) told before after done short tells d);
 }
-ends_at_line (endings.LineTooLong n) left left_now written old new lines s number line law done next so_far h ends = record {
-  before = lines;
+ends_at_line endings.KeeperFailed left left_now written old new told before after turns s number line law done next so_far tells h (none, (t, d)) = (refl, ends_at_start refusals.KeeperFailed left left_now written old new told before after turns s t line law done so_far tells h none d)
+ends_at_line (endings.BadRow id) left left_now written old new told before after turns s number line law done next so_far tells h (none, (t, d)) = (refl, ends_at_start (refusals.BadRow id) left left_now written old new told before after turns s t line law done so_far tells h none d)
+ends_at_line (endings.LineTooLong n) left left_now written old new told before after turns s number line law done next so_far tells h (is, long, same, unasked) = record {
+  before = turns;
   line = line;
   rest = h.rest;
   state = s;
@@ -144,110 +175,129 @@ ends_at_line (endings.LineTooLong n) left left_now written old new lines s numbe
   plain = h.plain;
   one = h.one;
   within = h.within;
-  number = ends.0 ∙ next;
-  done = record { done = done; written = ends.2 ∙ so_far; sound = sound_after s lines law done };
-  long = ends.1;
+  number = is ∙ next;
+  done = has_done left left_now written old new told after turns s done so_far same;
+  long = long;
+  boots = law turns told after (subst (λ o. TellsCalls (calls_from first turns) told o) (sym unasked) tells);
 }
-ends_at_line endings.OutOfMemory left left_now written old new lines s number line law done next so_far h ends = record {
-  before = lines;
+ends_at_line endings.OutOfMemory left left_now written old new told before after turns s number line law done next so_far tells h ((short, same), partly) = record {
+  before = turns;
   state = s;
-  read = record { rest = line ++ h.rest; taken = h.taken; plain = h.plain; within = omega (arith, h.within, length-append (text_of_lines lines) line) };
-  done = record { done = done; written = ends ∙ so_far; sound = sound_after s lines law done };
+  between = before;
+  read = record { rest = line ++ h.rest; taken = h.taken; plain = h.plain; within = omega (arith, h.within, length-append (text_of_lines (lines_in turns)) line) };
+  done = has_done left left_now written old new told after turns s done so_far same;
+  boots = law turns told before tells;
+  last = inr (record { line = line; read = h.read; short = short; partly = partly; rows = numbers_alone s (line_of line) before after partly });
 }
-ends_at_line endings.DescriptorsRefused left left_now written old new lines s number line law done next so_far h ends = absurd ends
-ends_at_line endings.ScenarioTooLong left left_now written old new lines s number line law done next so_far h ends = absurd ends
+ends_at_line endings.DescriptorsRefused left left_now written old new told before after turns s number line law done next so_far tells h ends = absurd ends
+ends_at_line endings.BootsSpent left left_now written old new told before after turns s number line law done next so_far tells h (none, (t, d)) = (refl, ends_at_start refusals.BootsSpent left left_now written old new told before after turns s t line law done so_far tells h none d)
+ends_at_line endings.ScenarioTooLong left left_now written old new told before after turns s number line law done next so_far tells h ends = absurd ends
 
 -- a line that ends in a piece ends the scenario
-pub ends_in_piece : (e : Ending) (left left_now written old new : Option (List ℕ)) (more : ℕ) (past : List ℕ) (p : PlayState) (part rest : List ℕ) → SoundLaw → IsOneLine part → EndsAtLine e p.number p.state (p.part ++ part) old new → HasCome (exchange left left_now written old) more (part ++ 10 ∷ rest) past p → Runs Drive e (exchange left left_now written new)
-ends_in_piece e left left_now written old new more past p part rest law one ends h =
+pub ends_in_piece : (e : Ending) (left left_now written old new : Option (List ℕ)) (told before after : Option KeeperTold) (more : ℕ) (past : List ℕ) (p : PlayState) (part rest : List ℕ) → BootsDoStand → IsOneLine part → EndsAtLine e p.number p.state (p.part ++ part) old new before after → HasCome (exchange left left_now written old told before) more (part ++ 10 ∷ rest) past p → Runs Drive e (exchange left left_now written new told after)
+ends_in_piece e left left_now written old new told before after more past p part rest law one ends h =
     let line = p.part ++ part in
+    let lines = lines_in h.turns in
     let whole : IsOneLine line = All-append (λ b. b ≢ 10) p.part part h.one one in
-    let joined = line_joined h.lines p.part [] part rest past refl in
-    let alone : text_of_lines h.lines ++ (p.part ++ (part ++ 10 ∷ rest)) ≡ text_of_lines (h.lines ++ line ∷ []) ++ rest = line_joined_alone h.lines p.part [] part rest refl in
-    let fits : length (text_of_lines (h.lines ++ line ∷ [])) ≤ MAX_SCENARIO_BYTES = omega (arith, h.within, ap length alone, length-append (text_of_lines (h.lines ++ line ∷ [])) rest) in
-    let taken : left ≡ prepended (text_of_lines (h.lines ++ line ∷ []) ++ (rest ++ past)) left_now = h.taken ∙ ap (λ t. prepended t left_now) joined in
-    let has : HasLine (exchange left left_now written new) h.lines line = record {
+    let joined = line_joined lines p.part [] part rest past refl in
+    let alone : text_of_lines lines ++ (p.part ++ (part ++ 10 ∷ rest)) ≡ text_of_lines (lines ++ line ∷ []) ++ rest = line_joined_alone lines p.part [] part rest refl in
+    let fits : length (text_of_lines (lines ++ line ∷ [])) ≤ MAX_SCENARIO_BYTES = omega (arith, h.within, ap length alone, length-append (text_of_lines (lines ++ line ∷ [])) rest) in
+    let taken : left ≡ prepended (text_of_lines (lines ++ line ∷ []) ++ (rest ++ past)) left_now = h.taken ∙ ap (λ t. prepended t left_now) joined in
+    let has : HasLine (exchange left left_now written new told after) lines line = record {
       rest = 10 ∷ (rest ++ past);
-      taken = taken ∙ ap (λ t. prepended t left_now) (text_of_lines-push h.lines line (rest ++ past));
+      taken = taken ∙ ap (λ t. prepended t left_now) (text_of_lines-push lines line (rest ++ past));
       plain = h.plain;
       one = whole;
-      within = omega (arith, h.within, length-append (text_of_lines h.lines) (p.part ++ (part ++ 10 ∷ rest)), length-append p.part (part ++ 10 ∷ rest), length-append part (10 ∷ rest), length-append (text_of_lines h.lines) line, length-append p.part part);
+      within = omega (arith, h.within, length-append (text_of_lines lines) (p.part ++ (part ++ 10 ∷ rest)), length-append p.part (part ++ 10 ∷ rest), length-append part (10 ∷ rest), length-append (text_of_lines lines) line, length-append p.part part);
       read = inl (record {
         rest = rest ++ past;
         taken = taken;
-        plain = All-append IsOneLine h.lines (line ∷ []) h.plain (All-cons IsOneLine line [] whole (All-nil IsOneLine));
+        plain = All-append IsOneLine lines (line ∷ []) h.plain (All-cons IsOneLine line [] whole (All-nil IsOneLine));
         within = fits;
       });
     } in
-    ends_at_line e left left_now written old new h.lines p.state p.number line law h.done h.number h.written has ends
+    ends_at_line e left left_now written old new told before after h.turns p.state p.number line law h.done h.number h.written h.told has ends
 
 -- the whole text of a scenario, once the input has ended
-read_whole : (left left_now written old new : Option (List ℕ)) (more : ℕ) (p : PlayState) → HasEnded left_now → (h : HasCome (exchange left left_now written old) more [] [] p) → IsRead MAX_SCENARIO_BYTES (exchange left left_now written new) (text_of_lines h.lines ++ p.part)
-read_whole left left_now written old new more p ended h =
+read_whole : (left left_now written old new : Option (List ℕ)) (told before after : Option KeeperTold) (more : ℕ) (p : PlayState) → HasEnded left_now → (h : HasCome (exchange left left_now written old told before) more [] [] p) → IsRead MAX_SCENARIO_BYTES (exchange left left_now written new told after) (text_of_lines (lines_in h.turns) ++ p.part)
+read_whole left left_now written old new told before after more p ended h =
+    let text = text_of_lines (lines_in h.turns) in
     let whole : p.part ++ [] ≡ p.part = append-nil p.part in
-    let size : length (text_of_lines h.lines ++ p.part) + more ≡ MAX_SCENARIO_BYTES = ap (λ t. length (text_of_lines h.lines ++ t) + more) (sym whole) ∙ h.within in
-    record { taken = h.taken ∙ ap (λ t. prepended (text_of_lines h.lines ++ t) left_now) whole; ended = ended; short = omega arith }
+    let size : length (text ++ p.part) + more ≡ MAX_SCENARIO_BYTES = ap (λ t. length (text ++ t) + more) (sym whole) ∙ h.within in
+    record { taken = h.taken ∙ ap (λ t. prepended (text ++ t) left_now) whole; ended = ended; short = omega arith }
 
 lines_whole : (lines : List (List ℕ)) (part : List ℕ) → All IsOneLine lines → IsOneLine part → part ≢ [] → lines_of (text_of_lines lines ++ part) ≡ lines ++ part ∷ []
 lines_whole lines part plain one some = lines_fed lines part plain ∙ ap (λ ls. lines ++ ls) (line_unfed part one some)
 
 -- the last line, which has no line feed, ends the scenario
-pub ends_at_end : (e : Ending) (left left_now written old new : Option (List ℕ)) (more : ℕ) (p : PlayState) → SoundLaw → p.part ≢ [] → EndsAtLine e p.number p.state p.part old new → HasEnded left_now → HasCome (exchange left left_now written old) more [] [] p → Runs Drive e (exchange left left_now written new)
-ends_at_end e left left_now written old new more p law some ends ended h =
-    let read = read_whole left left_now written old new more p ended h in
-    let has : HasLine (exchange left left_now written new) h.lines p.part = record {
+pub ends_at_end : (e : Ending) (left left_now written old new : Option (List ℕ)) (told before after : Option KeeperTold) (more : ℕ) (p : PlayState) → BootsDoStand → p.part ≢ [] → EndsAtLine e p.number p.state p.part old new before after → HasEnded left_now → HasCome (exchange left left_now written old told before) more [] [] p → Runs Drive e (exchange left left_now written new told after)
+ends_at_end e left left_now written old new told before after more p law some ends ended h =
+    let lines = lines_in h.turns in
+    let read = read_whole left left_now written old new told before after more p ended h in
+    let has : HasLine (exchange left left_now written new told after) lines p.part = record {
       rest = [];
       taken = h.taken;
       plain = h.plain;
       one = h.one;
       within = read.short;
-      read = inr (record { text = text_of_lines h.lines ++ p.part; read = read; cut = sym (lines_whole h.lines p.part h.plain h.one some) });
+      read = inr (record { text = text_of_lines lines ++ p.part; read = read; cut = sym (lines_whole lines p.part h.plain h.one some) });
     } in
-    ends_at_line e left left_now written old new h.lines p.state p.number p.part law h.done h.number h.written has ends
+    ends_at_line e left left_now written old new told before after h.turns p.state p.number p.part law h.done h.number h.written h.told has ends
 
--- all lines were done
-writes_transcript : (left left_now written new : Option (List ℕ)) (lines : List (List ℕ)) (text : List ℕ) (s : State) → SoundLaw → IsRead MAX_SCENARIO_BYTES (exchange left left_now written new) text → lines_of text ≡ lines → end_from first 1 lines ≡ Ended s → new ≡ appended written (transcript first lines) → WritesTranscript (exchange left left_now written new)
-unfolding end_of transcript_of
-writes_transcript left left_now written new lines text s law read cut done wrote = record {
-  text = text;
-  read = read;
-  state = s;
-  ended = ap (end_from first 1) cut ∙ done;
-  written = wrote ∙ ap (λ ls. appended written (transcript first ls)) (sym cut);
-  sound = sound_after s lines law done;
-}
-
--- and the last one ended with its line feed
-pub ends_with_feed : (left left_now written old : Option (List ℕ)) (more : ℕ) (p : PlayState) → SoundLaw → p.part ≡ [] → HasEnded left_now → HasCome (exchange left left_now written old) more [] [] p → WritesTranscript (exchange left left_now written old)
-ends_with_feed left left_now written old more p law none ended h =
-    let cut : lines_of (text_of_lines h.lines ++ p.part) ≡ h.lines = lines_fed h.lines p.part h.plain ∙ ap (λ t. h.lines ++ lines_of t) none ∙ append-nil h.lines in
-    writes_transcript left left_now written old h.lines (text_of_lines h.lines ++ p.part) p.state law (read_whole left left_now written old old more p ended h) cut h.done h.written
+-- all lines were done, and the last one ended with its line feed
+pub ends_with_feed : (left left_now written old : Option (List ℕ)) (told before : Option KeeperTold) (more : ℕ) (p : PlayState) → BootsDoStand → p.part ≡ [] → HasEnded left_now → HasCome (exchange left left_now written old told before) more [] [] p → WritesTranscript (exchange left left_now written old told before)
+ends_with_feed left left_now written old told before more p law none ended h =
+    let lines = lines_in h.turns in
+    let cut : lines_of (text_of_lines lines ++ p.part) ≡ lines = lines_fed lines p.part h.plain ∙ ap (λ t. lines ++ lines_of t) none ∙ append-nil lines in
+    record {
+      text = text_of_lines lines ++ p.part;
+      read = read_whole left left_now written old old told before before more p ended h;
+      turns = h.turns;
+      lines = sym cut;
+      state = p.state;
+      done = record { done = h.done; written = h.written };
+      boots = law h.turns told before h.told;
+    }
 
 -- and the last one has none
-pub ends_without_feed : (left left_now written old new : Option (List ℕ)) (more : ℕ) (p : PlayState) (t : State) → SoundLaw → p.part ≢ [] → DoesLine p.state t p.part old new → HasEnded left_now → HasCome (exchange left left_now written old) more [] [] p → WritesTranscript (exchange left left_now written new)
-ends_without_feed left left_now written old new more p t law some does ended h =
-    writes_transcript left left_now written new (h.lines ++ p.part ∷ []) (text_of_lines h.lines ++ p.part) t law (read_whole left left_now written old new more p ended h) (lines_whole h.lines p.part h.plain h.one some)
-    (end_from-push p.state t h.lines p.part does.text h.done does.short does.done)
-    (does.written ∙ ap (λ o. appended o does.text) h.written ∙ appended_more written (transcript first h.lines) does.text ∙ ap (appended written) (sym (transcript-push p.state t h.lines p.part does.text h.done does.done)))
+pub ends_without_feed : (left left_now written old new : Option (List ℕ)) (told before after : Option KeeperTold) (more : ℕ) (p : PlayState) (t : State) → BootsDoStand → p.part ≢ [] → DoesLine p.state t p.part old new before after → HasEnded left_now → HasCome (exchange left left_now written old told before) more [] [] p → WritesTranscript (exchange left left_now written new told after)
+ends_without_feed left left_now written old new told before after more p t law some does ended h =
+    let lines = lines_in h.turns in
+    let turn : Turn = record { line = p.part; replies = does.done.replies } in
+    let done = turn_done p.state p.part (DoneTo t does.text) before after does.done in
+    record {
+      text = text_of_lines lines ++ p.part;
+      read = read_whole left left_now written old new told before after more p ended h;
+      turns = h.turns ++ turn ∷ [];
+      lines = lines_in-push h.turns turn ∙ sym (lines_whole lines p.part h.plain h.one some);
+      state = t;
+      done = record {
+        done = end_from-push p.state t h.turns turn does.text h.done does.short done;
+        written = does.written ∙ ap (λ o. appended o does.text) h.written ∙ appended_more written (transcript first h.turns) does.text ∙ ap (appended written) (sym (transcript-push p.state t h.turns turn does.text h.done done));
+      };
+      boots = law (h.turns ++ turn ∷ []) told after (told-push p.state h.turns p.part (DoneTo t does.text) told before after h.done does.short h.told does.done);
+    }
 
 -- bytes were read, of which a part is the next piece
-pub comes_read : (left before now written old : Option (List ℕ)) (more rest n k : ℕ) (room : List ℕ) (p : PlayState) → k ≤ n → n ≤ length room → k + rest ≡ more → before ≡ prepended (take n room) now → HasCome (exchange left before written old) more [] [] p → HasCome (exchange left now written old) rest (take k room) (take (n - k) (drop k room)) p
-comes_read left before now written old more rest n k room p part fits size read h =
+pub comes_read : (left before now written old : Option (List ℕ)) (told asked : Option KeeperTold) (more rest n k : ℕ) (room : List ℕ) (p : PlayState) → k ≤ n → n ≤ length room → k + rest ≡ more → before ≡ prepended (take n room) now → HasCome (exchange left before written old told asked) more [] [] p → HasCome (exchange left now written old told asked) rest (take k room) (take (n - k) (drop k room)) p
+comes_read left before now written old told asked more rest n k room p part fits size read h =
+    let fed = text_of_lines (lines_in h.turns) in
     let piece = take k room in
     let past = take (n - k) (drop k room) in
     let parts : k + (n - k) ≡ n = omega arith in
     let bytes : take n room ≡ piece ++ past = ap (λ m. take m room) (sym parts) ∙ take-add k (n - k) room in
-    let text : (text_of_lines h.lines ++ (p.part ++ [])) ++ (piece ++ past) ≡ text_of_lines h.lines ++ (p.part ++ (piece ++ past)) = simp (append_assoc, append-nil) in
+    let text : (fed ++ (p.part ++ [])) ++ (piece ++ past) ≡ fed ++ (p.part ++ (piece ++ past)) = simp (append_assoc, append-nil) in
     record {
-      lines = h.lines;
-      taken = h.taken ∙ ap (λ b. prepended (text_of_lines h.lines ++ (p.part ++ [])) b) read ∙ prepended_more (text_of_lines h.lines ++ (p.part ++ [])) (take n room) now ∙ ap (λ t. prepended t now) (ap (λ b. (text_of_lines h.lines ++ (p.part ++ [])) ++ b) bytes ∙ text);
+      turns = h.turns;
+      taken = h.taken ∙ ap (λ b. prepended (fed ++ (p.part ++ [])) b) read ∙ prepended_more (fed ++ (p.part ++ [])) (take n room) now ∙ ap (λ t. prepended t now) (ap (λ b. (fed ++ (p.part ++ [])) ++ b) bytes ∙ text);
       plain = h.plain;
       one = h.one;
       short = h.short;
-      within = omega (arith, h.within, length-append (text_of_lines h.lines) (p.part ++ []), length-append p.part [], length-append (text_of_lines h.lines) (p.part ++ piece), length-append p.part piece, length-take-le k room (omega arith));
+      within = omega (arith, h.within, length-append fed (p.part ++ []), length-append p.part [], length-append fed (p.part ++ piece), length-append p.part piece, length-take-le k room (omega arith));
       number = h.number;
       done = h.done;
       written = h.written;
+      told = h.told;
     }
 
 -- the text that was read and done
@@ -255,33 +305,39 @@ text_read : (lines : List (List ℕ)) (part past : List ℕ) → text_of_lines l
 text_read lines part past = simp append_assoc
 
 -- a read failed
-pub stops_at_failed_read : (left before now written old : Option (List ℕ)) (more : ℕ) (p : PlayState) → SoundLaw → now ≡ before → HasCome (exchange left before written old) more [] [] p → StopsAtFailedRead (exchange left now written old)
-stops_at_failed_read left before now written old more p law same h = record {
-  text = text_of_lines h.lines ++ p.part;
-  lines = h.lines;
-  part = p.part;
-  state = p.state;
-  taken = h.taken ∙ ap (λ t. prepended t before) (text_read h.lines p.part [] ∙ append-nil (text_of_lines h.lines ++ p.part)) ∙ ap (λ b. prepended (text_of_lines h.lines ++ p.part) b) (sym same);
-  cut = record { whole = refl; plain = h.plain; one = h.one };
-  short = h.short;
-  done = record { done = h.done; written = h.written; sound = sound_after p.state h.lines law h.done };
-}
+pub stops_at_failed_read : (left before now written old : Option (List ℕ)) (told asked : Option KeeperTold) (more : ℕ) (p : PlayState) → BootsDoStand → now ≡ before → HasCome (exchange left before written old told asked) more [] [] p → StopsAtFailedRead (exchange left now written old told asked)
+stops_at_failed_read left before now written old told asked more p law same h =
+    let lines = lines_in h.turns in
+    record {
+      text = text_of_lines lines ++ p.part;
+      turns = h.turns;
+      part = p.part;
+      state = p.state;
+      taken = h.taken ∙ ap (λ t. prepended t before) (text_read lines p.part [] ∙ append-nil (text_of_lines lines ++ p.part)) ∙ ap (λ b. prepended (text_of_lines lines ++ p.part) b) (sym same);
+      cut = record { whole = refl; plain = h.plain; one = h.one };
+      short = h.short;
+      done = record { done = h.done; written = h.written };
+      boots = law h.turns told asked h.told;
+    }
 
 -- bytes were read past the limit
-pub stops_past_limit : (left now written old : Option (List ℕ)) (past : List ℕ) (p : PlayState) → SoundLaw → past ≢ [] → HasCome (exchange left now written old) 0 [] past p → StopsPastLimit (exchange left now written old)
-stops_past_limit left now written old past p law some h = record {
-  text = text_of_lines h.lines ++ p.part;
-  more = past;
-  lines = h.lines;
-  part = p.part;
-  state = p.state;
-  taken = h.taken ∙ ap (λ t. prepended t now) (text_read h.lines p.part past);
-  past = some;
-  whole = omega (arith, h.within, ap (λ t. length (text_of_lines h.lines ++ t)) (append-nil p.part));
-  cut = record { whole = refl; plain = h.plain; one = h.one };
-  short = h.short;
-  done = record { done = h.done; written = h.written; sound = sound_after p.state h.lines law h.done };
-}
+pub stops_past_limit : (left now written old : Option (List ℕ)) (told asked : Option KeeperTold) (past : List ℕ) (p : PlayState) → BootsDoStand → past ≢ [] → HasCome (exchange left now written old told asked) 0 [] past p → StopsPastLimit (exchange left now written old told asked)
+stops_past_limit left now written old told asked past p law some h =
+    let lines = lines_in h.turns in
+    record {
+      text = text_of_lines lines ++ p.part;
+      more = past;
+      turns = h.turns;
+      part = p.part;
+      state = p.state;
+      taken = h.taken ∙ ap (λ t. prepended t now) (text_read lines p.part past);
+      past = some;
+      whole = omega (arith, h.within, ap (λ t. length (text_of_lines lines ++ t)) (append-nil p.part));
+      cut = record { whole = refl; plain = h.plain; one = h.one };
+      short = h.short;
+      done = record { done = h.done; written = h.written };
+      boots = law h.turns told asked h.told;
+    }
 
 nothing_read : (left : Option (List ℕ)) → left ≡ prepended [] left
 nothing_read None = refl
@@ -292,9 +348,9 @@ nothing_written None = refl
 nothing_written (Some bytes) = ap Some (sym (append-nil bytes))
 
 -- nothing was read yet
-pub comes_first : (left written : Option (List ℕ)) → HasCome (exchange left left written written) MAX_SCENARIO_BYTES [] [] (record { state = first; part = []; number = 1 })
-comes_first left written = record {
-  lines = [];
+pub comes_first : (left written : Option (List ℕ)) (told : Option KeeperTold) → HasCome (exchange left left written written told told) MAX_SCENARIO_BYTES [] [] (record { state = first; part = []; number = 1 })
+comes_first left written told = record {
+  turns = [];
   taken = nothing_read left;
   plain = All-nil IsOneLine;
   one = All-nil (λ b. b ≢ 10);
@@ -303,15 +359,19 @@ comes_first left written = record {
   number = refl;
   done = refl;
   written = nothing_written written;
+  told = refl;
 }
 
 -- and there is no memory to read any
-pub stops_at_first : (left written : Option (List ℕ)) → StopsOutOfMemory (exchange left left written written)
-stops_at_first left written = record {
+pub stops_at_first : (left written : Option (List ℕ)) (told : Option KeeperTold) → BootsDoStand → StopsOutOfMemory (exchange left left written written told told)
+stops_at_first left written told law = record {
   before = [];
   state = first;
+  between = told;
   read = record { rest = []; taken = nothing_read left; plain = All-nil IsOneLine; within = omega arith };
-  done = record { done = refl; written = nothing_written written; sound = tt };
+  done = record { done = refl; written = nothing_written written };
+  boots = law [] told told refl;
+  last = inl refl;
 }
 
 -- the lines before the last one that was read
@@ -333,15 +393,3 @@ read_before x before line (inr r) =
       plain = h.2;
       within = omega (arith, r.read.short, ap length h.1, length-append (text_of_lines before) h.0);
     }
-
--- There is no memory for the number of a line that was refused, or was too long.
-pub out_of_memory_at_line : (x : Exchange) (n : ℕ) → StopsAtLine n x → StopsOutOfMemory x
-out_of_memory_at_line x n h = record { before = h.before; state = h.state; read = read_before x h.before h.line h.read; done = h.done }
-
-pub out_of_memory_at_long_line : (x : Exchange) (n : ℕ) → StopsAtLongLine n x → StopsOutOfMemory x
-out_of_memory_at_long_line x n h = record {
-  before = h.before;
-  state = h.state;
-  read = record { rest = h.line ++ h.rest; taken = h.taken; plain = h.plain; within = omega (arith, h.within, length-append (text_of_lines h.before) h.line) };
-  done = h.done;
-}

@@ -1,18 +1,22 @@
--- What a command reads and writes until it ends, and which status words and text call for.
-use Rattle.std.specs.Prelude.{◌≡◌, ℕ, ◌<◌, ◌≤◌, nat_lt, ◌⊎◌, if◌then◌else◌, List, length, take, Option, Some, None}
+-- What a command reads, writes and asks of its keeper until it ends, and which status words, text and keeper call for.
+use Rattle.std.specs.Prelude.{◌≡◌, ℕ, ◌<◌, ◌≤◌, nat_lt, ◌⊎◌, if◌then◌else◌, List, [], length, take, Option, Some, None}
+use Rattle.boot_core.specs.declared.refusals.StartRefusal.{StartRefusal}
+use Rattle.boot_core.specs.declared.refusals.StartRefusal.TheVariants as refusals
 use Rattle.deployment.specs.declared.parts.Parts.{Parts}
-use Rattle.scenario_text.specs.Cutting.{IsCut}
+use Rattle.outside.specs.Keeper.{KeeperTold}
+use Rattle.scenario_text.specs.Cutting.{lines_of, IsCut}
 use Rattle.scenario_text.specs.declared.line.TheConstants.{MAX_LINE_BYTES}
+use Rattle.scenario_engine.specs.KeeperCalls.{TellsCalls}
+use Rattle.scenario_engine.specs.Transcript.{Turn, lines_in, End, Ended, RefusedAt, TooLong, Unstarted, first, end_from, calls_from}
 use Rattle.drive_engine.specs.declared.drive.TheConstants.{MAX_SCENARIO_BYTES}
 use Rattle.drive_engine.specs.declared.groups.TheConstants.{MAX_DESCRIPTOR_BYTES}
 use Rattle.drive_engine.specs.declared.ending.Ending.{Ending}
-use Rattle.drive_engine.specs.declared.ending.Ending.TheVariants.{Done, UnknownCommand, LineRefused, ReadFailed, WriteFailed, LineTooLong, OutOfMemory, DescriptorsRefused, ScenarioTooLong}
+use Rattle.drive_engine.specs.declared.ending.Ending.TheVariants.{Done, UnknownCommand, LineRefused, ReadFailed, WriteFailed, KeeperFailed, BadRow, LineTooLong, OutOfMemory, DescriptorsRefused, BootsSpent, ScenarioTooLong}
 use Rattle.drive_engine.specs.declared.words.Command.{Command}
 use Rattle.drive_engine.specs.declared.words.Command.TheVariants.{Drive, Groups}
-use Rattle.drive_engine.specs.Drive.{WritesTranscript, StopsAtLine, StopsAtLongLine, StopsAtFailedRead, StopsAtFailedWrite, StopsOutOfMemory, StopsPastLimit}
+use Rattle.drive_engine.specs.Drive.{WritesTranscript, StopsAtLine, StopsAtStart, StopsAtLongLine, StopsAtFailedRead, StopsAtFailedWrite, StopsOutOfMemory, HasNoReport, StopsPastLimit}
 use Rattle.drive_engine.specs.Exchange.{Exchange, WritesNothing}
 use Rattle.drive_engine.specs.Groups.{WritesGroups, WritesGroupsPrefix, RefusesDescriptors, HasTooManyBytes, IsDeployment, IsRefused}
-use Rattle.drive_engine.specs.Transcript.{End, Ended, Stopped, TooLong, first, end_from, end_of}
 
 -- The input was read to its end, and all was written that the command writes for it.
 abbrev pub WritesAll : Command → Exchange → Type 0
@@ -39,16 +43,24 @@ abbrev pub RunsOutOfMemory : Command → Exchange → Type 0
 RunsOutOfMemory Drive x = StopsOutOfMemory x
 RunsOutOfMemory Groups x = WritesNothing x
 
--- What a command that ends so has read and written.
+-- Memory ran out, while a command ran or for its report.
+abbrev pub EndsOutOfMemory : Command → Exchange → Type 0
+EndsOutOfMemory Drive x = StopsOutOfMemory x ⊎ HasNoReport x
+EndsOutOfMemory Groups x = WritesNothing x
+
+-- What a command that ends so has read, written and asked of its keeper.
 abbrev pub Runs : Command → Ending → Exchange → Type 0
 Runs command Done x = WritesAll command x
 Runs command UnknownCommand x = ⊥
 Runs command (LineRefused n) x = (command ≡ Drive) × StopsAtLine n x
 Runs command ReadFailed x = FailsToRead command x
 Runs command WriteFailed x = FailsToWrite command x
+Runs command KeeperFailed x = (command ≡ Drive) × StopsAtStart refusals.KeeperFailed x
+Runs command (BadRow id) x = (command ≡ Drive) × StopsAtStart (refusals.BadRow id) x
 Runs command (LineTooLong n) x = HasLongLine command n x
 Runs command OutOfMemory x = RunsOutOfMemory command x
 Runs command DescriptorsRefused x = (command ≡ Groups) × RefusesDescriptors x
+Runs command BootsSpent x = (command ≡ Drive) × StopsAtStart refusals.BootsSpent x
 Runs command ScenarioTooLong x = (command ≡ Drive) × StopsPastLimit x
 
 -- The words spell no command, or their command ends so.
@@ -56,34 +68,59 @@ abbrev pub Ends : Option Command → Ending → Exchange → Type 0
 Ends None ending x = ending ≡ UnknownCommand
 Ends (Some command) ending x = Runs command ending x
 
+-- the status that a boot calls for that was not started
+abbrev pub status_of_refusal : StartRefusal → ℕ
+status_of_refusal refusals.KeeperFailed = 6
+status_of_refusal (refusals.BadRow id) = 7
+status_of_refusal refusals.BootsSpent = 11
+status_of_refusal refusals.OutOfMemory = 9
+
 -- the status that the end of a scenario calls for
 abbrev pub status_of_end : End → ℕ
 status_of_end (Ended state) = 0
-status_of_end (Stopped state n) = 3
+status_of_end (RefusedAt state n) = 3
 status_of_end (TooLong state n) = 8
+status_of_end (Unstarted state refusal) = status_of_refusal refusal
 
 -- the status of a scenario that goes on past the limit, by the end of its lines within it and the bytes of the next line
 abbrev pub status_past_limit : End → ℕ → ℕ
 status_past_limit (Ended state) bytes = if nat_lt MAX_LINE_BYTES bytes then 8 else 12
-status_past_limit (Stopped state n) bytes = 3
+status_past_limit (RefusedAt state n) bytes = 3
 status_past_limit (TooLong state n) bytes = 8
+status_past_limit (Unstarted state refusal) bytes = status_of_refusal refusal
 
--- A scenario has more bytes than one may have, and its lines that end within the limit call for this status.
-pub record CallsPastLimit (text : List ℕ) (status : ℕ) : Type 0 where
+-- A scenario has no more bytes than one may have; these are its lines with what the keeper replies, which call for this
+-- status.
+pub record CallsWithinLimit (text : List ℕ) (turns : List Turn) (status : ℕ) : Type 0 where
+  pub short : length text ≤ MAX_SCENARIO_BYTES
+  pub lines : lines_in turns ≡ lines_of text
+  pub called : status ≡ status_of_end (end_from first 1 turns)
+
+-- A scenario has more bytes than one may have; these are its lines that end within the limit with what the keeper replies,
+-- which call for this status.
+pub record CallsPastLimit (text : List ℕ) (turns : List Turn) (status : ℕ) : Type 0 where
   pub long : MAX_SCENARIO_BYTES < length text
-  pub lines : List (List ℕ)
   pub part : List ℕ
-  pub cut : IsCut (take MAX_SCENARIO_BYTES text) lines part
-  pub called : status ≡ status_past_limit (end_from first 1 lines) (length part)
+  pub cut : IsCut (take MAX_SCENARIO_BYTES text) (lines_in turns) part
+  pub called : status ≡ status_past_limit (end_from first 1 turns) (length part)
 
--- The status that a text calls for, where no count of faults rises and memory does not run out. A descriptor text
--- either describes a deployment or is refused.
-abbrev pub CallsFor : Command → List ℕ → ℕ → Type 0
-CallsFor Drive text status =
-    ((status ≡ status_of_end (end_of text)) × (length text ≤ MAX_SCENARIO_BYTES))
-    ⊎ CallsPastLimit text status
-CallsFor Groups text status =
+-- the status that a descriptor text calls for, which describes a deployment or is refused
+abbrev pub DescriptorsCallFor : List ℕ → ℕ → Type 0
+DescriptorsCallFor text status =
     ((status ≡ 8) × (MAX_DESCRIPTOR_BYTES < length text))
     ⊎ (((status ≡ 0)
     × ((length text ≤ MAX_DESCRIPTOR_BYTES) × ((parts : Parts) × IsDeployment text parts)))
     ⊎ ((status ≡ 10) × ((length text ≤ MAX_DESCRIPTOR_BYTES) × IsRefused text)))
+
+-- The status that a text calls for where the keeper replies as these turns say, neither input nor output fails, and memory
+-- does not run out. A descriptor text has no turns.
+abbrev pub CallsFor : Command → List ℕ → List Turn → ℕ → Type 0
+CallsFor Drive text turns status =
+    CallsWithinLimit text turns status ⊎ CallsPastLimit text turns status
+CallsFor Groups text turns status = (turns ≡ []) × DescriptorsCallFor text status
+
+-- A text calls for this status by what a keeper replies that tells this before and after.
+pub record IsCalledFor (command : Command) (text : List ℕ) (old new : Option KeeperTold) (status : ℕ) : Type 0 where
+  pub turns : List Turn
+  pub calls : CallsFor command text turns status
+  pub told : TellsCalls (calls_from first turns) old new

@@ -1,15 +1,23 @@
--- What is read and written until a scenario ends.
-use Rattle.std.specs.Prelude.{◌≡◌, ◌≢◌, ℕ, ◌+◌, ◌<◌, ◌≤◌, ◌⊎◌, List, [], ◌∷◌, ◌++◌, length, All}
+-- What is read, written and asked of the keeper until a scenario ends.
+use Rattle.std.specs.Prelude.{◌≡◌, ◌≢◌, ℕ, ◌+◌, ◌<◌, ◌≤◌, ◌⊎◌, List, [], ◌∷◌, ◌++◌, length, All, Option}
 use mathlib.Core.List.{IsPrefix}
+use Rattle.outside.specs.Keeper.{KeeperTold}
 use Rattle.outside.specs.Source.{prepended}
+use Rattle.boot_core.specs.Sound.{IsSound}
+use Rattle.boot_core.specs.declared.refusals.StartRefusal.{StartRefusal}
+use Rattle.boot_core.specs.declared.refusals.StartRefusal.TheVariants as refusals
+use Rattle.crash_base.specs.declared.row_id.RowId.{RowId}
 use Rattle.scenario_text.specs.Cutting.{lines_of, text_of_lines, IsOneLine, IsCut}
+use Rattle.scenario_text.specs.Reading.{line_of}
 use Rattle.scenario_text.specs.declared.line.TheConstants.{MAX_LINE_BYTES}
+use Rattle.scenario_engine.specs.KeeperCalls.{TellsCalls}
+use Rattle.scenario_engine.specs.Sound.{CommitsUnrebooted, RunsSerially, CommitsOwnRequests}
+use Rattle.scenario_engine.specs.State.{State, RefusedIn, DoneTo, NotStarted}
+use Rattle.scenario_engine.specs.Telling.{DoesPartly, HoldsRowsButNumber}
+use Rattle.scenario_engine.specs.Told.{Tells}
+use Rattle.scenario_engine.specs.Transcript.{Turn, lines_in, first, Ended, end_from, turn_outcome, transcript, calls_from, boots_from}
 use Rattle.drive_engine.specs.declared.drive.TheConstants.{MAX_SCENARIO_BYTES}
-use Rattle.line_steps.specs.Answer.{Done, Refused}
-use Rattle.drive_engine.specs.Engine.{IsSoundState}
 use Rattle.drive_engine.specs.Exchange.{Exchange, IsRead, IsWritten}
-use Rattle.drive_engine.specs.State.{State}
-use Rattle.drive_engine.specs.Transcript.{first, Ended, end_from, end_of, line_answer, transcript, transcript_of}
 
 -- These lines were read, each with its line feed and all within the limit, and then maybe more.
 pub record AreReadWithFeeds (x : Exchange) (lines : List (List ℕ)) : Type 0 where
@@ -28,91 +36,140 @@ pub record AreReadToEnd (x : Exchange) (lines : List (List ℕ)) : Type 0 where
 abbrev pub AreRead : Exchange → List (List ℕ) → Type 0
 AreRead x lines = AreReadWithFeeds x lines ⊎ AreReadToEnd x lines
 
--- These lines were done, in order, which leaves this state; what they write was written; and the boot is sound.
-pub record HasDone (x : Exchange) (lines : List (List ℕ)) (state : State) : Type 0 where
-  pub done : end_from first 1 lines ≡ Ended state
-  pub written : IsWritten x (transcript first lines)
-  pub sound : IsSoundState state
+-- These turns were done, in order, which leaves this state, and what they write was written.
+pub record HasDone (x : Exchange) (turns : List Turn) (state : State) : Type 0 where
+  pub done : end_from first 1 turns ≡ Ended state
+  pub written : IsWritten x (transcript first turns)
+
+-- The boots of these turns stand: the keeper was called as the turns say and holds the rows that they leave; each boot is
+-- sound; no commit comes after a reboot of a group that its call entered; each journal is a serial execution of its
+-- calls; and each commit is of a request of its own boot. A turn that ended the scenario is the last of them, since it may
+-- have called the keeper, too.
+pub record BootsStand (turns : List Turn) (old new : Option KeeperTold) : Type 0 where
+  pub calls : TellsCalls (calls_from first turns) old new
+  pub told : Tells turns old new
+  pub sound : All IsSound (boots_from first turns)
+  pub unrebooted : All CommitsUnrebooted (boots_from first turns)
+  pub serial : All RunsSerially (boots_from first turns)
+  pub own : All CommitsOwnRequests (boots_from first turns)
 
 -- A scenario was read and came to its end, and its transcript was written.
 pub record WritesTranscript (x : Exchange) : Type 0 where
   pub text : List ℕ
   pub read : IsRead MAX_SCENARIO_BYTES x text
+  pub turns : List Turn
+  pub lines : lines_in turns ≡ lines_of text
   pub state : State
-  pub ended : end_of text ≡ Ended state
-  pub written : IsWritten x (transcript_of text)
-  pub sound : IsSoundState state
+  pub done : HasDone x turns state
+  pub boots : BootsStand turns x.told_before x.told_after
 
 -- The line of this number was read to its end and was refused, after the lines before it were done.
 pub record StopsAtLine (n : ℕ) (x : Exchange) : Type 0 where
-  pub before : List (List ℕ)
-  pub line : List ℕ
+  pub before : List Turn
+  pub turn : Turn
   pub state : State
-  pub read : AreRead x (before ++ line ∷ [])
+  pub after : State
+  pub read : AreRead x (lines_in before ++ turn.line ∷ [])
   pub number : n ≡ length before + 1
   pub done : HasDone x before state
-  pub short : length line ≤ MAX_LINE_BYTES
-  pub refused : line_answer state line ≡ Refused
+  pub short : length turn.line ≤ MAX_LINE_BYTES
+  pub refused : turn_outcome state turn ≡ RefusedIn after
+  pub boots : BootsStand (before ++ turn ∷ []) x.told_before x.told_after
+
+-- A line was read to its end and needs a boot that was not started for this refusal, after the lines before it were done.
+pub record StopsAtStart (refusal : StartRefusal) (x : Exchange) : Type 0 where
+  pub before : List Turn
+  pub turn : Turn
+  pub state : State
+  pub after : State
+  pub read : AreRead x (lines_in before ++ turn.line ∷ [])
+  pub done : HasDone x before state
+  pub short : length turn.line ≤ MAX_LINE_BYTES
+  pub unstarted : turn_outcome state turn ≡ NotStarted after refusal
+  pub boots : BootsStand (before ++ turn ∷ []) x.told_before x.told_after
 
 -- More bytes than a line may have were read of the line of this number, after the lines before it were done.
 pub record StopsAtLongLine (n : ℕ) (x : Exchange) : Type 0 where
-  pub before : List (List ℕ)
+  pub before : List Turn
   pub line : List ℕ
   pub rest : List ℕ
   pub state : State
-  pub taken : x.left_before ≡ prepended (text_of_lines before ++ (line ++ rest)) x.left_after
-  pub plain : All IsOneLine before
+  pub taken : x.left_before
+      ≡ prepended (text_of_lines (lines_in before) ++ (line ++ rest)) x.left_after
+  pub plain : All IsOneLine (lines_in before)
   pub one : IsOneLine line
-  pub within : length (text_of_lines before ++ line) ≤ MAX_SCENARIO_BYTES
+  pub within : length (text_of_lines (lines_in before) ++ line) ≤ MAX_SCENARIO_BYTES
   pub number : n ≡ length before + 1
   pub done : HasDone x before state
   pub long : MAX_LINE_BYTES < length line
+  pub boots : BootsStand before x.told_before x.told_after
 
 -- A read failed, after the lines that had ended by then were done.
 pub record StopsAtFailedRead (x : Exchange) : Type 0 where
   pub text : List ℕ
-  pub lines : List (List ℕ)
+  pub turns : List Turn
   pub part : List ℕ
   pub state : State
   pub taken : x.left_before ≡ prepended text x.left_after
-  pub cut : IsCut text lines part
+  pub cut : IsCut text (lines_in turns) part
   pub short : length part ≤ MAX_LINE_BYTES
-  pub done : HasDone x lines state
+  pub done : HasDone x turns state
+  pub boots : BootsStand turns x.told_before x.told_after
 
 -- A line was read to its end and done, and a prefix of what it writes was written, after the lines before it were done.
 pub record StopsAtFailedWrite (x : Exchange) : Type 0 where
-  pub before : List (List ℕ)
-  pub line : List ℕ
+  pub before : List Turn
+  pub turn : Turn
   pub state : State
   pub after : State
   pub wrote : List ℕ
   pub prefix : List ℕ
-  pub read : AreRead x (before ++ line ∷ [])
+  pub read : AreRead x (lines_in before ++ turn.line ∷ [])
   pub done : end_from first 1 before ≡ Ended state
-  pub sound : IsSoundState state
-  pub short : length line ≤ MAX_LINE_BYTES
-  pub answer : line_answer state line ≡ Done after wrote
-  pub still_sound : IsSoundState after
+  pub short : length turn.line ≤ MAX_LINE_BYTES
+  pub answer : turn_outcome state turn ≡ DoneTo after wrote
   pub begins : IsPrefix prefix wrote
   pub written : IsWritten x (transcript first before ++ prefix)
+  pub boots : BootsStand (before ++ turn ∷ []) x.told_before x.told_after
 
--- Memory ran out after these lines were read and done.
+-- A line was read to its end after these lines, and memory ran out while it was done: the first of its calls of the keeper
+-- were made. No commit was kept: of the keeper's rows at most that of the boot's number is another.
+pub record RunsOutAtLine (x : Exchange) (lines : List (List ℕ)) (state : State) (between : Option KeeperTold) : Type 0 where
+  pub line : List ℕ
+  pub read : AreRead x (lines ++ line ∷ [])
+  pub short : length line ≤ MAX_LINE_BYTES
+  pub partly : DoesPartly state (line_of line) between x.told_after
+  pub rows : HoldsRowsButNumber between x.told_after
+
+-- Memory ran out after these lines were read and done. The keeper was called for these lines alone, or for a part of the
+-- next one, too.
 pub record StopsOutOfMemory (x : Exchange) : Type 0 where
-  pub before : List (List ℕ)
+  pub before : List Turn
   pub state : State
-  pub read : AreReadWithFeeds x before
+  pub between : Option KeeperTold
+  pub read : AreReadWithFeeds x (lines_in before)
   pub done : HasDone x before state
+  pub boots : BootsStand before x.told_before between
+  pub last : (x.told_after ≡ between) ⊎ RunsOutAtLine x (lines_in before) state between
+
+-- There is no memory for the numbers of a report: that of a line which was refused or is too long, or those of a bad row.
+abbrev pub HasNoReport : Exchange → Type 0
+HasNoReport x =
+    ((n : ℕ) × StopsAtLine n x)
+    ⊎ (((n : ℕ) × StopsAtLongLine n x)
+    ⊎ ((id : RowId) × StopsAtStart (refusals.BadRow id) x))
 
 -- More bytes were read than a scenario may have, after the lines that end within its limit were done.
 pub record StopsPastLimit (x : Exchange) : Type 0 where
   pub text : List ℕ
   pub more : List ℕ
-  pub lines : List (List ℕ)
+  pub turns : List Turn
   pub part : List ℕ
   pub state : State
   pub taken : x.left_before ≡ prepended (text ++ more) x.left_after
   pub past : more ≢ []
   pub whole : length text ≡ MAX_SCENARIO_BYTES
-  pub cut : IsCut text lines part
+  pub cut : IsCut text (lines_in turns) part
   pub short : length part ≤ MAX_LINE_BYTES
-  pub done : HasDone x lines state
+  pub done : HasDone x turns state
+  pub boots : BootsStand turns x.told_before x.told_after

@@ -71,9 +71,12 @@ is_silent endings.UnknownCommand = true
 is_silent (endings.LineRefused n) = false
 is_silent endings.ReadFailed = true
 is_silent endings.WriteFailed = false
+is_silent endings.KeeperFailed = false
+is_silent (endings.BadRow id) = false
 is_silent (endings.LineTooLong n) = true
 is_silent endings.OutOfMemory = false
 is_silent endings.DescriptorsRefused = true
+is_silent endings.BootsSpent = false
 is_silent endings.ScenarioTooLong = false
 
 -- The lines of a deployment of these parts were written up to this ending.
@@ -83,9 +86,12 @@ WritesLines endings.UnknownCommand parts before after = ⊥
 WritesLines (endings.LineRefused n) parts before after = ⊥
 WritesLines endings.ReadFailed parts before after = ⊥
 WritesLines endings.WriteFailed parts before after = AppendsPrefix before after (groups_text parts)
+WritesLines endings.KeeperFailed parts before after = ⊥
+WritesLines (endings.BadRow id) parts before after = ⊥
 WritesLines (endings.LineTooLong n) parts before after = ⊥
 WritesLines endings.OutOfMemory parts before after = after ≡ before
 WritesLines endings.DescriptorsRefused parts before after = ⊥
+WritesLines endings.BootsSpent parts before after = ⊥
 WritesLines endings.ScenarioTooLong parts before after = ⊥
 
 -- A descriptor text came to this ending: its deployment's lines were written so, or it describes none.
@@ -97,7 +103,10 @@ ListsText (endings.LineRefused n) text before after = ⊥
 ListsText endings.ReadFailed text before after = ⊥
 ListsText endings.WriteFailed text before after =
     (parts : Parts) × IsDeployment text parts × AppendsPrefix before after (groups_text parts)
+ListsText endings.KeeperFailed text before after = ⊥
+ListsText (endings.BadRow id) text before after = ⊥
 ListsText (endings.LineTooLong n) text before after = ⊥
 ListsText endings.OutOfMemory text before after = after ≡ before
 ListsText endings.DescriptorsRefused text before after = IsRefused text
+ListsText endings.BootsSpent text before after = ⊥
 ListsText endings.ScenarioTooLong text before after = ⊥

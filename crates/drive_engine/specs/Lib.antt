@@ -1,7 +1,3 @@
-pub mod Running
-pub mod State
-pub mod Engine
-pub mod Transcript
 pub mod Exchange
 pub mod Ending
 pub mod Drive

@@ -1,18 +1,22 @@
 -- How far a scenario has come, and what a line and a piece of it do.
 use Rattle.std.specs.Prelude.{◌≡◌, ℕ, ◌+◌, ◌<◌, ◌≤◌, List, ◌++◌, length, All, Option}
+use Rattle.boot_core.specs.declared.refusals.StartRefusal.TheVariants as refusals
+use Rattle.outside.specs.Keeper.{KeeperTold}
 use Rattle.outside.specs.Sink.{appended, AppendsPrefix}
 use Rattle.outside.specs.Source.{prepended}
 use Rattle.scenario_text.specs.Cutting.{text_of_lines, IsOneLine}
+use Rattle.scenario_text.specs.Reading.{line_of}
 use Rattle.scenario_text.specs.declared.line.TheConstants.{MAX_LINE_BYTES}
+use Rattle.scenario_engine.specs.KeeperCalls.{TellsCalls}
+use Rattle.scenario_engine.specs.State.{State, RefusedIn, DoneTo}
+use Rattle.scenario_engine.specs.Telling.{Does, DoesPartly, Ends}
+use Rattle.scenario_engine.specs.Transcript.{Turn, lines_in, first, Ended, end_from, transcript, calls_from}
 use Rattle.drive_engine.specs.declared.drive.TheConstants.{MAX_SCENARIO_BYTES}
 use Rattle.drive_engine.specs.declared.ending.Ending.{Ending}
 use Rattle.drive_engine.specs.declared.ending.Ending.TheVariants as endings
 use Rattle.drive_engine.specs.declared.words.Command.TheVariants.{Drive}
-use Rattle.line_steps.specs.Answer.{Done, Refused}
 use Rattle.drive_engine.specs.Command.{Runs}
 use Rattle.drive_engine.specs.Exchange.{Exchange, exchange, IsWritten}
-use Rattle.drive_engine.specs.State.{State}
-use Rattle.drive_engine.specs.Transcript.{first, Ended, end_from, line_answer, transcript}
 
 -- the state that the lines before a line leave, the part of that line that was read, and its number
 pub record PlayState : Type 0 where
@@ -21,53 +25,69 @@ pub record PlayState : Type 0 where
   pub number : ℕ
 
 -- One line was done, which leaves this state, and what it writes was written.
-pub record DoesLine (s t : State) (line : List ℕ) (old new : Option (List ℕ)) : Type 0 where
+pub record DoesLine (s t : State) (line : List ℕ) (old new : Option (List ℕ)) (before after : Option KeeperTold) : Type 0 where
   pub text : List ℕ
   pub short : length line ≤ MAX_LINE_BYTES
-  pub done : line_answer s line ≡ Done t text
+  pub done : Does s (line_of line) (DoneTo t text) before after
   pub written : new ≡ appended old text
 
--- A scenario ends so at the line of this number.
-abbrev pub EndsAtLine : Ending → ℕ → State → List ℕ → Option (List ℕ) → Option (List ℕ) → Type 0
-EndsAtLine endings.Done number s line old new = ⊥
-EndsAtLine endings.UnknownCommand number s line old new = ⊥
-EndsAtLine (endings.LineRefused n) number s line old new =
-    (n ≡ number) × (length line ≤ MAX_LINE_BYTES) × (line_answer s line ≡ Refused) × (new ≡ old)
-EndsAtLine endings.ReadFailed number s line old new = ⊥
-EndsAtLine endings.WriteFailed number s line old new =
-    (t : State) × (text : List ℕ) × (length line ≤ MAX_LINE_BYTES)
-    × (line_answer s line ≡ Done t text) × AppendsPrefix old new text
-EndsAtLine (endings.LineTooLong n) number s line old new =
-    (n ≡ number) × (MAX_LINE_BYTES < length line) × (new ≡ old)
-EndsAtLine endings.OutOfMemory number s line old new = new ≡ old
-EndsAtLine endings.DescriptorsRefused number s line old new = ⊥
-EndsAtLine endings.ScenarioTooLong number s line old new = ⊥
+-- A line is not too long, and nothing was written.
+abbrev pub WritesNoText : List ℕ → Option (List ℕ) → Option (List ℕ) → Type 0
+WritesNoText line old new = (length line ≤ MAX_LINE_BYTES) × (new ≡ old)
 
--- A scenario has come so far: of what was taken from the input, first come lines, which were done; then a part of a
--- line, which is kept; and then bytes that were not looked at, of which the last are past the limit of a scenario.
+-- A scenario ends so at the line of this number.
+abbrev pub EndsAtLine : Ending → ℕ → State → List ℕ → Option (List ℕ) → Option (List ℕ)
+    → Option KeeperTold → Option KeeperTold → Type 0
+EndsAtLine endings.Done number s line old new before after = ⊥
+EndsAtLine endings.UnknownCommand number s line old new before after = ⊥
+EndsAtLine (endings.LineRefused n) number s line old new before after =
+    (n ≡ number) × WritesNoText line old new
+    × ((t : State) × Does s (line_of line) (RefusedIn t) before after)
+EndsAtLine endings.ReadFailed number s line old new before after = ⊥
+EndsAtLine endings.WriteFailed number s line old new before after =
+    (t : State) × (text : List ℕ) × (length line ≤ MAX_LINE_BYTES)
+    × Does s (line_of line) (DoneTo t text) before after × AppendsPrefix old new text
+EndsAtLine endings.KeeperFailed number s line old new before after =
+    WritesNoText line old new × Ends refusals.KeeperFailed s (line_of line) before after
+EndsAtLine (endings.BadRow id) number s line old new before after =
+    WritesNoText line old new × Ends (refusals.BadRow id) s (line_of line) before after
+EndsAtLine (endings.LineTooLong n) number s line old new before after =
+    (n ≡ number) × (MAX_LINE_BYTES < length line) × (new ≡ old) × (after ≡ before)
+EndsAtLine endings.OutOfMemory number s line old new before after =
+    WritesNoText line old new × DoesPartly s (line_of line) before after
+EndsAtLine endings.DescriptorsRefused number s line old new before after = ⊥
+EndsAtLine endings.BootsSpent number s line old new before after =
+    WritesNoText line old new × Ends refusals.BootsSpent s (line_of line) before after
+EndsAtLine endings.ScenarioTooLong number s line old new before after = ⊥
+
+-- A scenario has come so far: of what was taken from the input, first come the lines of turns, which were done; then a part
+-- of a line, which is kept; and then bytes that were not looked at, of which the last are past the limit of a scenario.
 pub record HasCome (x : Exchange) (more : ℕ) (unread past : List ℕ) (p : PlayState) : Type 0 where
-  pub lines : List (List ℕ)
+  pub turns : List Turn
   pub taken : x.left_before
-      ≡ prepended (text_of_lines lines ++ (p.part ++ (unread ++ past))) x.left_after
-  pub plain : All IsOneLine lines
+      ≡ prepended (text_of_lines (lines_in turns) ++ (p.part ++ (unread ++ past))) x.left_after
+  pub plain : All IsOneLine (lines_in turns)
   pub one : IsOneLine p.part
   pub short : length p.part ≤ MAX_LINE_BYTES
-  pub within : length (text_of_lines lines ++ (p.part ++ unread)) + more ≡ MAX_SCENARIO_BYTES
-  pub number : p.number ≡ length lines + 1
-  pub done : end_from first 1 lines ≡ Ended p.state
-  pub written : IsWritten x (transcript first lines)
+  pub within : length (text_of_lines (lines_in turns) ++ (p.part ++ unread)) + more
+      ≡ MAX_SCENARIO_BYTES
+  pub number : p.number ≡ length turns + 1
+  pub done : end_from first 1 turns ≡ Ended p.state
+  pub written : IsWritten x (transcript first turns)
+  pub told : TellsCalls (calls_from first turns) x.told_before x.told_after
 
 -- However a scenario has come to the first place, it has now come to the second.
-abbrev pub Comes : PlayState → List ℕ → Option (List ℕ)
-    → PlayState → List ℕ → Option (List ℕ) → Type 0
-Comes p unread old q rest new =
-    (left left_now written : Option (List ℕ)) (more : ℕ) (past : List ℕ)
-    → HasCome (exchange left left_now written old) more unread past p
-    → HasCome (exchange left left_now written new) more rest past q
+abbrev pub Comes : PlayState → List ℕ → Option (List ℕ) → Option KeeperTold
+    → PlayState → List ℕ → Option (List ℕ) → Option KeeperTold → Type 0
+Comes p unread old before q rest new after =
+    (left left_now written : Option (List ℕ)) (told : Option KeeperTold) (more : ℕ) (past : List ℕ)
+    → HasCome (exchange left left_now written old told before) more unread past p
+    → HasCome (exchange left left_now written new told after) more rest past q
 
 -- However a scenario has come to this place, it has now ended so.
-abbrev pub EndsFrom : PlayState → List ℕ → Option (List ℕ) → Ending → Option (List ℕ) → Type 0
-EndsFrom p unread old ending new =
-    (left left_now written : Option (List ℕ)) (more : ℕ) (past : List ℕ)
-    → HasCome (exchange left left_now written old) more unread past p
-    → Runs Drive ending (exchange left left_now written new)
+abbrev pub EndsFrom : PlayState → List ℕ → Option (List ℕ) → Option KeeperTold
+    → Ending → Option (List ℕ) → Option KeeperTold → Type 0
+EndsFrom p unread old before ending new after =
+    (left left_now written : Option (List ℕ)) (told : Option KeeperTold) (more : ℕ) (past : List ℕ)
+    → HasCome (exchange left left_now written old told before) more unread past p
+    → Runs Drive ending (exchange left left_now written new told after)

@@ -1,12 +1,13 @@
 //! Commands over their outside.
 
-ghost use Rattle.std.specs.Prelude.{codes, ◌≡◌, ◌≢◌, ◌↔◌, ◌⊎◌, ℕ, ◌==◌, true, [], ◌∷◌, Some, None, IfOk, IfSome, string_bytes};
+ghost use Rattle.std.specs.Prelude.{codes, ◌≡◌, ◌≢◌, ◌≤◌, ◌↔◌, ◌⊎◌, ℕ, ◌==◌, true, [], ◌∷◌, Some, None, IfOk, IfSome, string_bytes};
 ghost use Rattle.std.specs.List.{list_any};
+ghost use Rattle.boot_core.specs.declared.refusals.StartRefusal.{StartRefusal};
 ghost use Rattle.outside.specs.Faults.{Rose};
 ghost use Rattle.outside.specs.Sink.{AppendsOrFails};
-ghost use Rattle.drive_engine.specs.Command.{WritesAll, FailsToRead, FailsToWrite, HasLongLine, RunsOutOfMemory, Runs, Ends, CallsFor};
-ghost use Rattle.drive_engine.specs.Drive.{StopsAtLine, StopsPastLimit};
-ghost use Rattle.drive_engine.specs.Ending.{report, line_report, long_line_report, IsReported};
+ghost use Rattle.drive_engine.specs.Command.{WritesAll, FailsToRead, FailsToWrite, HasLongLine, EndsOutOfMemory, Runs, Ends, IsCalledFor};
+ghost use Rattle.drive_engine.specs.Drive.{StopsAtLine, StopsAtStart, StopsPastLimit};
+ghost use Rattle.drive_engine.specs.Ending.{report, line_report, long_line_report, bad_row_report, IsReported};
 ghost use Rattle.drive_engine.specs.Exchange.{exchange};
 ghost use Rattle.drive_engine.specs.Groups.{RefusesDescriptors, is_silent};
 ghost use Rattle.drive_engine.specs.Words.{command_of};
@@ -15,7 +16,8 @@ use crate::drive::drive;
 use crate::ending::Ending;
 use crate::groups::groups;
 use crate::words::{Command, USAGE, command_of};
-use crash_base::{OutOfMemory, WordText};
+use boot_core::StartRefusal;
+use crash_base::{OutOfMemory, RowId, WordText};
 use outside::{Keeper, Sink, Source, write_all};
 use std::alloc::Global;
 use std::fmt::Write;
@@ -46,18 +48,29 @@ fn long_line_report(alloc: Global, number: u64) -> Result<String, OutOfMemory>
     Ok(text)
 }
 
-/// Reports how a command ended at a line, or that there was no memory for this report.
-fn report_line<E: Sink>(
+/// What is reported of a bad row.
+fn bad_row_report(alloc: Global, id: RowId) -> Result<String, OutOfMemory>
+    ensures { IfOk result (λ text. string_bytes text ≡ bad_row_report id) }
+{
+    let table = id.table;
+    let key = id.key;
+    let mut text = String::new(alloc);
+    write!(text, "bad row {table} {key}\n")?;
+    Ok(text)
+}
+
+/// Reports how a command ended, with the numbers of this report, or that there was no memory for it.
+fn report_numbers<E: Sink>(
     ending: Ending,
-    line_report: Result<String, OutOfMemory>,
+    numbers: Result<String, OutOfMemory>,
     errors: &mut E,
 ) -> Ending
-    requires { IfOk line_report (λ text. string_bytes text ≡ report ending) }
+    requires { IfOk numbers (λ text. string_bytes text ≡ report ending) }
     ensures ending { (result ≡ ending) ⊎ (result ≡ Ending.OutOfMemory) }
     ensures reported { AppendsOrFails (E.written errors.old) (E.written errors.new)
         (E.faults errors.old) (E.faults errors.new) (report result) }
 {
-    match line_report {
+    match numbers {
         Ok(text) => {
             write_report(errors, text.as_str());
             ending
@@ -79,10 +92,11 @@ fn report_ending<E: Sink>(alloc: Global, ending: Ending, errors: &mut E) -> Endi
 {
     match ending {
         Ending::Done => ending,
-        Ending::LineRefused(number) => report_line(ending, line_report(alloc, number), errors),
+        Ending::LineRefused(number) => report_numbers(ending, line_report(alloc, number), errors),
         Ending::LineTooLong(number) => {
-            report_line(ending, long_line_report(alloc, number), errors)
+            report_numbers(ending, long_line_report(alloc, number), errors)
         }
+        Ending::BadRow(id) => report_numbers(ending, bad_row_report(alloc, id), errors),
         _ => {
             write_report(errors, ending.fixed_report());
             ending
@@ -90,42 +104,59 @@ fn report_ending<E: Sink>(alloc: Global, ending: Ending, errors: &mut E) -> Endi
     }
 }
 
-/// Runs a command over its input and output.
-fn run<S: Source, T: Sink>(alloc: Global, command: Command, input: &mut S, out: &mut T) -> Ending
+/// Runs a command over its input, its output and its keeper.
+fn run<S: Source, T: Sink, K: Keeper>(
+    alloc: Global,
+    command: Command,
+    input: &mut S,
+    out: &mut T,
+    keeper: &mut K,
+) -> Ending
     ensures runs { Runs command result
-        (exchange (S.left input.old) (S.left input.new) (T.written out.old) (T.written out.new)) }
+        (exchange (S.left input.old) (S.left input.new) (T.written out.old) (T.written out.new)
+        (K.told keeper.old) (K.told keeper.new)) }
     ensures read_failed { result ≡ Ending.ReadFailed
         → Rose (S.faults input.old) (S.faults input.new) }
     ensures write_failed { result ≡ Ending.WriteFailed
         → Rose (T.faults out.old) (T.faults out.new) }
+    ensures keeper_failed { result ≡ Ending.KeeperFailed
+        → Rose (K.faults keeper.old) (K.faults keeper.new) }
+    ensures keeper_count { K.faults keeper.old ≤ K.faults keeper.new }
     ensures silent { command ≡ Command.Groups → is_silent result ≡ true → out.new ≡ out.old }
+    ensures unasked { command ≡ Command.Groups → keeper.new ≡ keeper.old }
 {
     match command {
-        Command::Drive => drive(alloc, input, out),
+        Command::Drive => drive(alloc, input, out, keeper),
         Command::Groups => groups(alloc, input, out),
     }
 }
 
-/// Runs the command that words spell, if they do, over its input and output.
-fn run_words<S: Source, T: Sink>(
+/// Runs the command that words spell, if they do, over its input, its output and its keeper.
+fn run_words<S: Source, T: Sink, K: Keeper>(
     alloc: Global,
     words: &[WordText],
     input: &mut S,
     out: &mut T,
+    keeper: &mut K,
 ) -> Ending
     ensures ends { Ends (command_of words.now) result
-        (exchange (S.left input.old) (S.left input.new) (T.written out.old) (T.written out.new)) }
+        (exchange (S.left input.old) (S.left input.new) (T.written out.old) (T.written out.new)
+        (K.told keeper.old) (K.told keeper.new)) }
     ensures read_failed { result ≡ Ending.ReadFailed
         → Rose (S.faults input.old) (S.faults input.new) }
     ensures write_failed { result ≡ Ending.WriteFailed
         → Rose (T.faults out.old) (T.faults out.new) }
+    ensures keeper_failed { result ≡ Ending.KeeperFailed
+        → Rose (K.faults keeper.old) (K.faults keeper.new) }
+    ensures keeper_count { K.faults keeper.old ≤ K.faults keeper.new }
     ensures silent { command_of words.now ≡ Some Command.Groups
         → is_silent result ≡ true → out.new ≡ out.old }
+    ensures unasked { command_of words.now ≢ Some Command.Drive → keeper.new ≡ keeper.old }
     ensures unknown { command_of words.now ≡ None
         → (input.new ≡ input.old) × (out.new ≡ out.old) }
 {
     match command_of(words) {
-        Some(command) => run(alloc, command, input, out),
+        Some(command) => run(alloc, command, input, out, keeper),
         None => Ending::UnknownCommand,
     }
 }
@@ -137,14 +168,17 @@ fn run_words<S: Source, T: Sink>(
 /// - 2: the words spell no command.
 /// - 3: a line of a scenario was refused, whose number is reported.
 /// - 4, 5: the input, the output failed.
+/// - 6: the keeper failed while a boot was to be started.
+/// - 7: the keeper gave a row that may not be loaded, whose table and key are reported.
 /// - 8: a line of a scenario has more than 8,192 bytes, whose number is reported; or a descriptor text has more
 ///   than 1,048,576 bytes, which is reported as its line 1.
 /// - 9: memory ran out.
 /// - 10: a descriptor text describes no deployment.
+/// - 11: a boot was not started, since the number of the last one is the greatest that there is.
 /// - 12: a scenario has more than 4,294,967,295 bytes.
 ///
-/// `drive` reads piece by piece, and does each line as soon as it was read to its end. So at 3, 4, 5, 8, 9 and 12
-/// the lines before were done, and their transcript was written.
+/// `drive` reads piece by piece, and does each line as soon as it was read to its end. So at 3 to 9, 11 and 12
+/// the lines before were done, and their transcript was written. The keeper holds what these lines left.
 ///
 /// How it ended is reported on `errors`, except at 0.
 pub fn run_command<S: Source, T: Sink, E: Sink, K: Keeper>(
@@ -153,18 +187,20 @@ pub fn run_command<S: Source, T: Sink, E: Sink, K: Keeper>(
     input: &mut S,
     out: &mut T,
     errors: &mut E,
-    keeper: K,
+    mut keeper: K,
 ) -> (u8, K)
-    // The keeper comes back untouched, whatever the status is.
-    ensures keeper { result.1 ≡ keeper }
+    // Only a scenario asks the keeper. Its count of faults never falls.
+    ensures unasked { command_of words.now ≢ Some Command.Drive → result.1 ≡ keeper }
+    ensures keeper_count { K.faults keeper ≤ K.faults result.1 }
     ensures statuses { list_any (λ status. status == result.0)
-        (0 ∷ 2 ∷ 3 ∷ 4 ∷ 5 ∷ 8 ∷ 9 ∷ 10 ∷ 12 ∷ []) ≡ true }
+        (0 ∷ 2 ∷ 3 ∷ 4 ∷ 5 ∷ 6 ∷ 7 ∷ 8 ∷ 9 ∷ 10 ∷ 11 ∷ 12 ∷ []) ≡ true }
 
     // At 0 the input was read to its end and all was written: the transcript of a scenario, or the
     // groups of a deployment. Nothing is reported.
     ensures done { result.0 ≡ 0 → (errors.new ≡ errors.old)
         × IfSome (command_of words.now) (λ command. WritesAll command
-        (exchange (S.left input.old) (S.left input.new) (T.written out.old) (T.written out.new))) }
+        (exchange (S.left input.old) (S.left input.new) (T.written out.old) (T.written out.new)
+        (K.told keeper) (K.told result.1))) }
 
     // At 2 the words spell no command, and else they do. Nothing was read or written.
     ensures words { (result.0 ≡ 2) ↔ (command_of words.now ≡ None) }
@@ -175,7 +211,8 @@ pub fn run_command<S: Source, T: Sink, E: Sink, K: Keeper>(
     // At 3 a line was refused, and the transcript of the lines before it was written.
     ensures refused { result.0 ≡ 3 → (command_of words.now ≡ Some Command.Drive)
         × ((n : ℕ) × StopsAtLine n
-        (exchange (S.left input.old) (S.left input.new) (T.written out.old) (T.written out.new))
+        (exchange (S.left input.old) (S.left input.new) (T.written out.old) (T.written out.new)
+        (K.told keeper) (K.told result.1))
         × AppendsOrFails (E.written errors.old) (E.written errors.new)
         (E.faults errors.old) (E.faults errors.new) (line_report n)) }
 
@@ -183,36 +220,63 @@ pub fn run_command<S: Source, T: Sink, E: Sink, K: Keeper>(
     // for groups nothing. At 5 the output's rose, and a prefix was written of what the command writes.
     ensures read_failed { result.0 ≡ 4 → Rose (S.faults input.old) (S.faults input.new)
         × IfSome (command_of words.now) (λ command. FailsToRead command
-        (exchange (S.left input.old) (S.left input.new) (T.written out.old) (T.written out.new)))
+        (exchange (S.left input.old) (S.left input.new) (T.written out.old) (T.written out.new)
+        (K.told keeper) (K.told result.1)))
         × (command_of words.now ≡ Some Command.Groups → out.new ≡ out.old)
         × AppendsOrFails (E.written errors.old) (E.written errors.new)
         (E.faults errors.old) (E.faults errors.new) (codes "read failed\n") }
     ensures write_failed { result.0 ≡ 5 → Rose (T.faults out.old) (T.faults out.new)
         × IfSome (command_of words.now) (λ command. FailsToWrite command
-        (exchange (S.left input.old) (S.left input.new) (T.written out.old) (T.written out.new)))
+        (exchange (S.left input.old) (S.left input.new) (T.written out.old) (T.written out.new)
+        (K.told keeper) (K.told result.1)))
         × AppendsOrFails (E.written errors.old) (E.written errors.new)
         (E.faults errors.old) (E.faults errors.new) (codes "write failed\n") }
+
+    // At 6, 7 and 11 a line needs a boot that was not started, and the transcript of the lines before it was
+    // written. At 6 the keeper's count of faults rose, at 7 it gave a bad row, and at 11 no number is left.
+    ensures keeper_failed { result.0 ≡ 6 → (command_of words.now ≡ Some Command.Drive)
+        × Rose (K.faults keeper) (K.faults result.1)
+        × StopsAtStart StartRefusal.KeeperFailed
+        (exchange (S.left input.old) (S.left input.new) (T.written out.old) (T.written out.new)
+        (K.told keeper) (K.told result.1))
+        × AppendsOrFails (E.written errors.old) (E.written errors.new)
+        (E.faults errors.old) (E.faults errors.new) (codes "keeper failed\n") }
+    ensures bad_row { result.0 ≡ 7 → (command_of words.now ≡ Some Command.Drive)
+        × ((id : RowId) × StopsAtStart (StartRefusal.BadRow id)
+        (exchange (S.left input.old) (S.left input.new) (T.written out.old) (T.written out.new)
+        (K.told keeper) (K.told result.1))
+        × AppendsOrFails (E.written errors.old) (E.written errors.new)
+        (E.faults errors.old) (E.faults errors.new) (bad_row_report id)) }
+    ensures boots_spent { result.0 ≡ 11 → (command_of words.now ≡ Some Command.Drive)
+        × StopsAtStart StartRefusal.BootsSpent
+        (exchange (S.left input.old) (S.left input.new) (T.written out.old) (T.written out.new)
+        (K.told keeper) (K.told result.1))
+        × AppendsOrFails (E.written errors.old) (E.written errors.new)
+        (E.faults errors.old) (E.faults errors.new) (codes "boots spent\n") }
 
     // At 8 a line has more bytes than it may have, and the transcript of the lines before it was written. Or
     // descriptors have, and nothing was written.
     ensures line_too_long { result.0 ≡ 8 → (n : ℕ)
         × IfSome (command_of words.now) (λ command. HasLongLine command n
-        (exchange (S.left input.old) (S.left input.new) (T.written out.old) (T.written out.new)))
+        (exchange (S.left input.old) (S.left input.new) (T.written out.old) (T.written out.new)
+        (K.told keeper) (K.told result.1)))
         × (command_of words.now ≡ Some Command.Groups → out.new ≡ out.old)
         × AppendsOrFails (E.written errors.old) (E.written errors.new)
         (E.faults errors.old) (E.faults errors.new) (long_line_report n) }
 
     // At 9 the transcript of the lines that were done was written, or for groups nothing.
     ensures out_of_memory { result.0 ≡ 9
-        → IfSome (command_of words.now) (λ command. RunsOutOfMemory command
-        (exchange (S.left input.old) (S.left input.new) (T.written out.old) (T.written out.new)))
+        → IfSome (command_of words.now) (λ command. EndsOutOfMemory command
+        (exchange (S.left input.old) (S.left input.new) (T.written out.old) (T.written out.new)
+        (K.told keeper) (K.told result.1)))
         × AppendsOrFails (E.written errors.old) (E.written errors.new)
         (E.faults errors.old) (E.faults errors.new) (codes "out of memory\n") }
 
     // At 10 the input was read to its end and describes no deployment, and nothing was written.
     ensures descriptors_refused { result.0 ≡ 10 → (command_of words.now ≡ Some Command.Groups)
         × RefusesDescriptors
-        (exchange (S.left input.old) (S.left input.new) (T.written out.old) (T.written out.new))
+        (exchange (S.left input.old) (S.left input.new) (T.written out.old) (T.written out.new)
+        (K.told keeper) (K.told result.1))
         × (out.new ≡ out.old)
         × AppendsOrFails (E.written errors.old) (E.written errors.new)
         (E.faults errors.old) (E.faults errors.new) (codes "descriptors refused\n") }
@@ -221,16 +285,18 @@ pub fn run_command<S: Source, T: Sink, E: Sink, K: Keeper>(
     // within these was written.
     ensures scenario_too_long { result.0 ≡ 12 → (command_of words.now ≡ Some Command.Drive)
         × StopsPastLimit
-        (exchange (S.left input.old) (S.left input.new) (T.written out.old) (T.written out.new))
+        (exchange (S.left input.old) (S.left input.new) (T.written out.old) (T.written out.new)
+        (K.told keeper) (K.told result.1))
         × AppendsOrFails (E.written errors.old) (E.written errors.new)
         (E.faults errors.old) (E.faults errors.new) (codes "input too long\n") }
 
-    // Where the input tells its text, words and text decide the status, but for out of memory and for
-    // faults.
+    // Where the input tells its text, the words, the text and what the keeper replies decide the status, but
+    // for out of memory and for faults of input and output.
     ensures decided { IfSome (S.left input.old) (λ text. IfSome (command_of words.now) (λ command.
-        CallsFor command text result.0 ⊎ ((result.0 ≡ 9) ⊎ ((result.0 ≡ 4) ⊎ (result.0 ≡ 5))))) }
+        IsCalledFor command text (K.told keeper) (K.told result.1) result.0
+        ⊎ ((result.0 ≡ 9) ⊎ ((result.0 ≡ 4) ⊎ (result.0 ≡ 5))))) }
 {
-    let ending = run_words(alloc, words, input, out);
+    let ending = run_words(alloc, words, input, out, &mut keeper);
     let ending = report_ending(alloc, ending, errors);
     (ending.status(), keeper)
 }

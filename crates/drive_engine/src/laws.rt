@@ -1,56 +1,45 @@
 //! Laws of commands. Each is the contract of a function that does nothing: a caller that needs the
 //! law calls the function.
 
-ghost use Rattle.std.specs.Prelude.{◌≡◌, ℕ, List};
+ghost use Rattle.std.specs.Prelude.{◌≡◌, ℕ, List, Option};
+ghost use Rattle.outside.specs.Keeper.{KeeperTold};
+ghost use Rattle.scenario_engine.specs.KeeperCalls.{TellsCalls};
+ghost use Rattle.scenario_engine.specs.Transcript.{Turn, lines_in, first, calls_from};
 ghost use Rattle.drive_engine.specs.declared.words.Command.{Command};
 ghost use Rattle.drive_engine.specs.Command.{CallsFor};
-ghost use Rattle.drive_engine.specs.Engine.{IsSoundState, IsSerialState, AreUnrebooted, entries_of};
-ghost use Rattle.drive_engine.specs.Transcript.{first, end_from, end_of, last_state};
+ghost use Rattle.drive_engine.specs.Drive.{BootsStand};
 
-use boot_core::boots_stay_sound;
 use descriptor_text::texts_have_an_answer;
-use journal_model::{legal_journals_are_serial, no_commit_after_a_reboot};
+use scenario_engine::{
+    boots_are_sound, commits_are_of_their_boot, keepers_tell, no_turns_break_the_order,
+    no_turns_commit_after_a_reboot,
+};
 
-/// Whatever the text, or the lines, the boot is sound in the state that they leave, also where they stop at a line: its
-/// journal is legal and within its limits, and each commit wrote only rows of tables whose owners' groups it entered.
-pub fn boots_are_sound()
-    ensures texts { (text : List ℕ) → IsSoundState (last_state (end_of text)) }
-    ensures lines { (lines : List (List ℕ)) → IsSoundState (last_state (end_from first 1 lines)) }
+/// Whatever the turns, their boots stand where the keeper was called as they say.
+pub(crate) fn boots_stand()
+    ensures { (turns : List Turn) (old new : Option KeeperTold)
+        → TellsCalls (calls_from first turns) old new → BootsStand turns old new }
 {
-    boots_stay_sound();
-}
-
-/// Whatever the text, or the lines, no commit of the journal that they leave comes after a reboot of a group that its
-/// call entered, also where they stop at a line.
-pub fn no_text_commits_after_a_reboot()
-    ensures texts { (text : List ℕ) → AreUnrebooted (entries_of (last_state (end_of text))) }
-    ensures lines { (lines : List (List ℕ)) →
-        AreUnrebooted (entries_of (last_state (end_from first 1 lines))) }
-{
+    keepers_tell();
     boots_are_sound();
-    no_commit_after_a_reboot();
+    no_turns_commit_after_a_reboot();
+    no_turns_break_the_order();
+    commits_are_of_their_boot();
 }
 
-/// Whatever the text, or the lines, the journal that they leave is a serial execution of its calls, in its order, also
-/// where they stop at a line.
-pub fn no_text_breaks_the_order()
-    ensures texts { (text : List ℕ) → IsSerialState (last_state (end_of text)) }
-    ensures lines { (lines : List (List ℕ)) → IsSerialState (last_state (end_from first 1 lines)) }
-{
-    boots_are_sound();
-    legal_journals_are_serial();
-}
-
-/// A text calls for a status. So each text has one of the ends that the status's clauses describe.
+/// A text has lines, and calls for a status whatever the keeper replies to each of them. So each text has one of the
+/// ends that the status's clauses describe.
 pub fn texts_call_for_a_status()
-    ensures { (command : Command) (text : List ℕ) → (status : ℕ) × CallsFor command text status }
+    ensures { (command : Command) (text : List ℕ) → (lines : List (List ℕ))
+        × ((turns : List Turn) → lines_in turns ≡ lines
+        → (status : ℕ) × CallsFor command text turns status) }
 {
     texts_have_an_answer();
 }
 
-/// A text calls for one status at most. So the status that a run ends with, where no count of faults
-/// rises and memory does not run out, comes exactly where its text calls for it.
+/// A text calls for one status at most, where the keeper replies the same. So the status that a run ends with, where
+/// neither input nor output fails and memory does not run out, comes exactly where text and keeper call for it.
 pub fn texts_call_for_one_status()
-    ensures { (command : Command) (text : List ℕ) (a b : ℕ)
-        → CallsFor command text a → CallsFor command text b → a ≡ b }
+    ensures { (command : Command) (text : List ℕ) (turns : List Turn) (a b : ℕ)
+        → CallsFor command text turns a → CallsFor command text turns b → a ≡ b }
 {}

@@ -1,19 +1,20 @@
-//! Commands, from the bytes of their input to the bytes that they write.
+//! Commands, from the bytes of their input to the bytes that they write and the rows that their keeper holds.
 //!
 //! `run_command` is the program without its outside. For `drive` it reads a scenario piece by piece, does each
-//! line over a boot as soon as the line was read to its end, and writes what the line writes before it does
-//! the next. What it writes is defined in `specs/Transcript`, as a function of the text alone: `transcript_of`, and
-//! `end_of` for how the scenario ends. The engine is proved to do each line exactly so. For `groups` it reads a
-//! descriptor text to its end, and writes the lines of its deployment, `groups_text` of `specs/Groups`.
+//! line over its keeper as soon as the line was read to its end, and writes what the line writes before it does
+//! the next. A line with what the keeper replies to it is a turn of `scenario_engine`. What is written is a
+//! function of the turns alone, `transcript` of its `specs/Transcript`; so is how the scenario ends, `end_from`,
+//! and which calls of the keeper it makes, `calls_from`. For `groups` it reads a descriptor text to its end, and
+//! writes the lines of its deployment, `groups_text` of `specs/Groups`.
 //!
 //! ```text
 //! let (status, keeper) = run_command(alloc, words, &mut input, &mut out, &mut errors, keeper);
 //! ```
 //!
 //! Which status a text calls for is `CallsFor` of `specs/Command`; the laws `texts_call_for_a_status` and
-//! `texts_call_for_one_status` say that there is exactly one. The laws `boots_are_sound` and
-//! `no_text_commits_after_a_reboot` say that the boot of a scenario is sound, however the scenario ends, and what
-//! that means for its commits.
+//! `texts_call_for_one_status` say that there is exactly one, whatever the keeper replies. However a scenario
+//! ends, its keeper holds just the rows of the commits that were answered, and its boots stand:
+//! `BootsStand` of `specs/Drive`.
 //!
 //! A scenario takes room for one piece and one line, however long it is. A line visits its bytes and those that it
 //! writes, and what its call of the boot visits; a begin also makes a place for each caller of a lesser number
@@ -23,20 +24,14 @@
 mod command;
 mod drive;
 mod ending;
-mod engine;
 mod groups;
 mod laws;
-mod no_keeper;
 mod play;
-mod running;
 mod words;
 
 pub use command::run_command;
 pub use drive::MAX_SCENARIO_BYTES;
 pub use ending::Ending;
 pub use groups::MAX_DESCRIPTOR_BYTES;
-pub use laws::{
-    boots_are_sound, no_text_breaks_the_order, no_text_commits_after_a_reboot,
-    texts_call_for_a_status, texts_call_for_one_status,
-};
+pub use laws::{texts_call_for_a_status, texts_call_for_one_status};
 pub use words::{Command, USAGE};

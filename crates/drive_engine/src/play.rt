@@ -2,22 +2,23 @@
 
 ghost use Rattle.std.specs.Prelude.{◌≡◌, ◌≢◌, ℕ, ◌+◌, ◌<◌, ◌≤◌, [], ◌++◌, length, List, Option, IfOk, OnOk, MatchResult};
 ghost use Rattle.outside.specs.Faults.{Rose};
+ghost use Rattle.outside.specs.Keeper.{KeeperTold};
 ghost use Rattle.outside.specs.Source.{HasEnded};
-ghost use Rattle.line_steps.specs.Answer.{answer_of};
+ghost use Rattle.scenario_engine.specs.Transcript.{first};
 ghost use Rattle.drive_engine.specs.Command.{Runs};
 ghost use Rattle.drive_engine.specs.Exchange.{exchange};
 ghost use Rattle.drive_engine.specs.Play.{DoesLine, EndsAtLine, HasCome, Comes, EndsFrom};
-ghost use Rattle.drive_engine.specs.Transcript.{first, line_answer};
 
 use crate::drive::MAX_SCENARIO_BYTES;
 use crate::ending::Ending;
-use crate::engine::Engine;
-use crate::laws::boots_are_sound;
+use crate::laws::boots_stand;
 use crate::words::Command;
+use boot_core::StartRefusal;
 use crash_base::OutOfMemory;
 use line_steps::LineAnswer;
-use outside::{Sink, write_all};
-use scenario_text::{MAX_LINE_BYTES, ended_line, read_line};
+use outside::{Keeper, Sink, write_all};
+use scenario_engine::Engine;
+use scenario_text::{MAX_LINE_BYTES, ended_line};
 use std::alloc::Global;
 use std::marker::Model;
 
@@ -44,37 +45,34 @@ impl Model for Play {
     ghost invariant = { λ p. (vec_len p.part ≤ MAX_LINE_BYTES) × (MAX_LINE_BYTES ≤ vec_capacity p.part) };
 }
 
-/// Does one line of text.
-#[tactic(auto, unfolding(crate::specs::Transcript::line_answer))]
-fn line_answer(alloc: Global, engine: &mut Engine, text: &[u8]) -> Result<LineAnswer, OutOfMemory>
-    ensures { IfOk result (λ a. answer_of a engine.new ≡ line_answer engine.old text.now) }
-{
-    match read_line(alloc, text)? {
-        None => Ok(LineAnswer::Refused),
-        Some(line) => engine.step(alloc, line),
-    }
-}
-
 /// Does the line of this number, and writes what it writes; or answers how the scenario ends there.
-fn do_line<T: Sink>(
+fn do_line<T: Sink, K: Keeper>(
     alloc: Global,
     engine: &mut Engine,
     line: &[u8],
     number: u64,
     out: &mut T,
+    keeper: &mut K,
 ) -> Result<(), Ending>
     ensures does { MatchResult result
-        (λ _. DoesLine engine.old engine.new line.now (T.written out.old) (T.written out.new))
+        (λ _. DoesLine engine.old engine.new line.now (T.written out.old) (T.written out.new)
+        (K.told keeper.old) (K.told keeper.new))
         (λ ending. EndsAtLine ending number engine.old line.now
-        (T.written out.old) (T.written out.new)) }
+        (T.written out.old) (T.written out.new) (K.told keeper.old) (K.told keeper.new)) }
     ensures failed { result ≡ Err Ending.WriteFailed → Rose (T.faults out.old) (T.faults out.new) }
     ensures count { T.faults out.old ≤ T.faults out.new }
+    ensures keeper_failed { result ≡ Err Ending.KeeperFailed
+        → Rose (K.faults keeper.old) (K.faults keeper.new) }
+    ensures keeper_count { K.faults keeper.old ≤ K.faults keeper.new }
 {
     if line.len() > MAX_LINE_BYTES {
         return Err(Ending::LineTooLong(number));
     }
-    match line_answer(alloc, engine, line) {
-        Err(OutOfMemory) => Err(Ending::OutOfMemory),
+    match engine.do_text(alloc, line, keeper) {
+        Err(StartRefusal::KeeperFailed) => Err(Ending::KeeperFailed),
+        Err(StartRefusal::BadRow { id }) => Err(Ending::BadRow(id)),
+        Err(StartRefusal::BootsSpent) => Err(Ending::BootsSpent),
+        Err(StartRefusal::OutOfMemory) => Err(Ending::OutOfMemory),
         Ok(LineAnswer::Refused) => Err(Ending::LineRefused(number)),
         Ok(LineAnswer::Done) => Ok(()),
         Ok(LineAnswer::Wrote(text)) => match write_all(out, text.as_bytes()) {
@@ -114,39 +112,63 @@ impl Play {
     }
 
     /// Does the line whose parts were kept.
-    fn do_kept<T: Sink>(&mut self, alloc: Global, out: &mut T) -> Result<(), Ending>
+    fn do_kept<T: Sink, K: Keeper>(
+        &mut self,
+        alloc: Global,
+        out: &mut T,
+        keeper: &mut K,
+    ) -> Result<(), Ending>
         ensures does { MatchResult result
             (λ _. DoesLine self.old.state self.new.state self.old.part
-            (T.written out.old) (T.written out.new))
+            (T.written out.old) (T.written out.new) (K.told keeper.old) (K.told keeper.new))
             (λ ending. EndsAtLine ending self.old.number self.old.state self.old.part
-            (T.written out.old) (T.written out.new)) }
+            (T.written out.old) (T.written out.new) (K.told keeper.old) (K.told keeper.new)) }
         ensures same { (self.new.part ≡ self.old.part) × (self.new.number ≡ self.old.number) }
         ensures failed { result ≡ Err Ending.WriteFailed
             → Rose (T.faults out.old) (T.faults out.new) }
         ensures count { T.faults out.old ≤ T.faults out.new }
+        ensures keeper_failed { result ≡ Err Ending.KeeperFailed
+            → Rose (K.faults keeper.old) (K.faults keeper.new) }
+        ensures keeper_count { K.faults keeper.old ≤ K.faults keeper.new }
     {
-        do_line(alloc, &mut self.engine, &self.part, self.number, out)
+        do_line(
+            alloc,
+            &mut self.engine,
+            &self.part,
+            self.number,
+            out,
+            keeper,
+        )
     }
 
     /// Does the line that ends with this part.
-    fn end_line<T: Sink>(&mut self, alloc: Global, part: &[u8], out: &mut T) -> Result<(), Ending>
+    fn end_line<T: Sink, K: Keeper>(
+        &mut self,
+        alloc: Global,
+        part: &[u8],
+        out: &mut T,
+        keeper: &mut K,
+    ) -> Result<(), Ending>
         requires { self.old.number ≤ MAX_SCENARIO_BYTES }
         ensures does { MatchResult result
             (λ _. DoesLine self.old.state self.new.state (self.old.part ++ part.now)
-            (T.written out.old) (T.written out.new))
+            (T.written out.old) (T.written out.new) (K.told keeper.old) (K.told keeper.new))
             (λ ending. EndsAtLine ending self.old.number self.old.state (self.old.part ++ part.now)
-            (T.written out.old) (T.written out.new)) }
+            (T.written out.old) (T.written out.new) (K.told keeper.old) (K.told keeper.new)) }
         ensures next { OnOk result
             ((self.new.part ≡ []) × (self.new.number ≡ self.old.number + 1)) }
         ensures failed { result ≡ Err Ending.WriteFailed
             → Rose (T.faults out.old) (T.faults out.new) }
         ensures count { T.faults out.old ≤ T.faults out.new }
+        ensures keeper_failed { result ≡ Err Ending.KeeperFailed
+            → Rose (K.faults keeper.old) (K.faults keeper.new) }
+        ensures keeper_count { K.faults keeper.old ≤ K.faults keeper.new }
     {
         if self.part.is_empty() {
-            do_line(alloc, &mut self.engine, part, self.number, out)?;
+            do_line(alloc, &mut self.engine, part, self.number, out, keeper)?;
         } else {
             self.keep(part)?;
-            self.do_kept(alloc, out)?;
+            self.do_kept(alloc, out, keeper)?;
             self.part.clear();
         }
         self.number += 1;
@@ -154,22 +176,32 @@ impl Play {
     }
 
     /// Does each line that ends in the piece, and keeps the rest.
-    pub fn feed<T: Sink>(&mut self, alloc: Global, piece: &[u8], out: &mut T) -> Result<(), Ending>
+    pub fn feed<T: Sink, K: Keeper>(
+        &mut self,
+        alloc: Global,
+        piece: &[u8],
+        out: &mut T,
+        keeper: &mut K,
+    ) -> Result<(), Ending>
         requires { self.old.number + length piece.now ≤ MAX_SCENARIO_BYTES + 1 }
         ensures comes { MatchResult result
-            (λ _. Comes self.old piece.now (T.written out.old) self.new [] (T.written out.new))
-            (λ ending. EndsFrom self.old piece.now (T.written out.old) ending
-            (T.written out.new)) }
+            (λ _. Comes self.old piece.now (T.written out.old) (K.told keeper.old)
+            self.new [] (T.written out.new) (K.told keeper.new))
+            (λ ending. EndsFrom self.old piece.now (T.written out.old) (K.told keeper.old) ending
+            (T.written out.new) (K.told keeper.new)) }
         ensures number { OnOk result (self.new.number ≤ self.old.number + length piece.now) }
         ensures reads_nothing { result ≢ Err Ending.ReadFailed }
         ensures failed { result ≡ Err Ending.WriteFailed
             → Rose (T.faults out.old) (T.faults out.new) }
         ensures count { T.faults out.old ≤ T.faults out.new }
+        ensures keeper_failed { result ≡ Err Ending.KeeperFailed
+            → Rose (K.faults keeper.old) (K.faults keeper.new) }
+        ensures keeper_count { K.faults keeper.old ≤ K.faults keeper.new }
     {
-        boots_are_sound();
+        boots_stand();
         let mut rest = piece;
         while let Some((part, more)) = ended_line(rest) {
-            match self.end_line(alloc, part, out) {
+            match self.end_line(alloc, part, out, keeper) {
                 Ok(()) => {}
                 Err(ending) => return Err(ending),
             }
@@ -179,20 +211,31 @@ impl Play {
     }
 
     /// Does the last line, which has no line feed, if there is one.
-    pub fn finish<T: Sink>(&mut self, alloc: Global, out: &mut T) -> Ending
-        ensures ends { (left left_now written : Option (List ℕ)) (more : ℕ) → HasEnded left_now
-            → HasCome (exchange left left_now written (T.written out.old)) more [] [] self.old
-            → Runs Command.Drive result (exchange left left_now written (T.written out.new)) }
+    pub fn finish<T: Sink, K: Keeper>(
+        &mut self,
+        alloc: Global,
+        out: &mut T,
+        keeper: &mut K,
+    ) -> Ending
+        ensures ends { (left left_now written : Option (List ℕ)) (told : Option KeeperTold)
+            (more : ℕ) → HasEnded left_now
+            → HasCome (exchange left left_now written (T.written out.old) told (K.told keeper.old))
+            more [] [] self.old
+            → Runs Command.Drive result
+            (exchange left left_now written (T.written out.new) told (K.told keeper.new)) }
         ensures reads_nothing { result ≢ Ending.ReadFailed }
         ensures failed { result ≡ Ending.WriteFailed
             → Rose (T.faults out.old) (T.faults out.new) }
         ensures count { T.faults out.old ≤ T.faults out.new }
+        ensures keeper_failed { result ≡ Ending.KeeperFailed
+            → Rose (K.faults keeper.old) (K.faults keeper.new) }
+        ensures keeper_count { K.faults keeper.old ≤ K.faults keeper.new }
     {
-        boots_are_sound();
+        boots_stand();
         if self.part.is_empty() {
             return Ending::Done;
         }
-        match self.do_kept(alloc, out) {
+        match self.do_kept(alloc, out, keeper) {
             Ok(()) => Ending::Done,
             Err(ending) => ending,
         }

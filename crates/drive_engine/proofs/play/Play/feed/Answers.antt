@@ -12,41 +12,48 @@ pub returns-in-Err-clause-comes : goal.returns-in-Err-clause-comes
 returns-in-Err-clause-comes g c =
     let old = g.T.Sink.written c.loop-part.out in
     let new = g.T.Sink.written c.end_line.new.out in
+    let before = g.K.Keeper.told c.loop-part.keeper in
+    let after = g.K.Keeper.told c.end_line.new.keeper in
     let part = c.in-Some.part.now in
     let more = c.in-Some.more.now in
     let cut = c.in-Some.ensures.ended in
-    λ left left_now written room past h.
-    let P : List ℕ → Type 0 = λ t. HasCome (exchange left left_now written old) room t past c.loop-part.self in
-    ends_in_piece c.in-Err.ending left left_now written old new room past c.loop-part.self part more c.boots_are_sound.ensures.lines cut.0 c.in-Err.ensures.does (subst P cut.1 (c.loop-part.invariant.comes left left_now written room past h))
+    λ left left_now written told room past h.
+    let P : List ℕ → Type 0 = λ t. HasCome (exchange left left_now written old told before) room t past c.loop-part.self in
+    ends_in_piece c.in-Err.ending left left_now written old new told before after room past c.loop-part.self part more c.boots_stand.ensures cut.0 c.in-Err.ensures.does (subst P cut.1 (c.loop-part.invariant.comes left left_now written told room past h))
 
 pub loop-part-preserved : goal.loop-part-preserved
 loop-part-preserved g c =
     let old = g.T.Sink.written c.loop-part.out in
     let new = g.T.Sink.written c.end_line.new.out in
+    let before = g.K.Keeper.told c.loop-part.keeper in
+    let after = g.K.Keeper.told c.end_line.new.keeper in
     let part = c.in-Some.part.now in
     let more = c.in-Some.more.now in
     let cut = c.in-Some.ensures.ended in
     record {
-      comes = λ left left_now written room past h.
-          let P : List ℕ → Type 0 = λ t. HasCome (exchange left left_now written old) room t past c.loop-part.self in
-          comes_line left left_now written old new room past c.loop-part.self c.end_line.new.self part more cut.0 c.in-Ok.ensures.does c.in-Ok.ensures.next.0 c.in-Ok.ensures.next.1 (subst P cut.1 (c.loop-part.invariant.comes left left_now written room past h));
+      comes = λ left left_now written told room past h.
+          let P : List ℕ → Type 0 = λ t. HasCome (exchange left left_now written old told before) room t past c.loop-part.self in
+          comes_line left left_now written old new told before after room past c.loop-part.self c.end_line.new.self part more cut.0 c.in-Ok.ensures.does c.in-Ok.ensures.next.0 c.in-Ok.ensures.next.1 (subst P cut.1 (c.loop-part.invariant.comes left left_now written told room past h));
       number = omega (arith, c.in-Some.ensures.shorter, c.in-Ok.ensures.next.1);
       count = omega arith;
+      keeper_count = omega arith;
     }
 
 pub returns-clause-comes : goal.returns-clause-comes
 returns-clause-comes g c =
     let new = g.T.Sink.written c.loop-part.out in
+    let after = g.K.Keeper.told c.loop-part.keeper in
     let p = c.loop-part.self in
     let rest = c.loop-part.rest.now in
     let one = c.in_default.ensures.ended in
     let come = c.loop-part.invariant.comes in
     let old = g.T.Sink.written c.args.out.now in
+    let before = g.K.Keeper.told c.args.keeper.now in
     MatchResult-weaker c.keep.result
-    {P' = λ x. Comes c.args.self.now c.args.piece.now old c.keep.new.self [] new}
-    {Q' = λ ending. EndsFrom c.args.self.now c.args.piece.now old ending new}
+    {P' = λ x. Comes c.args.self.now c.args.piece.now old before c.keep.new.self [] new after}
+    {Q' = λ ending. EndsFrom c.args.self.now c.args.piece.now old before ending new after}
     c.keep.ensures
-    (λ x k. λ left left_now written room past h. comes_kept left left_now written new room past p c.keep.new.self rest one k.0 k.1 (come left left_now written room past h))
-    (λ ending k. λ left left_now written room past h.
-    let P : Ending → Type 0 = λ e. Runs Drive e (exchange left left_now written new) in
-    subst P (sym k.0) (ends_long left left_now written new room past p rest c.boots_are_sound.ensures.lines one k.1 (come left left_now written room past h)))
+    (λ x k. λ left left_now written told room past h. comes_kept left left_now written new told after room past p c.keep.new.self rest one k.0 k.1 (come left left_now written told room past h))
+    (λ ending k. λ left left_now written told room past h.
+    let P : Ending → Type 0 = λ e. Runs Drive e (exchange left left_now written new told after) in
+    subst P (sym k.0) (ends_long left left_now written new told after room past p rest c.boots_stand.ensures one k.1 (come left left_now written told room past h)))

@@ -1,0 +1,158 @@
+//! Keepers that tests begin with: the one in memory, and two that tell nothing of their rows.
+
+ghost use Rattle.std.specs.Prelude.{None};
+
+use crate::running::one_call;
+use crash_base::{OutOfMemory, RowList, RowWrite, WriteList, copied_rows};
+use outside::{CallList, Keeper, KeeperFault, MapKeeper};
+use std::alloc::Global;
+use std::test::Fail;
+
+/// What a test asks of a keeper.
+pub trait TestKeeper: Keeper + Drop {
+    /// A keeper of these rows, of whose calls the one of this number fails, 0 for none.
+    fn made(alloc: Global, rows: RowList, failing: u64) -> Result<Self, Fail>;
+
+    /// How many calls were made.
+    fn calls(&self) -> u64;
+
+    /// The rows in order of id, copied.
+    fn rows(&self, alloc: Global) -> Result<RowList, Fail>;
+}
+
+impl TestKeeper for MapKeeper {
+    fn made(alloc: Global, rows: RowList, failing: u64) -> Result<MapKeeper, Fail> {
+        let calls = one_call(alloc, failing)?;
+        let keeper = MapKeeper::new(alloc, rows, calls)?;
+        Ok(keeper)
+    }
+
+    fn calls(&self) -> u64 {
+        self.calls()
+    }
+
+    fn rows(&self, alloc: Global) -> Result<RowList, Fail> {
+        let rows = self.rows(alloc)?;
+        Ok(rows)
+    }
+}
+
+/// Keeps rows in a list, each where it first came, and gives them in this order.
+#[derive(Drop)]
+pub struct ListKeeper {
+    rows: Vec<RowWrite>,
+    failing: u64,
+    calls: u64,
+    faults: u64,
+}
+
+/// Counts a call, and answers whether it is the one that fails.
+fn count_call(calls: &mut u64, failing: u64) -> bool {
+    *calls = calls.saturating_add(1);
+    *calls == failing
+}
+
+/// Puts a row in the place of the one with its id, or at the end.
+fn put(rows: &mut Vec<RowWrite>, row: RowWrite) -> Result<(), OutOfMemory> {
+    for kept in rows.iter_mut() {
+        if kept.id.is_same(row.id) {
+            kept.bytes = row.bytes;
+            return Ok(());
+        }
+    }
+    Ok(rows.push(row)?)
+}
+
+/// Puts copies of rows, the first first.
+fn put_copies(
+    alloc: Global,
+    rows: &mut Vec<RowWrite>,
+    writes: &[RowWrite],
+) -> Result<(), OutOfMemory> {
+    for write in writes {
+        put(rows, write.copied(alloc)?)?;
+    }
+    Ok(())
+}
+
+impl Keeper for ListKeeper {
+    ghost told = { λ _. None };
+
+    ghost faults = { λ k. k.faults };
+
+    fn load(&mut self, alloc: Global) -> Result<RowList, KeeperFault> {
+        if count_call(&mut self.calls, self.failing) {
+            self.faults = self.faults.saturating_add(1);
+            return Err(KeeperFault::Failed);
+        }
+        Ok(copied_rows(alloc, &self.rows)?)
+    }
+
+    fn apply(&mut self, alloc: Global, writes: &WriteList) -> Result<(), KeeperFault> {
+        if count_call(&mut self.calls, self.failing) {
+            self.faults = self.faults.saturating_add(1);
+            return Err(KeeperFault::Failed);
+        }
+        Ok(put_copies(alloc, &mut self.rows, writes.as_slice())?)
+    }
+}
+
+impl TestKeeper for ListKeeper {
+    fn made(_alloc: Global, rows: RowList, failing: u64) -> Result<ListKeeper, Fail> {
+        Ok(ListKeeper {
+            rows: rows.into_vec(),
+            failing,
+            calls: 0,
+            faults: 0,
+        })
+    }
+
+    fn calls(&self) -> u64 {
+        self.calls
+    }
+
+    fn rows(&self, alloc: Global) -> Result<RowList, Fail> {
+        let copies = copied_rows(alloc, &self.rows)?;
+        let ordered = MapKeeper::new(alloc, copies, CallList::new(alloc))?;
+        let rows = ordered.rows(alloc)?;
+        Ok(rows)
+    }
+}
+
+/// Gives the rows of a list from its end to its beginning.
+#[derive(Drop)]
+pub struct BackwardKeeper {
+    list: ListKeeper,
+}
+
+impl Keeper for BackwardKeeper {
+    ghost told = { λ _. None };
+
+    ghost faults = { λ k. k.list.faults };
+
+    fn load(&mut self, alloc: Global) -> Result<RowList, KeeperFault> {
+        let rows = self.list.load(alloc)?;
+        let mut rows = rows.into_vec();
+        rows.reverse();
+        Ok(RowList::from_vec(rows))
+    }
+
+    fn apply(&mut self, alloc: Global, writes: &WriteList) -> Result<(), KeeperFault> {
+        self.list.apply(alloc, writes)
+    }
+}
+
+impl TestKeeper for BackwardKeeper {
+    fn made(alloc: Global, rows: RowList, failing: u64) -> Result<BackwardKeeper, Fail> {
+        let list = ListKeeper::made(alloc, rows, failing)?;
+        Ok(BackwardKeeper { list })
+    }
+
+    fn calls(&self) -> u64 {
+        self.list.calls
+    }
+
+    fn rows(&self, alloc: Global) -> Result<RowList, Fail> {
+        self.list.rows(alloc)
+    }
+}

@@ -1,0 +1,11 @@
+use Rattle.drive_engine.proofs.laws.boots_stand.Goals as goal
+
+pub returns : goal.returns
+returns c = λ turns old new calls. record {
+  calls = calls;
+  told = c.keepers_tell.ensures turns old new calls;
+  sound = c.boots_are_sound.ensures.boots turns;
+  unrebooted = c.no_turns_commit_after_a_reboot.ensures turns;
+  serial = c.no_turns_break_the_order.ensures turns;
+  own = c.commits_are_of_their_boot.ensures turns;
+}
