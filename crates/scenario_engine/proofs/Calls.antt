@@ -1,6 +1,7 @@
 -- What the keeper tells over calls.
-use Rattle.std.proofs.Common.{List, [], ◌∷◌, ◌++◌, Option, inl, refl, sym, ap, ◌∙◌, subst, append-nil, append_assoc}
-use Rattle.outside.specs.Keeper.{KeeperTold}
+use Rattle.std.proofs.Common.{inr, ◌⊎◌, ◌≢◌, ◌≡◌, List, [], ◌∷◌, ◌++◌, Option, inl, refl, sym, ap, ◌∙◌, subst, append-nil, append_assoc}
+use Rattle.outside.specs.declared.keeper.KeeperFault.TheVariants as faults
+use Rattle.outside.specs.Keeper.{KeeperTold, TellsRefusal}
 use Rattle.scenario_engine.specs.KeeperCalls.{KeeperCall, TellsCalls, TellsSome}
 
 -- calls that were all made
@@ -30,6 +31,15 @@ then_some calls more old between new told some = record {
   last = some.last;
 }
 
+left_some : (calls more : List KeeperCall) → calls ≢ [] → calls ++ more ≢ []
+left_some [] more some = absurd (some refl)
+left_some (call ∷ calls) more some = λ none. cc
+
+-- the next call of the first calls is one of all
+next_first : (calls more : List KeeperCall) (between new : Option KeeperTold) → ((new ≡ between) ⊎ ((calls ≢ []) × TellsRefusal faults.OutOfMemory between new)) → (new ≡ between) ⊎ ((calls ++ more ≢ []) × TellsRefusal faults.OutOfMemory between new)
+next_first calls more between new (inl is) = inl is
+next_first calls more between new (inr (some, tells)) = inr (left_some calls more some, tells)
+
 -- some of the first calls are some of all
 pub some_first : (calls more : List KeeperCall) (old new : Option KeeperTold) → TellsSome calls old new → TellsSome (calls ++ more) old new
 some_first calls more old new some = record {
@@ -38,5 +48,5 @@ some_first calls more old new some = record {
   begins = ap (λ cs. cs ++ more) some.begins ∙ append_assoc some.made some.more more;
   between = some.between;
   told = some.told;
-  last = some.last;
+  last = next_first some.more more some.between new some.last;
 }

@@ -86,10 +86,20 @@ unkept_calls refusal (commits.Revoked s) writes old new memory is tells = subst 
 unkept_calls refusal (commits.Conflict c) writes old new memory is tells = subst (λ o. TellsCalls (keep_calls o writes false) old new) (sym is) tells
 unkept_calls refusal (commits.JournalFull full) writes old new memory is tells = subst (λ o. TellsCalls (keep_calls o writes false) old new) (sym is) tells
 
+-- a commit with writes that the boot does not refuse calls the keeper
+asks : (refusal : Option CommitRefusal) (writes : List RowWrite) → refusal ≡ None → writes ≢ [] → keep_calls refusal writes false ≢ []
+asks refusal writes none some = subst (λ o. keep_calls o writes false ≢ []) (sym none) (go writes some)
+  where
+    go : (writes : List RowWrite) → writes ≢ [] → keep_calls None writes false ≢ []
+    go [] some = absurd (some refl)
+    go (w ∷ ws) some = λ none. cc
+
 -- memory ran out before the keeper had the writes
-no_memory : (r : RunningState) (caller : ℕ) (ticket : TicketValue) (old new : Option KeeperTold) → TellsCause commits.OutOfMemory ticket.call.writes old new → CommitsPartly r caller old new
-no_memory r caller ticket old new (inl is) = record { made = []; more = commit_calls r caller false; begins = refl; between = old; told = refl; last = inl is }
-no_memory r caller ticket old new (inr (some, tells)) = record { made = []; more = commit_calls r caller false; begins = refl; between = old; told = refl; last = inr tells }
+no_memory : (r : RunningState) (caller : ℕ) (ticket : TicketValue) (old new : Option KeeperTold) → caller_at r.callers caller ≡ Live ticket → boot_refusal r ticket ≡ None → TellsCause commits.OutOfMemory ticket.call.writes old new → CommitsPartly r caller old new
+no_memory r caller ticket old new live none (inl is) = record { made = []; more = commit_calls r caller false; begins = refl; between = old; told = refl; last = inl is }
+no_memory r caller ticket old new live none (inr (some, tells)) =
+    let asked : commit_calls r caller false ≢ [] = subst (λ (cs : List KeeperCall). cs ≢ []) (calls_of r caller ticket false live) (asks (boot_refusal r ticket) ticket.call.writes none some) in
+    record { made = []; more = commit_calls r caller false; begins = refl; between = old; told = refl; last = inr (asked, tells) }
 
 -- memory ran out for what a refused commit writes
 no_text : (r : RunningState) (caller : ℕ) (ticket : TicketValue) (cause : CommitRefusal) (old new : Option KeeperTold) → caller_at r.callers caller ≡ Live ticket → cause ≢ commits.OutOfMemory → IsCause (boot_refusal r ticket) cause → TellsCause cause ticket.call.writes old new → CommitsPartly r caller old new
@@ -98,7 +108,7 @@ no_text r caller ticket cause old new live memory is tells =
     all_made (commit_calls r caller false) old new (subst P (calls_of r caller ticket false live) (unkept_calls (boot_refusal r ticket) cause ticket.call.writes old new memory is tells))
 
 pub refused_partly : (r : RunningState) (caller : ℕ) (ticket : TicketValue) (cause : CommitRefusal) (old new : Option KeeperTold) → caller_at r.callers caller ≡ Live ticket → IsCause (boot_refusal r ticket) cause → TellsCause cause ticket.call.writes old new → CommitsPartly r caller old new
-refused_partly r caller ticket commits.OutOfMemory old new live is tells = no_memory r caller ticket old new tells
+refused_partly r caller ticket commits.OutOfMemory old new live is tells = no_memory r caller ticket old new live is tells
 refused_partly r caller ticket commits.KeeperFailed old new live is tells = no_text r caller ticket commits.KeeperFailed old new live (λ i. cc) is tells
 refused_partly r caller ticket (commits.Already place) old new live is tells = no_text r caller ticket (commits.Already place) old new live (λ i. cc) is tells
 refused_partly r caller ticket (commits.Revoked s) old new live is tells = no_text r caller ticket (commits.Revoked s) old new live (λ i. cc) is tells

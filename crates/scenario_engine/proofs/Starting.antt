@@ -83,7 +83,7 @@ shut parts limits old new refusals.BootsSpent (rows, given, good, last, is) =
     }
 shut parts limits old new refusals.OutOfMemory (inl tells) = record {
   replies = record { rows = None; keeps = true };
-  told = record { made = []; more = start_calls_of None true; begins = refl; between = old; told = refl; last = inr tells };
+  told = record { made = []; more = start_calls_of None true; begins = refl; between = old; told = refl; last = inr (λ none. cc, tells) };
 }
 shut parts limits old new refusals.OutOfMemory (inr (rows, good, after)) = record {
   replies = record { rows = Some rows; keeps = true };
@@ -93,6 +93,6 @@ shut parts limits old new refusals.OutOfMemory (inr (rows, good, after)) = recor
     begins = sym (good_calls rows true good.good good.unspent);
     between = loaded old;
     told = (loaded old, (good.given, refl), refl);
-    last = after;
+    last = elim after [ inl is ↦ inl is | inr tells ↦ inr (λ none. cc, tells) ];
   };
 }

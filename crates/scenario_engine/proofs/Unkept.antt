@@ -1,5 +1,5 @@
 -- Which rows a line changes for which memory runs out.
-use Rattle.std.proofs.Common.{◌≡◌, ℕ, ◌+◌, Bool, true, false, cond, inl, inr, ◌⊎◌, List, [], ◌∷◌, ◌++◌, map, Option, Some, None, refl, sym, ap, ◌∙◌, subst}
+use Rattle.std.proofs.Common.{◌≡◌, ◌≢◌, ℕ, ◌+◌, Bool, true, false, cond, inl, inr, ◌⊎◌, List, [], ◌∷◌, ◌++◌, map, Option, Some, None, refl, sym, ap, ◌∙◌, subst}
 use Rattle.std.specs.Prelude.{IfSome}
 use Rattle.crash_base.specs.declared.row_id.RowId.{RowId}
 use Rattle.crash_base.specs.declared.rows.RowWrite.{RowWrite}
@@ -121,14 +121,14 @@ numbered (Failed ∷ calls) o new of (between, (inr is), told) =
     subst (λ m. IfSome m (λ n. (numbers : List ℕ) × (n.rows ≡ put_all (map boot_row numbers) o.rows))) (sym none) tt
 
 -- calls that were made, and maybe one for which the keeper had no memory
-with_last : (o : KeeperTold) (between new : Option KeeperTold) → IfSome between (λ n. (numbers : List ℕ) × (n.rows ≡ put_all (map boot_row numbers) o.rows)) → ((new ≡ between) ⊎ TellsRefusal faults.OutOfMemory between new) → IfSome new (λ n. (numbers : List ℕ) × (n.rows ≡ put_all (map boot_row numbers) o.rows))
-with_last o between new h (inl is) = subst (λ m. IfSome m (λ n. (numbers : List ℕ) × (n.rows ≡ put_all (map boot_row numbers) o.rows))) (sym is) h
-with_last o None new h (inr (inl is)) = subst (λ m. IfSome m (λ n. (numbers : List ℕ) × (n.rows ≡ put_all (map boot_row numbers) o.rows))) (sym is) tt
-with_last o (Some n) new h (inr (inl is)) = subst (λ m. IfSome m (λ n. (numbers : List ℕ) × (n.rows ≡ put_all (map boot_row numbers) o.rows))) (sym is) h
-with_last o between new h (inr (inr is)) = subst (λ m. IfSome m (λ n. (numbers : List ℕ) × (n.rows ≡ put_all (map boot_row numbers) o.rows))) (sym is) tt
+with_last : (o : KeeperTold) (more : List KeeperCall) (between new : Option KeeperTold) → IfSome between (λ n. (numbers : List ℕ) × (n.rows ≡ put_all (map boot_row numbers) o.rows)) → ((new ≡ between) ⊎ ((more ≢ []) × TellsRefusal faults.OutOfMemory between new)) → IfSome new (λ n. (numbers : List ℕ) × (n.rows ≡ put_all (map boot_row numbers) o.rows))
+with_last o more between new h (inl is) = subst (λ m. IfSome m (λ n. (numbers : List ℕ) × (n.rows ≡ put_all (map boot_row numbers) o.rows))) (sym is) h
+with_last o more None new h (inr (some, (inl is))) = subst (λ m. IfSome m (λ n. (numbers : List ℕ) × (n.rows ≡ put_all (map boot_row numbers) o.rows))) (sym is) tt
+with_last o more (Some n) new h (inr (some, (inl is))) = subst (λ m. IfSome m (λ n. (numbers : List ℕ) × (n.rows ≡ put_all (map boot_row numbers) o.rows))) (sym is) h
+with_last o more between new h (inr (some, (inr is))) = subst (λ m. IfSome m (λ n. (numbers : List ℕ) × (n.rows ≡ put_all (map boot_row numbers) o.rows))) (sym is) tt
 
 pub numbers_alone : (s : State) (o : Option Line) (old new : Option KeeperTold) → DoesPartly s o old new → HoldsRowsButNumber old new
 numbers_alone s o None new h = tt
 numbers_alone s o (Some old) new h =
     let of : AreOfNumber (h.told.made ++ h.told.more) = subst AreOfNumber h.told.begins (of_line s o h.replies h.unkept) in
-    with_last old h.told.between new (numbered h.told.made old h.told.between (of_first h.told.made h.told.more of) h.told.told) h.told.last
+    with_last old h.told.more h.told.between new (numbered h.told.made old h.told.between (of_first h.told.made h.told.more of) h.told.told) h.told.last

@@ -1,5 +1,5 @@
 -- What a scenario asks of its keeper, with what the keeper answered.
-use Rattle.std.specs.Prelude.{◌≡◌, ◌⊎◌, Bool, true, false, List, [], ◌∷◌, ◌++◌, Option}
+use Rattle.std.specs.Prelude.{◌≡◌, ◌≢◌, ◌⊎◌, Bool, true, false, List, [], ◌∷◌, ◌++◌, Option}
 use Rattle.crash_base.specs.declared.rows.RowWrite.{RowWrite}
 use Rattle.outside.specs.declared.keeper.KeeperFault.TheVariants as faults
 use Rattle.outside.specs.Keeper.{KeeperTold, loaded, applied, TellsRefusal}
@@ -28,11 +28,11 @@ TellsCalls [] old new = new ≡ old
 TellsCalls (call ∷ calls) old new =
     (between : Option KeeperTold) × TellsCall call old between × TellsCalls calls between new
 
--- The first of these calls of the keeper were made, and then maybe one for which it had no memory.
+-- The first of these calls of the keeper were made, and then maybe the next one, for which it had no memory.
 pub record TellsSome (calls : List KeeperCall) (old new : Option KeeperTold) : Type 0 where
   pub made : List KeeperCall
   pub more : List KeeperCall
   pub begins : calls ≡ made ++ more
   pub between : Option KeeperTold
   pub told : TellsCalls made old between
-  pub last : (new ≡ between) ⊎ TellsRefusal faults.OutOfMemory between new
+  pub last : (new ≡ between) ⊎ ((more ≢ []) × TellsRefusal faults.OutOfMemory between new)

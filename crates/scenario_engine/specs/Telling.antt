@@ -127,7 +127,7 @@ pub record DoesPartly (s : State) (line : Option Line) (old new : Option KeeperT
   pub unkept : replies.keeps ≡ false
   pub told : TellsSome (calls_to s line replies) old new
 
--- Of the rows that the keeper held, at most that of the boot's number is another.
+-- Of the rows that the keeper held, where it tells, at most that of the boot's number is another.
 abbrev pub HoldsRowsButNumber : Option KeeperTold → Option KeeperTold → Type 0
 HoldsRowsButNumber old new =
     IfSome old (λ o. IfSome new (λ n.

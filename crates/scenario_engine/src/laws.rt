@@ -44,8 +44,8 @@ pub fn no_turns_break_the_order()
 }
 
 /// Whatever the turns, each commit of a boot is of a request of this boot, also where they stop at a line. A boot commits a
-/// request once at most, since its journal is legal, and boots that a keeper tells of have numbers of their own: so a request
-/// commits once at most over all boots.
+/// request once at most, since its journal is legal, and the boots of a keeper that tells have numbers of their own: so over
+/// all boots of such a keeper a request commits once at most.
 pub fn commits_are_of_their_boot()
     ensures { (turns : List Turn) → All CommitsOwnRequests (boots_from first turns) }
 {}
