@@ -315,6 +315,7 @@ stops_at_failed_read left before now written old told asked more p law same h =
       state = p.state;
       taken = h.taken ∙ ap (λ t. prepended t before) (text_read lines p.part [] ∙ append-nil (text_of_lines lines ++ p.part)) ∙ ap (λ b. prepended (text_of_lines lines ++ p.part) b) (sym same);
       cut = record { whole = refl; plain = h.plain; one = h.one };
+      within = omega (arith, h.within, length-append (text_of_lines lines) (p.part ++ []), length-append p.part [], length-append (text_of_lines lines) p.part);
       short = h.short;
       done = record { done = h.done; written = h.written };
       boots = law h.turns told asked h.told;

@@ -112,6 +112,7 @@ pub record StopsAtFailedRead (x : Exchange) : Type 0 where
   pub state : State
   pub taken : x.left_before ≡ prepended text x.left_after
   pub cut : IsCut text (lines_in turns) part
+  pub within : length text ≤ MAX_SCENARIO_BYTES
   pub short : length part ≤ MAX_LINE_BYTES
   pub done : HasDone x turns state
   pub boots : BootsStand turns x.told_before x.told_after
@@ -133,7 +134,7 @@ pub record StopsAtFailedWrite (x : Exchange) : Type 0 where
   pub boots : BootsStand (before ++ turn ∷ []) x.told_before x.told_after
 
 -- A line was read to its end after these lines, and memory ran out while it was done: the first of its calls of the keeper
--- were made. No commit was kept: of the keeper's rows at most that of the boot's number is another.
+-- were made. No commit was kept: of the keeper's rows, where it tells, at most that of the boot's number is another.
 pub record RunsOutAtLine (x : Exchange) (lines : List (List ℕ)) (state : State) (between : Option KeeperTold) : Type 0 where
   pub line : List ℕ
   pub read : AreRead x (lines ++ line ∷ [])

@@ -178,7 +178,9 @@ fn run_words<S: Source, T: Sink, K: Keeper>(
 /// - 12: a scenario has more than 4,294,967,295 bytes.
 ///
 /// `drive` reads piece by piece, and does each line as soon as it was read to its end. So at 3 to 9, 11 and 12
-/// the lines before were done, and their transcript was written. The keeper holds what these lines left.
+/// the lines before were done, and their transcript was written. The keeper, where it tells, holds what these lines
+/// left; but a line that was refused (3), was not written whole (5), needs a boot that was not started (6, 7, 11) or
+/// ran out of memory (9) may have handed it the number of a boot, and at 5 also the rows of a commit.
 ///
 /// How it ended is reported on `errors`, except at 0.
 pub fn run_command<S: Source, T: Sink, E: Sink, K: Keeper>(

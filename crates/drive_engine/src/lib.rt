@@ -13,8 +13,7 @@
 //!
 //! Which status a text calls for is `CallsFor` of `specs/Command`; the laws `texts_call_for_a_status` and
 //! `texts_call_for_one_status` say that there is exactly one, whatever the keeper replies. However a scenario
-//! ends, its keeper holds just the rows of the commits that were answered, and its boots stand:
-//! `BootsStand` of `specs/Drive`.
+//! ends, its boots stand (`BootsStand` of `specs/Drive`): a keeper that tells holds the rows that they leave.
 //!
 //! A scenario takes room for one piece and one line, however long it is. A line visits its bytes and those that it
 //! writes, and what its call of the boot visits; a begin also makes a place for each caller of a lesser number
