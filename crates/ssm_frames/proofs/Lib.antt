@@ -1,0 +1,5 @@
+pub mod Exact
+pub mod ExactFields
+pub mod ExactFrames
+pub mod Short
+pub mod Taken
