@@ -1,0 +1,12 @@
+mod Masks
+mod Pieces
+mod Taking
+mod Sizes
+mod Holders
+mod Unique
+mod Forms
+mod Differing
+mod Putting
+mod Digits
+mod Exactness
+mod OneRequest
