@@ -1,0 +1,5 @@
+mod KeptOrder
+mod Keeping
+mod Leases
+mod Limits
+mod Standing

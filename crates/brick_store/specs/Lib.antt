@@ -1,0 +1,5 @@
+pub mod Bricks
+pub mod History
+pub mod Kept
+pub mod Pairs
+pub mod Standing

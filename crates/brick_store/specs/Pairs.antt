@@ -1,0 +1,32 @@
+-- Kept values at the pairs of an ordered map.
+use Rattle.std.specs.Prelude.{List, map}
+use Rattle.std.specs.declared.cmp.Ordering.{Ordering}
+use Rattle.crash_base.specs.declared.numbers.SessionKey.{SessionKey}
+use Rattle.crash_base.specs.declared.numbers.Version.{Version}
+use Rattle.brick_store.specs.declared.kept.Kept.{Kept}
+use Rattle.brick_store.specs.declared.kept_map.Pair.{Pair}
+use Rattle.brick_store.specs.declared.kept_map.Lease.{Lease}
+use Rattle.brick_store.specs.contracts.kept_map.PairOrd.TheImpl as pair_ord
+
+-- the order of pairs: by key, and of one key by version
+abbrev pub pair_order : Pair → Pair → Ordering
+pair_order = (pair_ord.ghosts).cmp
+
+-- the pair of a key and a version
+abbrev pub pair_of : SessionKey → Version → Pair
+pair_of key version =
+    record { key = key.0; node = version.node; boot = version.boot; serial = version.serial }
+
+-- the value that is kept at a pair
+abbrev pub kept_at : Pair × Lease → Kept
+kept_at (pair, lease) =
+    record {
+      key = record { 0 = pair.key };
+      version = record { node = pair.node; boot = pair.boot; serial = pair.serial };
+      expiry = lease.expiry;
+      value = lease.value;
+    }
+
+-- the values that are kept at pairs, in their order
+abbrev pub kept_in : List (Pair × Lease) → List Kept
+kept_in = map kept_at

@@ -1,0 +1,35 @@
+//! A value that a brick keeps, and the limits of a brick.
+
+ghost use Rattle.std.specs.Prelude.{◌≡◌};
+ghost use Rattle.brick_store.specs.Kept.{is_late};
+
+use crash_base::{Moment, SessionBytes, SessionKey, Version};
+
+/// The most values that a brick keeps.
+pub const MAX_BRICK_VALUES: u64 = 65_536;
+
+/// The most bytes that the values of a brick have together.
+pub const MAX_BRICK_BYTES: u64 = 67_108_864;
+
+/// A sweep takes a value only where its moment is past the expiry by more than this many milliseconds.
+pub const SWEEP_GRACE: u64 = 60_000;
+
+/// A value that a brick keeps.
+#[derive(Drop)]
+pub struct Kept {
+    /// Of which session it is.
+    pub key: SessionKey,
+    /// Which version of the session's value it is.
+    pub version: Version,
+    /// Until when it is asked for. No sweep takes it until `SWEEP_GRACE` past this.
+    pub expiry: Moment,
+    /// The value.
+    pub value: SessionBytes,
+}
+
+/// Whether a sweep at this moment takes a value with this expiry.
+pub(crate) fn is_late(moment: Moment, expiry: Moment) -> bool
+    ensures { result ≡ is_late moment expiry }
+{
+    expiry.0 < moment.0.saturating_sub(SWEEP_GRACE)
+}
