@@ -1,5 +1,5 @@
 -- A brick goes on standing for its history.
-use Rattle.std.proofs.Common.{◌≡◌, ℕ, Bool, true, false, if◌then◌else◌, List, [], ◌∷◌, Option, Some, None, refl, sym, ap, ◌∙◌}
+use Rattle.std.proofs.Common.{◌≡◌, ℕ, Bool, true, false, if◌then◌else◌, List, [], ◌∷◌, Option, Some, None, refl, sym, ap, subst, ◌∙◌}
 use Rattle.crash_base.specs.declared.numbers.Moment.{Moment}
 use Rattle.crash_base.specs.declared.numbers.SessionKey.{SessionKey}
 use Rattle.crash_base.specs.declared.numbers.Version.{Version}
@@ -13,36 +13,6 @@ use Rattle.brick_store.specs.History.{held, all_held, later, left_by}
 use Rattle.brick_store.specs.Kept.{is_under, is_late, is_full, kept_under, with_kept, outlives, AreInOrder}
 use Rattle.brick_store.specs.Standing.{StandsFor, stored_in, heard}
 use Rattle.brick_store.proofs.Keeping.{found_with, found_left, ordered_with, ordered_left, same_from_found}
-
-stands_stored : (first : ℕ) (h : List BrickEvent) (b : BrickValue) (s : Kept) → StandsFor first h b → StandsFor first (stored_in h b s) (stored b s)
-stands_stored first h b s stands = go (is_full b.kept s)
-  where
-    go : (full : Bool) → StandsFor first (if full then h else event.Stored s ∷ h) (if full then b else record b { kept = with_kept s b.kept })
-    go true = stands
-    go false = record {
-      pairs = λ key version. found_with key version s b.kept ∙ ap (λ found. if is_under key version s then Some s else found) (stands.pairs key version);
-      in_order = ordered_with s b.kept stands.in_order;
-      incarnation_is = stands.incarnation_is;
-      swept_is = stands.swept_is;
-    }
-
-pub stands_swept : (first : ℕ) (h : List BrickEvent) (b : BrickValue) (moment : Moment) → StandsFor first h b → StandsFor first (event.Sweep moment ∷ h) (swept_at b moment)
-stands_swept first h b moment stands = record {
-  pairs = λ key version. found_left key version moment b.kept stands.in_order ∙ ap (left_by moment) (stands.pairs key version);
-  in_order = ordered_left (outlives moment) b.kept stands.in_order;
-  incarnation_is = stands.incarnation_is;
-  swept_is = ap (λ swept. later swept moment) stands.swept_is;
-}
-
-pub stands_answered : (first : ℕ) (h : List BrickEvent) (b : BrickValue) (request : Frame) → StandsFor first h b → StandsFor first (heard h b request) (answered b request)
-stands_answered first h b (Put n k v e x) stands = stands_stored first h b (put_value k v e x) stands
-stands_answered first h b (Get n k v) stands = stands
-stands_answered first h b (Sweep n moment) stands = stands_swept first h b moment stands
-stands_answered first h b (Stored n k v c i) stands = stands
-stands_answered first h b (Found n k v c i e x) stands = stands
-stands_answered first h b (Absent n k v c i s) stands = stands
-stands_answered first h b (BrickFull n k v c i e s) stands = stands
-stands_answered first h b (Swept n c i m) stands = stands
 
 -- all values held are in order
 pub all_ordered : (h : List BrickEvent) → AreInOrder (all_held h)
@@ -63,6 +33,37 @@ all_found (event.Crash ∷ h) key version = refl
 pub stands_for_all : (first : ℕ) (h : List BrickEvent) (b : BrickValue) → StandsFor first h b → b.kept ≡ all_held h
 stands_for_all first h b stands =
     same_from_found b.kept (all_held h) stands.in_order (all_ordered h) (λ key version. stands.pairs key version ∙ sym (all_found h key version))
+
+stands_stored : (first : ℕ) (h : List BrickEvent) (b : BrickValue) (s : Kept) → StandsFor first h b → StandsFor first (stored_in h s) (stored b s)
+stands_stored first h b s stands =
+    subst (λ kept. StandsFor first (if is_full kept s then h else event.Stored s ∷ h) (stored b s)) (stands_for_all first h b stands) (go (is_full b.kept s))
+  where
+    go : (full : Bool) → StandsFor first (if full then h else event.Stored s ∷ h) (if full then b else record b { kept = with_kept s b.kept })
+    go true = stands
+    go false = record {
+      pairs = λ key version. found_with key version s b.kept ∙ ap (λ found. if is_under key version s then Some s else found) (stands.pairs key version);
+      in_order = ordered_with s b.kept stands.in_order;
+      incarnation_is = stands.incarnation_is;
+      swept_is = stands.swept_is;
+    }
+
+pub stands_swept : (first : ℕ) (h : List BrickEvent) (b : BrickValue) (moment : Moment) → StandsFor first h b → StandsFor first (event.Sweep moment ∷ h) (swept_at b moment)
+stands_swept first h b moment stands = record {
+  pairs = λ key version. found_left key version moment b.kept stands.in_order ∙ ap (left_by moment) (stands.pairs key version);
+  in_order = ordered_left (outlives moment) b.kept stands.in_order;
+  incarnation_is = stands.incarnation_is;
+  swept_is = ap (λ swept. later swept moment) stands.swept_is;
+}
+
+pub stands_answered : (first : ℕ) (h : List BrickEvent) (b : BrickValue) (request : Frame) → StandsFor first h b → StandsFor first (heard h request) (answered b request)
+stands_answered first h b (Put n k v e x) stands = stands_stored first h b (put_value k v e x) stands
+stands_answered first h b (Get n k v) stands = stands
+stands_answered first h b (Sweep n moment) stands = stands_swept first h b moment stands
+stands_answered first h b (Stored n k v c i) stands = stands
+stands_answered first h b (Found n k v c i e x) stands = stands
+stands_answered first h b (Absent n k v c i s) stands = stands
+stands_answered first h b (BrickFull n k v c i e s) stands = stands
+stands_answered first h b (Swept n c i m) stands = stands
 
 left_same : (s t : Kept) (late : Bool) → (if late then None else Some t) ≡ Some s → t ≡ s
 left_same s t true found = absurd (cc)

@@ -8,7 +8,7 @@ use Rattle.brick_store.specs.declared.kept.Kept.{Kept}
 use Rattle.brick_store.specs.declared.event.BrickEvent.{BrickEvent}
 use Rattle.brick_store.specs.declared.event.BrickEvent.TheVariants as event
 use Rattle.brick_store.specs.Bricks.{BrickValue, put_value}
-use Rattle.brick_store.specs.History.{held, incarnation_after, swept_after}
+use Rattle.brick_store.specs.History.{held, all_held, incarnation_after, swept_after}
 use Rattle.brick_store.specs.Kept.{kept_under, is_full, AreInOrder}
 
 -- A brick of this first incarnation stands for a history, newest first: it keeps just what is held,
@@ -20,17 +20,17 @@ pub record StandsFor (first : ℕ) (h : List BrickEvent) (b : BrickValue) : Type
   pub swept_is : b.swept ≡ swept_after h
 
 -- the history after a value was to be kept
-abbrev pub stored_in : List BrickEvent → BrickValue → Kept → List BrickEvent
-stored_in h b s = if is_full b.kept s then h else event.Stored s ∷ h
+abbrev pub stored_in : List BrickEvent → Kept → List BrickEvent
+stored_in h s = if is_full (all_held h) s then h else event.Stored s ∷ h
 
 -- The history of a brick after a request that came to it. A Put that it has no room for, a Get and
 -- a reply are no part of it.
-abbrev pub heard : List BrickEvent → BrickValue → Frame → List BrickEvent
-heard h b (Put nonce key version expiry value) = stored_in h b (put_value key version expiry value)
-heard h b (Get nonce key version) = h
-heard h b (Sweep nonce moment) = event.Sweep moment ∷ h
-heard h b (Stored nonce key version brick incarnation) = h
-heard h b (Found nonce key version brick incarnation expiry value) = h
-heard h b (Absent nonce key version brick incarnation swept) = h
-heard h b (BrickFull nonce key version brick incarnation entries bytes) = h
-heard h b (Swept nonce brick incarnation moment) = h
+abbrev pub heard : List BrickEvent → Frame → List BrickEvent
+heard h (Put nonce key version expiry value) = stored_in h (put_value key version expiry value)
+heard h (Get nonce key version) = h
+heard h (Sweep nonce moment) = event.Sweep moment ∷ h
+heard h (Stored nonce key version brick incarnation) = h
+heard h (Found nonce key version brick incarnation expiry value) = h
+heard h (Absent nonce key version brick incarnation swept) = h
+heard h (BrickFull nonce key version brick incarnation entries bytes) = h
+heard h (Swept nonce brick incarnation moment) = h

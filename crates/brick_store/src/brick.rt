@@ -1,14 +1,18 @@
 //! A brick.
 
-ghost use Rattle.std.specs.Prelude.{◌≡◌, ◌-◌, ◌^◌, ◌<◌, ◌≤◌, false, true, length, is_some, IfOk, OnOk, OnErr, Some};
+ghost use Rattle.std.specs.Prelude.{◌≡◌, ◌-◌, ◌^◌, ◌<◌, ◌≤◌, ℕ, List, [], ◌∷◌, false, true, length, is_some, IfOk, OnOk, OnErr, Some};
 ghost use Rattle.ssm_frames.specs.Requests.{is_request};
 ghost use Rattle.brick_store.specs.declared.kept.TheConstants.{MAX_BRICK_VALUES, MAX_BRICK_BYTES};
 ghost use Rattle.brick_store.specs.Bricks.{new_brick, put_value, stored, swept_at, crashed, answered, put_reply, get_reply, reply, takes_memory};
+ghost use Rattle.brick_store.specs.declared.event.BrickEvent.{BrickEvent};
+ghost use Rattle.brick_store.specs.declared.event.BrickEvent.TheVariants as event;
 ghost use Rattle.brick_store.specs.History.{later};
+ghost use Rattle.brick_store.specs.Standing.{StandsFor, heard};
 ghost use Rattle.brick_store.specs.Kept.{with_kept, kept_under, bytes_of, is_full};
 
 use crate::kept::{Kept, MAX_BRICK_BYTES, MAX_BRICK_VALUES};
 use crate::kept_map::KeptMap;
+use crate::laws::bricks_stand_for_their_history;
 use crash_base::{BrickNo, Moment, OutOfMemory, SessionBytes, SessionKey, Version};
 use ssm_frames::Frame;
 use std::alloc::Global;
@@ -79,8 +83,10 @@ impl Brick {
     /// A brick of this number and incarnation, which keeps nothing and was never swept. It takes no
     /// memory.
     pub fn new(alloc: Global, number: BrickNo, incarnation: u64) -> Brick
-        ensures { result ≡ new_brick number incarnation }
+        ensures value { result ≡ new_brick number incarnation }
+        ensures stands { StandsFor incarnation [] result }
     {
+        bricks_stand_for_their_history();
         Brick {
             number,
             incarnation,
@@ -136,8 +142,11 @@ impl Brick {
     /// Removes the values whose expiry and 60,000 ms more (`SWEEP_GRACE`) are before a moment. It
     /// visits each value, and takes no memory.
     pub fn sweep(&mut self, moment: Moment)
-        ensures { self.new ≡ swept_at self.old moment }
+        ensures value { self.new ≡ swept_at self.old moment }
+        ensures stands { (first : ℕ) (h : List BrickEvent) → StandsFor first h self.old
+            → StandsFor first (event.Sweep moment ∷ h) self.new }
     {
+        bricks_stand_for_their_history();
         self.kept.sweep(moment);
         self.swept = later(self.swept, moment);
     }
@@ -145,8 +154,11 @@ impl Brick {
     /// Loses all values, and is of the next incarnation. It visits each value, and takes no memory.
     pub fn crash(&mut self)
         requires { self.old.incarnation < 2 ^ 64 - 1 }
-        ensures { self.new ≡ crashed self.old }
+        ensures value { self.new ≡ crashed self.old }
+        ensures stands { (first : ℕ) (h : List BrickEvent) → StandsFor first h self.old
+            → StandsFor first (event.Crash ∷ h) self.new }
     {
+        bricks_stand_for_their_history();
         self.kept.clear();
         self.swept = Moment(0);
         self.incarnation += 1;
@@ -250,7 +262,10 @@ impl Brick {
         ensures new { OnOk result (self.new ≡ answered self.old frame.now) }
         ensures err { OnErr result (self.new ≡ self.old) }
         ensures memory { OnErr result (takes_memory self.old frame.now ≡ true) }
+        ensures stands { OnOk result ((first : ℕ) (h : List BrickEvent) → StandsFor first h self.old
+            → StandsFor first (heard h frame.now) self.new) }
     {
+        bricks_stand_for_their_history();
         match frame {
             Frame::Put {
                 nonce,
@@ -258,7 +273,10 @@ impl Brick {
                 version,
                 expiry,
                 value,
-            } => self.put(alloc, *nonce, *key, *version, *expiry, value),
+            } => match self.put(alloc, *nonce, *key, *version, *expiry, value) {
+                Ok(reply) => Ok(reply),
+                Err(OutOfMemory) => Err(OutOfMemory),
+            },
             Frame::Get {
                 nonce,
                 key,

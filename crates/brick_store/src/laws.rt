@@ -22,7 +22,7 @@ ghost use Rattle.brick_store.specs.Standing.{StandsFor, heard};
 pub fn bricks_stand_for_their_history()
     ensures new { (number : BrickNo) (first : ℕ) → StandsFor first [] (new_brick number first) }
     ensures answered { (first : ℕ) (h : List BrickEvent) (b : BrickValue) (request : Frame)
-        → StandsFor first h b → StandsFor first (heard h b request) (answered b request) }
+        → StandsFor first h b → StandsFor first (heard h request) (answered b request) }
     ensures swept { (first : ℕ) (h : List BrickEvent) (b : BrickValue) (moment : Moment)
         → StandsFor first h b → StandsFor first (Sweep moment ∷ h) (swept_at b moment) }
     ensures crashed { (first : ℕ) (h : List BrickEvent) (b : BrickValue)
