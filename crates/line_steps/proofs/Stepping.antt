@@ -91,7 +91,7 @@ fits_exit b caller ticket fits =
     fits_step b caller ticket (ticket_left ticket) [] (exit_refusal b.entries ticket.call) fits (λ none. fits_leaving b ticket.call fits))
 
 -- whether the call is outside of the component that owns a table
-abbrev is_outside : BootValue → TicketValue → ℕ → Bool
+abbrev pub is_outside : BootValue → TicketValue → ℕ → Bool
 is_outside b ticket table = not (is_in_owner b.start.deployment ticket.call table)
 
 fits_read : (b : BootValue) (caller : ℕ) (ticket : TicketValue) (number key : ℕ) → FitsTicket b ticket → Leaves (FitsTicket b) (read_step b caller ticket number key)

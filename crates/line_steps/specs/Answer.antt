@@ -1,5 +1,5 @@
 -- What a line of a scenario answers.
-use Rattle.std.specs.Prelude.{ℕ, Bool, true, false, List, [], Option, Some, None, string_bytes}
+use Rattle.std.specs.Prelude.{◌≡◌, ℕ, Bool, true, false, List, [], Option, Some, None, string_bytes}
 use Rattle.line_steps.specs.declared.answer.LineAnswer.{LineAnswer}
 use Rattle.line_steps.specs.declared.answer.LineAnswer.TheVariants as answers
 
@@ -28,3 +28,9 @@ abbrev pub answer_of : {S : Type 0} → LineAnswer → S → Answer S
 answer_of answers.Refused s = Refused
 answer_of answers.Done s = Done s []
 answer_of (answers.Wrote text) s = Done s (string_bytes text)
+
+-- A line that is refused leaves the state as it was.
+abbrev pub KeepsRefused : {S : Type 0} → LineAnswer → S → S → Type 0
+KeepsRefused answers.Refused old new = new ≡ old
+KeepsRefused answers.Done old new = Unit {0}
+KeepsRefused (answers.Wrote text) old new = Unit {0}

@@ -2,7 +2,7 @@
 
 ghost use Rattle.std.specs.Prelude.{◌≡◌, IfOk};
 ghost use Rattle.boot_core.specs.Fits.{FitsIn};
-ghost use Rattle.line_steps.specs.Answer.{answer_of};
+ghost use Rattle.line_steps.specs.Answer.{KeepsRefused, answer_of};
 ghost use Rattle.line_steps.specs.CallLines.{call_line, enter_step, exit_step, read_step, list_step, put_step};
 
 use crate::answer::LineAnswer;
@@ -40,6 +40,7 @@ fn enter_step(
     requires { FitsIn boot.now ticket.old.call }
     ensures answer { IfOk result (λ a.
         answer_of a ticket.new ≡ enter_step boot.now caller ticket.old name) }
+    ensures refused { IfOk result (λ a. KeepsRefused a ticket.old ticket.new) }
     ensures fits { FitsIn boot.now ticket.new.call }
 {
     let Some(c) = boot.deployment().named(name.as_slice()) else {
@@ -65,6 +66,7 @@ fn exit_step(
     requires { FitsIn boot.now ticket.old.call }
     ensures answer { IfOk result (λ a.
         answer_of a ticket.new ≡ exit_step boot.now caller ticket.old) }
+    ensures refused { IfOk result (λ a. KeepsRefused a ticket.old ticket.new) }
     ensures fits { FitsIn boot.now ticket.new.call }
 {
     if ticket.depth() == 0 {
@@ -97,6 +99,7 @@ fn read_step(
     requires { FitsIn boot.now ticket.old.call }
     ensures answer { IfOk result (λ a.
         answer_of a ticket.new ≡ read_step boot.now caller ticket.old number key) }
+    ensures refused { IfOk result (λ a. KeepsRefused a ticket.old ticket.new) }
     ensures fits { FitsIn boot.now ticket.new.call }
 {
     let Some(table) = table_of(number) else {
@@ -124,6 +127,7 @@ fn list_step(
     requires { FitsIn boot.now ticket.old.call }
     ensures answer { IfOk result (λ a.
         answer_of a ticket.new ≡ list_step boot.now caller ticket.old number) }
+    ensures refused { IfOk result (λ a. KeepsRefused a ticket.old ticket.new) }
     ensures fits { FitsIn boot.now ticket.new.call }
 {
     let Some(listed) = table_of(number) else {
@@ -152,6 +156,7 @@ fn put_step(
     requires { FitsIn boot.now ticket.old.call }
     ensures answer { IfOk result (λ a.
         answer_of a ticket.new ≡ put_step boot.now caller ticket.old number key bytes) }
+    ensures refused { IfOk result (λ a. KeepsRefused a ticket.old ticket.new) }
     ensures fits { FitsIn boot.now ticket.new.call }
 {
     let Some(table) = table_of(number) else {
@@ -182,6 +187,7 @@ pub fn call_line(
     requires { FitsIn boot.now ticket.old.call }
     ensures answer { IfOk result (λ a.
         answer_of a ticket.new ≡ call_line boot.now caller ticket.old line) }
+    ensures refused { IfOk result (λ a. KeepsRefused a ticket.old ticket.new) }
     ensures fits { FitsIn boot.now ticket.new.call }
 {
     match line {

@@ -3,7 +3,7 @@
 ghost use Rattle.std.specs.Prelude.{◌≡◌, ◌<◌, ◌≤◌, [], length, slice_set, IfOk, OnOk, MatchOption};
 ghost use Rattle.boot_core.specs.Boot.{BootValue};
 ghost use Rattle.boot_core.specs.Fits.{FitsIn};
-ghost use Rattle.line_steps.specs.Answer.{answer_of};
+ghost use Rattle.line_steps.specs.Answer.{KeepsRefused, answer_of};
 ghost use Rattle.line_steps.specs.Callers.{caller_at, padded, request_of, is_live, can_begin, caller_line, call_step, AllFit, FitsCaller, IsAway, TakesCall};
 ghost use Rattle.line_steps.specs.declared.callers.Caller.TheVariants.{Live, Absent};
 
@@ -72,6 +72,7 @@ fn caller_line(
     requires { FitsCaller boot.now caller.old }
     ensures answer { IfOk result (λ a.
         answer_of a caller.new ≡ caller_line boot.now number line caller.old) }
+    ensures refused { IfOk result (λ a. KeepsRefused a caller.old caller.new) }
     ensures fits { FitsCaller boot.now caller.new }
 {
     match caller {
@@ -155,6 +156,7 @@ impl Callers {
         requires { AllFit boot.now self.old }
         ensures answer { IfOk result (λ a.
             answer_of a self.new ≡ call_step boot.now self.old number line) }
+        ensures refused { IfOk result (λ a. KeepsRefused a self.old self.new) }
         ensures fits { AllFit boot.now self.new }
     {
         if number >= self.callers.len() as u64 {

@@ -2,7 +2,7 @@
 
 ghost use Rattle.std.specs.Prelude.{◌≡◌, None, IfOk, true, false};
 ghost use Rattle.deployment.specs.Refusals.{deploy_refusal};
-ghost use Rattle.line_steps.specs.Answer.{answer_of, within};
+ghost use Rattle.line_steps.specs.Answer.{KeepsRefused, answer_of, within};
 ghost use Rattle.line_steps.specs.Head.{no_head, component_step, reference_step, owns_step, limit_step, head_line};
 
 use crate::answer::LineAnswer;
@@ -29,6 +29,7 @@ fn component_step(
 ) -> Result<LineAnswer, OutOfMemory>
     requires { deploy_refusal parts.old ≡ None }
     ensures answer { IfOk result (λ a. answer_of a parts.new ≡ component_step parts.old name) }
+    ensures refused { IfOk result (λ a. KeepsRefused a parts.old parts.new) }
     ensures accepted { deploy_refusal parts.new ≡ None }
 {
     if !is_component_name(name.as_slice()) {
@@ -56,6 +57,7 @@ fn reference_step(
     requires { deploy_refusal parts.old ≡ None }
     ensures answer { IfOk result (λ a.
         answer_of a parts.new ≡ reference_step parts.old from to hard) }
+    ensures refused { IfOk result (λ a. KeepsRefused a parts.old parts.new) }
     ensures accepted { deploy_refusal parts.new ≡ None }
 {
     let Some(x) = parts.named(from.as_slice()) else {
@@ -75,6 +77,7 @@ fn reference_step(
 fn owns_step(parts: &mut Parts, name: ComponentName, number: u64) -> Result<LineAnswer, OutOfMemory>
     requires { deploy_refusal parts.old ≡ None }
     ensures answer { IfOk result (λ a. answer_of a parts.new ≡ owns_step parts.old name number) }
+    ensures refused { IfOk result (λ a. KeepsRefused a parts.old parts.new) }
     ensures accepted { deploy_refusal parts.new ≡ None }
 {
     let Some(c) = parts.named(name.as_slice()) else {
@@ -95,6 +98,7 @@ fn owns_step(parts: &mut Parts, name: ComponentName, number: u64) -> Result<Line
 #[tactic(auto, unfolding(crate::specs::Head::limit_step))]
 fn limit_step(head: &mut Head, entries: u64, bytes: u64) -> LineAnswer
     ensures answer { answer_of result head.new ≡ limit_step head.old entries bytes }
+    ensures refused { KeepsRefused result head.old head.new }
     ensures parts { head.new.parts ≡ head.old.parts }
 {
     if entries > MAX_ENTRIES {
@@ -126,6 +130,7 @@ impl Head {
 pub fn head_line(alloc: Global, head: &mut Head, line: Line) -> Result<LineAnswer, OutOfMemory>
     requires { deploy_refusal head.old.parts ≡ None }
     ensures answer { IfOk result (λ a. answer_of a head.new ≡ head_line head.old line) }
+    ensures refused { IfOk result (λ a. KeepsRefused a head.old head.new) }
     ensures accepted { deploy_refusal head.new.parts ≡ None }
 {
     match line {

@@ -14,7 +14,7 @@ use Rattle.journal_model.specs.Calls.{entry_of, seen, listed}
 use Rattle.journal_model.specs.Reboots.{undone_of}
 use Rattle.journal_model.proofs.Places.{all_there}
 use Rattle.boot_core.specs.Boot.{BootValue}
-use Rattle.boot_core.specs.Owners.{is_in_owner, may_enter}
+use Rattle.boot_core.specs.Owners.{may_enter}
 use Rattle.boot_core.specs.Refusals.{enter_refusal, exit_refusal, read_refusal, list_refusal, put_refusal, reboot_refusal}
 use Rattle.boot_core.specs.Steps.{ticket_entered, ticket_has_read, ticket_has_listed}
 use Rattle.boot_core.specs.declared.refusals.CallRefusal.{CallRefusal}
@@ -32,6 +32,7 @@ use Rattle.line_steps.specs.Callers.{caller_at, padded, can_begin, new_ticket, c
 use Rattle.line_steps.specs.Head.{head_line}
 use Rattle.line_steps.specs.Tables.{table_of}
 use Rattle.line_steps.specs.Texts.{row_answer_text, list_answer_text}
+use Rattle.line_steps.proofs.Stepping.{is_outside}
 use Rattle.line_steps.proofs.Leaving.{Leaves, leaves-refused_if, leaves-or_refused, leaves-within, leaves-weaker, leaves-nothing}
 use Rattle.scenario_engine.specs.Running.{with_callers, with_boot_entry, commit_ends, with_keeper, boot_refusal, caller_commits, caller_drops, commit_step, drop_step, scope_of, goes_down, reboots, down_step, up_step, reboot_step, table_step, journal_step, quiet_line}
 use Rattle.scenario_engine.specs.Sound.{CommitsOwnRequests}
@@ -75,10 +76,6 @@ own_found : (boot caller : ℕ) (ticket : TicketValue) (o : Option ℕ) (next : 
 own_found boot caller ticket o next text refusal barred own after =
     leaves-or_refused (IsOwn boot) o (λ x. refused_if (barred x) (step_answer caller ticket (refusal x) (next x) (text x))) (λ x is.
     own_judged boot caller ticket (next x) (text x) (refusal x) (barred x) own (after x))
-
--- whether the call is outside of the component that owns a table
-abbrev is_outside : BootValue → TicketValue → ℕ → Bool
-is_outside b ticket table = not (is_in_owner b.start.deployment ticket.call table)
 
 own_enter : (b : BootValue) (boot caller : ℕ) (ticket : TicketValue) (name : List ℕ) → IsOwn boot ticket → Leaves (IsOwn boot) (enter_step b caller ticket name)
 unfolding enter_step

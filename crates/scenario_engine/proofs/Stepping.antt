@@ -5,7 +5,7 @@ use Rattle.outside.specs.Keeper.{KeeperTold}
 use Rattle.boot_core.specs.declared.boot.Start.{Start}
 use Rattle.boot_core.specs.declared.refusals.StartRefusal.{StartRefusal}
 use Rattle.boot_core.specs.declared.refusals.StartRefusal.TheVariants as refusals
-use Rattle.line_steps.specs.Answer.{Answer, Refused, answer_of}
+use Rattle.line_steps.specs.Answer.{Answer, Refused, KeepsRefused, answer_of}
 use Rattle.line_steps.specs.Head.{head_line}
 use Rattle.line_steps.specs.Texts.{boot_text}
 use Rattle.line_steps.specs.declared.answer.LineAnswer.{LineAnswer}
@@ -85,45 +85,42 @@ not_quiet lines.Table head kind = refl
 not_quiet lines.Journal head kind = refl
 not_quiet lines.Reopen head kind = refl
 
-pub refused_in_head : (line : Line) (head : Head) (after : State) (told : Option KeeperTold) → kind_of line ≢ kinds.Quiet → AnswersOn answers.Refused after (TheHead head) line told told
-refused_in_head line head after told kind = (
-  Heading head,
-  record {
-    replies = no_replies;
-    answers = sym (ap (in_head head) (not_quiet line head kind));
-    told = refl;
-  },
-)
+pub refused_in_head : (line : Line) (head : Head) (told : Option KeeperTold) → kind_of line ≢ kinds.Quiet → AnswersOn answers.Refused (Heading head) (TheHead head) line told told
+refused_in_head line head told kind = record {
+  replies = no_replies;
+  answers = sym (ap (in_head head) (not_quiet line head kind));
+  told = refl;
+}
 
 -- a line of the head that calls no keeper
-pub quiet_in_head : (a : LineAnswer) (line : Line) (head next : Head) (told : Option KeeperTold) → answer_of a next ≡ head_line head line → AnswersOn a (Heading next) (TheHead head) line told told
-quiet_in_head answers.Refused line head next told is = (Heading head, record { replies = no_replies; answers = ap (in_head head) is; told = refl })
-quiet_in_head answers.Done line head next told is = record { replies = no_replies; answers = ap (in_head head) is; told = refl }
-quiet_in_head (answers.Wrote text) line head next told is = record { replies = no_replies; answers = ap (in_head head) is; told = refl }
+pub quiet_in_head : (a : LineAnswer) (line : Line) (head next : Head) (told : Option KeeperTold) → answer_of a next ≡ head_line head line → KeepsRefused a head next → AnswersOn a (Heading next) (TheHead head) line told told
+quiet_in_head answers.Refused line head next told is kept = record { replies = no_replies; answers = ap (λ h. RefusedIn (Heading h)) kept ∙ ap (in_head head) is; told = refl }
+quiet_in_head answers.Done line head next told is kept = record { replies = no_replies; answers = ap (in_head head) is; told = refl }
+quiet_in_head (answers.Wrote text) line head next told is kept = record { replies = no_replies; answers = ap (in_head head) is; told = refl }
 
 -- a line over a boot, by the answer of its part
-over_boot : (a : LineAnswer) (line : Line) (r next : RunningState) (replies : Replies) (answer : Answer RunningState) (old new : Option KeeperTold) → in_boot r answer ≡ line_on (TheBoot r) line replies → TellsCalls (calls_on (TheBoot r) line replies) old new → answer_of a next ≡ answer → AnswersOn a (Running next) (TheBoot r) line old new
-over_boot answers.Refused line r next replies answer old new whole told is = (Running r, record { replies = replies; answers = ap (in_boot r) is ∙ whole; told = told })
-over_boot answers.Done line r next replies answer old new whole told is = record { replies = replies; answers = ap (in_boot r) is ∙ whole; told = told }
-over_boot (answers.Wrote text) line r next replies answer old new whole told is = record { replies = replies; answers = ap (in_boot r) is ∙ whole; told = told }
+over_boot : (a : LineAnswer) (line : Line) (r next : RunningState) (replies : Replies) (answer : Answer RunningState) (old new : Option KeeperTold) → in_boot r answer ≡ line_on (TheBoot r) line replies → TellsCalls (calls_on (TheBoot r) line replies) old new → answer_of a next ≡ answer → KeepsRefused a r next → AnswersOn a (Running next) (TheBoot r) line old new
+over_boot answers.Refused line r next replies answer old new whole told is kept = record { replies = replies; answers = ap (λ s. RefusedIn (Running s)) kept ∙ (ap (in_boot r) is ∙ whole); told = told }
+over_boot answers.Done line r next replies answer old new whole told is kept = record { replies = replies; answers = ap (in_boot r) is ∙ whole; told = told }
+over_boot (answers.Wrote text) line r next replies answer old new whole told is kept = record { replies = replies; answers = ap (in_boot r) is ∙ whole; told = told }
 
 -- a line that calls no keeper
-pub quiet_over_boot : (a : LineAnswer) (line : Line) (r next : RunningState) (told : Option KeeperTold) → kind_of line ≡ kinds.Quiet → answer_of a next ≡ quiet_line r line → AnswersOn a (Running next) (TheBoot r) line told told
-quiet_over_boot a line r next told kind is =
+pub quiet_over_boot : (a : LineAnswer) (line : Line) (r next : RunningState) (told : Option KeeperTold) → kind_of line ≡ kinds.Quiet → answer_of a next ≡ quiet_line r line → KeepsRefused a r next → AnswersOn a (Running next) (TheBoot r) line told told
+quiet_over_boot a line r next told kind is kept =
     let whole : in_boot r (quiet_line r line) ≡ line_on (TheBoot r) line no_replies = ap (λ k. line_over r k line no_replies) (sym kind) in
     let none : TellsCalls (calls_on (TheBoot r) line no_replies) told told = subst (λ k. TellsCalls (calls_over r k no_replies) told told) (sym kind) refl in
-    over_boot a line r next no_replies (quiet_line r line) told told whole none is
+    over_boot a line r next no_replies (quiet_line r line) told told whole none is kept
 
 -- replies to a commit
 abbrev to_commit : Bool → Replies
 to_commit keeps = record { first = no_start; again = no_start; keeps = keeps }
 
-pub commit_over_boot : (a : LineAnswer) (line : Line) (r next : RunningState) (caller : ℕ) (old new : Option KeeperTold) → kind_of line ≡ kinds.Commits caller → Commits r caller (answer_of a next) old new → AnswersOn a (Running next) (TheBoot r) line old new
-commit_over_boot a line r next caller old new kind h =
+pub commit_over_boot : (a : LineAnswer) (line : Line) (r next : RunningState) (caller : ℕ) (old new : Option KeeperTold) → kind_of line ≡ kinds.Commits caller → Commits r caller (answer_of a next) old new → KeepsRefused a r next → AnswersOn a (Running next) (TheBoot r) line old new
+commit_over_boot a line r next caller old new kind h kept =
     let replies : Replies = to_commit h.keeps in
     let whole = ap (λ k. line_over r k line replies) (sym kind) in
     let told : TellsCalls (calls_on (TheBoot r) line replies) old new = subst (λ k. TellsCalls (calls_over r k replies) old new) (sym kind) h.told in
-    over_boot a line r next replies _ old new whole told h.answers
+    over_boot a line r next replies _ old new whole told h.answers kept
 
 pub commit_partly : (line : Line) (r : RunningState) (caller : ℕ) (old new : Option KeeperTold) → kind_of line ≡ kinds.Commits caller → CommitsPartly r caller old new → DoesPartlyOn (TheBoot r) line old new
 commit_partly line r caller old new kind h =
@@ -217,7 +214,7 @@ does_partly s line target old between new reach h =
     }
 
 pub does_line : (a : LineAnswer) (s after : State) (line : Line) (target : Target) (old between new : Option KeeperTold) → Reaches s (is_event line) target old between → AnswersOn a after target line between new → Answers a after s (Some line) old new
-does_line answers.Refused s after line target old between new reach (state, h) = (state, does s line target (RefusedIn state) old between new reach h)
+does_line answers.Refused s after line target old between new reach h = does s line target (RefusedIn after) old between new reach h
 does_line answers.Done s after line target old between new reach h = does s line target (DoneTo after []) old between new reach h
 does_line (answers.Wrote text) s after line target old between new reach h = does s line target (DoneTo after (string_bytes text)) old between new reach h
 
@@ -266,8 +263,8 @@ pub uncalled : (target : Target) (line : Line) (told : Option KeeperTold) → Do
 uncalled target line told = record { replies = no_replies; unkept = refl; told = record { made = []; more = _; begins = refl; between = told; told = refl; last = inl refl } }
 
 -- a text that spells no line
-pub spells_none : (s : State) (line : Option Line) (after : State) (told : Option KeeperTold) → line ≡ None → Answers answers.Refused after s line told told
-spells_none s line after told none = subst (λ o. Answers answers.Refused after s o told told) (sym none) (s, record { replies = no_replies; answers = refl; told = refl })
+pub spells_none : (s : State) (line : Option Line) (told : Option KeeperTold) → line ≡ None → Answers answers.Refused s s line told told
+spells_none s line told none = subst (λ o. Answers answers.Refused s s o told told) (sym none) (record { replies = no_replies; answers = refl; told = refl })
 
 -- the number of the next boot was written
 pub reopened_text : (line : Line) (r next : RunningState) (start : Start) (text : List ℕ) (old new : Option KeeperTold) → kind_of line ≡ kinds.Reopens → next ≡ started start → Opens r.boot.start.deployment r.boot.start.limits (Opened start) old new → text ≡ boot_text next.boot.start.boot → DoesOn (TheBoot r) line (DoneTo (Running next) text) old new
@@ -275,24 +272,24 @@ reopened_text line r next start text old new kind is h wrote =
     let P : RunningState → Type 0 = λ n. text ≡ boot_text n.boot.start.boot → DoesOn (TheBoot r) line (DoneTo (Running n) text) old new in
     subst P (sym is) (λ w. reopened line r start text old new kind h w) wrote
 
-pub quiet_in_head_result : (result part : Result LineAnswer OutOfMemory) (after now : State) (line : Line) (head next : Head) (told : Option KeeperTold) → IfOk part (λ a. answer_of a next ≡ head_line head line) → result ≡ part → after ≡ Heading next → Heading head ≡ now → IfOk result (λ a. AnswersOn a after (target_in now) line told told)
-quiet_in_head_result result part after now line head next told is r a s =
+pub quiet_in_head_result : (result part : Result LineAnswer OutOfMemory) (after now : State) (line : Line) (head next : Head) (told : Option KeeperTold) → IfOk part (λ a. answer_of a next ≡ head_line head line) → IfOk part (λ a. KeepsRefused a head next) → result ≡ part → after ≡ Heading next → Heading head ≡ now → IfOk result (λ a. AnswersOn a after (target_in now) line told told)
+quiet_in_head_result result part after now line head next told is kept r a s =
     let P : Result LineAnswer OutOfMemory → Type 0 = λ r. IfOk r (λ a. AnswersOn a after (target_in now) line told told) in
     let Q : State → Type 0 = λ s. IfOk part (λ a. AnswersOn a after (target_in s) line told told) in
     let R : State → Type 0 = λ t. IfOk part (λ a. AnswersOn a t (TheHead head) line told told) in
-    subst P (sym r) (subst Q s (subst R (sym a) (go part is)))
+    subst P (sym r) (subst Q s (subst R (sym a) (go part is kept)))
   where
-    go : (part : Result LineAnswer OutOfMemory) → IfOk part (λ a. answer_of a next ≡ head_line head line) → IfOk part (λ a. AnswersOn a (Heading next) (TheHead head) line told told)
-    go (Ok a) is = quiet_in_head a line head next told is
-    go (Err e) is = tt
+    go : (part : Result LineAnswer OutOfMemory) → IfOk part (λ a. answer_of a next ≡ head_line head line) → IfOk part (λ a. KeepsRefused a head next) → IfOk part (λ a. AnswersOn a (Heading next) (TheHead head) line told told)
+    go (Ok a) is kept = quiet_in_head a line head next told is kept
+    go (Err e) is kept = tt
 
-pub quiet_over_boot_result : (result part : Result LineAnswer OutOfMemory) (after now : State) (line : Line) (r next : RunningState) (told : Option KeeperTold) → kind_of line ≡ kinds.Quiet → IfOk part (λ a. answer_of a next ≡ quiet_line r line) → result ≡ part → after ≡ Running next → Running r ≡ now → IfOk result (λ a. AnswersOn a after (target_in now) line told told)
-quiet_over_boot_result result part after now line run next told kind is r a s =
+pub quiet_over_boot_result : (result part : Result LineAnswer OutOfMemory) (after now : State) (line : Line) (r next : RunningState) (told : Option KeeperTold) → kind_of line ≡ kinds.Quiet → IfOk part (λ a. answer_of a next ≡ quiet_line r line) → IfOk part (λ a. KeepsRefused a r next) → result ≡ part → after ≡ Running next → Running r ≡ now → IfOk result (λ a. AnswersOn a after (target_in now) line told told)
+quiet_over_boot_result result part after now line run next told kind is kept r a s =
     let P : Result LineAnswer OutOfMemory → Type 0 = λ r. IfOk r (λ a. AnswersOn a after (target_in now) line told told) in
     let Q : State → Type 0 = λ s. IfOk part (λ a. AnswersOn a after (target_in s) line told told) in
     let R : State → Type 0 = λ t. IfOk part (λ a. AnswersOn a t (TheBoot run) line told told) in
-    subst P (sym r) (subst Q s (subst R (sym a) (go part is)))
+    subst P (sym r) (subst Q s (subst R (sym a) (go part is kept)))
   where
-    go : (part : Result LineAnswer OutOfMemory) → IfOk part (λ a. answer_of a next ≡ quiet_line run line) → IfOk part (λ a. AnswersOn a (Running next) (TheBoot run) line told told)
-    go (Ok a) is = quiet_over_boot a line run next told kind is
-    go (Err e) is = tt
+    go : (part : Result LineAnswer OutOfMemory) → IfOk part (λ a. answer_of a next ≡ quiet_line run line) → IfOk part (λ a. KeepsRefused a run next) → IfOk part (λ a. AnswersOn a (Running next) (TheBoot run) line told told)
+    go (Ok a) is kept = quiet_over_boot a line run next told kind is kept
+    go (Err e) is kept = tt

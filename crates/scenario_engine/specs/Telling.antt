@@ -80,11 +80,10 @@ pub record DoesOn (target : Target) (line : Line) (outcome : Outcome) (old new :
   pub answers : outcome ≡ line_on target line replies
   pub told : TellsCalls (calls_on target line replies) old new
 
--- A line was done to a target: it was refused, or leaves this state and writes what the code answers.
+-- A line was done to a target, which leaves this state: it was refused, or writes what the code answers.
 abbrev pub AnswersOn : LineAnswer → State → Target → Line
     → Option KeeperTold → Option KeeperTold → Type 0
-AnswersOn answers.Refused after target line old new =
-    (state : State) × DoesOn target line (RefusedIn state) old new
+AnswersOn answers.Refused after target line old new = DoesOn target line (RefusedIn after) old new
 AnswersOn answers.Done after target line old new = DoesOn target line (DoneTo after []) old new
 AnswersOn (answers.Wrote text) after target line old new =
     DoesOn target line (DoneTo after (string_bytes text)) old new
@@ -111,11 +110,11 @@ pub record Does (s : State) (line : Option Line) (outcome : Outcome) (old new : 
   pub answers : outcome ≡ answer_to s line replies
   pub told : TellsCalls (calls_to s line replies) old new
 
--- A text that spells this line, or none, was done: it was refused, or leaves this state and writes what the code answers.
+-- A text that spells this line, or none, was done, which leaves this state: it was refused, or writes what the code
+-- answers.
 abbrev pub Answers : LineAnswer → State → State → Option Line
     → Option KeeperTold → Option KeeperTold → Type 0
-Answers answers.Refused after s line old new =
-    (state : State) × Does s line (RefusedIn state) old new
+Answers answers.Refused after s line old new = Does s line (RefusedIn after) old new
 Answers answers.Done after s line old new = Does s line (DoneTo after []) old new
 Answers (answers.Wrote text) after s line old new =
     Does s line (DoneTo after (string_bytes text)) old new

@@ -229,8 +229,8 @@ impl Engine {
     /// `reopen` starts the next boot over the keeper's rows.
     ///
     /// # Errors
-    /// `StartRefusal` says why a boot was not started, or that memory ran out. The scenario ends there, as it does where the
-    /// line was refused, and what the engine holds then is not told.
+    /// `StartRefusal` says why a boot was not started, or that memory ran out. The scenario ends there, and what the engine
+    /// holds then is not told. A line that is refused leaves the engine as it was, but for the boot that it started.
     pub fn do_text<K: Keeper>(
         &mut self,
         alloc: Global,

@@ -3,7 +3,7 @@
 ghost use Rattle.std.specs.Prelude.{◌≡◌, ◌≤◌, ◌+◌, ◌++◌, length, None, IfOk, IfSome, MatchResult, option_map, string_bytes};
 ghost use Rattle.commit_journal.specs.Journal.{IsScope};
 ghost use Rattle.deployment.specs.Refusals.{deploy_refusal};
-ghost use Rattle.line_steps.specs.Answer.{answer_of, within};
+ghost use Rattle.line_steps.specs.Answer.{KeepsRefused, answer_of, within};
 ghost use Rattle.journal_model.specs.Rows.{rows_after};
 ghost use Rattle.boot_core.specs.Fits.{FitsIn};
 ghost use Rattle.line_steps.specs.Texts.{committed_text};
@@ -176,6 +176,7 @@ impl Running {
             (λ a. Commits self.old caller (answer_of a self.new)
             (K.told keeper.old) (K.told keeper.new))
             (λ _. CommitsPartly self.old caller (K.told keeper.old) (K.told keeper.new)) }
+        ensures refused { IfOk result (λ a. KeepsRefused a self.old self.new) }
         ensures count { K.faults keeper.old ≤ K.faults keeper.new }
     {
         match self.next_committed_text(alloc, caller) {
@@ -196,7 +197,8 @@ impl Running {
     /// A live call is dropped.
     #[tactic(auto, unfolding(crate::specs::Running::drop_step))]
     fn drop_step(&mut self, caller: u64) -> LineAnswer
-        ensures { answer_of result self.new ≡ drop_step self.old caller }
+        ensures answer { answer_of result self.new ≡ drop_step self.old caller }
+        ensures refused { KeepsRefused result self.old self.new }
     {
         let Some(ticket) = self.callers.take(caller) else {
             return LineAnswer::Refused;
@@ -208,7 +210,8 @@ impl Running {
     /// A scope goes down.
     #[tactic(auto, unfolding(crate::specs::Running::down_step))]
     fn down_step(&mut self, alloc: Global, name: ComponentName) -> Result<LineAnswer, OutOfMemory>
-        ensures { IfOk result (λ a. answer_of a self.new ≡ down_step self.old name) }
+        ensures answer { IfOk result (λ a. answer_of a self.new ≡ down_step self.old name) }
+        ensures refused { IfOk result (λ a. KeepsRefused a self.old self.new) }
     {
         let Some(scope) = scope_of(self.boot.deployment(), &name) else {
             return Ok(LineAnswer::Refused);
@@ -223,7 +226,8 @@ impl Running {
     /// A scope comes up.
     #[tactic(auto, unfolding(crate::specs::Running::up_step))]
     fn up_step(&mut self, alloc: Global, name: ComponentName) -> Result<LineAnswer, OutOfMemory>
-        ensures { IfOk result (λ a. answer_of a self.new ≡ up_step self.old name) }
+        ensures answer { IfOk result (λ a. answer_of a self.new ≡ up_step self.old name) }
+        ensures refused { IfOk result (λ a. KeepsRefused a self.old self.new) }
     {
         let Some(scope) = scope_of(self.boot.deployment(), &name) else {
             return Ok(LineAnswer::Refused);
@@ -239,7 +243,8 @@ impl Running {
     /// A scope goes down and comes up at once.
     #[tactic(auto, unfolding(crate::specs::Running::reboot_step))]
     fn reboot_step(&mut self, alloc: Global, name: ComponentName) -> Result<LineAnswer, OutOfMemory>
-        ensures { IfOk result (λ a. answer_of a self.new ≡ reboot_step self.old name) }
+        ensures answer { IfOk result (λ a. answer_of a self.new ≡ reboot_step self.old name) }
+        ensures refused { IfOk result (λ a. KeepsRefused a self.old self.new) }
     {
         let Some(scope) = scope_of(self.boot.deployment(), &name) else {
             return Ok(LineAnswer::Refused);
@@ -257,7 +262,8 @@ impl Running {
     /// The current rows.
     #[tactic(auto, unfolding(crate::specs::Running::table_step))]
     fn table_step(&mut self, alloc: Global) -> Result<LineAnswer, OutOfMemory>
-        ensures { IfOk result (λ a. answer_of a self.new ≡ table_step self.old) }
+        ensures answer { IfOk result (λ a. answer_of a self.new ≡ table_step self.old) }
+        ensures refused { IfOk result (λ a. KeepsRefused a self.old self.new) }
     {
         let rows = current_rows(alloc, &self.boot)?;
         let text = table_text(alloc, rows.as_slice())?;
@@ -267,7 +273,8 @@ impl Running {
     /// The journal.
     #[tactic(auto, unfolding(crate::specs::Running::journal_step))]
     fn journal_step(&mut self, alloc: Global) -> Result<LineAnswer, OutOfMemory>
-        ensures { IfOk result (λ a. answer_of a self.new ≡ journal_step self.old) }
+        ensures answer { IfOk result (λ a. answer_of a self.new ≡ journal_step self.old) }
+        ensures refused { IfOk result (λ a. KeepsRefused a self.old self.new) }
     {
         let text = journal_text(alloc, self.boot.journal())?;
         Ok(LineAnswer::Wrote(text))
@@ -276,8 +283,9 @@ impl Running {
     /// A caller begins a call.
     #[tactic(auto, unfolding(line_steps::specs::Callers::begin_step))]
     fn begin_step(&mut self, alloc: Global, caller: u64) -> Result<LineAnswer, OutOfMemory>
-        ensures { IfOk result (λ a. answer_of a self.new ≡ within (with_callers self.old)
+        ensures answer { IfOk result (λ a. answer_of a self.new ≡ within (with_callers self.old)
             (begin_step self.old.boot self.old.callers caller)) }
+        ensures refused { IfOk result (λ a. KeepsRefused a self.old self.new) }
     {
         if !self.callers.can_begin(caller) {
             return Ok(LineAnswer::Refused);
@@ -295,8 +303,9 @@ impl Running {
         caller: u64,
         line: CallLine,
     ) -> Result<LineAnswer, OutOfMemory>
-        ensures { IfOk result (λ a. answer_of a self.new ≡ within (with_callers self.old)
+        ensures answer { IfOk result (λ a. answer_of a self.new ≡ within (with_callers self.old)
             (call_step self.old.boot self.old.callers caller line)) }
+        ensures refused { IfOk result (λ a. KeepsRefused a self.old self.new) }
     {
         self.callers.call_step(alloc, &self.boot, caller, line)
     }
@@ -307,7 +316,8 @@ impl Running {
         alloc: Global,
         line: Line,
     ) -> Result<LineAnswer, OutOfMemory>
-        ensures { IfOk result (λ a. answer_of a self.new ≡ quiet_line self.old line) }
+        ensures answer { IfOk result (λ a. answer_of a self.new ≡ quiet_line self.old line) }
+        ensures refused { IfOk result (λ a. KeepsRefused a self.old self.new) }
     {
         match line {
             Line::Pass => Ok(LineAnswer::Done),

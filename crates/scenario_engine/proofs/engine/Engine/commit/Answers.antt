@@ -19,11 +19,11 @@ returns-clause-answer g c = λ line kind.
       | in-Head w ↦ (
           let other : kind_of line ≢ Quiet = λ quiet. cc in
           let s : Heading w.in-Head.field-0 ≡ now = ap state_of (sym w.in-Head.is) ∙ c.self.view_is in
-          moved result (Ok Refused) after after now (Heading w.in-Head.field-0) line old new old (refused_in_head line w.in-Head.field-0 after old other) w.result-is refl s (ap g.K.Keeper.told w.keeper-is))
+          moved result (Ok Refused) after (Heading w.in-Head.field-0) now (Heading w.in-Head.field-0) line old new old (refused_in_head line w.in-Head.field-0 old other) w.result-is (ap (λ i. state_of i.stage) w.self-inside-is ∙ ap state_of w.in-Head.is) s (ap g.K.Keeper.told w.keeper-is))
       | in-Run+in-Ok w ↦ (
           let s : Running w.in-Run.running ≡ now = ap state_of (sym w.in-Run.is) ∙ c.self.view_is in
           let told = g.K.Keeper.told w.commit_step.new.keeper in
-          moved result (Ok w.in-Ok.answer) after (Running w.commit_step.new.self) now (Running w.in-Run.running) line old new told (commit_over_boot w.in-Ok.answer line w.in-Run.running w.commit_step.new.self c.args.caller old told kind w.in-Ok.ensures.answer) w.result-is (ap (λ i. state_of i.stage) w.self-inside-is) s (ap g.K.Keeper.told w.keeper-is))
+          moved result (Ok w.in-Ok.answer) after (Running w.commit_step.new.self) now (Running w.in-Run.running) line old new told (commit_over_boot w.in-Ok.answer line w.in-Run.running w.commit_step.new.self c.args.caller old told kind w.in-Ok.ensures.answer w.in-Ok.ensures.refused) w.result-is (ap (λ i. state_of i.stage) w.self-inside-is) s (ap g.K.Keeper.told w.keeper-is))
       | in-Run+in-Err w ↦ (
           let s : Running w.in-Run.running ≡ now = ap state_of (sym w.in-Run.is) ∙ c.self.view_is in
           let told = g.K.Keeper.told w.commit_step.new.keeper in

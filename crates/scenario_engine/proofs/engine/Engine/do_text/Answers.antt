@@ -9,4 +9,4 @@ returns-in-Err-clause-answer g c =
 
 pub returns-in-Ok-None-clause-answer : goal.returns-in-Ok-None-clause-answer
 returns-in-Ok-None-clause-answer g c =
-    spells_none c.args.self.now (line_of c.args.text.now) c.args.self.now (g.K.Keeper.told c.args.keeper.now) (sym c.in-Ok-None.ensures ∙ c.in-Ok-None.field-0-is)
+    spells_none c.args.self.now (line_of c.args.text.now) (g.K.Keeper.told c.args.keeper.now) (sym c.in-Ok-None.ensures ∙ c.in-Ok-None.field-0-is)

@@ -23,8 +23,8 @@ returns-in-Head-clause-answer g c = λ line kind.
     let old = g.K.Keeper.told c.args.keeper.now in
     let other : kind_of line ≢ Quiet = λ quiet. cc in
     let s : Heading c.in-Head.head ≡ c.args.self.now = ap state_of (sym c.in-Head.is ∙ c.replace.ensures.value) ∙ c.self.view_is in
-    let P : State → Type 0 = λ s. (x : State) × DoesOn (target_in s) line (RefusedIn x) old old in
-    subst P s (refused_in_head line c.in-Head.head (Heading c.in-Head.head) old other)
+    let P : State → Type 0 = λ s. DoesOn (target_in s) line (RefusedIn (Heading c.in-Head.head)) old old in
+    subst P s (refused_in_head line c.in-Head.head old other)
 
 pub returns-after-boot_text-clause-answer : goal.returns-after-boot_text-clause-answer
 returns-after-boot_text-clause-answer g c = λ line kind.

@@ -17,8 +17,8 @@ end_reboot-up-requires c =
     let k : BootValue = c.self.inside.boot in
     (s, undone_first k c.begin_reboot.new.self s c.in-Ok.down.0 c.in-Ok.ensures.down c.in-Ok.ensures.place)
 
-pub returns : goal.returns
-returns c =
+pub returns-clause-answer : goal.returns-clause-answer
+returns-clause-answer c =
     let r : RunningState = record { boot = c.self.inside.boot; callers = c.self.inside.callers } in
     let s : Scope = c.in-Some.scope in
     let found : scope_of r.boot.start.deployment c.args.name ≡ Some s = sym (c.in-Some.ensures.scope ∙ ap (λ p. scope_of p c.args.name) c.deployment.ensures) in

@@ -12,8 +12,8 @@ pub end_reboot-place-requires : goal.end_reboot-place-requires
 end_reboot-place-requires c =
     (c.in-Some.scope, found_of c.self.inside.boot.entries c.in-Some.scope c.in-Some-undone_of.down (sym c.in-Some-undone_of.ensures))
 
-pub returns : goal.returns
-returns c =
+pub returns-clause-answer : goal.returns-clause-answer
+returns-clause-answer c =
     let r : RunningState = record { boot = c.self.inside.boot; callers = c.self.inside.callers } in
     let undone : IsUndone r.boot.entries c.in-Some-undone_of.down.0 c.in-Some.scope = found_of r.boot.entries c.in-Some.scope c.in-Some-undone_of.down (sym c.in-Some-undone_of.ensures) in
     let wrote = c.in_ok-text.ensures ∙ ap (λ (n : ℕ). up_text n) c.end_reboot-place.ensures.place in
