@@ -4,8 +4,8 @@ use crate::words::{add_number, add_row, add_text, add_word, cut, expect_words, n
 use crash_base::{InputBytes, RowWrite};
 use outside::{
     BytesSink, BytesSource, CallList, Failed, InputRefusal, InputSource, Keeper, KeeperFault,
-    MapKeeper, OutputSink, Sink, SizeList, Source, SureKeeper, SureSink, SureSource, read_to_end,
-    write_all,
+    MapKeeper, OutputSink, PlainSerials, Serials, Sink, SizeList, Source, SureKeeper, SureSink,
+    SureSource, read_to_end, write_all,
 };
 use std::alloc::Global;
 use std::cell::Cell;
@@ -344,4 +344,32 @@ fn a_writer_fails_in_mid_stream(rt: HostRuntime) {
     }
     let want = "2 2 0 2 4 0 failed 4 1 failed 4 2 2 6 2";
     expect_words(&rt, &words, want, "writes, bytes flushed, faults");
+}
+
+fn add_draws<S: Serials>(rt: &impl Abort, words: &mut String, serials: &mut S) {
+    for _ in 0..3 {
+        match serials.draw() {
+            Ok(serial) => add_number(rt, words, serial),
+            Err(spent) => {
+                add_word(rt, words, "spent");
+                add_number(rt, words, spent.seen);
+            }
+        }
+    }
+}
+
+#[test]
+fn serials_are_counted_until_they_are_spent(rt: HostRuntime) {
+    for row in [
+        "0:0 1 2",
+        "9:9 10 11",
+        "4611686018427387902:4611686018427387902 4611686018427387903 spent 4611686018427387904",
+        "18446744073709551615:spent 18446744073709551615 spent 18446744073709551615 spent \
+         18446744073709551615",
+    ] {
+        let (next, want) = cut(&rt, row, ':');
+        let mut words = String::new(rt.alloc());
+        add_draws(&rt, &mut words, &mut PlainSerials::new(number(&rt, next)));
+        expect_words(&rt, &words, want, row);
+    }
 }

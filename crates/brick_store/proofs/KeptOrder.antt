@@ -13,7 +13,8 @@ use Rattle.crash_base.specs.declared.numbers.SessionKey.{SessionKey}
 use Rattle.crash_base.specs.declared.numbers.Version.{Version}
 use Rattle.brick_store.specs.declared.kept.Kept.{Kept}
 use Rattle.brick_store.specs.declared.kept_map.Pair.{Pair}
-use Rattle.brick_store.specs.Kept.{is_under, same_version, kept_order, version_order}
+use Rattle.crash_base.specs.Same.{same_version}
+use Rattle.brick_store.specs.Kept.{is_under, kept_order, version_order}
 use Rattle.brick_store.specs.Pairs.{pair_order}
 
 pub kept_total : IsTotalOrder kept_order

@@ -1,5 +1,5 @@
 -- The values that a brick keeps, in order of key and version.
-use Rattle.std.specs.Prelude.{◌≡◌, All, ℕ, ◌+◌, ◌==◌, ◌&&◌, ◌||◌, nat_lt, not, bytes_eq, Bool, List, [], ◌∷◌, length, Option, Some, None}
+use Rattle.std.specs.Prelude.{◌≡◌, All, ℕ, ◌+◌, ◌==◌, ◌&&◌, ◌||◌, nat_lt, not, Bool, List, [], ◌∷◌, length, Option, Some, None}
 use Rattle.std.specs.List.{find}
 use Rattle.std.specs.Ordering.{nat_cmp, ordering_then, match_ordering}
 use Rattle.std.specs.Cmp.Lexicographic.{slice_cmp}
@@ -8,16 +8,9 @@ use Rattle.std.specs.declared.cmp.Ordering.TheVariants.{Less}
 use Rattle.crash_base.specs.declared.numbers.Moment.{Moment}
 use Rattle.crash_base.specs.declared.numbers.SessionKey.{SessionKey}
 use Rattle.crash_base.specs.declared.numbers.Version.{Version}
+use Rattle.crash_base.specs.Same.{same_key, same_version}
 use Rattle.brick_store.specs.declared.kept.Kept.{Kept}
 use Rattle.brick_store.specs.declared.kept.TheConstants.{MAX_BRICK_VALUES, MAX_BRICK_BYTES, SWEEP_GRACE}
-
--- whether both are the same key
-abbrev pub same_key : SessionKey → SessionKey → Bool
-same_key a b = bytes_eq a.0 b.0
-
--- whether both are the same version
-abbrev pub same_version : Version → Version → Bool
-same_version a b = (a.node == b.node) && ((a.boot == b.boot) && (a.serial == b.serial))
 
 -- whether a value is kept under this key and version
 abbrev pub is_under : SessionKey → Version → Kept → Bool

@@ -3,3 +3,5 @@ pub mod Telling
 pub mod PlaceOrder
 pub mod Placing
 pub mod FailedCalls
+pub mod Counting
+pub mod Drawing

@@ -6,4 +6,6 @@ pub mod Memory
 pub mod Streams
 pub mod Places
 pub mod MapKeeper
+pub mod Link
+pub mod Serials
 pub use Rattle.crash_base.specs.Rows

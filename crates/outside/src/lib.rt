@@ -1,4 +1,5 @@
-//! What reaches outside: where bytes come from, where bytes go, and what keeps rows.
+//! What reaches outside: where bytes come from, where bytes go, what keeps rows, what carries frames
+//! to bricks, and what gives serial numbers.
 //!
 //! A program is written over the traits `Source`, `Sink` and `Keeper`, and is handed an object of
 //! each when it runs:
@@ -19,6 +20,10 @@
 //! (`SureSource`, `SureSink`, `SureKeeper`), and their contracts say exactly what each call answers
 //! and leaves. A `MapKeeper` keeps its rows in an ordered map, with one place for each id. A keeper
 //! may be handed to another thread. `InputSource` and `OutputSink` are adapters over the standard streams.
+//!
+//! A `Link` tells a relation: which states a call, seen as an event, may lead to. It counts the silences
+//! of each brick and the frames that came, and the law `links_count_their_events` says how far these
+//! counts rise over any calls. `Serials` gives numbers, each once; `PlainSerials` counts them.
 #![tactic(auto)]
 
 mod bytes_sink;
@@ -29,10 +34,12 @@ mod input;
 mod input_source;
 mod keeper;
 mod laws;
+mod link;
 mod lists;
 mod map_keeper;
 mod output_sink;
 mod row_map;
+mod serials;
 mod sink;
 mod source;
 mod sure_keeper;
@@ -46,9 +53,11 @@ pub use input::{InputRefusal, read_to_end};
 pub use input_source::InputSource;
 pub use keeper::{Keeper, KeeperFault};
 pub use laws::{pieces_join, prefixes_join, telling_goes_back};
+pub use link::{Link, LinkCounts, LinkEvent, Received, Sent, links_count_their_events};
 pub use lists::{CallList, SizeList};
 pub use map_keeper::MapKeeper;
 pub use output_sink::OutputSink;
+pub use serials::{PlainSerials, SERIALS_END, Serials, Spent, serials_differ};
 pub use sink::{Sink, write_all};
 pub use source::Source;
 pub use sure_keeper::SureKeeper;

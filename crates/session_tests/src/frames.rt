@@ -3,8 +3,8 @@
 use crate::words::{
     add_hex, add_number, add_word, cut, expect_bytes, expect_words, hex_byte, hex_bytes, number,
 };
-use crash_base::{BrickNo, SessionKey, Version};
-use ssm_frames::{Frame, MAX_FRAME_BYTES, decode, encode, is_request};
+use crash_base::{BrickNo, MAX_FRAME_BYTES, SessionKey, Version};
+use ssm_frames::{Frame, decode, encode, is_request};
 use std::alloc::Global;
 use std::fmt::Write;
 use std::process::Abort;

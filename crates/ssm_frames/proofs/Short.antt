@@ -9,7 +9,7 @@ use Rattle.crash_base.specs.declared.numbers.BrickNo.{BrickNo}
 use Rattle.crash_base.specs.declared.numbers.Moment.{Moment}
 use Rattle.crash_base.specs.declared.numbers.SessionKey.{SessionKey}
 use Rattle.crash_base.specs.declared.numbers.Version.{Version}
-use Rattle.ssm_frames.specs.declared.frame.TheConstants.{MAX_FRAME_BYTES}
+use Rattle.crash_base.specs.declared.items.TheConstants.{MAX_FRAME_BYTES}
 use Rattle.ssm_frames.specs.declared.frame.Frame.{Frame}
 use Rattle.ssm_frames.specs.declared.frame.Frame.TheVariants.{Put, Get, Sweep, Stored, Found, Absent, BrickFull, Swept}
 use Rattle.ssm_frames.specs.Spelling.{number_bytes, version_bytes, subject_bytes, sender_bytes, moment_bytes, value_bytes, encode_of, IsVersion, IsKey, IsValue, IsSender, IsInRange, Spells}

@@ -75,9 +75,6 @@ pub enum Frame {
     },
 }
 
-/// The most bytes that spell a frame: those of a Found with the longest value.
-pub const MAX_FRAME_BYTES: usize = 4161;
-
 /// Whether a frame is a request to a brick: a Put, a Get or a Sweep. The others are replies. It takes
 /// no memory.
 pub fn is_request(frame: &Frame) -> bool

@@ -5,7 +5,7 @@ ghost use Rattle.std.specs.Prelude.{◌≡◌, ◌↔◌, ◌≤◌, ℕ, List, 
 ghost use Rattle.ssm_frames.specs.Reading.{decode_of};
 ghost use Rattle.ssm_frames.specs.Spelling.{AreBytes, IsInRange, Spells, SpellsNoFrame, encode_of};
 ghost use Rattle.ssm_frames.specs.declared.frame.Frame.{Frame};
-ghost use Rattle.ssm_frames.specs.declared.frame.TheConstants.{MAX_FRAME_BYTES};
+ghost use Rattle.crash_base.specs.declared.items.TheConstants.{MAX_FRAME_BYTES};
 
 /// Bytes are decoded to exactly the frame that they spell, and to none exactly where they spell none.
 pub fn frames_are_exact()

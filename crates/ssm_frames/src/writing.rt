@@ -3,17 +3,17 @@
 ghost use Rattle.std.specs.Prelude.{◌≡◌, ◌++◌, ◌≤◌, length, Some, IfOk, OnOk};
 ghost use Rattle.ssm_frames.specs.Reading.{decode_of};
 ghost use Rattle.ssm_frames.specs.Spelling.{encode_of};
-ghost use Rattle.ssm_frames.specs.declared.frame.TheConstants.{MAX_FRAME_BYTES};
+ghost use Rattle.crash_base.specs.declared.items.TheConstants.{MAX_FRAME_BYTES};
 ghost use Rattle.ssm_frames.specs.declared.frame.Frame.TheVariants.{Put, Get, Sweep, Stored, Found, Absent, BrickFull, Swept};
 
 use crate::fields::{
     Sender, Subject, write_moment, write_sender, write_subject, write_u32, write_u64, write_value,
     write_version,
 };
-use crate::frame::{Frame, MAX_FRAME_BYTES};
+use crate::frame::Frame;
 use crate::ranges::frame_is_in_range;
 use crash_base::{
-    BrickNo, FrameBytes, MAX_SESSION_BYTES, Moment, OutOfMemory, SessionBytes, SessionKey, Version,
+    BrickNo, FrameBytes, MAX_FRAME_BYTES, MAX_SESSION_BYTES, Moment, OutOfMemory, SessionBytes, SessionKey, Version,
 };
 use std::alloc::Global;
 
