@@ -1,0 +1,5 @@
+pub mod Calls
+pub mod Facts
+pub mod History
+pub mod Passes
+pub mod Windows
