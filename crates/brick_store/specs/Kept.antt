@@ -9,8 +9,9 @@ use Rattle.crash_base.specs.declared.numbers.Moment.{Moment}
 use Rattle.crash_base.specs.declared.numbers.SessionKey.{SessionKey}
 use Rattle.crash_base.specs.declared.numbers.Version.{Version}
 use Rattle.crash_base.specs.Same.{same_key, same_version}
+use Rattle.ssm_frames.specs.declared.frame.TheConstants.{SWEEP_GRACE}
 use Rattle.brick_store.specs.declared.kept.Kept.{Kept}
-use Rattle.brick_store.specs.declared.kept.TheConstants.{MAX_BRICK_VALUES, MAX_BRICK_BYTES, SWEEP_GRACE}
+use Rattle.brick_store.specs.declared.kept.TheConstants.{MAX_BRICK_VALUES, MAX_BRICK_BYTES}
 
 -- whether a value is kept under this key and version
 abbrev pub is_under : SessionKey → Version → Kept → Bool

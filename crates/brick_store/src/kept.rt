@@ -4,15 +4,13 @@ ghost use Rattle.std.specs.Prelude.{◌≡◌};
 ghost use Rattle.brick_store.specs.Kept.{is_late};
 
 use crash_base::{Moment, SessionBytes, SessionKey, Version};
+use ssm_frames::SWEEP_GRACE;
 
 /// The most values that a brick keeps.
 pub const MAX_BRICK_VALUES: u64 = 65_536;
 
 /// The most bytes that the values of a brick have together.
 pub const MAX_BRICK_BYTES: u64 = 67_108_864;
-
-/// A sweep takes a value only where its moment is past the expiry by more than this many milliseconds.
-pub const SWEEP_GRACE: u64 = 60_000;
 
 /// A value that a brick keeps.
 #[derive(Drop)]

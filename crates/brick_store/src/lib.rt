@@ -27,7 +27,7 @@ mod laws;
 
 pub use brick::Brick;
 pub use event::BrickEvent;
-pub use kept::{Kept, MAX_BRICK_BYTES, MAX_BRICK_VALUES, SWEEP_GRACE};
+pub use kept::{Kept, MAX_BRICK_BYTES, MAX_BRICK_VALUES};
 pub use laws::{
     bricks_keep_all_held, bricks_stand_for_their_history, held_values_are_found,
     held_values_are_under_their_pair, late_values_go, limits_fill_bricks, replies_are_held,

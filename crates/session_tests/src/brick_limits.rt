@@ -1,8 +1,8 @@
 //! Bricks at their limits.
 
 use crate::asking::{brick, expect_kept, expect_reply, filled, key, put, version};
-use brick_store::{Brick, MAX_BRICK_BYTES, MAX_BRICK_VALUES, SWEEP_GRACE};
-use ssm_frames::{Frame, is_request};
+use brick_store::{Brick, MAX_BRICK_BYTES, MAX_BRICK_VALUES};
+use ssm_frames::{Frame, SWEEP_GRACE, is_request};
 use std::alloc::Global;
 use std::process::Abort;
 

@@ -22,7 +22,8 @@ pub enum Frame {
         key: SessionKey,
         version: Version,
     },
-    /// Asks a brick to throw away the values whose expiry is more than 60,000 ms before `moment`.
+    /// Asks a brick to throw away the values whose expiry is more than 60,000 ms (`SWEEP_GRACE`)
+    /// before `moment`.
     Sweep {
         nonce: Version,
         moment: Moment,
@@ -74,6 +75,9 @@ pub enum Frame {
         moment: Moment,
     },
 }
+
+/// By how many milliseconds a sweep's moment has to be past an expiry for the value to go.
+pub const SWEEP_GRACE: u64 = 60_000;
 
 /// Whether a frame is a request to a brick: a Put, a Get or a Sweep. The others are replies. It takes
 /// no memory.

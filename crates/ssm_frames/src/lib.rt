@@ -30,7 +30,7 @@ mod ranges;
 mod reading;
 mod writing;
 
-pub use frame::{Frame, is_request};
+pub use frame::{Frame, SWEEP_GRACE, is_request};
 pub use laws::{frames_are_exact, frames_are_short, frames_decode_back, no_frame_begins_another};
 pub use ranges::frame_is_in_range;
 pub use reading::decode;

@@ -13,7 +13,8 @@ use crate::fields::{
 use crate::frame::Frame;
 use crate::ranges::frame_is_in_range;
 use crash_base::{
-    BrickNo, FrameBytes, MAX_FRAME_BYTES, MAX_SESSION_BYTES, Moment, OutOfMemory, SessionBytes, SessionKey, Version,
+    BrickNo, FrameBytes, MAX_FRAME_BYTES, MAX_SESSION_BYTES, Moment, OutOfMemory, SessionBytes,
+    SessionKey, Version,
 };
 use std::alloc::Global;
 
