@@ -1,0 +1,10 @@
+pub mod Counted
+pub mod Ears
+pub mod Ends
+pub mod Hearing
+pub mod Outcomes
+pub mod Reads
+pub mod Replies
+pub mod Runs
+pub mod Turns
+pub mod Writes
