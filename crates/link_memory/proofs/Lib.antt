@@ -1,0 +1,10 @@
+mod Asking
+mod Hearings
+mod Histories
+mod Lanes
+mod OneEnd
+mod Queues
+mod Replies
+mod Steps
+mod Turns
+mod Unheard

@@ -1,0 +1,8 @@
+use Rattle.link_memory.proofs.Hearings.{heard_over}
+use Rattle.link_memory.proofs.laws.hearing_over_the_link.Goals as goal
+
+pub returns-clause-put : goal.returns-clause-put
+returns-clause-put c = λ lawful brick ask events outcome old new ran. heard_over lawful ask brick events outcome old new ran
+
+pub returns-clause-get : goal.returns-clause-get
+returns-clause-get c = λ lawful brick ask events outcome old new ran. heard_over lawful ask brick events outcome old new ran

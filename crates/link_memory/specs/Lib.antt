@@ -1,0 +1,6 @@
+pub mod Lane
+pub mod Leaving
+pub mod Rule
+pub mod Script
+pub mod Standing
+pub mod Tallies
