@@ -29,7 +29,7 @@ const VERSION: Version = Version {
 };
 
 /// The key of a value, by its number. Neighbouring numbers have keys that are far from each other.
-fn key(number: u64) -> SessionKey {
+pub(crate) fn key(number: u64) -> SessionKey {
     let spread = number.wrapping_mul(0x9e37_79b9_7f4a_7c15).to_be_bytes();
     let mut bytes = [0u8; 16];
     for i in 0..8 {
@@ -39,7 +39,7 @@ fn key(number: u64) -> SessionKey {
 }
 
 /// A value.
-fn value(alloc: Global) -> Result<SessionBytes, OutOfMemory> {
+pub(crate) fn value(alloc: Global) -> Result<SessionBytes, OutOfMemory> {
     Ok(SessionBytes::from_vec(Vec::from_elem(alloc, b'a', VALUE_BYTES)?))
 }
 

@@ -1,14 +1,16 @@
-//! Loops over frames and a brick, whose time `bench/sessions` takes.
+//! Loops over frames, a brick and a link in memory, whose time `bench/sessions` takes.
 //!
-//! The words are a loop, `encode`, `decode`, `put` or `get`, and how often it goes round. What it writes is the loop and
-//! a sum, which is known beforehand: the bytes of the frames, the bytes of the values that were decoded or found, or how
-//! many values were stored.
+//! The words are a loop, `encode`, `decode`, `put`, `get` or `pair`, and how often it goes round. What it writes is the
+//! loop and a sum, which is known beforehand: the bytes of the frames, the bytes of the values that were decoded, found
+//! or read back, or how many values were stored.
 #![tactic(auto)]
 
 mod loops;
+mod pairs;
 
 use crash_base::OutOfMemory;
 use loops::{decoded, encoded, got, stored};
+use pairs::paired;
 use std::alloc::Global;
 use std::env;
 use std::process::ExitCode;
@@ -28,6 +30,7 @@ fn sum_of(alloc: Global, name: &str, count: u64) -> Result<Option<u64>, OutOfMem
         "decode" => Ok(Some(decoded(alloc, count)?)),
         "put" => Ok(Some(stored(alloc, count)?)),
         "get" => Ok(Some(got(alloc, count)?)),
+        "pair" => Ok(Some(paired(alloc, count)?)),
         _ => Ok(None),
     }
 }

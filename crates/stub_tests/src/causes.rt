@@ -1,0 +1,121 @@
+//! Words for what a write or a read answers.
+
+use crate::words::{add_hex, add_number, add_word};
+use crash_base::{BrickNo, SessionBytes};
+use send_windows::{WindowFact, WindowList};
+use session_cookie::{Cookie, HolderList};
+use ssm_stub::{BrickCause, Cause, CauseList, ReadRefusal, WriteRefusal};
+use std::alloc::Global;
+use std::fmt::Write;
+use std::process::Abort;
+
+/// Adds a brick, a colon and a word.
+fn add_mark(rt: &impl Abort, words: &mut String, brick: BrickNo, mark: &str) {
+    write!(words, " {}:{mark}", brick.0).expect(rt, mark);
+}
+
+/// Adds each brick with its window and what is in flight.
+pub fn add_windows(rt: &impl Abort, words: &mut String, facts: &[WindowFact]) {
+    for fact in facts {
+        write!(
+            words,
+            " {}:{}/{}",
+            fact.brick.0, fact.window, fact.in_flight
+        )
+        .expect(rt, "windows");
+    }
+}
+
+/// Adds the full bricks that a refusal lists.
+pub fn add_overload(rt: &impl Abort, words: &mut String, full: &WindowList) {
+    add_word(rt, words, "overload");
+    add_windows(rt, words, full.as_slice());
+}
+
+fn add_cause(rt: &impl Abort, words: &mut String, cause: &BrickCause) {
+    match cause.cause {
+        Cause::Silent => add_mark(rt, words, cause.brick, "silent"),
+        Cause::Strayed => add_mark(rt, words, cause.brick, "strayed"),
+        Cause::Full { entries, bytes } => {
+            add_mark(rt, words, cause.brick, "full");
+            write!(words, "/{entries}/{bytes}").expect(rt, "full");
+        }
+        Cause::Crashed { incarnation } => {
+            add_mark(rt, words, cause.brick, "crashed");
+            write!(words, "/{incarnation}").expect(rt, "crashed");
+        }
+        Cause::Swept { moment } => {
+            add_mark(rt, words, cause.brick, "swept");
+            write!(words, "/{}", moment.0).expect(rt, "swept");
+        }
+    }
+}
+
+fn add_causes(rt: &impl Abort, words: &mut String, causes: &[BrickCause]) {
+    for cause in causes {
+        add_cause(rt, words, cause);
+    }
+}
+
+/// Adds that a write missed, and why.
+pub fn add_missed(rt: &impl Abort, words: &mut String, causes: &CauseList) {
+    add_word(rt, words, "missed");
+    add_causes(rt, words, causes.as_slice());
+}
+
+/// Adds the serial of a cookie's version and its bricks.
+fn add_cookie(rt: &impl Abort, words: &mut String, cookie: &Cookie) {
+    write!(words, " version {} bricks", cookie.version.serial).expect(rt, "a cookie");
+    for holder in cookie.bricks.as_slice() {
+        add_number(rt, words, u64::from(holder.brick.0));
+    }
+}
+
+/// A copy of a cookie.
+pub fn copied(rt: &impl Abort, alloc: Global, cookie: &Cookie) -> Cookie {
+    let bricks = Vec::from_slice(alloc, cookie.bricks.as_slice()).expect(rt, "a cookie");
+    Cookie {
+        key: cookie.key,
+        version: cookie.version,
+        expiry: cookie.expiry,
+        bricks: HolderList::from_vec(bricks),
+    }
+}
+
+/// Adds what a write answered. A copy of its cookie, where it gave one.
+pub fn add_written(
+    rt: &impl Abort,
+    alloc: Global,
+    words: &mut String,
+    answer: &Result<Cookie, WriteRefusal>,
+) -> Option<Cookie> {
+    match answer {
+        Ok(cookie) => {
+            add_cookie(rt, words, cookie);
+            Some(copied(rt, alloc, cookie))
+        }
+        Err(WriteRefusal::Missed(causes)) => {
+            add_missed(rt, words, causes);
+            None
+        }
+        Err(WriteRefusal::OutOfMemory) => panic!(rt; "a write"),
+    }
+}
+
+/// Adds what a read answered.
+pub fn add_read(rt: &impl Abort, words: &mut String, answer: &Result<SessionBytes, ReadRefusal>) {
+    match answer {
+        Ok(value) => {
+            add_word(rt, words, "found");
+            add_hex(rt, words, value.as_slice());
+        }
+        Err(ReadRefusal::Expired { now, expiry }) => {
+            write!(words, " expired {} {}", now.0, expiry.0).expect(rt, "expired");
+        }
+        Err(ReadRefusal::Lost(causes)) => {
+            add_word(rt, words, "lost");
+            add_causes(rt, words, causes.as_slice());
+        }
+        Err(ReadRefusal::OutOfMemory) => panic!(rt; "a read"),
+    }
+}
