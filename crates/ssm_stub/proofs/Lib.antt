@@ -1,3 +1,4 @@
+mod AllHeard
 mod ByEvents
 mod Concluding
 mod CountedCauses

@@ -2,6 +2,7 @@
 
 ghost use Rattle.std.specs.Prelude.{◌≡◌, ℕ, List, [], IsTrue, IfOk, OnErr};
 ghost use Rattle.outside.specs.Link.{Made};
+ghost use Rattle.send_windows.specs.Passes.{AreHeard};
 ghost use Rattle.ssm_stub.specs.declared.ear.Ear.{Ear};
 ghost use Rattle.ssm_stub.specs.declared.event.StubEvent.{StubEvent};
 ghost use Rattle.ssm_stub.specs.declared.reply.WriteReply.{WriteReply};
@@ -97,8 +98,7 @@ fn settle_one<L: Link>(
     }
 }
 
-/// Hears the brick of each unheard pass, in order, as `write` would have gone on with this nonce and key,
-/// and marks the pass: Answered by a lawful reply, and Silent where the brick was silent or strayed, or
+/// Hears the brick of each unheard pass, in order, for the Put of this nonce and key, and marks the pass: Answered by a lawful reply, and Silent where the brick was silent or strayed, or
 /// where memory ran out. It sends nothing.
 pub fn settle<L: Link>(
     alloc: Global,
@@ -109,6 +109,7 @@ pub fn settle<L: Link>(
 )
     ensures settled { Settled L.makes (put_lawful nonce key) link.old passes.old (marks_of passes.new) link.new }
     ensures bricks { bricks_of passes.new ≡ bricks_of passes.old }
+    ensures heard { AreHeard passes.new }
 {
     let mut frame = FrameBytes::new(alloc);
     for at in 0..passes.len() {
