@@ -2,4 +2,4 @@ mod KeptOrder
 mod Keeping
 mod Leases
 mod Limits
-mod Standing
+pub mod Standing

@@ -1,0 +1,144 @@
+-- What the laws of worlds speak of: acknowledged cookies, what their holders keep, and what reads answer.
+use Rattle.std.specs.Prelude.{◌≡◌, ℕ, ◌+◌, ◌<◌, ◌≤◌, true, false, List, [], ◌∷◌, length, slice_get, Some, Result, Ok, Err}
+use Rattle.crash_base.specs.declared.numbers.Moment.{Moment}
+use Rattle.crash_base.specs.declared.numbers.Version.{Version}
+use Rattle.session_cookie.specs.declared.cookie.Cookie.{Cookie}
+use Rattle.session_cookie.specs.declared.cookie.Holder.{Holder}
+use Rattle.ssm_frames.specs.declared.frame.Frame.TheVariants.{Put}
+use Rattle.brick_store.specs.declared.kept.Kept.{Kept}
+use Rattle.ssm_frames.specs.declared.frame.TheConstants.{SWEEP_GRACE}
+use Rattle.brick_store.specs.declared.event.BrickEvent.{BrickEvent}
+use Rattle.brick_store.specs.declared.event.BrickEvent.TheVariants as happened
+use Rattle.brick_store.specs.Bricks.{put_value}
+use Rattle.brick_store.specs.History.{held, incarnation_after}
+use Rattle.ssm_stub.specs.declared.cause.Cause.{Cause}
+use Rattle.ssm_stub.specs.declared.cause.Cause.TheVariants as cause
+use Rattle.ssm_stub.specs.declared.cause.BrickCause.{BrickCause}
+use Rattle.ssm_stub.specs.declared.ear.Outcome.{Outcome}
+use Rattle.ssm_stub.specs.declared.ear.Outcome.TheVariants as outcome
+use Rattle.ssm_stub.specs.declared.event.Told.{Told}
+use Rattle.ssm_stub.specs.declared.read_call.ReadRefusal.{ReadRefusal}
+use Rattle.ssm_stub.specs.declared.read_call.ReadRefusal.TheVariants.{Expired, Lost, OutOfMemory}
+use Rattle.ssm_stub.specs.declared.reply.ReadReply.{ReadReply}
+use Rattle.ssm_stub.specs.declared.reply.ReadReply.TheVariants as answer
+use Rattle.ssm_stub.specs.Hearing.{EndsIn, told_to}
+use Rattle.ssm_stub.specs.Writes.{WriteState, write_answer}
+use Rattle.ssm_stub.specs.Reads.{ReadState, get_lawful, read_start, read_machine}
+use Rattle.ssm_world.specs.declared.call.Call.TheVariants as call
+use Rattle.ssm_world.specs.declared.event.WorldEvent.{WorldEvent}
+use Rattle.ssm_world.specs.declared.event.WorldEvent.TheVariants.{Read}
+use Rattle.ssm_world.specs.Worlds.{WorldValue, history, may_read, step, after}
+use Rattle.ssm_world.specs.Facts.{has_late_sweep, WasStored}
+use Rattle.ssm_world.specs.Traces.{all_told}
+
+-- a write of this value answered Ok with this cookie
+pub record IsAcknowledged (w : WorldValue) (cookie : Cookie) (value : List ℕ) : Type 0 where
+  pub place : ℕ
+  pub write : WriteState
+  pub there : slice_get w.calls place ≡ Some (call.Write write)
+  pub answers : write_answer write ≡ Some (Ok cookie)
+  pub value_is : write.ask ≡ Put write.nonce write.key write.nonce write.expiry value
+
+-- what the holders of a cookie were asked to keep
+abbrev pub kept_for : Cookie → List ℕ → Kept
+kept_for cookie value = put_value cookie.key cookie.version cookie.expiry value
+
+-- A holder stored a value in the incarnation that the cookie names, and holds it while it has that
+-- incarnation and no sweep since was late for it.
+pub record Keeps (w : WorldValue) (holder : Holder) (s : Kept) : Type 0 where
+  pub events : List BrickEvent
+  pub history_is : history w holder.brick ≡ Some events
+  pub stored : WasStored events holder.incarnation s
+  pub holds : incarnation_after 1 events ≡ holder.incarnation → has_late_sweep s.expiry stored.later ≡ false → held events s.key s.version ≡ Some s
+
+-- A holder has neither crashed since it stored the value nor passed the lease: it has the incarnation that
+-- the cookie names, and no sweep of it was late.
+pub record IsWithin (w : WorldValue) (holder : Holder) (expiry : Moment) : Type 0 where
+  pub events : List BrickEvent
+  pub history_is : history w holder.brick ≡ Some events
+  pub uncrashed : incarnation_after 1 events ≡ holder.incarnation
+  pub in_lease : has_late_sweep expiry events ≡ false
+
+-- A holder has crashed since it stored the value in the incarnation that the cookie names, and has had the
+-- greater incarnation that it told since.
+pub record HasCrashed (w : WorldValue) (holder : Holder) (s : Kept) (incarnation : ℕ) : Type 0 where
+  pub events : List BrickEvent
+  pub history_is : history w holder.brick ≡ Some events
+  pub stored : WasStored events holder.incarnation s
+  pub place : ℕ
+  pub crash : slice_get stored.later place ≡ Some happened.Crash
+  pub greater : holder.incarnation < incarnation
+  pub reached : incarnation ≤ incarnation_after 1 events
+
+-- a holder was swept at this moment, which is past the lease and the grace
+pub record WasSwept (w : WorldValue) (holder : Holder) (expiry moment : Moment) : Type 0 where
+  pub events : List BrickEvent
+  pub history_is : history w holder.brick ≡ Some events
+  pub place : ℕ
+  pub sweep : slice_get events place ≡ Some (happened.Sweep moment)
+  pub late : expiry.0 + SWEEP_GRACE < moment.0
+
+-- a read as it is asked for: with this nonce, at this moment, of this cookie
+pub record ReadOrder : Type 0 where
+  pub nonce : Version
+  pub moment : Moment
+  pub cookie : Cookie
+
+-- What the read was told of a holder ends in this outcome.
+abbrev pub HeardAs : ReadOrder → Holder → List Told → Outcome ReadReply → Type 0
+HeardAs order holder told outcome =
+    EndsIn (get_lawful order.nonce order.cookie.key order.cookie.version order.cookie.expiry holder) told outcome
+
+-- Why a holder did not give this value to a read that was told this of it: the link was silent to the
+-- read's send, or to its receiving; or 64 frames came that are no lawful reply; or the holder told that
+-- it has another incarnation, and has crashed since it stored the value; or it told that it was swept
+-- past the lease, and was.
+abbrev pub IsLost : WorldValue → ReadOrder → Kept → Holder → List Told → Cause → Type 0
+IsLost w order s holder told cause.Silent = HeardAs order holder told outcome.Silent
+IsLost w order s holder told cause.Strayed = HeardAs order holder told outcome.Strayed
+IsLost w order s holder told (cause.Full entries bytes) = ⊥
+IsLost w order s holder told (cause.Crashed incarnation) =
+    HeardAs order holder told (outcome.Answered (answer.Crashed incarnation)) × HasCrashed w holder s incarnation
+IsLost w order s holder told (cause.Swept moment) =
+    HeardAs order holder told (outcome.Answered (answer.Swept moment)) × WasSwept w holder order.cookie.expiry moment
+
+-- each holder has its cause, in order, by what the read was told of it
+abbrev pub AreLost : WorldValue → ReadOrder → Kept → (Holder → List Told) → List Holder → List BrickCause → Type 0
+AreLost w order s told [] [] = Unit {0}
+AreLost w order s told (holder ∷ holders) (c ∷ causes) =
+    (c.brick ≡ holder.brick) × IsLost w order s holder (told holder) c.cause × AreLost w order s told holders causes
+AreLost w order s told [] (c ∷ causes) = ⊥
+AreLost w order s told (holder ∷ holders) [] = ⊥
+
+-- What a read of a cookie answers that was acknowledged with this value: the value; or that the cookie has
+-- expired, where the read's moment is past its expiry; or, where it is not, the cause of each holder.
+abbrev pub IsRight : WorldValue → ReadOrder → List ℕ → (Holder → List Told) → Result (List ℕ) ReadRefusal → Type 0
+IsRight w order value told (Ok answered) = answered ≡ value
+IsRight w order value told (Err (Expired now expiry)) =
+    (now ≡ order.moment) × (expiry ≡ order.cookie.expiry) × (order.cookie.expiry.0 < order.moment.0)
+IsRight w order value told (Err (Lost causes)) =
+    (order.moment.0 ≤ order.cookie.expiry.0)
+    × AreLost w order (kept_for order.cookie value) told order.cookie.bricks causes
+IsRight w order value told (Err OutOfMemory) = ⊥
+
+-- the world after a read began in a world
+abbrev pub begun : WorldValue → ReadOrder → WorldValue
+begun w order = step w (Read order.nonce order.moment order.cookie)
+
+-- the world after a read began in a world, and these events
+abbrev pub read_world : WorldValue → ReadOrder → List WorldEvent → WorldValue
+read_world w order events = after (begun w order) events
+
+-- what the events since a read began tell it of a holder, by the steps that it then wants of that holder's
+-- brick
+abbrev pub told_since : WorldValue → ReadOrder → List WorldEvent → Holder → List Told
+told_since w order events holder =
+    told_to read_machine (read_start order.moment order.nonce order.cookie)
+    (all_told (begun w order) (length w.calls) events) holder.brick
+
+-- A read of a cookie that was acknowledged with this value in the world in which the read began, as it is
+-- after these events.
+pub record ReadAfter (w : WorldValue) (order : ReadOrder) (value : List ℕ) (events : List WorldEvent) (read : ReadState) : Type 0 where
+  pub acknowledged : IsAcknowledged w order.cookie value
+  pub may_begin : may_read w order.nonce order.cookie.bricks ≡ true
+  pub there : slice_get (read_world w order events).calls (length w.calls) ≡ Some (call.Read read)

@@ -1,0 +1,6 @@
+pub mod Claims
+pub mod Facts
+pub mod Logged
+pub mod Sound
+pub mod Traces
+pub mod Worlds

@@ -1,0 +1,117 @@
+//! What holds of every world. Each law is the contract of a function that does nothing: a caller that
+//! needs the law calls the function.
+
+ghost use Rattle.std.specs.Prelude.{◌≡◌, ◌⊎◌, ℕ, List, length, true, false, slice_get, Some, Result, Ok, Err};
+ghost use Rattle.crash_base.specs.declared.numbers.BrickNo.{BrickNo};
+ghost use Rattle.crash_base.specs.declared.numbers.Moment.{Moment};
+ghost use Rattle.crash_base.specs.declared.numbers.SessionKey.{SessionKey};
+ghost use Rattle.crash_base.specs.declared.numbers.Version.{Version};
+ghost use Rattle.session_cookie.specs.declared.cookie.Cookie.{Cookie};
+ghost use Rattle.session_cookie.specs.declared.cookie.Holder.{Holder};
+ghost use Rattle.ssm_frames.specs.declared.frame.Frame.{Frame};
+ghost use Rattle.ssm_frames.specs.declared.frame.Frame.TheVariants.{Put, Found};
+ghost use Rattle.ssm_frames.specs.Requests.{is_request};
+ghost use Rattle.ssm_stub.specs.declared.ask.Ask.{Ask};
+ghost use Rattle.ssm_stub.specs.declared.ear.Outcome.{Outcome};
+ghost use Rattle.ssm_stub.specs.declared.ear.Outcome.TheVariants as ended;
+ghost use Rattle.ssm_stub.specs.declared.ear.Ear.TheVariants.{Heard};
+ghost use Rattle.ssm_stub.specs.declared.reply.ReadReply.{ReadReply};
+ghost use Rattle.ssm_stub.specs.declared.reply.ReadReply.TheVariants as answer;
+ghost use Rattle.ssm_stub.specs.declared.cause.BrickCause.{BrickCause};
+ghost use Rattle.ssm_stub.specs.declared.cause.Cause.TheVariants as why;
+ghost use Rattle.ssm_stub.specs.declared.read_call.ReadRefusal.{ReadRefusal};
+ghost use Rattle.ssm_stub.specs.declared.read_call.ReadRefusal.TheVariants.{Lost};
+ghost use Rattle.ssm_stub.specs.Reads.{ReadState, read_answer};
+ghost use Rattle.ssm_world.specs.declared.event.WorldEvent.{WorldEvent};
+ghost use Rattle.ssm_world.specs.Worlds.{WorldValue, may_be_asked, bricks_of, new_world, step, may_happen, after};
+ghost use Rattle.ssm_world.specs.Facts.{frame_nonce};
+ghost use Rattle.ssm_world.specs.Sound.{IsSound, RepliesSince};
+ghost use Rattle.ssm_world.specs.Claims.{IsAcknowledged, kept_for, Keeps, IsWithin, HeardAs, IsRight, ReadOrder, ReadAfter, read_world, told_since};
+
+use ssm_stub::{an_outcome_of_a_get_has_its_events, each_hears_its_own};
+
+/// An event that may not happen changes nothing.
+pub fn events_that_may_not_happen_change_nothing()
+    ensures { (w : WorldValue) (event : WorldEvent) → may_happen w event ≡ false → step w event ≡ w }
+{}
+
+/// Every world is sound: no two calls have one nonce, each request is the ask of a call, and what calls
+/// heard was sent. Each reply was made by its brick, at a moment of the brick's history, to a request that was
+/// sent to it.
+pub fn worlds_are_sound()
+    ensures sound { (bricks : ℕ) (events : List WorldEvent) → IsSound (after (new_world bricks) events) }
+    ensures replies { (bricks : ℕ) (events : List WorldEvent)
+        → RepliesSince (new_world bricks) (after (new_world bricks) events) }
+{}
+
+/// Every Put of one version carries one value, under one key and with one expiry.
+pub fn one_value_per_version()
+    ensures { (bricks : ℕ) (events : List WorldEvent) (i j : ℕ) (a b : BrickNo) (m n : Version) (k l : SessionKey)
+        (version : Version) (d e : Moment) (x y : List ℕ)
+        → slice_get (after (new_world bricks) events).packets i ≡ Some (record { brick = a; frame = Put m k version d x })
+        → slice_get (after (new_world bricks) events).packets j ≡ Some (record { brick = b; frame = Put n l version e y })
+        → (k ≡ l) × (d ≡ e) × (x ≡ y) }
+{}
+
+/// Each holder of an acknowledged cookie has stored the value in the incarnation that the cookie names, and
+/// holds it while it has that incarnation and no sweep since was late for it.
+pub fn acknowledged_values_are_held()
+    ensures { (bricks : ℕ) (events : List WorldEvent) (cookie : Cookie) (value : List ℕ) (place : ℕ) (holder : Holder)
+        → IsAcknowledged (after (new_world bricks) events) cookie value → slice_get cookie.bricks place ≡ Some holder
+        → Keeps (after (new_world bricks) events) holder (kept_for cookie value) }
+{}
+
+/// An acknowledged cookie names 1 to 16 distinct bricks, so a read of it may begin with any new nonce.
+pub fn acknowledged_cookies_may_be_read()
+    ensures { (bricks : ℕ) (events : List WorldEvent) (cookie : Cookie) (value : List ℕ)
+        → IsAcknowledged (after (new_world bricks) events) cookie value
+        → may_be_asked (bricks_of cookie.bricks) ≡ true }
+{}
+
+/// A read of a cookie that was acknowledged when the read began answers the acknowledged value; or Expired, where
+/// its moment is past the expiry; or Lost, with the cause of each holder. A cause is Crashed only where the holder
+/// has crashed since it stored the value, Swept only where it was swept past the lease, Silent only where the link
+/// was silent to this read's send to the holder or to its receiving from it, and Strayed only where this read was
+/// given 64 frames of the holder that are no lawful reply. The cause of a holder that is within its lease and
+/// has not crashed is Silent or Strayed.
+pub fn reads_answer_what_was_written()
+    ensures right { (bricks : ℕ) (earlier later : List WorldEvent) (order : ReadOrder) (value : List ℕ) (read : ReadState)
+        (result : Result (List ℕ) ReadRefusal)
+        → ReadAfter (after (new_world bricks) earlier) order value later read → read_answer read ≡ Some result
+        → IsRight (read_world (after (new_world bricks) earlier) order later) order value
+        (told_since (after (new_world bricks) earlier) order later) result }
+    ensures within { (bricks : ℕ) (earlier later : List WorldEvent) (order : ReadOrder) (value : List ℕ) (read : ReadState)
+        (causes : List BrickCause) (place : ℕ) (holder : Holder) (cause : BrickCause)
+        → ReadAfter (after (new_world bricks) earlier) order value later read → read_answer read ≡ Some (Err (Lost causes))
+        → slice_get order.cookie.bricks place ≡ Some holder → slice_get causes place ≡ Some cause
+        → IsWithin (read_world (after (new_world bricks) earlier) order later) holder order.cookie.expiry
+        → (cause.cause ≡ why.Silent) ⊎ (cause.cause ≡ why.Strayed) }
+{
+    each_hears_its_own();
+    an_outcome_of_a_get_has_its_events();
+}
+
+/// A holder that is within its lease and has not crashed replies Found with the value to the read, and where
+/// the read has heard it, it has heard this, or the link was silent to the read or gave it 64 strays.
+pub fn holders_answer_found()
+    ensures replies { (bricks : ℕ) (earlier later : List WorldEvent) (order : ReadOrder) (value : List ℕ) (read : ReadState)
+        (place packet : ℕ) (holder : Holder) (frame : Frame)
+        → ReadAfter (after (new_world bricks) earlier) order value later read
+        → slice_get order.cookie.bricks place ≡ Some holder
+        → IsWithin (read_world (after (new_world bricks) earlier) order later) holder order.cookie.expiry
+        → slice_get (read_world (after (new_world bricks) earlier) order later).packets packet
+        ≡ Some (record { brick = holder.brick; frame = frame })
+        → is_request frame ≡ false → frame_nonce frame ≡ order.nonce
+        → frame ≡ Found order.nonce order.cookie.key order.cookie.version holder.brick holder.incarnation order.cookie.expiry value }
+    ensures heard { (bricks : ℕ) (earlier later : List WorldEvent) (order : ReadOrder) (value : List ℕ) (read : ReadState)
+        (place : ℕ) (ask : Ask Holder ReadReply) (outcome : Outcome ReadReply)
+        → ReadAfter (after (new_world bricks) earlier) order value later read
+        → slice_get read.asks place ≡ Some ask → ask.ear ≡ Heard outcome
+        → IsWithin (read_world (after (new_world bricks) earlier) order later) ask.who order.cookie.expiry
+        → HeardAs order ask.who (told_since (after (new_world bricks) earlier) order later ask.who) outcome
+        × ((outcome ≡ ended.Answered (answer.Found value))
+        ⊎ ((outcome ≡ ended.Silent) ⊎ (outcome ≡ ended.Strayed))) }
+{
+    each_hears_its_own();
+    an_outcome_of_a_get_has_its_events();
+}

@@ -1,0 +1,55 @@
+//! Sessions over a network that loses, repeats and reorders packets, and over bricks that crash.
+//!
+//! A world has bricks with all that happened to them, all packets ever sent, and all writes and reads,
+//! and goes on by events. Any packet may come to whom it is for at any time, again and again, or never; so
+//! packets are lost, repeated and reordered at will. `World::step` makes of a world just what an event
+//! does (`step` of the specs), and nothing of one that may not happen.
+//!
+//! ```text
+//! let mut world = World::new(alloc, 1)?;
+//! world.step(alloc, &write)?;                                     // a Write to brick 1: call 0
+//! world.step(alloc, &WorldEvent::Send { call: 0, silent: false, sent: true })?;    // packet 0, a Put
+//! world.step(alloc, &WorldEvent::Deliver { packet: 0 })?;         // packet 1, a Stored
+//! world.step(alloc, &WorldEvent::Hear { call: 0, packet: 1 })?;   // the write has its answer
+//! world.write_of(0)                                               // Some, and `answer` gives the cookie
+//! ```
+//!
+//! What is promised of every world that events make of a new one, whatever they are:
+//!
+//! - `worlds_are_sound`: each request is the ask of one call, each reply was made by its brick at a
+//!   moment of the brick's history, and what calls heard was sent.
+//! - `one_value_per_version`, `acknowledged_values_are_held` and `acknowledged_cookies_may_be_read`: a
+//!   version stands for one value; each holder that an acknowledged cookie names has stored it in the
+//!   incarnation named, and holds it until it crashes or is swept past the lease.
+//! - `reads_answer_what_was_written`: a read of a cookie that was acknowledged before answers the acknowledged value,
+//!   or that the cookie has expired, or the cause of each holder, which is right by the holder's history
+//!   and by what the events told this read.
+//! - `holders_answer_found`: a holder that neither crashed nor was swept past the lease, and was heard,
+//!   gave the value, unless the link was silent to the read or gave it 64 strays.
+//! - `events_that_may_not_happen_change_nothing`.
+//!
+//! A `World` is always one that some events made (`IsMade`, which `World::step` hands out), so these hold
+//! of it. The calls are those of `ssm_stub`, and the bricks those of `brick_store`; a world keeps
+//! beside each brick the list of what happened to it. An event goes over the calls once at most, and copies
+//! the frame that it is about; a crash and a sweep visit each value of their brick.
+#![tactic(auto)]
+
+mod asking;
+mod call;
+mod copies;
+mod event;
+mod laws;
+mod logged_brick;
+mod logged_bricks;
+mod nonced_call;
+mod world;
+mod world_state;
+
+pub use call::Call;
+pub use event::{Packet, WorldEvent};
+pub use laws::{
+    acknowledged_cookies_may_be_read, acknowledged_values_are_held,
+    events_that_may_not_happen_change_nothing, holders_answer_found, one_value_per_version,
+    reads_answer_what_was_written, worlds_are_sound,
+};
+pub use world::World;

@@ -1,0 +1,140 @@
+//! A call with its nonce.
+
+ghost use Rattle.std.specs.Prelude.{◌≡◌, Some, IfOk, OnOk, OnErr};
+ghost use Rattle.crash_base.specs.Same.{same_version};
+ghost use Rattle.ssm_frames.specs.Reading.{decode_of};
+ghost use Rattle.ssm_stub.specs.Runs.{told_of};
+ghost use Rattle.ssm_stub.specs.Writes.{write_start};
+ghost use Rattle.ssm_stub.specs.Reads.{read_start};
+ghost use Rattle.ssm_world.specs.declared.call.Call.TheVariants as call;
+ghost use Rattle.ssm_world.specs.Worlds.{nonce_of, ask_of, next_of, hear};
+
+use crate::call::Call;
+use crash_base::{
+    FrameBytes, Moment, OutOfMemory, SessionBytes, SessionKey, Version, is_same_version,
+};
+use session_cookie::Cookie;
+use ssm_frames::{Frame, decode};
+use ssm_stub::{BrickList, ReadCall, StubEvent, StubNext, WriteCall};
+use std::alloc::Global;
+use std::marker::Model;
+
+/// A call with its nonce.
+#[derive(Drop)]
+pub(crate) struct NoncedCall {
+    nonce: Version,
+    call: Call,
+}
+
+impl Model for NoncedCall {
+    ghost use Rattle.std.specs.Prelude.{◌≡◌};
+    ghost use Rattle.ssm_world.specs.declared.call.Call.{Call};
+    ghost use Rattle.ssm_world.specs.Worlds.{nonce_of};
+
+    ghost Value = { Call };
+
+    ghost view = { λ c. c.call };
+
+    ghost invariant = { λ c. c.nonce ≡ nonce_of c.call };
+}
+
+/// The bytes of a call's ask.
+fn ask_bytes(alloc: Global, call: &Call) -> Result<FrameBytes, OutOfMemory>
+    ensures { IfOk result (λ bytes. decode_of bytes ≡ Some (ask_of call.now)) }
+{
+    match call {
+        Call::Write(write) => write.frame(alloc),
+        Call::Read(read) => read.frame(alloc),
+    }
+}
+
+/// Tells a call what came.
+fn tell(alloc: Global, call: &mut Call, event: StubEvent) -> Result<(), OutOfMemory>
+    ensures ok { OnOk result (call.new ≡ hear call.old (told_of event)) }
+    ensures err { OnErr result (call.new ≡ call.old) }
+{
+    match call {
+        Call::Write(write) => write.hear(alloc, event),
+        Call::Read(read) => read.hear(alloc, event),
+    }
+}
+
+impl NoncedCall {
+    /// A write of which nothing was sent.
+    pub(crate) fn write(
+        alloc: Global,
+        bricks: BrickList,
+        least: u16,
+        nonce: Version,
+        key: SessionKey,
+        value: SessionBytes,
+        expiry: Moment,
+    ) -> Result<NoncedCall, OutOfMemory>
+        ensures { IfOk result (λ c. c ≡ call.Write (write_start bricks least nonce key value expiry)) }
+    {
+        let call = WriteCall::new(alloc, bricks, least, nonce, key, value, expiry)?;
+        Ok(NoncedCall {
+            nonce,
+            call: Call::Write(call),
+        })
+    }
+
+    /// A read of which nothing was sent.
+    pub(crate) fn read(
+        alloc: Global,
+        now: Moment,
+        nonce: Version,
+        cookie: Cookie,
+    ) -> Result<NoncedCall, OutOfMemory>
+        ensures { IfOk result (λ c. c ≡ call.Read (read_start now nonce cookie)) }
+    {
+        let call = ReadCall::new(alloc, now, nonce, cookie)?;
+        Ok(NoncedCall {
+            nonce,
+            call: Call::Read(call),
+        })
+    }
+
+    /// The write or the read. It takes no memory.
+    pub(crate) fn call(&self) -> &Call
+        ensures { result.now ≡ self.now }
+    {
+        &self.call
+    }
+
+    /// Whether it has this nonce. It takes no memory.
+    pub(crate) fn has_nonce(&self, nonce: Version) -> bool
+        ensures { result ≡ same_version (nonce_of self.now) nonce }
+    {
+        is_same_version(self.nonce, nonce)
+    }
+
+    /// What it wants next. It takes no memory.
+    pub(crate) fn next(&self) -> StubNext
+        ensures { result ≡ next_of self.now }
+    {
+        match &self.call {
+            Call::Write(write) => write.next(),
+            Call::Read(read) => read.next(),
+        }
+    }
+
+    /// Its ask.
+    pub(crate) fn ask(&self, alloc: Global) -> Result<Frame, OutOfMemory>
+        ensures { IfOk result (λ frame. frame ≡ ask_of self.now) }
+    {
+        let bytes = ask_bytes(alloc, &self.call)?;
+        match decode(alloc, bytes.as_slice())? {
+            Some(frame) => Ok(frame),
+            None => unreachable!(),
+        }
+    }
+
+    /// Takes in what came. Where memory ran out, it is as it was.
+    pub(crate) fn hear(&mut self, alloc: Global, event: StubEvent) -> Result<(), OutOfMemory>
+        ensures ok { OnOk result (self.new ≡ hear self.old (told_of event)) }
+        ensures err { OnErr result (self.new ≡ self.old) }
+    {
+        tell(alloc, &mut self.call, event)
+    }
+}

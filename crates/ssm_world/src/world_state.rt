@@ -1,0 +1,327 @@
+//! Bricks, packets and calls, and what each event makes of them.
+
+ghost use Rattle.std.specs.Prelude.{◌≡◌, ◌+◌, ◌<◌, ◌≤◌, ◌∷◌, ◌++◌, [], true, is_some, ℕ, length, map, slice_get, slice_set, Some, None, OnOk, OnErr, IfOk, option_map, not, if◌then◌else◌};
+ghost use Rattle.std.specs.List.{list_any};
+ghost use Rattle.crash_base.specs.Same.{same_version};
+ghost use Rattle.ssm_stub.specs.declared.event.StubEvent.{StubEvent};
+ghost use Rattle.ssm_stub.specs.declared.event.StubNext.TheVariants as next;
+ghost use Rattle.ssm_stub.specs.declared.event.Told.TheVariants as told;
+ghost use Rattle.ssm_stub.specs.Runs.{told_of};
+ghost use Rattle.ssm_world.specs.declared.call.Call.{Call};
+ghost use Rattle.ssm_world.specs.declared.event.WorldEvent.TheVariants.{Write, Read, Deliver};
+ghost use Rattle.ssm_world.specs.Worlds.{new_world, history, nonce_of, ask_of, next_of, hear, same_brick, are_distinct, may_be_asked, bricks_of, told_by_send, told_by_packet, sent, came, hushed, delivered, crashed, swept, step, told_if, told_by_hush, may_write, may_read, may_crash, may_happen};
+
+use crate::asking::{may_be_asked, may_be_read};
+use crate::call::Call;
+use crate::copies::{copied_bricks, copied_cookie, copied_value};
+use crate::event::{Packet, WorldEvent};
+use crate::logged_bricks::LoggedBricks;
+use crate::nonced_call::NoncedCall;
+use crash_base::{BrickNo, Moment, OutOfMemory, SessionBytes, SessionKey, Version};
+use session_cookie::Cookie;
+use ssm_frames::{Frame, encode, is_request};
+use ssm_stub::{BrickList, StubEvent, StubNext};
+use std::alloc::Global;
+use std::marker::Model;
+
+/// The bricks with what happened to them, all packets ever sent, and all calls.
+#[derive(Drop)]
+pub(crate) struct WorldState {
+    bricks: LoggedBricks,
+    packets: Vec<Packet>,
+    calls: Vec<NoncedCall>,
+}
+
+impl Model for WorldState {
+    ghost use Rattle.ssm_world.specs.Worlds.{WorldValue};
+
+    ghost Value = { WorldValue };
+
+    ghost view = { λ w. record { histories = w.bricks; packets = w.packets.items; calls = w.calls.items } };
+}
+
+/// What the call of this number wants next, if there is one.
+fn next_at(calls: &[NoncedCall], call: u64) -> Option<StubNext>
+    ensures { result ≡ option_map next_of (slice_get calls.now call) }
+{
+    if call < calls.len() as u64 {
+        Some(calls[call as usize].next())
+    } else {
+        None
+    }
+}
+
+/// Tells the call of this number what came.
+fn tell(
+    calls: &mut [NoncedCall],
+    alloc: Global,
+    call: u64,
+    event: StubEvent,
+) -> Result<(), OutOfMemory>
+    requires { call < length calls.old }
+    ensures ok { OnOk result ((c : Call) → slice_get calls.old call ≡ Some c
+        → calls.new ≡ slice_set calls.old call (hear c (told_of event))) }
+    ensures err { OnErr result (calls.new ≡ calls.old) }
+{
+    calls[call as usize].hear(alloc, event)
+}
+
+/// The ask of the call of this number.
+fn ask_at(calls: &[NoncedCall], alloc: Global, call: u64) -> Result<Frame, OutOfMemory>
+    requires { call < length calls.now }
+    ensures { IfOk result (λ frame. (c : Call) → slice_get calls.now call ≡ Some c → frame ≡ ask_of c) }
+{
+    let frame = calls[call as usize].ask(alloc)?;
+    Ok(frame)
+}
+
+/// What a call is told that sends.
+fn event_of_send(silent: bool) -> StubEvent
+    ensures { told_of result ≡ (if silent then told.Silent else told.Sent) }
+{
+    if silent {
+        StubEvent::Silent
+    } else {
+        StubEvent::Sent
+    }
+}
+
+/// What a call that is to receive from this brick is told of the packet of this number, if it is a reply
+/// of that brick.
+fn event_of_packet(
+    packets: &[Packet],
+    alloc: Global,
+    packet: u64,
+    brick: BrickNo,
+) -> Result<Option<StubEvent>, OutOfMemory>
+    ensures event { IfOk result (λ event. option_map told_of event ≡ told_by_packet (slice_get packets.now packet) (next.Receive brick)) }
+    ensures memory { OnErr result (is_some (told_by_packet (slice_get packets.now packet) (next.Receive brick)) ≡ true) }
+{
+    if packet >= packets.len() as u64 {
+        return Ok(None);
+    }
+    let found = &packets[packet as usize];
+    if found.brick.0 != brick.0 || is_request(&found.frame) {
+        return Ok(None);
+    }
+    let bytes = encode(alloc, &found.frame)?;
+    Ok(Some(StubEvent::Frame(bytes)))
+}
+
+/// Whether a call has this nonce.
+fn is_used(calls: &[NoncedCall], nonce: Version) -> bool
+    ensures { result ≡ list_any (λ (c : Call). same_version (nonce_of c) nonce) calls.now }
+{
+    calls.iter().any(|call| call.has_nonce(nonce))
+}
+
+impl WorldState {
+    /// Bricks 1 to this number, each of incarnation 1, before any event.
+    pub(crate) fn new(alloc: Global, bricks: u16) -> Result<WorldState, OutOfMemory>
+        ensures { IfOk result (λ w. w ≡ new_world bricks) }
+    {
+        let bricks = LoggedBricks::new(alloc, bricks)?;
+        Ok(WorldState {
+            bricks,
+            packets: Vec::new(alloc),
+            calls: Vec::new(alloc),
+        })
+    }
+
+    /// The call of this number, if there is one. It takes no memory.
+    pub(crate) fn call_of(&self, call: u64) -> Option<&Call>
+        ensures { option_map (λ c. c.now) result ≡ slice_get self.now.calls call }
+    {
+        if call < self.calls.len() as u64 {
+            Some(self.calls[call as usize].call())
+        } else {
+            None
+        }
+    }
+
+    /// A call sends its ask.
+    fn send(
+        &mut self,
+        alloc: Global,
+        call: u64,
+        silent: bool,
+        arrives: bool,
+    ) -> Result<(), OutOfMemory>
+        ensures ok { OnOk result (self.new ≡ sent self.old call silent arrives (slice_get self.old.calls call)) }
+        ensures err { OnErr result (self.new ≡ self.old) }
+        ensures memory { OnErr result (is_some (told_if (told_by_send silent) (slice_get self.old.calls call)) ≡ true) }
+    {
+        match next_at(&self.calls, call) {
+            Some(StubNext::Send { brick }) => {
+                let frame = ask_at(&self.calls, alloc, call)?;
+                let event = event_of_send(silent);
+                self.packets.reserve(1)?;
+                tell(&mut self.calls, alloc, call, event)?;
+                if arrives {
+                    self.packets.push_reserved(Packet { brick, frame });
+                }
+                Ok(())
+            }
+            _ => Ok(()),
+        }
+    }
+
+    /// The link is silent to a call that is to receive.
+    fn hush(&mut self, alloc: Global, call: u64) -> Result<(), OutOfMemory>
+        ensures ok { OnOk result (self.new ≡ hushed self.old call (slice_get self.old.calls call)) }
+        ensures err { OnErr result (self.new ≡ self.old) }
+        ensures memory { OnErr result (is_some (told_if told_by_hush (slice_get self.old.calls call)) ≡ true) }
+    {
+        match next_at(&self.calls, call) {
+            Some(StubNext::Receive { .. }) => tell(&mut self.calls, alloc, call, StubEvent::Silent),
+            _ => Ok(()),
+        }
+    }
+
+    /// A packet reaches its brick, whose reply is sent where the packet is a request.
+    fn deliver(&mut self, alloc: Global, packet: u64) -> Result<(), OutOfMemory>
+        ensures ok { OnOk result (self.new ≡ delivered self.old (slice_get self.old.packets packet)) }
+        ensures err { OnErr result (self.new ≡ self.old) }
+        ensures memory { OnErr result (may_happen self.old (Deliver packet) ≡ true) }
+    {
+        if packet >= self.packets.len() as u64 {
+            return Ok(());
+        }
+        let brick = self.packets[packet as usize].brick;
+        if !self.bricks.has(brick) || !is_request(&self.packets[packet as usize].frame) {
+            return Ok(());
+        }
+        self.packets.reserve(1)?;
+        let frame = self
+            .bricks
+            .answer(alloc, brick, &self.packets[packet as usize].frame)?;
+        self.packets.push_reserved(Packet { brick, frame });
+        Ok(())
+    }
+
+    /// A packet comes to a call, which hears it where it is a reply of the brick that it receives from.
+    fn come(&mut self, alloc: Global, call: u64, packet: u64) -> Result<(), OutOfMemory>
+        ensures ok { OnOk result (self.new ≡ came self.old call (slice_get self.old.packets packet) (slice_get self.old.calls call)) }
+        ensures err { OnErr result (self.new ≡ self.old) }
+        ensures memory { OnErr result (is_some (told_if (told_by_packet (slice_get self.old.packets packet)) (slice_get self.old.calls call)) ≡ true) }
+    {
+        match next_at(&self.calls, call) {
+            Some(StubNext::Receive { brick }) => {
+                match event_of_packet(self.packets.as_slice(), alloc, packet, brick)? {
+                    None => Ok(()),
+                    Some(event) => {
+                        tell(&mut self.calls, alloc, call, event)?;
+                        Ok(())
+                    }
+                }
+            }
+            _ => Ok(()),
+        }
+    }
+
+    /// A brick crashes, where it may.
+    fn crash(&mut self, brick: BrickNo) -> Result<(), OutOfMemory>
+        ensures ok { OnOk result (self.new ≡ crashed self.old brick (history self.old brick)) }
+        ensures err { OnErr result (self.new ≡ self.old) }
+        ensures memory { OnErr result (may_crash (history self.old brick) ≡ true) }
+    {
+        if !self.bricks.has(brick) {
+            return Ok(());
+        }
+        if self.bricks.incarnation(brick) == u64::MAX {
+            return Ok(());
+        }
+        self.bricks.crash(brick)?;
+        Ok(())
+    }
+
+    /// A brick is swept.
+    fn sweep(&mut self, brick: BrickNo, moment: Moment) -> Result<(), OutOfMemory>
+        ensures ok { OnOk result (self.new ≡ swept self.old brick moment (history self.old brick)) }
+        ensures err { OnErr result (self.new ≡ self.old) }
+        ensures memory { OnErr result (is_some (history self.old brick) ≡ true) }
+    {
+        if !self.bricks.has(brick) {
+            return Ok(());
+        }
+        self.bricks.sweep(brick, moment)?;
+        Ok(())
+    }
+
+    /// A write begins, where it may.
+    fn write(
+        &mut self,
+        alloc: Global,
+        nonce: Version,
+        key: SessionKey,
+        value: &SessionBytes,
+        expiry: Moment,
+        bricks: &BrickList,
+        least: u16,
+    ) -> Result<(), OutOfMemory>
+        ensures ok { OnOk result (self.new ≡ step self.old (Write nonce key value.now expiry bricks.now least)) }
+        ensures err { OnErr result (self.new ≡ self.old) }
+        ensures memory { OnErr result (may_write self.old nonce bricks.now least ≡ true) }
+    {
+        let asked = bricks.as_slice();
+        if is_used(&self.calls, nonce) || !may_be_asked(asked) {
+            return Ok(());
+        }
+        if least == 0 || least as usize > asked.len() {
+            return Ok(());
+        }
+        let copy = copied_bricks(alloc, bricks)?;
+        let kept = copied_value(alloc, value)?;
+        let call = NoncedCall::write(alloc, copy, least, nonce, key, kept, expiry)?;
+        self.calls.push(call)?;
+        Ok(())
+    }
+
+    /// A read begins, where it may.
+    fn read(
+        &mut self,
+        alloc: Global,
+        nonce: Version,
+        moment: Moment,
+        cookie: &Cookie,
+    ) -> Result<(), OutOfMemory>
+        ensures ok { OnOk result (self.new ≡ step self.old (Read nonce moment cookie.now)) }
+        ensures err { OnErr result (self.new ≡ self.old) }
+        ensures memory { OnErr result (may_read self.old nonce cookie.now.bricks ≡ true) }
+    {
+        if is_used(&self.calls, nonce) || !may_be_read(cookie.bricks.as_slice()) {
+            return Ok(());
+        }
+        let copy = copied_cookie(alloc, cookie)?;
+        let call = NoncedCall::read(alloc, moment, nonce, copy)?;
+        self.calls.push(call)?;
+        Ok(())
+    }
+
+    /// An event happens.
+    pub(crate) fn step(&mut self, alloc: Global, event: &WorldEvent) -> Result<(), OutOfMemory>
+        ensures ok { OnOk result (self.new ≡ step self.old event.now) }
+        ensures err { OnErr result (self.new ≡ self.old) }
+        ensures memory { OnErr result (may_happen self.old event.now ≡ true) }
+    {
+        match event {
+            WorldEvent::Write {
+                nonce,
+                key,
+                value,
+                expiry,
+                bricks,
+                least,
+            } => self.write(alloc, *nonce, *key, value, *expiry, bricks, *least),
+            WorldEvent::Read { nonce, now, cookie } => self.read(alloc, *nonce, *now, cookie),
+            WorldEvent::Send { call, silent, sent } => {
+                self.send(alloc, *call, *silent, !*silent || *sent)
+            }
+            WorldEvent::Deliver { packet } => self.deliver(alloc, *packet),
+            WorldEvent::Hear { call, packet } => self.come(alloc, *call, *packet),
+            WorldEvent::Hush { call } => self.hush(alloc, *call),
+            WorldEvent::Crash { brick } => self.crash(*brick),
+            WorldEvent::Sweep { brick, moment } => self.sweep(*brick, *moment),
+        }
+    }
+}

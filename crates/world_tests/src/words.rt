@@ -1,0 +1,89 @@
+//! Words for what calls answer.
+//!
+//! Each crate of tests has its own, since only a test may end the process.
+
+use ssm_stub::{BrickCause, Cause, ReadRefusal, WriteRefusal};
+use ssm_world::World;
+use std::fmt::Write;
+use std::process::Abort;
+
+/// Asserts that these words were found, and shows the row where they were not.
+pub fn expect_words(rt: &impl Abort, found: &str, want: &str, row: &str) {
+    assert_eq!(rt; found.trim_start(), want, "{row}");
+}
+
+/// The number that a text spells.
+pub fn number(rt: &impl Abort, text: &str) -> u64 {
+    text.parse().expect(rt, text)
+}
+
+fn add_cause(rt: &impl Abort, words: &mut String, cause: &BrickCause) {
+    let brick = cause.brick.0;
+    match cause.cause {
+        Cause::Silent => write!(words, " {brick}:silent").expect(rt, "words"),
+        Cause::Strayed => write!(words, " {brick}:strayed").expect(rt, "words"),
+        Cause::Full { entries, bytes } => {
+            write!(words, " {brick}:full({entries},{bytes})").expect(rt, "words")
+        }
+        Cause::Crashed { incarnation } => {
+            write!(words, " {brick}:crashed({incarnation})").expect(rt, "words")
+        }
+        Cause::Swept { moment } => {
+            let moment = moment.0;
+            write!(words, " {brick}:swept({moment})").expect(rt, "words")
+        }
+    }
+}
+
+fn add_write(rt: &impl Abort, words: &mut String, world: &World, call: u64) {
+    let Some(write) = world.write_of(call) else {
+        return;
+    };
+    match write.answer() {
+        None => write!(words, " waits").expect(rt, "words"),
+        Some(Ok(cookie)) => {
+            write!(words, " ok").expect(rt, "words");
+            for holder in cookie.bricks.as_slice() {
+                let (brick, incarnation) = (holder.brick.0, holder.incarnation);
+                write!(words, " {brick}.{incarnation}").expect(rt, "words");
+            }
+        }
+        Some(Err(WriteRefusal::Missed(causes))) => {
+            write!(words, " missed").expect(rt, "words");
+            for cause in causes.as_slice() {
+                add_cause(rt, words, cause);
+            }
+        }
+        Some(Err(WriteRefusal::OutOfMemory)) => write!(words, " memory").expect(rt, "words"),
+    }
+}
+
+fn add_read(rt: &impl Abort, words: &mut String, world: &World, call: u64) {
+    let Some(read) = world.read_of(call) else {
+        return;
+    };
+    match read.answer() {
+        None => write!(words, " waits").expect(rt, "words"),
+        Some(Ok(value)) => {
+            let text = std::str::from_utf8(value.as_slice()).expect(rt, "a text");
+            write!(words, " found {text}").expect(rt, "words");
+        }
+        Some(Err(ReadRefusal::Expired { now, expiry })) => {
+            let (now, expiry) = (now.0, expiry.0);
+            write!(words, " expired {now} {expiry}").expect(rt, "words");
+        }
+        Some(Err(ReadRefusal::Lost(causes))) => {
+            write!(words, " lost").expect(rt, "words");
+            for cause in causes.as_slice() {
+                add_cause(rt, words, cause);
+            }
+        }
+        Some(Err(ReadRefusal::OutOfMemory)) => write!(words, " memory").expect(rt, "words"),
+    }
+}
+
+/// Adds words for what a call answers: none where there is no such call.
+pub fn add_answer(rt: &impl Abort, words: &mut String, world: &World, call: u64) {
+    add_write(rt, words, world, call);
+    add_read(rt, words, world, call);
+}
