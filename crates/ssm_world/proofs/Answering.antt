@@ -39,7 +39,7 @@ use Rattle.ssm_world.specs.declared.event.WorldEvent.{WorldEvent}
 use Rattle.ssm_world.specs.Facts.{AllStored, is_late_sweep, has_late_sweep, frame_nonce}
 use Rattle.ssm_world.specs.Worlds.{WorldValue, new_world, after}
 use Rattle.ssm_world.specs.Sound.{asked_of, WasSent, WasWritten, ReadIsSound}
-use Rattle.ssm_world.specs.Claims.{kept_for, IsWithin, HasCrashed, WasSwept, ReadOrder, HeardAs, IsLost, AreLost, IsRight, read_world, told_since, ReadAfter}
+use Rattle.ssm_world.specs.Claims.{kept_for, IsWithin, HasCrashed, WasSwept, ReadOrder, HeardAs, IsLost, AreLost, WasGiven, IsRight, read_world, told_since, ReadAfter}
 use Rattle.ssm_world.proofs.Ending.{FoundAt, found_at, none_found, HasOutcome, all_ended}
 use Rattle.ssm_world.proofs.Histories.{incarnation_grows, crash_stands, stored_front, stored_behind, stored_weaker, held_on, swept_stands, stands_behind, no_late_front, no_late_behind}
 use Rattle.ssm_world.proofs.Holding.{written_is}
@@ -208,7 +208,14 @@ right n w v order value r told result s its sound heard_so is = go (nat_lt r.exp
         let same : Ok x ≡ result = cc in
         let P : Result (List ℕ) ReadRefusal → Type 0 = λ a. IsRight v order value told a in
         let at : FoundAt r.asks x = found_at r.asks x found_so in
-        subst P same (found_value n w v order value at.ask.who x s (evidence v order r at.place at.ask (get.Found x) sound its at.there at.ear_is))
+        let test : nat_lt order.cookie.expiry.0 order.moment.0 ≡ false = (λ l. nat_lt (sym its.expiry_is l).0 (sym its.moment_is l).0) ∙ early in
+        let given : WasGiven order told x = record {
+          place = at.place;
+          holder = at.ask.who;
+          there = among_holders r order at.place at.ask its at.there;
+          gave = heard_so at.place at.ask (outcome.Answered (get.Found x)) at.there at.ear_is;
+        } in
+        subst P same (found_value n w v order value at.ask.who x s (evidence v order r at.place at.ask (get.Found x) sound its at.there at.ear_is), grind (arith, nat_tests), given)
     go false None (Some turn) early found_so turn_so e = absurd (cc)
     go false None None early found_so turn_so e =
         let same : Err (Lost (filter_map loss_of r.asks)) ≡ result = cc in
@@ -226,6 +233,14 @@ read_is_right own ends n earlier later order value r result read is =
     let s : Scene n w v order value = scene n earlier order value later r read in
     right n w v order value r (told_since w order later) result s (ordered w order value later r read) (s.late.calls (length w.calls) (call.Read r) read.there)
     (λ i a o there ear. each_heard own ends w order value later r i a o read there ear) is
+
+-- the one that is asked at a place is the cookie's holder there, and what the read heard of it is what it was told
+pub each_asked : OwnLaw → EndLaw → (bricks : ℕ) (earlier later : List WorldEvent) (order : ReadOrder) (value : List ℕ) (r : ReadState) (place : ℕ) (ask : Ask Holder ReadReply) (o : Outcome ReadReply)
+    → ReadAfter (after (new_world bricks) earlier) order value later r → slice_get r.asks place ≡ Some ask → ask.ear ≡ Heard o
+    → (slice_get order.cookie.bricks place ≡ Some ask.who) × HeardAs order ask.who (told_since (after (new_world bricks) earlier) order later ask.who) o
+each_asked own ends bricks earlier later order value r place ask o read there ear =
+    let w : WorldValue = after (new_world bricks) earlier in
+    (among_holders r order place ask (ordered w order value later r read) there, each_heard own ends w order value later r place ask o read there ear)
 
 pub holder_replies : (n : ℕ) (earlier later : List WorldEvent) (order : ReadOrder) (value : List ℕ) (r : ReadState) (place packet : ℕ) (h : Holder) (frame : Frame)
     → ReadAfter (after (new_world n) earlier) order value later r → slice_get order.cookie.bricks place ≡ Some h

@@ -110,10 +110,19 @@ AreLost w order s told (holder ∷ holders) (c ∷ causes) =
 AreLost w order s told [] (c ∷ causes) = ⊥
 AreLost w order s told (holder ∷ holders) [] = ⊥
 
--- What a read of a cookie answers that was acknowledged with this value: the value; or that the cookie has
+-- A holder of the cookie gave this value to the read, in a lawful Found.
+pub record WasGiven (order : ReadOrder) (told : Holder → List Told) (value : List ℕ) : Type 0 where
+  pub place : ℕ
+  pub holder : Holder
+  pub there : slice_get order.cookie.bricks place ≡ Some holder
+  pub gave : HeardAs order holder (told holder) (outcome.Answered (answer.Found value))
+
+-- What a read of a cookie answers that was acknowledged with this value: the value, where the read's moment
+-- is not past the expiry, and which a holder gave to the read; or that the cookie has
 -- expired, where the read's moment is past its expiry; or, where it is not, the cause of each holder.
 abbrev pub IsRight : WorldValue → ReadOrder → List ℕ → (Holder → List Told) → Result (List ℕ) ReadRefusal → Type 0
-IsRight w order value told (Ok answered) = answered ≡ value
+IsRight w order value told (Ok answered) =
+    (answered ≡ value) × (order.moment.0 ≤ order.cookie.expiry.0) × WasGiven order told answered
 IsRight w order value told (Err (Expired now expiry)) =
     (now ≡ order.moment) × (expiry ≡ order.cookie.expiry) × (order.cookie.expiry.0 < order.moment.0)
 IsRight w order value told (Err (Lost causes)) =

@@ -68,18 +68,25 @@ pub fn acknowledged_cookies_may_be_read()
         → may_be_asked (bricks_of cookie.bricks) ≡ true }
 {}
 
-/// A read of a cookie that was acknowledged when the read began answers the acknowledged value; or Expired, where
-/// its moment is past the expiry; or Lost, with the cause of each holder. A cause is Crashed only where the holder
-/// has crashed since it stored the value, Swept only where it was swept past the lease, Silent only where the link
-/// was silent to this read's send to the holder or to its receiving from it, and Strayed only where this read was
-/// given 64 frames of the holder that are no lawful reply. The cause of a holder that is within its lease and
-/// has not crashed is Silent or Strayed.
+/// A read of a cookie that was acknowledged when the read began answers the acknowledged value, which a
+/// holder gave to it in a lawful Found, where its moment is not past the expiry; or Expired, where it is; or
+/// Lost, with the cause of each holder. A cause is Crashed only where the holder has crashed since it stored
+/// the value, Swept only where it was swept past the lease and the grace, Silent only where the link was
+/// silent to this read's send to the holder or to its receiving from it, and Strayed only where this read was
+/// given 64 frames of the holder that are no lawful reply. The cause of a holder that was not swept late and
+/// has not crashed is Silent or Strayed. Whatever the read heard of a holder is by what it was told of it.
 pub fn reads_answer_what_was_written()
     ensures right { (bricks : ℕ) (earlier later : List WorldEvent) (order : ReadOrder) (value : List ℕ) (read : ReadState)
         (result : Result (List ℕ) ReadRefusal)
         → ReadAfter (after (new_world bricks) earlier) order value later read → read_answer read ≡ Some result
         → IsRight (read_world (after (new_world bricks) earlier) order later) order value
         (told_since (after (new_world bricks) earlier) order later) result }
+    ensures heard { (bricks : ℕ) (earlier later : List WorldEvent) (order : ReadOrder) (value : List ℕ) (read : ReadState)
+        (place : ℕ) (ask : Ask Holder ReadReply) (outcome : Outcome ReadReply)
+        → ReadAfter (after (new_world bricks) earlier) order value later read
+        → slice_get read.asks place ≡ Some ask → ask.ear ≡ Heard outcome
+        → (slice_get order.cookie.bricks place ≡ Some ask.who)
+        × HeardAs order ask.who (told_since (after (new_world bricks) earlier) order later ask.who) outcome }
     ensures within { (bricks : ℕ) (earlier later : List WorldEvent) (order : ReadOrder) (value : List ℕ) (read : ReadState)
         (causes : List BrickCause) (place : ℕ) (holder : Holder) (cause : BrickCause)
         → ReadAfter (after (new_world bricks) earlier) order value later read → read_answer read ≡ Some (Err (Lost causes))
