@@ -32,7 +32,7 @@ hushed_mark Silent = Silent
 abbrev pub hushed : Pass → Pass
 hushed pass = with_mark pass (hushed_mark pass.mark)
 
--- of no pass nothing is known
+-- each pass was heard
 abbrev pub AreHeard : List Pass → Type 0
 AreHeard = All (λ (pass : Pass). pass.mark ≢ Unheard)
 

@@ -1,21 +1,21 @@
 mod AllHeard
-mod ByEvents
+pub mod ByEvents
 mod Concluding
 mod CountedCauses
 mod Counting
-mod Distinct
-mod HearingEnds
-mod LinkTelling
+pub mod Distinct
+pub mod HearingEnds
+pub mod LinkTelling
 mod Lists
 mod Marking
-mod OwnEvents
+pub mod OwnEvents
 mod PassByPass
-mod Places
-mod ReadFacts
+pub mod Places
+pub mod ReadFacts
 mod ReadOrder
-mod ReadOutcomes
+pub mod ReadOutcomes
 mod Running
-mod Searching
+pub mod Searching
 mod Weights
-mod WriteFacts
-mod WriteOutcomes
+pub mod WriteFacts
+pub mod WriteOutcomes

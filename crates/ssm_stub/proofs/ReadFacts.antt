@@ -62,3 +62,8 @@ read_facts makes now nonce cookie old new answer differ ends =
       in_order = subst InOrder heard.are (run_in_order told start ends.ran.fitting (started_in_order cookie.bricks));
       fitting = heard.fitting;
     }
+
+-- these are the calls of its run
+pub read_facts-calls : {L : Type 0} (makes : L → LinkEvent → L → Type 0) (now : Moment) (nonce : Version) (cookie : Cookie) (old new : L) (answer : Result (List ℕ) ReadRefusal) (differ : AllDiffer (map (λ (h : Holder). h.brick.0) cookie.bricks)) (ends : ReadEnds makes (read_start now nonce cookie) old new answer) → (read_facts makes now nonce cookie old new answer differ ends).calls_made ≡ calls read_machine (encode_of (read_ask (read_start now nonce cookie))) (read_start now nonce cookie) ends.events
+unfolding read_facts
+read_facts-calls makes now nonce cookie old new answer differ ends = refl

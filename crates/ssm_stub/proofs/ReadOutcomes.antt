@@ -189,3 +189,12 @@ module _ {L : Type 0} (makes : L → LinkEvent → L → Type 0) (now : Moment) 
         found = s.found;
         unasked = s.unasked;
       }
+
+  -- by the same calls
+  pub lost-calls : (causes : List BrickCause) (facts : ReadFacts makes now nonce cookie old new (Err (Lost causes))) → (lost causes facts).calls ≡ facts.calls_made
+  unfolding lost
+  lost-calls causes facts = refl
+
+  pub read-calls : (value : List ℕ) (facts : ReadFacts makes now nonce cookie old new (Ok value)) → (read_so value facts).calls ≡ facts.calls_made
+  unfolding read_so
+  read-calls value facts = refl

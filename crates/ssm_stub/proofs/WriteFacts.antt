@@ -53,6 +53,11 @@ write_facts makes bricks least nonce key value expiry old new passes answer diff
       fitting = heard.fitting;
     }
 
+-- these are the calls of its run
+pub write_facts-calls : {L : Type 0} (makes : L → LinkEvent → L → Type 0) (bricks : List BrickNo) (least : ℕ) (nonce : Version) (key : SessionKey) (value : List ℕ) (expiry : Moment) (old new : L) (passes : List Pass) (answer : Result Cookie WriteRefusal) (differ : AllDiffer (map (λ b. b.0) bricks)) (ends : WriteEnds makes (write_start bricks least nonce key value expiry) old new passes answer) → (write_facts makes bricks least nonce key value expiry old new passes answer differ ends).calls_made ≡ calls write_until (encode_of (write_start bricks least nonce key value expiry).ask) (write_start bricks least nonce key value expiry) ends.events
+unfolding write_facts
+write_facts-calls makes bricks least nonce key value expiry old new passes answer differ ends = refl
+
 -- the same of a run alone: the answer over what each brick is told
 pub told_facts : (events : List Told) (bricks : List BrickNo) (s : WriteState) (answer : Result Cookie WriteRefusal) → s.asks ≡ none_asked bricks → AllDiffer (map (λ b. b.0) bricks) → Fits write_machine s events → write_answer (after write_machine s events) ≡ Some answer
     → (answer_of s.least s.nonce s.key s.expiry (map (ask_by (λ (b : BrickNo). b) (put_lawful s.nonce s.key) (told_to write_machine s events)) bricks) ≡ Some answer)

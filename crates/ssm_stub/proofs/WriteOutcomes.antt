@@ -178,3 +178,12 @@ module _ {L : Type 0} (makes : L → LinkEvent → L → Type 0) (bricks : List 
         all_heard = ap (λ cs. length stored + length cs) causes_are ∙ stored_or_missed ear_of bricks each_heard;
         told = subst All-of (sym causes_are) (all_found (missed_by nonce key facts.calls_made) Q bricks each);
       }
+
+  -- by the same calls
+  pub written-calls : (cookie : Cookie) (facts : WriteFacts makes bricks least nonce key expiry old new (Ok cookie)) → (written cookie facts).calls ≡ facts.calls_made
+  unfolding written
+  written-calls cookie facts = refl
+
+  pub missed-calls : (causes : List BrickCause) (facts : WriteFacts makes bricks least nonce key expiry old new (Err (Missed causes))) → (missed causes facts).calls ≡ facts.calls_made
+  unfolding missed
+  missed-calls causes facts = refl

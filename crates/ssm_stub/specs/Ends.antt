@@ -40,7 +40,7 @@ pub record WriteEnds {L : Type 0} (makes : L → LinkEvent → L → Type 0) (st
   pub marks : passes ≡ map pass_of end.asks
 
 -- A write ended without an answer, since memory was wanted: each pass is marked by what was then heard
--- of its brick, and Silent where that was nothing.
+-- of its brick, and Silent where that is no outcome.
 pub record WriteStops {L : Type 0} (makes : L → LinkEvent → L → Type 0) (start : WriteState) (old new : L) (passes : List Pass) : Type 0 where
   pub end : WriteState
   pub stopped : Stopped write_until makes (encode_of start.ask) start old end new

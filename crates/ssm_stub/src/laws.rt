@@ -169,7 +169,8 @@ pub fn read_values_were_found<L: Link>(_link: &L)
 {}
 
 /// Causes come only with what the link counted: where a brick was silent, its silences rose, and over
-/// all bricks they rose by at least as many; where a brick strayed, at least 64 frames came.
+/// all bricks they rose by at least as many; where a brick strayed, at least 64 frames came. A count that
+/// is at its greatest value, 2^64 - 1, stays there.
 pub fn causes_are_counted<L: Link>(link: &L)
     ensures missed { (old new : L) (before passes : List Pass) (least : ℕ) (nonce : Version)
         (key : SessionKey) (value : List ℕ) (expiry : Moment) (causes : List BrickCause)

@@ -218,7 +218,11 @@ pub(crate) fn begin_read(
 }
 
 impl ReadCall {
-    /// A read of which nothing was sent yet.
+    /// A read of which nothing was sent yet: at this moment, of the holders of this cookie, in its order. It
+    /// visits each holder once.
+    ///
+    /// # Errors
+    /// There is no memory.
     pub fn new(
         alloc: Global,
         now: Moment,
@@ -267,7 +271,10 @@ impl ReadCall {
         }
     }
 
-    /// The bytes of its ask.
+    /// The bytes of its ask, from 1 to 4,161.
+    ///
+    /// # Errors
+    /// There is no memory.
     pub fn frame(&self, alloc: Global) -> Result<FrameBytes, OutOfMemory>
         ensures bytes { IfOk result (λ bytes. bytes ≡ encode_of (read_ask self.now)) }
         ensures some { IfOk result (λ bytes. 1 ≤ length bytes) }

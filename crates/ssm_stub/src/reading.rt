@@ -48,7 +48,8 @@ fn conclude_read(call: ReadCall) -> Result<SessionBytes, ReadRefusal>
     }
 }
 
-/// Asks the bricks of a cookie and hears them, one after another, until one has the value.
+/// Asks the bricks of a cookie and hears them, one after another, until one has the value. It copies the
+/// value that was found twice.
 ///
 /// # Errors
 /// `Expired` exactly where the moment is past the expiry; nothing is sent then, and no memory taken.

@@ -225,7 +225,12 @@ fn mark_in(asks: &[Ask<BrickNo, WriteReply>], brick: BrickNo) -> PassMark
 }
 
 impl WriteCall {
-    /// A write of which nothing was sent yet.
+    /// A write of which nothing was sent yet: a value to be put to these bricks, in this order, until `least`
+    /// of them have stored it. `write` and a world ask 1 to 16 distinct bricks, and `least` from 1 to their
+    /// number. It visits each brick once.
+    ///
+    /// # Errors
+    /// There is no memory.
     pub fn new(
         alloc: Global,
         bricks: BrickList,
@@ -309,7 +314,10 @@ impl WriteCall {
         }
     }
 
-    /// The bytes of its ask. It copies the value once.
+    /// The bytes of its ask, from 1 to 4,161. It copies the value once.
+    ///
+    /// # Errors
+    /// There is no memory.
     pub fn frame(&self, alloc: Global) -> Result<FrameBytes, OutOfMemory>
         ensures bytes { IfOk result (λ bytes. bytes ≡ encode_of self.now.ask) }
         ensures some { IfOk result (λ bytes. 1 ≤ length bytes) }

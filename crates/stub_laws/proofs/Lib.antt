@@ -1,0 +1,7 @@
+mod Asked
+mod Begun
+mod Marked
+mod ReadSending
+mod Sending
+mod Unasked
+mod WriteSending

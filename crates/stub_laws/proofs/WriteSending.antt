@@ -1,0 +1,201 @@
+-- What a write sends.
+use Rattle.std.proofs.Common.{arith, ◌≡◌, ◌∙◌, ap, sym, refl, subst, inl, inr, ◌⊎◌, ℕ, zero, suc, ◌≤◌, Bool, true, false, IsTrue, nat_le, if◌then◌else◌, List, [], ◌∷◌, ◌++◌, length, map, take, filter_map, Option, Some, None, Result, Ok, Err, slice_get, slice_set, append-nil, append_assoc}
+use Rattle.std.proofs.lemmas.Bool.{leb-true}
+use Rattle.std.specs.List.{cons_option}
+use Rattle.crash_base.specs.declared.numbers.BrickNo.{BrickNo}
+use Rattle.crash_base.specs.declared.numbers.Moment.{Moment}
+use Rattle.crash_base.specs.declared.numbers.SessionKey.{SessionKey}
+use Rattle.crash_base.specs.declared.numbers.Version.{Version}
+use Rattle.outside.specs.declared.link.LinkEvent.{LinkEvent}
+use Rattle.send_windows.specs.declared.pass.Pass.{Pass}
+use Rattle.session_cookie.specs.declared.cookie.Cookie.{Cookie}
+use Rattle.session_cookie.specs.declared.cookie.Holder.{Holder}
+use Rattle.ssm_frames.specs.declared.frame.Frame.{Frame}
+use Rattle.ssm_frames.specs.Spelling.{encode_of}
+use Rattle.ssm_stub.specs.declared.cause.BrickCause.{BrickCause}
+use Rattle.ssm_stub.specs.declared.ear.Stage.{Stage}
+use Rattle.ssm_stub.specs.declared.ear.Stage.TheVariants.{Unasked, Asked}
+use Rattle.ssm_stub.specs.declared.ear.Outcome.TheVariants.{Silent}
+use Rattle.ssm_stub.specs.declared.ear.Ear.{Ear}
+use Rattle.ssm_stub.specs.declared.ear.Ear.TheVariants.{Open, Heard}
+use Rattle.ssm_stub.specs.declared.event.StubEvent.{StubEvent}
+use Rattle.ssm_stub.specs.declared.event.StubNext.TheVariants.{Ended}
+use Rattle.ssm_stub.specs.declared.event.Told.{Told}
+use Rattle.ssm_stub.specs.declared.event.Told.TheVariants as told
+use Rattle.ssm_stub.specs.declared.ask.Ask.{Ask}
+use Rattle.ssm_stub.specs.declared.ask.Turn.{Turn}
+use Rattle.ssm_stub.specs.declared.reply.WriteReply.{WriteReply}
+use Rattle.ssm_stub.specs.declared.write_call.WriteRefusal.{WriteRefusal}
+use Rattle.ssm_stub.specs.Ears.{heard}
+use Rattle.ssm_stub.specs.Turns.{none_asked, is_unasked, turn_after_asks, with_ear, asks_after, wanted_of, wanted}
+use Rattle.ssm_stub.specs.Runs.{told_of, fits, Fits, calls, after}
+use Rattle.ssm_stub.specs.Writes.{WriteState, put_lawful, holder_of, cause_of, missed_unless, answer_of, write_start, write_answer, write_next, write_machine, write_until, hear_write}
+use Rattle.ssm_stub.specs.Ends.{WriteEnds}
+use Rattle.ssm_stub.proofs.LinkTelling.{until-fits, until-calls}
+use Rattle.ssm_stub.proofs.OwnEvents.{write_asking}
+use Rattle.ssm_stub.proofs.Places.{with_ear-there, turn_after_asks-stands}
+use Rattle.ssm_stub.proofs.Searching.{all_heard}
+use Rattle.stub_laws.specs.Sends.{sends_in, each_sent}
+use Rattle.stub_laws.proofs.Unasked.{unasked_by, unasked_in, first_goes, none_goes, none_have, first_unasked, all_asked, asked_none, heard_none, all_unasked}
+use Rattle.stub_laws.proofs.Sending.{AsksFirst, sent_and_left}
+
+-- the bricks of a write that were not asked
+abbrev pub left_of : List (Ask BrickNo WriteReply) → List BrickNo
+left_of asks = unasked_in (λ (b : BrickNo). b) asks
+
+write_first : AsksFirst (λ (s : WriteState). s.asks) (λ (b : BrickNo). b) (λ (s : WriteState). turn_after_asks s.asks)
+write_first = λ s t y turn fresh none.
+    let h : Ask BrickNo WriteReply → Option BrickNo = λ a. unasked_by a.who a.ear in
+    let x : Ask BrickNo WriteReply = record { who = t.who; ear = Open t.stage } in
+    first_goes is_unasked h (λ a apart. asked_none a.who a.who a.ear apart) s.asks t.at x y (first_unasked s.asks t turn fresh) (turn_after_asks-stands s.asks t turn) none
+    ∙ ap (λ stage. cons_option (unasked_by {A = WriteReply} t.who (Open stage)) (left_of (slice_set s.asks t.at y))) fresh
+
+-- what a write sent, and then what is left to be sent
+pub write_sent : (ask : List ℕ) (events : List StubEvent) (s : WriteState) → Fits write_machine s (map told_of events) → sends_in (calls write_machine ask s events) ++ each_sent ask (left_of (after write_machine s (map told_of events)).asks) ≡ each_sent ask (left_of s.asks)
+write_sent ask events s fitting = sent_and_left write_machine (λ (s : WriteState). s.asks) (λ (b : BrickNo). b) (λ (s : WriteState). put_lawful s.nonce s.key) (λ (s : WriteState). turn_after_asks s.asks) write_asking write_first ask events s fitting
+
+-- while some brick is to be asked none stored the value
+Patient : List (Ask BrickNo WriteReply) → Type 0
+Patient asks = (left_of asks ≡ []) ⊎ (filter_map holder_of asks ≡ [])
+
+no_sends : (ask : List ℕ) (bricks : List BrickNo) → each_sent ask bricks ≡ [] → bricks ≡ []
+no_sends ask [] h = refl
+no_sends ask (brick ∷ bricks) h = absurd cc
+
+no_end : {X : Type 0} (xs ys : List X) → xs ++ ys ≡ [] → ys ≡ []
+no_end [] ys h = h
+no_end (x ∷ xs) ys h = absurd cc
+
+module _ (lawful : BrickNo → Frame → Option WriteReply) (asks : List (Ask BrickNo WriteReply)) where
+  patient_by : (told : Told) (at : ℕ) (who : BrickNo) (stage : Stage) → slice_get asks at ≡ Some (record { who = who; ear = Open stage })
+      → ((n : ℕ) → stage ≡ Asked n → left_of asks ≡ []) → filter_map holder_of asks ≡ [] → IsTrue (fits (wanted_of who stage) told)
+      → (left_of asks ≡ []) ⊎ (filter_map holder_of (with_ear asks at (heard (lawful who) stage told)) ≡ [])
+  patient_by told.Sent at who Unasked stands all none fit =
+      let x : Ask BrickNo WriteReply = record { who = who; ear = Open Unasked } in
+      let y : Ask BrickNo WriteReply = record { who = who; ear = Open (Asked 0) } in
+      inr (ap (filter_map holder_of) (with_ear-there asks at (Open (Asked 0)) x stands) ∙ (none_goes holder_of asks at x y stands refl refl ∙ none))
+  patient_by (told.Came frame) at who Unasked stands all none fit = absurd cc
+  patient_by told.Silent at who Unasked stands all none fit =
+      let x : Ask BrickNo WriteReply = record { who = who; ear = Open Unasked } in
+      let y : Ask BrickNo WriteReply = record { who = who; ear = Heard Silent } in
+      inr (ap (filter_map holder_of) (with_ear-there asks at (Heard Silent) x stands) ∙ (none_goes holder_of asks at x y stands refl refl ∙ none))
+  patient_by told at who (Asked n) stands all none fit = inl (all n refl)
+
+  patient_turn : (told : Told) (turn : Option (Turn BrickNo)) → turn_after_asks asks ≡ turn → filter_map holder_of asks ≡ [] → IsTrue (fits (wanted (λ (b : BrickNo). b) turn) told)
+      → (left_of asks ≡ []) ⊎ (filter_map holder_of (asks_after lawful told asks turn) ≡ [])
+  patient_turn told None is none fit = absurd cc
+  patient_turn told (Some t) is none fit =
+      patient_by told t.at t.who t.stage (turn_after_asks-stands asks t is) (λ n begun. all_asked (λ (b : BrickNo). b) asks t n is begun) none fit
+
+-- what is left to be sent after an event is what was left, or less
+still_none : (event : StubEvent) (s : WriteState) → IsTrue (fits (write_next s) (told_of event)) → left_of s.asks ≡ [] → left_of (hear_write s (told_of event)).asks ≡ []
+still_none event s fit none =
+    let now = write_sent [] (event ∷ []) s (fit, tt) in
+    no_sends [] (left_of (hear_write s (told_of event)).asks) (no_end (sends_in (calls write_machine [] s (event ∷ []))) (each_sent [] (left_of (hear_write s (told_of event)).asks)) (now ∙ ap (each_sent []) none))
+
+-- a run leaves it so
+stays_patient : (events : List StubEvent) (s : WriteState) → Fits write_machine s (map told_of events) → Patient s.asks → Patient (after write_machine s (map told_of events)).asks
+unfolding Patient
+stays_patient [] s fitting h = h
+stays_patient (event ∷ events) s (fit, rest) (inl none) = stays_patient events (hear_write s (told_of event)) rest (inl (still_none event s fit none))
+stays_patient (event ∷ events) s (fit, rest) (inr none) = stays_patient events (hear_write s (told_of event)) rest (elim (patient_turn (put_lawful s.nonce s.key) s.asks (told_of event) (turn_after_asks s.asks) refl none fit) [
+  | inl all ↦ inl (still_none event s fit all)
+  | inr later ↦ inr later
+])
+
+none_stored : (bricks : List BrickNo) → filter_map holder_of (none_asked bricks) ≡ []
+none_stored [] = refl
+none_stored (brick ∷ bricks) = none_stored bricks
+
+-- where it is nobody's turn, none is left
+pub none_left : (asks : List (Ask BrickNo WriteReply)) → turn_after_asks asks ≡ None → left_of asks ≡ []
+none_left asks h = none_have (λ (a : Ask BrickNo WriteReply). unasked_by a.who a.ear) asks (λ i a here. heard_none a.who a.who a.ear (all_heard asks h i a here))
+
+answered_by : (least : ℕ) (holders : List Holder) (enough : Bool) (made answer : Result Cookie WriteRefusal) (turn : Option (Turn BrickNo)) (causes : List BrickCause) → 1 ≤ least → holders ≡ [] → nat_le least (length holders) ≡ enough → (if enough then Some made else missed_unless turn causes) ≡ Some answer → turn ≡ None
+answered_by least holders true made answer turn causes some none enough h =
+    let many = leb-true least (length holders) enough in
+    let no : length holders ≡ 0 = ap length none in
+    absurd (omega arith)
+answered_by least holders false made answer None causes some none enough h = refl
+answered_by least holders false made answer (Some t) causes some none enough h = absurd cc
+
+-- a write that has an answer has asked all its bricks
+answered_all : (s : WriteState) (answer : Result Cookie WriteRefusal) → 1 ≤ s.least → Patient s.asks → write_answer s ≡ Some answer → left_of s.asks ≡ []
+unfolding Patient
+answered_all s answer some (inl none) h = none
+answered_all s answer some (inr none) h =
+    let holders = filter_map holder_of s.asks in
+    none_left s.asks (answered_by s.least holders (nat_le s.least (length holders)) (Ok (record { key = s.key; version = s.nonce; expiry = s.expiry; bricks = take s.least holders })) answer (turn_after_asks s.asks) (filter_map cause_of s.asks) some none refl h)
+
+goes_on : (brick : BrickNo) (stage : Stage) → wanted_of brick stage ≡ Ended → ⊥
+goes_on brick Unasked h = cc
+goes_on brick (Asked strays) h = cc
+
+wanted-ended : (turn : Option (Turn BrickNo)) → wanted (λ (b : BrickNo). b) turn ≡ Ended → turn ≡ None
+wanted-ended None h = refl
+wanted-ended (Some t) h = absurd (goes_on t.who t.stage h)
+
+pub map_id : {X : Type 0} (xs : List X) → map (λ (x : X). x) xs ≡ xs
+map_id [] = refl
+map_id (x ∷ xs) = ap (λ rest. x ∷ rest) (map_id xs)
+
+pub all_bricks : (bricks : List BrickNo) → left_of (none_asked bricks) ≡ bricks
+all_bricks bricks = all_unasked WriteReply (λ (b : BrickNo). b) bricks ∙ map_id bricks
+
+had_first : {Y : Type 0} (o : Option Y) (ys : List Y) → cons_option o ys ≡ [] → (o ≡ None) × (ys ≡ [])
+had_first None ys h = (refl, h)
+had_first (Some y) ys h = absurd cc
+
+-- where none has an image, this one has none
+had : {X Y : Type 0} (h : X → Option Y) (xs : List X) (i : ℕ) (x : X) (y : Y) → slice_get xs i ≡ Some x → h x ≡ Some y → filter_map h xs ≡ [] → ⊥
+had h [] zero x y here is none = cc
+had h [] (suc i) x y here is none = cc
+had h (z ∷ zs) zero x y here is none = (let same : z ≡ x = cc in let e : None ≡ Some y = sym (had_first (h z) (filter_map h zs) none).0 ∙ (ap h same ∙ is) in cc)
+had h (z ∷ zs) (suc i) x y here is none = had h zs i x y here is (had_first (h z) (filter_map h zs) none).1
+
+keeps_least : (events : List Told) (s : WriteState) → (after write_machine s events).least ≡ s.least
+keeps_least [] s = refl
+keeps_least (told ∷ events) s = keeps_least events (hear_write s told)
+
+module _ (ask : List ℕ) (events : List StubEvent) (bricks : List BrickNo) (least : ℕ) (nonce : Version) (key : SessionKey) (value : List ℕ) (expiry : Moment) (fitting : Fits write_machine (write_start bricks least nonce key value expiry) (map told_of events)) where
+  all_sent : left_of (after write_machine (write_start bricks least nonce key value expiry) (map told_of events)).asks ≡ [] → sends_in (calls write_machine ask (write_start bricks least nonce key value expiry) events) ≡ each_sent ask bricks
+  all_sent none =
+      let s = write_start bricks least nonce key value expiry in
+      let sent = sends_in (calls write_machine ask s events) in
+      sym (append-nil sent)
+      ∙ (ap (λ left. sent ++ each_sent ask left) (sym none)
+      ∙ (write_sent ask events s fitting
+      ∙ ap (each_sent ask) (all_bricks bricks)))
+
+  pub sent_to_the_end : write_next (after write_machine (write_start bricks least nonce key value expiry) (map told_of events)) ≡ Ended → sends_in (calls write_machine ask (write_start bricks least nonce key value expiry) events) ≡ each_sent ask bricks
+  sent_to_the_end ended =
+      let e = after write_machine (write_start bricks least nonce key value expiry) (map told_of events) in
+      all_sent (none_left e.asks (wanted-ended (turn_after_asks e.asks) ended))
+
+  pub sent_at_the_answer : (answer : Result Cookie WriteRefusal) → 1 ≤ least → write_answer (after write_machine (write_start bricks least nonce key value expiry) (map told_of events)) ≡ Some answer → sends_in (calls write_machine ask (write_start bricks least nonce key value expiry) events) ≡ each_sent ask bricks
+  unfolding Patient
+  sent_at_the_answer answer some h =
+      let s = write_start bricks least nonce key value expiry in
+      let e = after write_machine s (map told_of events) in
+      let many : 1 ≤ e.least = (let same = keeps_least (map told_of events) s in omega arith) in
+      all_sent (answered_all e answer many (stays_patient events s fitting (inr (none_stored bricks))) h)
+
+  -- and of these none is unasked
+  pub answered_none_left : (answer : Result Cookie WriteRefusal) → 1 ≤ least → write_answer (after write_machine (write_start bricks least nonce key value expiry) (map told_of events)) ≡ Some answer
+      → (i : ℕ) (a : Ask BrickNo WriteReply) → slice_get (after write_machine (write_start bricks least nonce key value expiry) (map told_of events)).asks i ≡ Some a → a.ear ≡ Open Unasked → ⊥
+  unfolding Patient
+  answered_none_left answer some h i a here ear =
+      let s = write_start bricks least nonce key value expiry in
+      let e = after write_machine s (map told_of events) in
+      let many : 1 ≤ e.least = (let same = keeps_least (map told_of events) s in omega arith) in
+      let none = answered_all e answer many (stays_patient events s fitting (inr (none_stored bricks))) h in
+      had (λ (x : Ask BrickNo WriteReply). unasked_by x.who x.ear) e.asks i a a.who here (ap (unasked_by a.who) ear) none
+
+-- a write that ended with an answer sent its ask to each brick
+pub ends_sent : {L : Type 0} (makes : L → LinkEvent → L → Type 0) (bricks : List BrickNo) (least : ℕ) (nonce : Version) (key : SessionKey) (value : List ℕ) (expiry : Moment) (old new : L) (passes : List Pass) (answer : Result Cookie WriteRefusal) → 1 ≤ least → (ends : WriteEnds makes (write_start bricks least nonce key value expiry) old new passes answer)
+    → sends_in (calls write_until (encode_of (write_start bricks least nonce key value expiry).ask) (write_start bricks least nonce key value expiry) ends.events) ≡ each_sent (encode_of (write_start bricks least nonce key value expiry).ask) bricks
+ends_sent makes bricks least nonce key value expiry old new passes answer some ends =
+    let start = write_start bricks least nonce key value expiry in
+    let ask = encode_of start.ask in
+    ap sends_in (until-calls ask ends.events start ends.ran.fitting)
+    ∙ sent_at_the_answer ask ends.events bricks least nonce key value expiry (until-fits (map told_of ends.events) start ends.ran.fitting) answer some (ap write_answer (sym ends.ran.ends) ∙ ends.answers)
