@@ -1,9 +1,7 @@
 -- A run of a machine that asks bricks in turn over the link.
 use Rattle.std.proofs.Common.{◌≡◌, ◌∙◌, ap, sym, refl, subst, inl, inr, ◌⊎◌, ℕ, IsTrue, List, [], ◌∷◌, map, Option, Some, None}
 use Rattle.std.specs.List.{slice_get, slice_set}
-use Rattle.std.specs.Option.{option_map}
 use Rattle.std.proofs.lemmas.Bool.{cases_eq}
-use Rattle.std.proofs.lemmas.Option.{slice_get-map}
 use Rattle.crash_base.specs.declared.numbers.BrickNo.{BrickNo}
 use Rattle.outside.specs.Link.{Made}
 use Rattle.ssm_frames.specs.declared.frame.Frame.{Frame}
@@ -19,12 +17,12 @@ use Rattle.ssm_stub.specs.declared.event.Told.{Told}
 use Rattle.ssm_stub.specs.declared.event.Told.TheVariants.{Sent, Came, Silent as NoneCame}
 use Rattle.ssm_stub.specs.Ears.{heard}
 use Rattle.ssm_stub.specs.Turns.{wanted_of}
-use Rattle.ssm_stub.specs.Hearing.{numbers, AllDiffer}
 use Rattle.ssm_stub.specs.Runs.{Machine, told_of, fits, Fits, call_of, calls, after, Ran}
 use Rattle.link_memory.specs.Lane.{LaneValue}
 use Rattle.link_memory.specs.Leaving.{Left, IsAsked, Leaves}
 use Rattle.link_memory.specs.Script.{ScriptValue, lane_of, ScriptMakes}
 use Rattle.link_memory.specs.Tallies.{slice_get-set_same, slice_get-set_other}
+use Rattle.link_memory.proofs.Counting.{counts_on, none_counted}
 use Rattle.link_memory.proofs.Steps.{own_step, beside_step, made_split}
 
 -- The turn of one that is asked: it stands at a place, and an event is told to it alone.
@@ -37,7 +35,7 @@ pub record Turning {W A S : Type 0} (brick_of : W → BrickNo) (lawful : W → F
   pub hears : (told : Told) → m.hear (state asks) told ≡ state (slice_set asks at (record { who = who; ear = heard (lawful who) stage told }))
 
 -- the asks stand for distinct bricks
-abbrev Distinct : {W A : Type 0} → (W → BrickNo) → List (Ask W A) → Type 0
+abbrev pub Distinct : {W A : Type 0} → (W → BrickNo) → List (Ask W A) → Type 0
 Distinct {W} {A} brick_of asks = (i j : ℕ) (a b : Ask W A) → slice_get asks i ≡ Some a → slice_get asks j ≡ Some b → (brick_of a.who).0 ≡ (brick_of b.who).0 → i ≡ j
 
 pub nothing_fits : (told : Told) → IsTrue (fits Ended told) → ⊥
@@ -51,11 +49,6 @@ unasked lawful ask (Some lane) = refl
 
 module _ {W A S : Type 0} (brick_of : W → BrickNo) (lawful : W → Frame → Option A) (ask : List ℕ) (m : Machine S) (state : List (Ask W A) → S)
     (turned : (asks : List (Ask W A)) → (m.next (state asks) ≡ Ended) ⊎ Turning brick_of lawful m state asks) where
-  pub distinct : (asks : List (Ask W A)) → AllDiffer (numbers brick_of asks) → Distinct brick_of asks
-  distinct asks differ i j a b here there same = differ i j (brick_of a.who).0
-      (slice_get-map (λ (x : Ask W A). (brick_of x.who).0) asks i ∙ ap (option_map (λ (x : Ask W A). (brick_of x.who).0)) here)
-      (slice_get-map (λ (x : Ask W A). (brick_of x.who).0) asks j ∙ (ap (option_map (λ (x : Ask W A). (brick_of x.who).0)) there ∙ ap (λ n. Some n) (sym same)))
-
   -- who stands at a place stays
   stood : (asks : List (Ask W A)) (at : ℕ) (who : W) (ear new : Ear A) → slice_get asks at ≡ Some (record { who = who; ear = ear }) → (i : ℕ) (a : Ask W A) → slice_get (slice_set asks at (record { who = who; ear = new })) i ≡ Some a → (b : Ask W A) × (slice_get asks i ≡ Some b) × (b.who ≡ a.who)
   stood asks at who ear new here i a h = elim (cases_eq at i) [
@@ -91,7 +84,7 @@ module _ {W A S : Type 0} (brick_of : W → BrickNo) (lawful : W → Frame → O
   -- what one call leaves
   step : (asks : List (Ask W A)) (at : ℕ) (who : W) (stage : Stage) (e : StubEvent) (old link mid : ScriptValue) → Distinct brick_of asks → slice_get asks at ≡ Some (record { who = who; ear = Open stage }) → Leaves brick_of lawful ask asks old link → IsTrue (fits (wanted_of (brick_of who) stage) (told_of e)) → Made ScriptMakes link (call_of ask (wanted_of (brick_of who) stage) e) mid
       → Leaves brick_of lawful ask (slice_set asks at (heard_of who stage (told_of e))) old mid
-  step asks at who stage e old link mid differ here leaves fit made = record { of_asked = asked_ones; of_others = other_ones } where
+  step asks at who stage e old link mid differ here leaves fit made = record { of_asked = asked_ones; of_others = other_ones; counts = counts_on brick_of lawful ask asks at who stage e old link mid here (leaves.of_asked at (record { who = who; ear = Open stage }) here) leaves.counts fit made } where
     asked_ones : (i : ℕ) (a : Ask W A) → slice_get (slice_set asks at (heard_of who stage (told_of e))) i ≡ Some a → Left (lawful a.who) ask a.ear (lane_of old (brick_of a.who).0) (lane_of mid (brick_of a.who).0)
     asked_ones i a h = elim (cases_eq at i) [
       | inl is ↦ (let Q : ℕ → Type 0 = λ n. slice_get (slice_set asks at (heard_of who stage (told_of e))) n ≡ Some (heard_of who stage (told_of e)) in
@@ -145,9 +138,10 @@ module _ {W A S : Type 0} (brick_of : W → BrickNo) (lawful : W → Frame → O
     of_asked = λ i a h. (let P : Ear A → Type 0 = λ ear. Left (lawful a.who) ask ear (lane_of link (brick_of a.who).0) (lane_of link (brick_of a.who).0) in
         subst P (sym (none i a h)) (unasked (lawful a.who) ask (lane_of link (brick_of a.who).0)));
     of_others = λ brick not_asked. refl;
+    counts = none_counted brick_of lawful ask asks link none;
   }
 
-  pub leaves_by : (events : List StubEvent) (asks : List (Ask W A)) (end : S) (old new : ScriptValue) → AllDiffer (numbers brick_of asks) → ((i : ℕ) (a : Ask W A) → slice_get asks i ≡ Some a → a.ear ≡ Open Unasked) → Ran m ScriptMakes ask (state asks) old events end new → (ends : List (Ask W A)) × (end ≡ state ends) × Leaves brick_of lawful ask ends old new
+  pub leaves_by : (events : List StubEvent) (asks : List (Ask W A)) (end : S) (old new : ScriptValue) → Distinct brick_of asks → ((i : ℕ) (a : Ask W A) → slice_get asks i ≡ Some a → a.ear ≡ Open Unasked) → Ran m ScriptMakes ask (state asks) old events end new → (ends : List (Ask W A)) × (end ≡ state ends) × Leaves brick_of lawful ask ends old new
   leaves_by events asks end old new differ none ran =
-      let ends = steps events asks old old new (distinct asks differ) (nothing asks old none) ran.fitting ran.made in
+      let ends = steps events asks old old new differ (nothing asks old none) ran.fitting ran.made in
       (ends.0, ran.ends ∙ ends.1, ends.2)

@@ -1,5 +1,5 @@
 -- Whose turn it is in a write and in a read.
-use Rattle.std.proofs.Common.{◌≡◌, ◌∙◌, ap, sym, refl, subst, inl, inr, ◌⊎◌, ℕ, List, [], ◌∷◌, map, Option, Some, None, Result}
+use Rattle.std.proofs.Common.{◌≡◌, ◌∙◌, ap, sym, refl, inl, inr, ◌⊎◌, ℕ, List, Option, Some, None, Result}
 use Rattle.std.specs.List.{slice_get, slice_set}
 use Rattle.std.specs.Option.{option_and_then, option_map}
 use Rattle.std.proofs.lemmas.Option.{slice_get-map}
@@ -20,7 +20,6 @@ use Rattle.ssm_stub.specs.declared.write_call.WriteRefusal.{WriteRefusal}
 use Rattle.ssm_stub.specs.declared.read_call.ReadRefusal.{ReadRefusal}
 use Rattle.ssm_stub.specs.Ears.{heard}
 use Rattle.ssm_stub.specs.Turns.{none_asked, turn_with, turn_at, turn_after_asks, turn_in_order, with_ear_of, asks_after, wanted, next_unless}
-use Rattle.ssm_stub.specs.Hearing.{numbers, AllDiffer}
 use Rattle.ssm_stub.specs.Writes.{WriteState, put_lawful, write_answer, write_machine, write_until}
 use Rattle.ssm_stub.specs.Reads.{ReadState, get_lawful, read_answer, turn_unless, turn_of_read, read_machine}
 use Rattle.link_memory.proofs.Asking.{Turning}
@@ -128,11 +127,3 @@ module _ (s : ReadState) where
 
   pub read_turned : (asks : List (Ask Holder ReadReply)) → (read_machine.next (reads s asks) ≡ Ended) ⊎ Turning (λ holder. holder.brick) (get_lawful s.nonce s.key s.version s.expiry) read_machine (reads s) asks
   read_turned asks = reading asks (turn_of_read (reads s asks)) refl
-
--- the numbers of the bricks of which none was asked
-numbers_of : {W : Type 0} (A : Type 0) (brick_of : W → BrickNo) (whos : List W) → numbers {W = W} {A = A} brick_of (none_asked whos) ≡ map (λ (who : W). (brick_of who).0) whos
-numbers_of A brick_of [] = refl
-numbers_of A brick_of (who ∷ whos) = ap (λ ns. (brick_of who).0 ∷ ns) (numbers_of A brick_of whos)
-
-pub all_differ : {W : Type 0} (A : Type 0) (brick_of : W → BrickNo) (whos : List W) → AllDiffer (map (λ (who : W). (brick_of who).0) whos) → AllDiffer (numbers {W = W} {A = A} brick_of (none_asked whos))
-all_differ A brick_of whos h = (let P : List ℕ → Type 0 = λ ns. AllDiffer ns in subst P (sym (numbers_of A brick_of whos)) h)

@@ -1,5 +1,5 @@
 -- A lane of the link: a brick, and what was replied.
-use Rattle.std.specs.Prelude.{◌≡◌, ℕ, ◌+◌, ◌-◌, ◌^◌, ◌<◌, min, nat_lt, if◌then◌else◌, List, [], ◌∷◌, ◌++◌, drop, filter_map, slice_get, Option, Some, None}
+use Rattle.std.specs.Prelude.{◌≡◌, ℕ, zero, suc, ◌+◌, ◌-◌, ◌^◌, ◌<◌, min, nat_lt, if◌then◌else◌, List, [], ◌∷◌, ◌++◌, drop, filter_map, slice_get, Option, Some, None}
 use Rattle.crash_base.specs.declared.numbers.Moment.{Moment}
 use Rattle.ssm_frames.specs.declared.frame.Frame.{Frame}
 use Rattle.ssm_frames.specs.Reading.{decode_of}
@@ -35,6 +35,11 @@ new_lane number =
 -- So many more, up to the last value of a count.
 abbrev pub raised : ℕ → ℕ → ℕ
 raised n more = min (n + more) (2 ^ 64 - 1)
+
+-- a count after one more was counted, so many times
+abbrev pub counted_times : ℕ → ℕ → ℕ
+counted_times zero n = n
+counted_times (suc more) n = counted_times more (counted n)
 
 -- A lane after a reply was made: it is lost where one is still to be lost, and else waits behind the
 -- others.

@@ -1,5 +1,6 @@
 -- What asking bricks leaves in their lanes.
-use Rattle.std.specs.Prelude.{◌≡◌, ℕ, ◌<◌, List, ◌++◌, length, All, Option, Some, None, slice_get}
+use Rattle.std.specs.Prelude.{◌≡◌, ℕ, ◌-◌, ◌<◌, List, ◌++◌, length, All, Option, Some, None, slice_get}
+use Rattle.std.specs.List.{sum_by}
 use Rattle.crash_base.specs.declared.numbers.BrickNo.{BrickNo}
 use Rattle.ssm_frames.specs.declared.frame.Frame.{Frame}
 use Rattle.outside.specs.Faults.{counted}
@@ -13,7 +14,7 @@ use Rattle.ssm_stub.specs.declared.ear.Ear.TheVariants.{Open, Heard}
 use Rattle.ssm_stub.specs.declared.event.StubEvent.{StubEvent}
 use Rattle.ssm_stub.specs.declared.event.StubNext.TheVariants.{Ended}
 use Rattle.ssm_stub.specs.Runs.{Machine, Ran}
-use Rattle.link_memory.specs.Lane.{LaneValue, asked}
+use Rattle.link_memory.specs.Lane.{LaneValue, asked, counted_times}
 use Rattle.link_memory.specs.Rule.{Hearing, heard_from}
 use Rattle.link_memory.specs.Script.{ScriptValue, lane_of, ScriptMakes}
 
@@ -75,17 +76,52 @@ abbrev pub Left : {A : Type 0} → (Frame → Option A) → List ℕ → Ear A �
 Left lawful ask ear None left = LeftNone ear left
 Left lawful ask ear (Some lane) left = LeftLane lawful ask ear lane left
 
+-- the silences that this tells
+abbrev pub silences_told : {A : Type 0} → Ear A → ℕ
+silences_told (Open stage) = 0
+silences_told (Heard (Answered reply)) = 0
+silences_told (Heard Silent) = 1
+silences_told (Heard Strayed) = 0
+
+-- the silences that this tells of a number without a brick
+abbrev pub unknown_told : {A : Type 0} → Ear A → Option LaneValue → ℕ
+unknown_told ear None = silences_told ear
+unknown_told ear (Some lane) = 0
+
+-- the frames that are taken where this is heard from a lane: none before the ask, as many as strays came,
+-- and in the end as many as the rule takes
+abbrev pub frames_taken : {A : Type 0} → (Frame → Option A) → List ℕ → Ear A → LaneValue → ℕ
+frames_taken lawful ask (Open Unasked) lane = 0
+frames_taken lawful ask (Open (Asked strays)) lane = strays
+frames_taken lawful ask (Heard outcome) lane =
+    length (asked ask lane).queue - length (heard_from lawful (asked ask lane).queue).left
+
+-- the same of a number that may have no brick
+abbrev pub frames_given : {A : Type 0} → (Frame → Option A) → List ℕ → Ear A → Option LaneValue → ℕ
+frames_given lawful ask ear None = 0
+frames_given lawful ask ear (Some lane) = frames_taken lawful ask ear lane
+
+-- What the link counted where bricks were asked: each silence, those of numbers without a brick also by
+-- themselves, and each frame that was taken.
+pub record Counts {W A : Type 0} (brick_of : W → BrickNo) (lawful : W → Frame → Option A) (ask : List ℕ) (asks : List (Ask W A)) (old new : ScriptValue) : Type 0 where
+  pub hushed_is : new.hushed ≡ counted_times (sum_by (λ a. silences_told a.ear) asks) old.hushed
+  pub unknown_is : new.unknown
+      ≡ counted_times (sum_by (λ a. unknown_told a.ear (lane_of old (brick_of a.who).0)) asks) old.unknown
+  pub got_is : new.got
+      ≡ counted_times (sum_by (λ a. frames_given (lawful a.who) ask a.ear (lane_of old (brick_of a.who).0)) asks) old.got
+
 -- the brick of this number is among those that are asked
 abbrev pub IsAsked : {W A : Type 0} → (W → BrickNo) → List (Ask W A) → ℕ → Type 0
 IsAsked {W} {A} brick_of asks brick =
     (i : ℕ) × (ask : Ask W A) × (slice_get asks i ≡ Some ask) × ((brick_of ask.who).0 ≡ brick)
 
 -- What asking some bricks leaves of a link: of the lane of each brick that was asked, by what was heard
--- of it; and each other lane is as it was.
+-- of it; each other lane is as it was; and the counts tell what was heard.
 pub record Leaves {W A : Type 0} (brick_of : W → BrickNo) (lawful : W → Frame → Option A) (ask : List ℕ) (asks : List (Ask W A)) (old new : ScriptValue) : Type 0 where
   pub of_asked : (i : ℕ) (a : Ask W A) → slice_get asks i ≡ Some a
       → Left (lawful a.who) ask a.ear (lane_of old (brick_of a.who).0) (lane_of new (brick_of a.who).0)
   pub of_others : (brick : ℕ) → (IsAsked brick_of asks brick → ⊥) → lane_of new brick ≡ lane_of old brick
+  pub counts : Counts brick_of lawful ask asks old new
 
 -- Any two runs of a machine from one state over one link, each to where it wants nothing more, were told
 -- the same events, and end in the same state with the same link.

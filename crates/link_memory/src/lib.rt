@@ -28,7 +28,11 @@
 //! - `bricks_of_the_link_stand`: each brick stands for the history of what happened to it;
 //! - `hearing_a_queue`, `hearing_over_the_link`: an asked brick is heard by one rule, which says how many
 //!   frames go: the first lawful reply is heard where fewer than 64 strays stand before it;
-//! - `writes_over_the_link`, `reads_over_the_link`: what a write or a read of `ssm_stub` leaves in each lane;
+//! - `writes_over_the_link`, `reads_over_the_link`: what a write or a read of `ssm_stub` leaves in each lane
+//!   and in the link's counts;
+//! - `writes_answer_by_the_rule`, `reads_answer_by_the_rule`: its answer and the link then are a function of
+//!   the link before: which bricks are asked and heard, in order, and what the rule hears of each;
+//! - `settling_over_the_link`: what a whole `settle` comes to, pass by pass;
 //! - `runs_over_the_link_have_one_end`: how one ends follows from where it started.
 //!
 //! A send and a receive cost what the brick's answer and one reply's bytes cost, however many wait. The
@@ -40,7 +44,8 @@ mod laws;
 mod script_link;
 
 pub use laws::{
-    bricks_of_the_link_stand, hearing_a_queue, hearing_over_the_link, reads_over_the_link,
-    runs_over_the_link_have_one_end, writes_over_the_link,
+    bricks_of_the_link_stand, hearing_a_queue, hearing_over_the_link, reads_answer_by_the_rule,
+    reads_over_the_link, runs_over_the_link_have_one_end, settling_over_the_link,
+    writes_answer_by_the_rule, writes_over_the_link,
 };
 pub use script_link::{MAX_LINK_BRICKS, ScriptLink};
