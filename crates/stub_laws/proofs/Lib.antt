@@ -1,5 +1,6 @@
 mod Asked
 mod Begun
+mod LateStores
 mod Marked
 mod ReadSending
 mod Sending

@@ -19,7 +19,8 @@ use Rattle.ssm_stub.specs.declared.ear.Outcome.TheVariants.{Answered, Silent, St
 use Rattle.ssm_stub.specs.declared.ear.Ear.{Ear}
 use Rattle.ssm_stub.specs.declared.ear.Ear.TheVariants.{Open, Heard}
 use Rattle.ssm_stub.specs.declared.event.StubEvent.{StubEvent}
-use Rattle.ssm_stub.specs.declared.event.StubNext.TheVariants.{Ended}
+use Rattle.ssm_stub.specs.declared.event.StubNext.{StubNext}
+use Rattle.ssm_stub.specs.declared.event.StubNext.TheVariants.{Send, Receive, Ended}
 use Rattle.ssm_stub.specs.declared.event.Told.{Told}
 use Rattle.ssm_stub.specs.declared.ask.Ask.{Ask}
 use Rattle.ssm_stub.specs.declared.ask.Turn.{Turn}
@@ -28,7 +29,7 @@ use Rattle.ssm_stub.specs.declared.reply.ReadReply.TheVariants.{Found, Crashed, 
 use Rattle.ssm_stub.specs.declared.read_call.ReadRefusal.{ReadRefusal}
 use Rattle.ssm_stub.specs.Ears.{ear_after}
 use Rattle.ssm_stub.specs.Turns.{is_open, turn_in_order, wanted}
-use Rattle.ssm_stub.specs.Runs.{told_of, Fits, calls, after}
+use Rattle.ssm_stub.specs.Runs.{told_of, fits, Fits, calls, after}
 use Rattle.ssm_stub.specs.Reads.{ReadState, get_lawful, read_start, read_answer, turn_unless, turn_of_read, read_machine}
 use Rattle.ssm_stub.specs.Hearing.{AllDiffer, EndsIn, all_about, told_to}
 use Rattle.ssm_stub.specs.Outcomes.{IsGetCause, HaveCauses}
@@ -64,6 +65,16 @@ read_sent ask events s fitting = sent_and_left read_machine (λ (s : ReadState).
 -- nothing is wanted once there is an answer
 pub ended_by_answer : (s : ReadState) (answer : Result (List ℕ) ReadRefusal) → read_answer s ≡ Some answer → read_machine.next s ≡ Ended
 ended_by_answer s answer h = ap (λ o. wanted (λ (holder : Holder). holder.brick) (turn_unless o (turn_in_order s.asks))) h
+
+nothing_fits : (next : StubNext) (told : Told) → next ≡ Ended → IsTrue (fits next told) → ⊥
+nothing_fits (Send brick) told h fit = cc
+nothing_fits (Receive brick) told h fit = cc
+nothing_fits Ended told h fit = cc
+
+-- and nothing is heard
+pub hears_nothing : (events : List Told) (s : ReadState) (answer : Result (List ℕ) ReadRefusal) → read_answer s ≡ Some answer → Fits read_machine s events → events ≡ []
+hears_nothing [] s answer h fitting = refl
+hears_nothing (told ∷ events) s answer h (fit, rest) = absurd (nothing_fits (read_machine.next s) told (ended_by_answer s answer h) fit)
 
 -- one that has a cause was heard
 caused_heard : (lawful : Frame → Option ReadReply) (events : List Told) (why : Cause) → IsGetCause lawful events why → (o : Outcome ReadReply) × (ear_after lawful events ≡ Heard o)

@@ -31,7 +31,7 @@ stray_asked : (A : Type 0) (brick : BrickNo) (n : ℕ) (more : Bool) → unasked
 stray_asked A brick n true = refl
 stray_asked A brick n false = refl
 
-frame_asked : {A : Type 0} (brick : BrickNo) (n : ℕ) (reply : Option A) → unasked_by brick (after_frame (Asked n) reply) ≡ None
+pub frame_asked : {A : Type 0} (brick : BrickNo) (n : ℕ) (reply : Option A) → unasked_by brick (after_frame (Asked n) reply) ≡ None
 frame_asked brick n (Some reply) = refl
 frame_asked {A} brick n None = stray_asked A brick n (nat_lt n (MAX_STRAYS - 1))
 

@@ -25,7 +25,7 @@ unasked_by brick (Heard outcome) = None
 abbrev pub unasked_in : {W A : Type 0} → (W → BrickNo) → List (Ask W A) → List BrickNo
 unasked_in {W} {A} brick_of asks = filter_map (λ (a : Ask W A). unasked_by (brick_of a.who) a.ear) asks
 
-some_parts : (here : Bool) (rest : Option ℕ) (i : ℕ) → (if here then Some 0 else option_map suc rest) ≡ Some i → (i ≡ 0) ⊎ ((here ≡ false) × (j : ℕ) × (rest ≡ Some j) × (i ≡ suc j))
+pub some_parts : (here : Bool) (rest : Option ℕ) (i : ℕ) → (if here then Some 0 else option_map suc rest) ≡ Some i → (i ≡ 0) ⊎ ((here ≡ false) × (j : ℕ) × (rest ≡ Some j) × (i ≡ suc j))
 some_parts true rest i h = inl cc
 some_parts false (Some j) i h = inr (refl, j, refl, cc)
 some_parts false None i h = absurd cc
@@ -99,7 +99,7 @@ first_place asks t None None found later h fresh = absurd cc
 pub first_unasked : {W A : Type 0} (asks : List (Ask W A)) (t : Turn W) → turn_after_asks asks ≡ Some t → t.stage ≡ Unasked → position is_unasked asks ≡ Some t.at
 first_unasked asks t h fresh = first_place asks t (position is_unasked asks) (position is_asked asks) refl refl h fresh
 
-asked_place : {W A : Type 0} (asks : List (Ask W A)) (t : Turn W) (n : ℕ) (unasked asked : Option ℕ) → position is_unasked asks ≡ unasked → option_and_then (turn_at asks) (option_or unasked asked) ≡ Some t → t.stage ≡ Asked n → unasked ≡ None
+pub asked_place : {W A : Type 0} (asks : List (Ask W A)) (t : Turn W) (n : ℕ) (unasked asked : Option ℕ) → position is_unasked asks ≡ unasked → option_and_then (turn_at asks) (option_or unasked asked) ≡ Some t → t.stage ≡ Asked n → unasked ≡ None
 asked_place asks t n None asked found h begun = refl
 asked_place asks t n (Some i) asked found h begun =
     let at = some_position is_unasked asks i found in

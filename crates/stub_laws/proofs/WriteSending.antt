@@ -2,6 +2,7 @@
 use Rattle.std.proofs.Common.{arith, ◌≡◌, ◌∙◌, ap, sym, refl, subst, inl, inr, ◌⊎◌, ℕ, zero, suc, ◌≤◌, Bool, true, false, IsTrue, nat_le, if◌then◌else◌, List, [], ◌∷◌, ◌++◌, length, map, take, filter_map, Option, Some, None, Result, Ok, Err, slice_get, slice_set, append-nil, append_assoc}
 use Rattle.std.proofs.lemmas.Bool.{leb-true}
 use Rattle.std.specs.List.{cons_option}
+use Rattle.std.specs.Option.{option_and_then}
 use Rattle.crash_base.specs.declared.numbers.BrickNo.{BrickNo}
 use Rattle.crash_base.specs.declared.numbers.Moment.{Moment}
 use Rattle.crash_base.specs.declared.numbers.SessionKey.{SessionKey}
@@ -37,7 +38,7 @@ use Rattle.ssm_stub.proofs.Places.{with_ear-there, turn_after_asks-stands}
 use Rattle.ssm_stub.proofs.Searching.{all_heard}
 use Rattle.stub_laws.specs.Sends.{sends_in, each_sent}
 use Rattle.stub_laws.proofs.Unasked.{unasked_by, unasked_in, first_goes, none_goes, none_have, first_unasked, all_asked, asked_none, heard_none, all_unasked}
-use Rattle.stub_laws.proofs.Sending.{AsksFirst, sent_and_left}
+use Rattle.stub_laws.proofs.Sending.{AsksFirst, frame_asked, sent_and_left}
 
 -- the bricks of a write that were not asked
 abbrev pub left_of : List (Ask BrickNo WriteReply) → List BrickNo
@@ -55,7 +56,7 @@ pub write_sent : (ask : List ℕ) (events : List StubEvent) (s : WriteState) →
 write_sent ask events s fitting = sent_and_left write_machine (λ (s : WriteState). s.asks) (λ (b : BrickNo). b) (λ (s : WriteState). put_lawful s.nonce s.key) (λ (s : WriteState). turn_after_asks s.asks) write_asking write_first ask events s fitting
 
 -- while some brick is to be asked none stored the value
-Patient : List (Ask BrickNo WriteReply) → Type 0
+unfoldable pub Patient : List (Ask BrickNo WriteReply) → Type 0
 Patient asks = (left_of asks ≡ []) ⊎ (filter_map holder_of asks ≡ [])
 
 no_sends : (ask : List ℕ) (bricks : List BrickNo) → each_sent ask bricks ≡ [] → bricks ≡ []
@@ -87,23 +88,55 @@ module _ (lawful : BrickNo → Frame → Option WriteReply) (asks : List (Ask Br
   patient_turn told (Some t) is none fit =
       patient_by told t.at t.who t.stage (turn_after_asks-stands asks t is) (λ n begun. all_asked (λ (b : BrickNo). b) asks t n is begun) none fit
 
--- what is left to be sent after an event is what was left, or less
-still_none : (event : StubEvent) (s : WriteState) → IsTrue (fits (write_next s) (told_of event)) → left_of s.asks ≡ [] → left_of (hear_write s (told_of event)).asks ≡ []
-still_none event s fit none =
-    let now = write_sent [] (event ∷ []) s (fit, tt) in
-    no_sends [] (left_of (hear_write s (told_of event)).asks) (no_end (sends_in (calls write_machine [] s (event ∷ []))) (each_sent [] (left_of (hear_write s (told_of event)).asks)) (now ∙ ap (each_sent []) none))
+pub had_first : {Y : Type 0} (o : Option Y) (ys : List Y) → cons_option o ys ≡ [] → (o ≡ None) × (ys ≡ [])
+had_first None ys h = (refl, h)
+had_first (Some y) ys h = absurd cc
+
+-- where none has an image, this one has none
+pub had : {X Y : Type 0} (h : X → Option Y) (xs : List X) (i : ℕ) (x : X) (y : Y) → slice_get xs i ≡ Some x → h x ≡ Some y → filter_map h xs ≡ [] → ⊥
+had h [] zero x y here is none = cc
+had h [] (suc i) x y here is none = cc
+had h (z ∷ zs) zero x y here is none = (let same : z ≡ x = cc in let e : None ≡ Some y = sym (had_first (h z) (filter_map h zs) none).0 ∙ (ap h same ∙ is) in cc)
+had h (z ∷ zs) (suc i) x y here is none = had h zs i x y here is (had_first (h z) (filter_map h zs) none).1
+
+-- a brick that was asked stays so
+asked_stays : {A : Type 0} (lawful : Frame → Option A) (brick : BrickNo) (n : ℕ) (told : Told) → unasked_by brick (heard lawful (Asked n) told) ≡ None
+asked_stays lawful brick n told.Sent = refl
+asked_stays lawful brick n (told.Came frame) = frame_asked brick n (option_and_then lawful frame)
+asked_stays lawful brick n told.Silent = refl
+
+still_by : (s : WriteState) (told : Told) (at : ℕ) (who : BrickNo) (stage : Stage) → slice_get s.asks at ≡ Some (record { who = who; ear = Open stage }) → left_of s.asks ≡ [] → left_of (with_ear s.asks at (heard (put_lawful s.nonce s.key who) stage told)) ≡ []
+still_by s told at who Unasked stands none = absurd (had (λ (a : Ask BrickNo WriteReply). unasked_by a.who a.ear) s.asks at (record { who = who; ear = Open Unasked }) who stands refl none)
+still_by s told at who (Asked n) stands none =
+    let lawful = put_lawful s.nonce s.key who in
+    let x : Ask BrickNo WriteReply = record { who = who; ear = Open (Asked n) } in
+    let y : Ask BrickNo WriteReply = record { who = who; ear = heard lawful (Asked n) told } in
+    ap left_of (with_ear-there s.asks at (heard lawful (Asked n) told) x stands)
+    ∙ (none_goes (λ (a : Ask BrickNo WriteReply). unasked_by a.who a.ear) s.asks at x y stands refl (asked_stays lawful who n told) ∙ none)
+
+still_turn : (s : WriteState) (told : Told) (turn : Option (Turn BrickNo)) → turn_after_asks s.asks ≡ turn → left_of s.asks ≡ [] → left_of (asks_after (put_lawful s.nonce s.key) told s.asks turn) ≡ []
+still_turn s told None is none = none
+still_turn s told (Some t) is none = still_by s told t.at t.who t.stage (turn_after_asks-stands s.asks t is) none
+
+-- where none is left to be asked, none is after an event
+pub still_none : (told : Told) (s : WriteState) → left_of s.asks ≡ [] → left_of (hear_write s told).asks ≡ []
+still_none told s none = still_turn s told (turn_after_asks s.asks) refl none
+
+-- an event leaves it so
+pub one_patient : (told : Told) (s : WriteState) → IsTrue (fits (write_next s) told) → Patient s.asks → Patient (hear_write s told).asks
+unfolding Patient
+one_patient told s fit (inl none) = inl (still_none told s none)
+one_patient told s fit (inr none) = elim (patient_turn (put_lawful s.nonce s.key) s.asks told (turn_after_asks s.asks) refl none fit) [
+  | inl all ↦ inl (still_none told s all)
+  | inr later ↦ inr later
+]
 
 -- a run leaves it so
-stays_patient : (events : List StubEvent) (s : WriteState) → Fits write_machine s (map told_of events) → Patient s.asks → Patient (after write_machine s (map told_of events)).asks
-unfolding Patient
+pub stays_patient : (events : List Told) (s : WriteState) → Fits write_machine s events → Patient s.asks → Patient (after write_machine s events).asks
 stays_patient [] s fitting h = h
-stays_patient (event ∷ events) s (fit, rest) (inl none) = stays_patient events (hear_write s (told_of event)) rest (inl (still_none event s fit none))
-stays_patient (event ∷ events) s (fit, rest) (inr none) = stays_patient events (hear_write s (told_of event)) rest (elim (patient_turn (put_lawful s.nonce s.key) s.asks (told_of event) (turn_after_asks s.asks) refl none fit) [
-  | inl all ↦ inl (still_none event s fit all)
-  | inr later ↦ inr later
-])
+stays_patient (told ∷ events) s (fit, rest) h = stays_patient events (hear_write s told) rest (one_patient told s fit h)
 
-none_stored : (bricks : List BrickNo) → filter_map holder_of (none_asked bricks) ≡ []
+pub none_stored : (bricks : List BrickNo) → filter_map holder_of (none_asked bricks) ≡ []
 none_stored [] = refl
 none_stored (brick ∷ bricks) = none_stored bricks
 
@@ -120,7 +153,7 @@ answered_by least holders false made answer None causes some none enough h = ref
 answered_by least holders false made answer (Some t) causes some none enough h = absurd cc
 
 -- a write that has an answer has asked all its bricks
-answered_all : (s : WriteState) (answer : Result Cookie WriteRefusal) → 1 ≤ s.least → Patient s.asks → write_answer s ≡ Some answer → left_of s.asks ≡ []
+pub answered_all : (s : WriteState) (answer : Result Cookie WriteRefusal) → 1 ≤ s.least → Patient s.asks → write_answer s ≡ Some answer → left_of s.asks ≡ []
 unfolding Patient
 answered_all s answer some (inl none) h = none
 answered_all s answer some (inr none) h =
@@ -142,18 +175,7 @@ map_id (x ∷ xs) = ap (λ rest. x ∷ rest) (map_id xs)
 pub all_bricks : (bricks : List BrickNo) → left_of (none_asked bricks) ≡ bricks
 all_bricks bricks = all_unasked WriteReply (λ (b : BrickNo). b) bricks ∙ map_id bricks
 
-had_first : {Y : Type 0} (o : Option Y) (ys : List Y) → cons_option o ys ≡ [] → (o ≡ None) × (ys ≡ [])
-had_first None ys h = (refl, h)
-had_first (Some y) ys h = absurd cc
-
--- where none has an image, this one has none
-had : {X Y : Type 0} (h : X → Option Y) (xs : List X) (i : ℕ) (x : X) (y : Y) → slice_get xs i ≡ Some x → h x ≡ Some y → filter_map h xs ≡ [] → ⊥
-had h [] zero x y here is none = cc
-had h [] (suc i) x y here is none = cc
-had h (z ∷ zs) zero x y here is none = (let same : z ≡ x = cc in let e : None ≡ Some y = sym (had_first (h z) (filter_map h zs) none).0 ∙ (ap h same ∙ is) in cc)
-had h (z ∷ zs) (suc i) x y here is none = had h zs i x y here is (had_first (h z) (filter_map h zs) none).1
-
-keeps_least : (events : List Told) (s : WriteState) → (after write_machine s events).least ≡ s.least
+pub keeps_least : (events : List Told) (s : WriteState) → (after write_machine s events).least ≡ s.least
 keeps_least [] s = refl
 keeps_least (told ∷ events) s = keeps_least events (hear_write s told)
 
@@ -178,7 +200,7 @@ module _ (ask : List ℕ) (events : List StubEvent) (bricks : List BrickNo) (lea
       let s = write_start bricks least nonce key value expiry in
       let e = after write_machine s (map told_of events) in
       let many : 1 ≤ e.least = (let same = keeps_least (map told_of events) s in omega arith) in
-      all_sent (answered_all e answer many (stays_patient events s fitting (inr (none_stored bricks))) h)
+      all_sent (answered_all e answer many (stays_patient (map told_of events) s fitting (inr (none_stored bricks))) h)
 
   -- and of these none is unasked
   pub answered_none_left : (answer : Result Cookie WriteRefusal) → 1 ≤ least → write_answer (after write_machine (write_start bricks least nonce key value expiry) (map told_of events)) ≡ Some answer
@@ -188,7 +210,7 @@ module _ (ask : List ℕ) (events : List StubEvent) (bricks : List BrickNo) (lea
       let s = write_start bricks least nonce key value expiry in
       let e = after write_machine s (map told_of events) in
       let many : 1 ≤ e.least = (let same = keeps_least (map told_of events) s in omega arith) in
-      let none = answered_all e answer many (stays_patient events s fitting (inr (none_stored bricks))) h in
+      let none = answered_all e answer many (stays_patient (map told_of events) s fitting (inr (none_stored bricks))) h in
       had (λ (x : Ask BrickNo WriteReply). unasked_by x.who x.ear) e.asks i a a.who here (ap (unasked_by a.who) ear) none
 
 -- a write that ended with an answer sent its ask to each brick
