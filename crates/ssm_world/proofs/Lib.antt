@@ -12,6 +12,7 @@ mod Lawful
 mod Lists
 mod Logging
 mod Making
+mod Nonces
 mod Numbering
 mod Positions
 mod Refusing

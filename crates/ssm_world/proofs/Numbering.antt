@@ -1,7 +1,8 @@
 -- Bricks by their numbers.
-use Rattle.std.proofs.Common.{◌≡◌, inl, inr, ℕ, zero, suc, ◌+◌, ◌-◌, true, List, [], ◌∷◌, ◌++◌, add-one, length, Option, Some, None, refl, sym, ap, ◌∙◌, arith, get_or}
-use Rattle.std.specs.Prelude.{slice_get, slice_set, is_some}
-use Rattle.std.proofs.lemmas.List.{map-append}
+use Rattle.std.proofs.Common.{◌≡◌, inl, inr, ℕ, zero, suc, ◌+◌, ◌-◌, true, List, [], ◌∷◌, ◌++◌, add-one, length, length-append, ◌^◌, ◌<◌, Option, Some, None, refl, sym, ap, ◌∙◌, arith, get_or}
+use Rattle.std.specs.Prelude.{slice_get, slice_set, is_some, option_map}
+use Rattle.std.proofs.lemmas.Option.{slice_get-map, slice_get-get_or}
+use Rattle.std.proofs.lemmas.List.{map-append, length-set}
 use lib.ListN.{replicate}
 use Rattle.crash_base.specs.declared.numbers.BrickNo.{BrickNo}
 use Rattle.brick_store.specs.declared.event.BrickEvent.{BrickEvent}
@@ -53,6 +54,7 @@ numbered_set bricks i s t numbered there same = record {
     | inl old ↦ numbered.each j u old
     | inr new ↦ ap (λ (v : LoggedValue). v.number.0) (sym new.1) ∙ ap (λ (b : BrickNo). b.0) same ∙ numbered.each i s there ∙ ap (λ k. k + 1) (sym new.0)
   ];
+  few = omega (arith, length-set bricks i t, numbered.few);
 }
 
 -- a brick has the number that it stands at
@@ -66,14 +68,22 @@ replicate_more : (n : ℕ) (h : List BrickEvent) → replicate n h ++ h ∷ [] �
 replicate_more zero h = refl
 replicate_more (suc n) h = ap (λ l. h ∷ l) (replicate_more n h)
 
-pub numbered_push : (bricks : List LoggedValue) (b : LoggedValue) → AreNumbered bricks → b.number.0 ≡ length bricks + 1 → AreNumbered (bricks ++ b ∷ [])
-numbered_push bricks b numbered number = record {
+pub numbered_push : (bricks : List LoggedValue) (b : LoggedValue) → AreNumbered bricks → b.number.0 ≡ length bricks + 1 → length bricks + 1 < 2 ^ 16 → AreNumbered (bricks ++ b ∷ [])
+numbered_push bricks b numbered number few = record {
   each = λ i s is. elim (get_last bricks b i s is) [
     | inl old ↦ numbered.each i s old
     | inr new ↦ ap (λ (t : LoggedValue). t.number.0) (sym new.1) ∙ number ∙ ap (λ k. k + 1) (sym new.0)
   ];
+  few = omega (arith, length-append bricks (b ∷ []), few);
 }
 
 pub blank_push : (bricks : List LoggedValue) (b : LoggedValue) (n : ℕ) → histories_of bricks ≡ replicate n [] → b.history ≡ [] → histories_of (bricks ++ b ∷ []) ≡ replicate (n + 1) []
 blank_push bricks b n blank new =
     map-append (λ (t : LoggedValue). t.history) bricks (b ∷ []) ∙ (λ l. blank l ++ new l ∷ []) ∙ replicate_more n [] ∙ ap (λ k. replicate k []) (sym (add-one n))
+
+-- the history of a brick that stands at a place
+pub there_at : (bricks : List LoggedValue) (n i : ℕ) (s : LoggedValue) → n ≡ i + 1 → i < length bricks → s ≡ get_or bricks i s → history_at (histories_of bricks) n ≡ Some s.history
+there_at bricks n i s number within read =
+    let place : n ≡ suc i = omega (arith, number) in
+    ap (history_at (histories_of bricks)) place ∙ slice_get-map (λ (t : LoggedValue). t.history) bricks i
+    ∙ ap (option_map (λ (t : LoggedValue). t.history)) (slice_get-get_or bricks i s within ∙ ap (λ t. Some t) (sym read))

@@ -30,12 +30,14 @@
 //!
 //! A `World` is always one that some events made (`IsMade`, which `World::step` hands out), so these hold
 //! of it. The calls are those of `ssm_stub`, and the bricks those of `brick_store`; a world keeps
-//! beside each brick the list of what happened to it. An event goes over the calls once at most, and copies
-//! the frame that it is about; a crash and a sweep visit each value of their brick.
+//! beside each brick the list of what happened to it. An event looks at one call, and copies the frame that
+//! it is about. A write and a read that begin look at the latest nonce alone where theirs comes after it,
+//! and else at each call's (`World::is_new`). A crash and a sweep visit each value of their brick.
 #![tactic(auto)]
 
 mod asking;
 mod call;
+mod call_list;
 mod copies;
 mod event;
 mod laws;

@@ -1,11 +1,11 @@
 //! A brick with what happened to it.
 
-ghost use Rattle.std.specs.Prelude.{◌≡◌, List, ◌∷◌, [], ◌<◌, ◌-◌, ◌^◌, true, Some, OnOk, OnErr, IfOk};
+ghost use Rattle.std.specs.Prelude.{◌≡◌, List, length, ◌∷◌, [], ◌<◌, ◌-◌, ◌^◌, true, Some, OnOk, OnErr, IfOk};
 ghost use Rattle.std.specs.List.{cons_option};
 ghost use Rattle.ssm_frames.specs.Requests.{is_request};
 ghost use Rattle.brick_store.specs.declared.event.BrickEvent.TheVariants as happened;
 ghost use Rattle.brick_store.specs.Bricks.{reply};
-ghost use Rattle.brick_store.specs.History.{incarnation_after};
+ghost use Rattle.brick_store.specs.History.{all_held, incarnation_after};
 ghost use Rattle.brick_store.specs.Standing.{StandsFor, heard};
 ghost use Rattle.brick_store.specs.declared.event.BrickEvent.{BrickEvent};
 ghost use Rattle.ssm_world.specs.Worlds.{brick_after};
@@ -81,6 +81,13 @@ impl LoggedBrick {
         ensures { result ≡ incarnation_after 1 self.now.history }
     {
         self.brick.incarnation()
+    }
+
+    /// How many values it holds. It takes no memory.
+    pub(crate) fn values(&self) -> u64
+        ensures { result ≡ length (all_held self.now.history) }
+    {
+        self.brick.values()
     }
 
     /// The brick does what a request asks, and replies. Where memory runs out, it is as it was. It

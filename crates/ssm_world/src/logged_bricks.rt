@@ -1,12 +1,12 @@
 //! The bricks of a world, by their numbers.
 
-ghost use Rattle.std.specs.Prelude.{◌≡◌, ◌⊎◌, ◌+◌, ◌-◌, ◌^◌, ◌<◌, ◌∷◌, [], true, List, MatchOption, Some, is_some, IfOk, OnOk, OnErr};
+ghost use Rattle.std.specs.Prelude.{◌≡◌, ◌⊎◌, ◌+◌, ◌-◌, ◌^◌, ◌<◌, ◌∷◌, [], true, List, length, option_map, MatchOption, Some, is_some, IfOk, OnOk, OnErr};
 ghost use lib.ListN.{replicate};
 ghost use Rattle.ssm_frames.specs.Requests.{is_request};
 ghost use Rattle.brick_store.specs.declared.event.BrickEvent.{BrickEvent};
 ghost use Rattle.brick_store.specs.declared.event.BrickEvent.TheVariants as happened;
 ghost use Rattle.brick_store.specs.Bricks.{reply};
-ghost use Rattle.brick_store.specs.History.{incarnation_after};
+ghost use Rattle.brick_store.specs.History.{all_held, incarnation_after};
 ghost use Rattle.brick_store.specs.Standing.{heard};
 ghost use Rattle.ssm_world.specs.Worlds.{brick_after, history_at, with_history_at};
 
@@ -84,12 +84,31 @@ impl LoggedBricks {
         Ok(reply)
     }
 
-    /// A brick's incarnation. It takes no memory.
-    pub(crate) fn incarnation(&self, brick: BrickNo) -> u64
-        requires { is_some (history_at self.now brick.0) ≡ true }
-        ensures { (h : List BrickEvent) → history_at self.now brick.0 ≡ Some h → result ≡ incarnation_after 1 h }
+    /// How many bricks there are. It takes no memory.
+    pub(crate) fn len(&self) -> u16
+        ensures { result ≡ length self.now }
     {
-        self.bricks[brick.0 as usize - 1].incarnation()
+        self.bricks.len() as u16
+    }
+
+    /// How many values a brick holds, if there is one of this number. It takes no memory.
+    pub(crate) fn values(&self, brick: BrickNo) -> Option<u64>
+        ensures { result ≡ option_map (λ (h : List BrickEvent). length (all_held h)) (history_at self.now brick.0) }
+    {
+        match place_among(self.bricks.len(), brick) {
+            None => None,
+            Some(place) => Some(self.bricks[place].values()),
+        }
+    }
+
+    /// A brick's incarnation, if there is one of this number. It takes no memory.
+    pub(crate) fn incarnation(&self, brick: BrickNo) -> Option<u64>
+        ensures { result ≡ option_map (λ (h : List BrickEvent). incarnation_after 1 h) (history_at self.now brick.0) }
+    {
+        match place_among(self.bricks.len(), brick) {
+            None => None,
+            Some(place) => Some(self.bricks[place].incarnation()),
+        }
     }
 
     /// A brick crashes.

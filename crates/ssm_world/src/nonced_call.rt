@@ -102,6 +102,13 @@ impl NoncedCall {
         &self.call
     }
 
+    /// Its nonce. It takes no memory.
+    pub(crate) fn nonce(&self) -> Version
+        ensures { result ≡ nonce_of self.now }
+    {
+        self.nonce
+    }
+
     /// Whether it has this nonce. It takes no memory.
     pub(crate) fn has_nonce(&self, nonce: Version) -> bool
         ensures { result ≡ same_version (nonce_of self.now) nonce }

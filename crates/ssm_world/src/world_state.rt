@@ -1,18 +1,19 @@
 //! Bricks, packets and calls, and what each event makes of them.
 
-ghost use Rattle.std.specs.Prelude.{◌≡◌, ◌+◌, ◌<◌, ◌≤◌, ◌∷◌, ◌++◌, [], true, is_some, ℕ, length, map, slice_get, slice_set, Some, None, OnOk, OnErr, IfOk, option_map, not, if◌then◌else◌};
-ghost use Rattle.std.specs.List.{list_any};
-ghost use Rattle.crash_base.specs.Same.{same_version};
+ghost use Rattle.std.specs.Prelude.{◌≡◌, ◌+◌, ◌<◌, ◌≤◌, ◌∷◌, ◌++◌, [], true, is_some, ℕ, List, length, map, slice_get, slice_set, Some, None, OnOk, OnErr, IfOk, option_map, not, if◌then◌else◌};
+ghost use Rattle.brick_store.specs.declared.event.BrickEvent.{BrickEvent};
+ghost use Rattle.brick_store.specs.History.{all_held, incarnation_after};
 ghost use Rattle.ssm_stub.specs.declared.event.StubEvent.{StubEvent};
 ghost use Rattle.ssm_stub.specs.declared.event.StubNext.TheVariants as next;
 ghost use Rattle.ssm_stub.specs.declared.event.Told.TheVariants as told;
 ghost use Rattle.ssm_stub.specs.Runs.{told_of};
 ghost use Rattle.ssm_world.specs.declared.call.Call.{Call};
 ghost use Rattle.ssm_world.specs.declared.event.WorldEvent.TheVariants.{Write, Read, Deliver};
-ghost use Rattle.ssm_world.specs.Worlds.{new_world, history, nonce_of, ask_of, next_of, hear, same_brick, are_distinct, may_be_asked, bricks_of, told_by_send, told_by_packet, sent, came, hushed, delivered, crashed, swept, step, told_if, told_by_hush, may_write, may_read, may_crash, may_happen};
+ghost use Rattle.ssm_world.specs.Worlds.{new_world, history, is_new, nonce_of, ask_of, next_of, hear, same_brick, are_distinct, may_be_asked, bricks_of, told_by_send, told_by_packet, sent, came, hushed, delivered, crashed, swept, step, told_if, told_by_hush, may_write, may_read, may_crash, may_happen};
 
 use crate::asking::{may_be_asked, may_be_read};
 use crate::call::Call;
+use crate::call_list::CallList;
 use crate::copies::{copied_bricks, copied_cookie, copied_value};
 use crate::event::{Packet, WorldEvent};
 use crate::logged_bricks::LoggedBricks;
@@ -29,7 +30,7 @@ use std::marker::Model;
 pub(crate) struct WorldState {
     bricks: LoggedBricks,
     packets: Vec<Packet>,
-    calls: Vec<NoncedCall>,
+    calls: CallList,
 }
 
 impl Model for WorldState {
@@ -37,42 +38,7 @@ impl Model for WorldState {
 
     ghost Value = { WorldValue };
 
-    ghost view = { λ w. record { histories = w.bricks; packets = w.packets.items; calls = w.calls.items } };
-}
-
-/// What the call of this number wants next, if there is one.
-fn next_at(calls: &[NoncedCall], call: u64) -> Option<StubNext>
-    ensures { result ≡ option_map next_of (slice_get calls.now call) }
-{
-    if call < calls.len() as u64 {
-        Some(calls[call as usize].next())
-    } else {
-        None
-    }
-}
-
-/// Tells the call of this number what came.
-fn tell(
-    calls: &mut [NoncedCall],
-    alloc: Global,
-    call: u64,
-    event: StubEvent,
-) -> Result<(), OutOfMemory>
-    requires { call < length calls.old }
-    ensures ok { OnOk result ((c : Call) → slice_get calls.old call ≡ Some c
-        → calls.new ≡ slice_set calls.old call (hear c (told_of event))) }
-    ensures err { OnErr result (calls.new ≡ calls.old) }
-{
-    calls[call as usize].hear(alloc, event)
-}
-
-/// The ask of the call of this number.
-fn ask_at(calls: &[NoncedCall], alloc: Global, call: u64) -> Result<Frame, OutOfMemory>
-    requires { call < length calls.now }
-    ensures { IfOk result (λ frame. (c : Call) → slice_get calls.now call ≡ Some c → frame ≡ ask_of c) }
-{
-    let frame = calls[call as usize].ask(alloc)?;
-    Ok(frame)
+    ghost view = { λ w. record { histories = w.bricks; packets = w.packets.items; calls = w.calls } };
 }
 
 /// What a call is told that sends.
@@ -108,13 +74,6 @@ fn event_of_packet(
     Ok(Some(StubEvent::Frame(bytes)))
 }
 
-/// Whether a call has this nonce.
-fn is_used(calls: &[NoncedCall], nonce: Version) -> bool
-    ensures { result ≡ list_any (λ (c : Call). same_version (nonce_of c) nonce) calls.now }
-{
-    calls.iter().any(|call| call.has_nonce(nonce))
-}
-
 impl WorldState {
     /// Bricks 1 to this number, each of incarnation 1, before any event.
     pub(crate) fn new(alloc: Global, bricks: u16) -> Result<WorldState, OutOfMemory>
@@ -124,7 +83,7 @@ impl WorldState {
         Ok(WorldState {
             bricks,
             packets: Vec::new(alloc),
-            calls: Vec::new(alloc),
+            calls: CallList::new(alloc),
         })
     }
 
@@ -132,11 +91,68 @@ impl WorldState {
     pub(crate) fn call_of(&self, call: u64) -> Option<&Call>
         ensures { option_map (λ c. c.now) result ≡ slice_get self.now.calls call }
     {
-        if call < self.calls.len() as u64 {
-            Some(self.calls[call as usize].call())
+        self.calls.get(call)
+    }
+
+    /// How many calls there are. It takes no memory.
+    pub(crate) fn calls(&self) -> u64
+        ensures { result ≡ length self.now.calls }
+    {
+        self.calls.len()
+    }
+
+    /// What the call of this number wants next, if there is one. It takes no memory.
+    pub(crate) fn next_of(&self, call: u64) -> Option<StubNext>
+        ensures { result ≡ option_map next_of (slice_get self.now.calls call) }
+    {
+        self.calls.next_of(call)
+    }
+
+    /// Whether no call has this nonce. It takes no memory. It looks at one nonce where this one comes after
+    /// those of all calls, and else at each call's.
+    pub(crate) fn is_new(&self, nonce: Version) -> bool
+        ensures { result ≡ is_new self.now nonce }
+    {
+        self.calls.is_new(nonce)
+    }
+
+    /// How many packets were sent. It takes no memory.
+    pub(crate) fn packets(&self) -> u64
+        ensures { result ≡ length self.now.packets }
+    {
+        self.packets.len() as u64
+    }
+
+    /// The packet of this number, if there is one. It takes no memory.
+    pub(crate) fn packet_of(&self, packet: u64) -> Option<&Packet>
+        ensures { option_map (λ p. p.now) result ≡ slice_get self.now.packets packet }
+    {
+        if packet < self.packets.len() as u64 {
+            Some(&self.packets[packet as usize])
         } else {
             None
         }
+    }
+
+    /// How many bricks there are. It takes no memory.
+    pub(crate) fn bricks(&self) -> u16
+        ensures { result ≡ length self.now.histories }
+    {
+        self.bricks.len()
+    }
+
+    /// How many values a brick holds, if there is one of this number. It takes no memory.
+    pub(crate) fn values(&self, brick: BrickNo) -> Option<u64>
+        ensures { result ≡ option_map (λ (h : List BrickEvent). length (all_held h)) (history self.now brick) }
+    {
+        self.bricks.values(brick)
+    }
+
+    /// A brick's incarnation, if there is one of this number. It takes no memory.
+    pub(crate) fn incarnation(&self, brick: BrickNo) -> Option<u64>
+        ensures { result ≡ option_map (λ (h : List BrickEvent). incarnation_after 1 h) (history self.now brick) }
+    {
+        self.bricks.incarnation(brick)
     }
 
     /// A call sends its ask.
@@ -151,12 +167,12 @@ impl WorldState {
         ensures err { OnErr result (self.new ≡ self.old) }
         ensures memory { OnErr result (is_some (told_if (told_by_send silent) (slice_get self.old.calls call)) ≡ true) }
     {
-        match next_at(&self.calls, call) {
+        match self.calls.next_of(call) {
             Some(StubNext::Send { brick }) => {
-                let frame = ask_at(&self.calls, alloc, call)?;
+                let frame = self.calls.ask(alloc, call)?;
                 let event = event_of_send(silent);
                 self.packets.reserve(1)?;
-                tell(&mut self.calls, alloc, call, event)?;
+                self.calls.tell(alloc, call, event)?;
                 if arrives {
                     self.packets.push_reserved(Packet { brick, frame });
                 }
@@ -172,8 +188,8 @@ impl WorldState {
         ensures err { OnErr result (self.new ≡ self.old) }
         ensures memory { OnErr result (is_some (told_if told_by_hush (slice_get self.old.calls call)) ≡ true) }
     {
-        match next_at(&self.calls, call) {
-            Some(StubNext::Receive { .. }) => tell(&mut self.calls, alloc, call, StubEvent::Silent),
+        match self.calls.next_of(call) {
+            Some(StubNext::Receive { .. }) => self.calls.tell(alloc, call, StubEvent::Silent),
             _ => Ok(()),
         }
     }
@@ -205,12 +221,12 @@ impl WorldState {
         ensures err { OnErr result (self.new ≡ self.old) }
         ensures memory { OnErr result (is_some (told_if (told_by_packet (slice_get self.old.packets packet)) (slice_get self.old.calls call)) ≡ true) }
     {
-        match next_at(&self.calls, call) {
+        match self.calls.next_of(call) {
             Some(StubNext::Receive { brick }) => {
                 match event_of_packet(self.packets.as_slice(), alloc, packet, brick)? {
                     None => Ok(()),
                     Some(event) => {
-                        tell(&mut self.calls, alloc, call, event)?;
+                        self.calls.tell(alloc, call, event)?;
                         Ok(())
                     }
                 }
@@ -225,11 +241,13 @@ impl WorldState {
         ensures err { OnErr result (self.new ≡ self.old) }
         ensures memory { OnErr result (may_crash (history self.old brick) ≡ true) }
     {
-        if !self.bricks.has(brick) {
-            return Ok(());
-        }
-        if self.bricks.incarnation(brick) == u64::MAX {
-            return Ok(());
+        match self.bricks.incarnation(brick) {
+            None => return Ok(()),
+            Some(incarnation) => {
+                if incarnation == u64::MAX {
+                    return Ok(());
+                }
+            }
         }
         self.bricks.crash(brick)?;
         Ok(())
@@ -264,7 +282,7 @@ impl WorldState {
         ensures memory { OnErr result (may_write self.old nonce bricks.now least ≡ true) }
     {
         let asked = bricks.as_slice();
-        if is_used(&self.calls, nonce) || !may_be_asked(asked) {
+        if !self.is_new(nonce) || !may_be_asked(asked) {
             return Ok(());
         }
         if least == 0 || least as usize > asked.len() {
@@ -289,7 +307,7 @@ impl WorldState {
         ensures err { OnErr result (self.new ≡ self.old) }
         ensures memory { OnErr result (may_read self.old nonce cookie.now.bricks ≡ true) }
     {
-        if is_used(&self.calls, nonce) || !may_be_read(cookie.bricks.as_slice()) {
+        if !self.is_new(nonce) || !may_be_read(cookie.bricks.as_slice()) {
             return Ok(());
         }
         let copy = copied_cookie(alloc, cookie)?;

@@ -1,14 +1,16 @@
-use Rattle.std.proofs.Common.{◌≡◌, ◌∙◌, Some, ap}
+use Rattle.std.proofs.Common.{◌≡◌, ◌∙◌, ◌+◌, ◌<◌, ℕ, List, Some, sym, ap, arith}
+use Rattle.std.specs.Prelude.{option_map}
+use Rattle.brick_store.specs.declared.event.BrickEvent.{BrickEvent}
 use Rattle.brick_store.specs.History.{incarnation_after}
-use Rattle.ssm_world.specs.Logged.{histories_of}
 use Rattle.ssm_world.specs.Worlds.{history_at}
-use Rattle.ssm_world.proofs.Numbering.{StandsAt, stands_at}
+use Rattle.ssm_world.proofs.Numbering.{there_at}
 use Rattle.ssm_world.proofs.logged_bricks.LoggedBricks.incarnation.Goals as goal
 
-pub returns : goal.returns
-returns c h now =
+pub returns-in-Some : goal.returns-in-Some
+returns-in-Some c =
     let items = c.self.inside.bricks.items in
     let n = c.args.brick.0 in
-    let is : history_at (histories_of items) n ≡ Some h = ap (λ hs. history_at hs n) c.self.view_is ∙ now in
-    let at : StandsAt items n h c.index.result.now = stands_at items n h c.index.result.now is c.index.ensures in
-    c.incarnation.ensures ∙ ap (incarnation_after 1) at.history_is
+    let at : (n ≡ c.in-Some.place + 1) × (c.in-Some.place < c.len.result) = c.in-Some.ensures in
+    let now : history_at c.args.self.now n ≡ Some c.index.result.now.history =
+    ap (λ hs. history_at hs n) (sym c.self.view_is) ∙ there_at items n c.in-Some.place c.index.result.now at.0 (omega (arith, at.1, c.len.ensures)) c.index.ensures in
+    ap (λ (k : ℕ). Some k) c.incarnation.ensures ∙ ap (option_map (λ (h : List BrickEvent). incarnation_after 1 h)) (sym now)

@@ -1,0 +1,159 @@
+//! The calls of a world.
+
+ghost use Rattle.std.specs.Prelude.{◌≡◌, ◌<◌, ◌++◌, ◌∷◌, [], length, not, option_map, slice_get, slice_set, Some, IfOk, OnOk, OnErr};
+ghost use Rattle.std.specs.List.{list_any};
+ghost use Rattle.crash_base.specs.Same.{same_version};
+ghost use Rattle.ssm_stub.specs.Runs.{told_of};
+ghost use Rattle.ssm_world.specs.declared.call.Call.{Call};
+ghost use Rattle.ssm_world.specs.Worlds.{nonce_of, ask_of, next_of, hear};
+ghost use Rattle.ssm_world.specs.Nonces.{is_before, is_past, latest_of};
+
+use crate::call::Call;
+use crate::nonced_call::NoncedCall;
+use crash_base::{OutOfMemory, Version};
+use ssm_frames::Frame;
+use ssm_stub::{StubEvent, StubNext};
+use std::alloc::Global;
+use std::marker::Model;
+
+/// All calls, the first first, and the latest of their nonces.
+#[derive(Drop)]
+pub(crate) struct CallList {
+    calls: Vec<NoncedCall>,
+    latest: Option<Version>,
+}
+
+impl Model for CallList {
+    ghost use Rattle.std.specs.Prelude.{List};
+    ghost use Rattle.ssm_world.specs.declared.call.Call.{Call};
+    ghost use Rattle.ssm_world.specs.Nonces.{NoneIsPast};
+
+    ghost Value = { List Call };
+
+    ghost view = { λ l. l.calls.items };
+
+    ghost invariant = { λ l. NoneIsPast l.latest l.calls.items };
+}
+
+/// Whether a version comes before another: by boot, in a boot by node, and of a node by serial.
+fn is_before(a: Version, b: Version) -> bool
+    ensures { result ≡ is_before a b }
+{
+    a.boot < b.boot
+        || (a.boot == b.boot && (a.node < b.node || (a.node == b.node && a.serial < b.serial)))
+}
+
+/// Whether a version comes after the latest one, if there is one.
+fn is_past(latest: Option<Version>, version: Version) -> bool
+    ensures { result ≡ is_past latest version }
+{
+    match latest {
+        None => true,
+        Some(latest) => is_before(latest, version),
+    }
+}
+
+/// The latest version after one more.
+fn latest_of(latest: Option<Version>, version: Version) -> Option<Version>
+    ensures { result ≡ latest_of latest version }
+{
+    if is_past(latest, version) {
+        Some(version)
+    } else {
+        latest
+    }
+}
+
+/// Whether a call has this nonce.
+fn is_used(calls: &[NoncedCall], nonce: Version) -> bool
+    ensures { result ≡ list_any (λ (c : Call). same_version (nonce_of c) nonce) calls.now }
+{
+    calls.iter().any(|call| call.has_nonce(nonce))
+}
+
+impl CallList {
+    /// No call. It takes no memory.
+    pub(crate) fn new(alloc: Global) -> CallList
+        ensures { result ≡ [] }
+    {
+        CallList {
+            calls: Vec::new(alloc),
+            latest: None,
+        }
+    }
+
+    /// How many calls there are. It takes no memory.
+    pub(crate) fn len(&self) -> u64
+        ensures { result ≡ length self.now }
+    {
+        self.calls.len() as u64
+    }
+
+    /// The call of this number, if there is one. It takes no memory.
+    pub(crate) fn get(&self, call: u64) -> Option<&Call>
+        ensures { option_map (λ c. c.now) result ≡ slice_get self.now call }
+    {
+        if call < self.calls.len() as u64 {
+            Some(self.calls[call as usize].call())
+        } else {
+            None
+        }
+    }
+
+    /// What the call of this number wants next, if there is one. It takes no memory.
+    pub(crate) fn next_of(&self, call: u64) -> Option<StubNext>
+        ensures { result ≡ option_map next_of (slice_get self.now call) }
+    {
+        if call < self.calls.len() as u64 {
+            Some(self.calls[call as usize].next())
+        } else {
+            None
+        }
+    }
+
+    /// Whether no call has this nonce. It takes no memory. It looks at one nonce where this one comes after
+    /// those of all calls, and else at each call's.
+    pub(crate) fn is_new(&self, nonce: Version) -> bool
+        ensures { result ≡ not (list_any (λ (c : Call). same_version (nonce_of c) nonce) self.now) }
+    {
+        if is_past(self.latest, nonce) {
+            return true;
+        }
+        !is_used(&self.calls, nonce)
+    }
+
+    /// The ask of the call of this number.
+    pub(crate) fn ask(&self, alloc: Global, call: u64) -> Result<Frame, OutOfMemory>
+        requires { call < length self.now }
+        ensures { IfOk result (λ frame. (c : Call) → slice_get self.now call ≡ Some c → frame ≡ ask_of c) }
+    {
+        let frame = self.calls[call as usize].ask(alloc)?;
+        Ok(frame)
+    }
+
+    /// Tells the call of this number what came. Where memory ran out, all are as they were.
+    pub(crate) fn tell(
+        &mut self,
+        alloc: Global,
+        call: u64,
+        event: StubEvent,
+    ) -> Result<(), OutOfMemory>
+        requires { call < length self.old }
+        ensures ok { OnOk result ((c : Call) → slice_get self.old call ≡ Some c
+            → self.new ≡ slice_set self.old call (hear c (told_of event))) }
+        ensures err { OnErr result (self.new ≡ self.old) }
+    {
+        self.calls[call as usize].hear(alloc, event)
+    }
+
+    /// One call more, the last. Where memory ran out, all are as they were.
+    pub(crate) fn push(&mut self, call: NoncedCall) -> Result<(), OutOfMemory>
+        ensures ok { OnOk result (self.new ≡ self.old ++ call ∷ []) }
+        ensures err { OnErr result (self.new ≡ self.old) }
+    {
+        let nonce = call.nonce();
+        self.calls.push(call)?;
+        self.latest = latest_of(self.latest, nonce);
+        Ok(())
+    }
+}
