@@ -2,6 +2,7 @@ mod Askable
 mod Answering
 mod Asks
 mod CallAsks
+mod Changing
 mod Ending
 mod Growing
 mod Hearing

@@ -21,7 +21,7 @@ use Rattle.ssm_world.specs.declared.event.WorldEvent.{WorldEvent}
 use Rattle.ssm_world.specs.declared.event.WorldEvent.TheVariants.{Write, Read, Send, Deliver, Hear, Hush, Crash, Sweep}
 use Rattle.ssm_world.specs.Facts.{AllStored}
 use Rattle.ssm_world.specs.Worlds.{WorldValue, new_world, nonce_of, ask_of, next_of, hear, history, history_at, with_history, with_sent, with_new_call, is_new, same_brick, may_write, may_read, told_by_send, told_by_hush, told_by_packet, packet_by_send, with_told, sent, came, hushed, brick_after, replied, reached, delivered, crashed, swept, step, after}
-use Rattle.ssm_world.specs.Sound.{WasSent, RepliesSince, WasWritten, IsSound, CallIsSound}
+use Rattle.ssm_world.specs.Sound.{WasSent, Grows, RepliesSince, WasWritten, IsSound, CallIsSound}
 use Rattle.ssm_world.proofs.Asks.{CameIsSent}
 use Rattle.ssm_world.proofs.Growing.{grows_same, same_ask}
 use Rattle.ssm_world.proofs.Hearing.{hear_untold, hear_is_sound, write_begins, read_begins}
@@ -171,3 +171,10 @@ replies_since w es sound = (after_stays w w es).replies sound (grows_same w) (re
 
 pub world_replies : (n : ℕ) (es : List WorldEvent) → RepliesSince (new_world n) (after (new_world n) es)
 world_replies n es = replies_since (new_world n) es (new_is_sound n)
+
+-- a later world has grown from each earlier one
+pub worlds_grow : (n : ℕ) (es later : List WorldEvent) → Grows (after (new_world n) es) (after (after (new_world n) es) later)
+worlds_grow n es later = (after_stays (new_world n) (after (new_world n) es) later).grows
+
+pub worlds_reply : (n : ℕ) (es later : List WorldEvent) → RepliesSince (after (new_world n) es) (after (after (new_world n) es) later)
+worlds_reply n es later = replies_since (after (new_world n) es) later (world_is_sound n es)

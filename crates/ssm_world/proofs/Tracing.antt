@@ -75,7 +75,7 @@ none_told w k place d o none at_place = go (k == place) refl
     go false is = at_place
 
 -- calls stay where a packet is sent, and where a brick goes on
-sent_calls : (w : WorldValue) (o : Option Packet) → (with_sent w o).calls ≡ w.calls
+pub sent_calls : (w : WorldValue) (o : Option Packet) → (with_sent w o).calls ≡ w.calls
 sent_calls w None = refl
 sent_calls w (Some packet) = refl
 
@@ -120,7 +120,7 @@ replied_calls : (w : WorldValue) (p : Packet) (h : List BrickEvent) (o : Option 
 replied_calls w p h None = refl
 replied_calls w p h (Some frame) = refl
 
-delivered_calls : (w : WorldValue) (o : Option Packet) → (delivered w o).calls ≡ w.calls
+pub delivered_calls : (w : WorldValue) (o : Option Packet) → (delivered w o).calls ≡ w.calls
 delivered_calls w None = refl
 delivered_calls w (Some p) = go (history w p.brick)
   where
@@ -128,7 +128,7 @@ delivered_calls w (Some p) = go (history w p.brick)
     go None = refl
     go (Some h) = replied_calls w p h (reply (brick_after p.brick h) p.frame)
 
-crashed_calls : (w : WorldValue) (brick : BrickNo) (o : Option (List BrickEvent)) → (crashed w brick o).calls ≡ w.calls
+pub crashed_calls : (w : WorldValue) (brick : BrickNo) (o : Option (List BrickEvent)) → (crashed w brick o).calls ≡ w.calls
 crashed_calls w brick None = refl
 crashed_calls w brick (Some h) = go (nat_lt (incarnation_after 1 h) (2 ^ 64 - 1))
   where
@@ -136,7 +136,7 @@ crashed_calls w brick (Some h) = go (nat_lt (incarnation_after 1 h) (2 ^ 64 - 1)
     go true = refl
     go false = refl
 
-swept_calls : (w : WorldValue) (brick : BrickNo) (moment : Moment) (o : Option (List BrickEvent)) → (swept w brick moment o).calls ≡ w.calls
+pub swept_calls : (w : WorldValue) (brick : BrickNo) (moment : Moment) (o : Option (List BrickEvent)) → (swept w brick moment o).calls ≡ w.calls
 swept_calls w brick moment None = refl
 swept_calls w brick moment (Some h) = refl
 
@@ -152,18 +152,18 @@ call_step w (Crash brick) place d there = ap (λ cs. slice_get cs place) (crashe
 call_step w (Sweep brick moment) place d there = ap (λ cs. slice_get cs place) (swept_calls w brick moment (history w brick)) ∙ there
 
 -- an event tells a call only what can come of what it wants
-send_fits : (silent : Bool) (n : StubNext) (t : Told) → told_by_send silent n ≡ Some t → IsTrue (fits n t)
+pub send_fits : (silent : Bool) (n : StubNext) (t : Told) → told_by_send silent n ≡ Some t → IsTrue (fits n t)
 send_fits true (next.Send brick) t is = let same : told.Silent ≡ t = cc in ap (fits (next.Send brick)) (sym same)
 send_fits false (next.Send brick) t is = let same : told.Sent ≡ t = cc in ap (fits (next.Send brick)) (sym same)
 send_fits silent (next.Receive brick) t is = absurd (cc)
 send_fits silent next.Ended t is = absurd (cc)
 
-hush_fits : (n : StubNext) (t : Told) → told_by_hush n ≡ Some t → IsTrue (fits n t)
+pub hush_fits : (n : StubNext) (t : Told) → told_by_hush n ≡ Some t → IsTrue (fits n t)
 hush_fits (next.Send brick) t is = absurd (cc)
 hush_fits (next.Receive brick) t is = let same : told.Silent ≡ t = cc in ap (fits (next.Receive brick)) (sym same)
 hush_fits next.Ended t is = absurd (cc)
 
-packet_fits : (packet : Option Packet) (n : StubNext) (t : Told) → told_by_packet packet n ≡ Some t → IsTrue (fits n t)
+pub packet_fits : (packet : Option Packet) (n : StubNext) (t : Told) → told_by_packet packet n ≡ Some t → IsTrue (fits n t)
 packet_fits packet (next.Send brick) t is = absurd (cc)
 packet_fits packet next.Ended t is = absurd (cc)
 packet_fits None (next.Receive brick) t is = absurd (cc)

@@ -1,7 +1,7 @@
 //! What holds of every world. Each law is the contract of a function that does nothing: a caller that
 //! needs the law calls the function.
 
-ghost use Rattle.std.specs.Prelude.{◌≡◌, ◌⊎◌, ℕ, List, length, true, false, slice_get, Some, Result, Ok, Err};
+ghost use Rattle.std.specs.Prelude.{◌≡◌, ◌≢◌, ◌⊎◌, ℕ, List, length, true, false, slice_get, Some, Result, Ok, Err};
 ghost use Rattle.crash_base.specs.declared.numbers.BrickNo.{BrickNo};
 ghost use Rattle.crash_base.specs.declared.numbers.Moment.{Moment};
 ghost use Rattle.crash_base.specs.declared.numbers.SessionKey.{SessionKey};
@@ -25,7 +25,7 @@ ghost use Rattle.ssm_stub.specs.Reads.{ReadState, read_answer};
 ghost use Rattle.ssm_world.specs.declared.event.WorldEvent.{WorldEvent};
 ghost use Rattle.ssm_world.specs.Worlds.{WorldValue, may_be_asked, bricks_of, new_world, step, may_happen, after};
 ghost use Rattle.ssm_world.specs.Facts.{frame_nonce};
-ghost use Rattle.ssm_world.specs.Sound.{IsSound, RepliesSince};
+ghost use Rattle.ssm_world.specs.Sound.{IsSound, RepliesSince, Grows};
 ghost use Rattle.ssm_world.specs.Claims.{IsAcknowledged, kept_for, Keeps, IsWithin, HeardAs, IsRight, ReadOrder, ReadAfter, read_world, told_since};
 
 use ssm_stub::{an_outcome_of_a_get_has_its_events, each_hears_its_own};
@@ -33,6 +33,21 @@ use ssm_stub::{an_outcome_of_a_get_has_its_events, each_hears_its_own};
 /// An event that may not happen changes nothing.
 pub fn events_that_may_not_happen_change_nothing()
     ensures { (w : WorldValue) (event : WorldEvent) → may_happen w event ≡ false → step w event ≡ w }
+{}
+
+/// An event that may happen changes the world.
+pub fn events_that_may_happen_change_the_world()
+    ensures { (w : WorldValue) (event : WorldEvent) → may_happen w event ≡ true → step w event ≢ w }
+{}
+
+/// Worlds only grow: a later world has each packet and each call of an earlier one, a call was told more at
+/// most, and the history of each brick stands behind its newer events. Each reply that was sent since was
+/// made since.
+pub fn worlds_only_grow()
+    ensures grows { (bricks : ℕ) (earlier later : List WorldEvent)
+        → Grows (after (new_world bricks) earlier) (after (after (new_world bricks) earlier) later) }
+    ensures replies { (bricks : ℕ) (earlier later : List WorldEvent)
+        → RepliesSince (after (new_world bricks) earlier) (after (after (new_world bricks) earlier) later) }
 {}
 
 /// Every world is sound: no two calls have one nonce, each request is the ask of a call, and what calls

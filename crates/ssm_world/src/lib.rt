@@ -26,7 +26,8 @@
 //!   and by what the events told this read.
 //! - `holders_answer_found`: a holder that neither crashed nor was swept past the lease, and was heard,
 //!   gave the value, unless the link was silent to the read or gave it 64 strays.
-//! - `events_that_may_not_happen_change_nothing`.
+//! - `worlds_only_grow`: a later world has all packets and calls of an earlier one, and longer histories.
+//! - `events_that_may_not_happen_change_nothing`, and `events_that_may_happen_change_the_world`.
 //!
 //! A `World` is always one that some events made (`IsMade`, which `World::step` hands out), so these hold
 //! of it. The calls are those of `ssm_stub`, and the bricks those of `brick_store`; a world keeps
@@ -51,7 +52,8 @@ pub use call::Call;
 pub use event::{Packet, WorldEvent};
 pub use laws::{
     acknowledged_cookies_may_be_read, acknowledged_values_are_held,
-    events_that_may_not_happen_change_nothing, holders_answer_found, one_value_per_version,
-    reads_answer_what_was_written, worlds_are_sound,
+    events_that_may_happen_change_the_world, events_that_may_not_happen_change_nothing,
+    holders_answer_found, one_value_per_version, reads_answer_what_was_written, worlds_are_sound,
+    worlds_only_grow,
 };
 pub use world::World;
