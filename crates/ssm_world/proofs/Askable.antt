@@ -91,7 +91,7 @@ fewer_taken zero hs = (omega arith, refl)
 fewer_taken (suc n) [] = (omega arith, refl)
 fewer_taken (suc n) (h ∷ hs) = (omega (arith, (fewer_taken n hs).0), ap suc (fewer_taken n hs).1)
 
-at_most : (a b : ℕ) → nat_le 1 a ≡ true → b ≡ a → b ≤ MAX_HOLDERS → (nat_le 1 b && nat_le b MAX_HOLDERS) ≡ true
+at_most : (a b : ℕ) → 1 ≤ a → b ≡ a → b ≤ MAX_HOLDERS → (nat_le 1 b && nat_le b MAX_HOLDERS) ≡ true
 at_most a b one same few = grind (arith, nat_tests)
 
 taken_length : {A : Type 0} (n : ℕ) (xs : List A) → n ≤ length xs → length (take n xs) ≡ n

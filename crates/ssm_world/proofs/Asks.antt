@@ -1,6 +1,7 @@
 -- What the asks of a call keep as it is told things.
-use Rattle.std.proofs.Common.{◌≡◌, inl, inr, ℕ, zero, suc, ◌+◌, ◌-◌, Bool, true, false, if◌then◌else◌, nat_lt, List, [], ◌∷◌, Option, Some, None, Result, refl, sym, ap, ◌∙◌, subst}
+use Rattle.std.proofs.Common.{◌≡◌, inl, inr, length, ℕ, zero, suc, ◌+◌, ◌-◌, Bool, true, false, if◌then◌else◌, nat_lt, List, [], ◌∷◌, Option, Some, None, Result, refl, sym, ap, ◌∙◌, subst}
 use Rattle.std.specs.Prelude.{slice_get, slice_set, position}
+use Rattle.std.proofs.lemmas.List.{length-map}
 use Rattle.std.specs.Option.{option_and_then, option_or}
 use Rattle.crash_base.specs.declared.numbers.BrickNo.{BrickNo}
 use Rattle.session_cookie.specs.declared.cookie.Holder.{Holder}
@@ -45,6 +46,15 @@ asked_after lawful told asks (Some turn) = asked_with_ear asks turn.at (heard (l
 pub asked_none : {W : Type 0} (A : Type 0) (whos : List W) → asked_of (none_asked {W = W} {A = A} whos) ≡ whos
 asked_none A [] = refl
 asked_none A (who ∷ whos) = ap (λ l. who ∷ l) (asked_none A whos)
+
+-- and as many
+pub asks_length : {W A : Type 0} (lawful : W → Frame → Option A) (told : Told) (asks : List (Ask W A)) (turn : Option (Turn W)) → length (asks_after lawful told asks turn) ≡ length asks
+asks_length {W} {A} lawful told asks turn =
+    let who : Ask W A → W = λ ask. ask.who in
+    sym (length-map (asks_after lawful told asks turn) who) ∙ ap length (asked_after lawful told asks turn) ∙ length-map asks who
+
+pub none_length : {W : Type 0} (A : Type 0) (whos : List W) → length (none_asked {W = W} {A = A} whos) ≡ length whos
+none_length {W} A whos = length-map whos (λ (who : W). record { who = who; ear = Open Unasked })
 
 -- an answer is heard only by a frame that is lawful
 record Answers {A : Type 0} (lawful : Frame → Option A) (told : Told) (reply : A) : Type 0 where

@@ -7,12 +7,15 @@ use Rattle.brick_store.specs.declared.event.BrickEvent.{BrickEvent}
 use Rattle.brick_store.specs.declared.event.BrickEvent.TheVariants.{Stored, Sweep, Crash}
 use Rattle.brick_store.specs.Standing.{heard}
 use Rattle.ssm_stub.specs.declared.ask.Ask.{Ask}
+use Rattle.ssm_stub.specs.declared.reply.ReadReply.{ReadReply}
+use Rattle.ssm_stub.specs.declared.reply.WriteReply.{WriteReply}
 use Rattle.ssm_world.specs.declared.event.Packet.{Packet}
 use Rattle.ssm_world.specs.declared.call.Call.{Call}
 use Rattle.ssm_world.specs.declared.call.Call.TheVariants as call
 use Rattle.ssm_world.specs.Facts.{AllStored}
-use Rattle.ssm_world.specs.Worlds.{WorldValue, nonce_of, ask_of, history, with_history, with_packet, with_new_call, with_call}
-use Rattle.ssm_world.specs.Sound.{untold, WasSent, WasAsked, Grows, WasMade, WasWritten, WereSent, CallIsSound}
+use Rattle.ssm_world.specs.Worlds.{WorldValue, nonce_of, ask_of, history, with_history, with_packet, with_new_call, with_call, bricks_of}
+use Rattle.ssm_world.specs.Sound.{asked_of, untold, WasSent, WasAsked, bricks_asked, Asks, WasAskedOf, Grows, WasMade, WasWritten, WereSent, CallIsSound}
+use Rattle.ssm_world.proofs.Asks.{asked_none}
 use Rattle.ssm_world.proofs.Lists.{get_front, set_keeps, history_keeps}
 
 -- a call's nonce and its ask are those with which it began
@@ -29,6 +32,14 @@ same_nonce c d same = sym (untold_nonce d) ∙ ap nonce_of same ∙ untold_nonce
 
 pub same_ask : (c d : Call) → untold d ≡ untold c → ask_of d ≡ ask_of c
 same_ask c d same = sym (untold_ask d) ∙ ap ask_of same ∙ untold_ask c
+
+-- and so are the bricks that it asks
+untold_bricks : (c : Call) → bricks_asked (untold c) ≡ bricks_asked c
+untold_bricks (call.Write s) = asked_none WriteReply (asked_of s.asks)
+untold_bricks (call.Read s) = ap bricks_of (asked_none ReadReply (asked_of s.asks))
+
+pub same_bricks : (c d : Call) → untold d ≡ untold c → bricks_asked d ≡ bricks_asked c
+same_bricks c d same = sym (untold_bricks d) ∙ ap bricks_asked same ∙ untold_bricks c
 
 pub grows_same : (w : WorldValue) → Grows w w
 grows_same w = record {
@@ -99,6 +110,16 @@ asked_stays w v frame grows was =
     let now : (d : Call) × (slice_get v.calls was.0 ≡ Some d) × (untold d ≡ untold was.1) = grows.calls was.0 was.1 was.2 in
     (was.0, now.0, now.1, same_ask was.1 now.0 now.2 ∙ was.3)
 
+-- an ask to a brick is the ask of its call
+pub ask_of_call : (w : WorldValue) (brick : BrickNo) (frame : Frame) → WasAskedOf w brick frame → WasAsked w frame
+ask_of_call w brick frame was = (was.0, was.1, was.2, was.3)
+
+pub brick_asked_stays : (w v : WorldValue) (brick : BrickNo) (frame : Frame) → Grows w v → WasAskedOf w brick frame → WasAskedOf v brick frame
+brick_asked_stays w v brick frame grows was =
+    let now : (d : Call) × (slice_get v.calls was.0 ≡ Some d) × (untold d ≡ untold was.1) = grows.calls was.0 was.1 was.2 in
+    let asks : Asks now.0 brick = (was.4.0, ap (λ bricks. slice_get bricks was.4.0) (same_bricks was.1 now.0 now.2) ∙ was.4.1) in
+    (was.0, now.0, now.1, same_ask was.1 now.0 now.2 ∙ was.3, asks)
+
 pub sent_stays : (w v : WorldValue) (brick : BrickNo) (frame : Frame) → Grows w v → WasSent w brick frame → WasSent v brick frame
 sent_stays w v brick frame grows was = (was.0, grows.packets was.0 (record { brick = brick; frame = frame }) was.1)
 
@@ -120,6 +141,7 @@ call_stays w v (call.Write s) grows sound = record {
   ask_is = sound.ask_is;
   bricks = sound.bricks;
   some = sound.some;
+  at_most_all = sound.at_most_all;
   replies = were_stay w v _ _ s.asks grows sound.replies;
 }
 call_stays w v (call.Read s) grows sound = record {

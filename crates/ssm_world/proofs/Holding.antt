@@ -34,6 +34,7 @@ use Rattle.ssm_world.specs.Worlds.{WorldValue, new_world, history, after}
 use Rattle.ssm_world.specs.Sound.{WasSent, WasAsked, WasMade, RepliesSince, WasWritten, IsSound, WriteIsSound}
 use Rattle.ssm_world.specs.Claims.{IsAcknowledged, kept_for, Keeps}
 use Rattle.ssm_world.proofs.CallAsks.{one_ask, put_asked}
+use Rattle.ssm_world.proofs.Growing.{ask_of_call}
 use Rattle.ssm_world.proofs.Histories.{stored_front, stored_weaker, held_on}
 use Rattle.ssm_world.proofs.Lawful.{lawful_stored}
 use Rattle.ssm_world.proofs.Replying.{StoredFor, stored_for}
@@ -133,7 +134,7 @@ holder_holds n w k s value i h sound replies there ask_is holder =
     let p : Packet = record { brick = h.brick; frame = Stored s.nonce s.key s.nonce at.ask.who h.incarnation } in
     let was : slice_get w.packets came.1.0 ≡ Some p = came.1.1 ∙ (λ l. Some (record { brick = at.who_is l; frame = frame_is l })) in
     let made : WasMade (new_world n) w p = replies.each came.1.0 p (omega arith) was refl in
-    let asked : WasAsked w made.request = sound.requests made.was_sent.0 (record { brick = h.brick; frame = made.request }) made.was_sent.1 made.asks in
+    let asked : WasAsked w made.request = ask_of_call w h.brick made.request (sound.requests made.was_sent.0 (record { brick = h.brick; frame = made.request }) made.was_sent.1 made.asks) in
     let for : StoredFor made.earlier made.request s.nonce s.key s.nonce h.incarnation = stored_for h.brick at.ask.who made.earlier made.request s.nonce s.key s.nonce h.incarnation made.reply_is in
     let A : Frame → Type 0 = λ f. WasAsked w f in
     let one : Put s.nonce s.key s.nonce for.expiry for.value ≡ Put s.nonce s.key s.nonce s.expiry value = one_ask w _ _ sound (subst A for.request_is asked) (k, call.Write s, there, ask_is) refl in
@@ -183,8 +184,8 @@ pub one_put : (n : ℕ) (es : List WorldEvent) (i j : ℕ) (a b : BrickNo) (m o 
 one_put n es i j a b m o k l v d e y z at_i at_j =
     let w : WorldValue = after (new_world n) es in
     let sound : IsSound w = world_is_sound n es in
-    let first : WasAsked w (Put m k v d y) = sound.requests i (record { brick = a; frame = Put m k v d y }) at_i refl in
-    let second : WasAsked w (Put o l v e z) = sound.requests j (record { brick = b; frame = Put o l v e z }) at_j refl in
+    let first : WasAsked w (Put m k v d y) = ask_of_call w a (Put m k v d y) (sound.requests i (record { brick = a; frame = Put m k v d y }) at_i refl) in
+    let second : WasAsked w (Put o l v e z) = ask_of_call w b (Put o l v e z) (sound.requests j (record { brick = b; frame = Put o l v e z }) at_j refl) in
     let nonce : m ≡ o = put_asked w m k v d y sound first ∙ sym (put_asked w o l v e z sound second) in
     let one : Put m k v d y ≡ Put o l v e z = one_ask w _ _ sound first second nonce in
     (cc, cc, cc)

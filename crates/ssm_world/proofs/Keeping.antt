@@ -17,9 +17,9 @@ use Rattle.ssm_world.specs.declared.event.Packet.{Packet}
 use Rattle.ssm_world.specs.declared.call.Call.{Call}
 use Rattle.ssm_world.specs.Facts.{AllStored}
 use Rattle.ssm_world.specs.Worlds.{WorldValue, nonce_of, ask_of, history, with_history, with_packet, with_new_call, with_call, is_new, brick_after}
-use Rattle.ssm_world.specs.Sound.{untold, WasAsked, Grows, WasMade, RepliesSince, WasWritten, CallIsSound, IsSound}
+use Rattle.ssm_world.specs.Sound.{untold, Asks, WasAsked, Grows, WasMade, RepliesSince, WasWritten, CallIsSound, IsSound}
 use Rattle.ssm_world.proofs.CallAsks.{put_asked, ask_is_request}
-use Rattle.ssm_world.proofs.Growing.{same_nonce, grows_same, grows_on, grows_packet, grows_new_call, grows_call, grows_history, asked_stays, sent_stays, stored_stays, call_stays, made_stays}
+use Rattle.ssm_world.proofs.Growing.{same_nonce, grows_same, grows_on, grows_packet, grows_new_call, grows_call, grows_history, ask_of_call, brick_asked_stays, sent_stays, stored_stays, call_stays, made_stays}
 use Rattle.ssm_world.proofs.Lists.{get_last, get_set, history_set, history_set_same, none_passes}
 use Rattle.ssm_world.proofs.Replying.{heard_is, RepliesTo, reply_to}
 use Rattle.ssm_world.proofs.Tests.{version_same}
@@ -69,7 +69,7 @@ new_call_stays since w c new begins =
             | inr new_k ↦ new_j.0 ∙ sym new_k.0
           ]
         ];
-        requests = λ i p is asks. asked_stays w _ p.frame grows (s.requests i p is asks);
+        requests = λ i p is asks. brick_asked_stays w _ p.brick p.frame grows (s.requests i p is asks);
         stored = λ brick h is. stored_stays w _ h grows (s.stored brick h is);
         calls = λ k d is. elim (get_last w.calls c k d is) [
           | inl old ↦ call_stays w _ d grows (s.calls k d old)
@@ -97,7 +97,7 @@ call_stays_sound since w k c d there same hears =
             let was_i = was_call w k c d there same i e at_i in
             let was_j = was_call w k c d there same j f at_j in
             s.nonces i j was_i.0 was_j.0 was_i.1 was_j.1 (sym (same_nonce was_i.0 e was_i.2) ∙ equal ∙ same_nonce was_j.0 f was_j.2);
-        requests = λ i p is asks. asked_stays w _ p.frame grows (s.requests i p is asks);
+        requests = λ i p is asks. brick_asked_stays w _ p.brick p.frame grows (s.requests i p is asks);
         stored = λ brick h is. stored_stays w _ h grows (s.stored brick h is);
         calls = λ j e is. elim (get_set w.calls k d j e is) [
           | inl old ↦ call_stays w _ e grows (s.calls j e old)
@@ -107,9 +107,9 @@ call_stays_sound since w k c d there same hears =
       replies = λ s g r. same_packets since w (with_call w k d) grows refl r;
     }
 
--- a call's ask is sent
-pub request_stays : (since w : WorldValue) (brick : BrickNo) (k : ℕ) (c : Call) → slice_get w.calls k ≡ Some c → StaysSound since w (with_packet w (record { brick = brick; frame = ask_of c }))
-request_stays since w brick k c there =
+-- a call's ask is sent to a brick that it asks
+pub request_stays : (since w : WorldValue) (brick : BrickNo) (k : ℕ) (c : Call) → slice_get w.calls k ≡ Some c → Asks c brick → StaysSound since w (with_packet w (record { brick = brick; frame = ask_of c }))
+request_stays since w brick k c there to =
     let new : Packet = record { brick = brick; frame = ask_of c } in
     let grows : Grows w (with_packet w new) = grows_packet w new in
     record {
@@ -117,8 +117,10 @@ request_stays since w brick k c there =
       sound = λ s. record {
         nonces = s.nonces;
         requests = λ i p is asks. elim (get_last w.packets new i p is) [
-          | inl old ↦ asked_stays w _ p.frame grows (s.requests i p old asks)
-          | inr last ↦ asked_stays w _ p.frame grows (k, c, there, ap (λ (q : Packet). q.frame) last.1)
+          | inl old ↦ brick_asked_stays w _ p.brick p.frame grows (s.requests i p old asks)
+          | inr last ↦ (
+              let A : BrickNo → Type 0 = λ b. Asks c b in
+              brick_asked_stays w _ p.brick p.frame grows (k, c, there, ap (λ (q : Packet). q.frame) last.1, subst A (ap (λ (q : Packet). q.brick) last.1) to))
         ];
         stored = λ b h is. stored_stays w _ h grows (s.stored b h is);
         calls = λ j d is. call_stays w _ d grows (s.calls j d is);
@@ -141,7 +143,7 @@ history_stays since w brick newer h there stores =
       grows = grows;
       sound = λ s. record {
         nonces = s.nonces;
-        requests = λ i p is asks. asked_stays w _ p.frame grows (s.requests i p is asks);
+        requests = λ i p is asks. brick_asked_stays w _ p.brick p.frame grows (s.requests i p is asks);
         stored = λ b g is. elim (history_set w.histories brick.0 (newer ++ h) b.0 g is) [
           | inl old ↦ stored_stays w _ g grows (s.stored b g old)
           | inr new ↦ (
@@ -179,7 +181,7 @@ delivery_stays since w i p h frame there now replies =
     let to : RepliesTo p.frame frame = reply_to p.brick h p.frame frame replies in
     let more : (newer : List BrickEvent) × (heard h p.frame ≡ newer ++ h) = heard_is h p.frame in
     let stores : IsSound w → AllStored (WasWritten w) (heard h p.frame) =
-    λ s. heard_stored w h p.frame s (s.requests i p there to.asks) (s.stored p.brick h now) in
+    λ s. heard_stored w h p.frame s (ask_of_call w p.brick p.frame (s.requests i p there to.asks)) (s.stored p.brick h now) in
     let middle : WorldValue = with_history w p.brick (heard h p.frame) in
     let S : List BrickEvent → Type 0 = λ g. StaysSound since w (with_history w p.brick g) in
     let A : List BrickEvent → Type 0 = λ g. AllStored (WasWritten w) g in
@@ -194,7 +196,7 @@ delivery_stays since w i p h frame there now replies =
           record {
             nonces = m.nonces;
             requests = λ j q is asked. elim (get_last w.packets new j q is) [
-              | inl old ↦ asked_stays middle _ q.frame grows (m.requests j q old asked)
+              | inl old ↦ brick_asked_stays middle _ q.brick q.frame grows (m.requests j q old asked)
               | inr last ↦ absurd (let none : is_request q.frame ≡ false = ap (λ (x : Packet). is_request x.frame) (sym last.1) ∙ to.replies in cc)
             ];
             stored = λ b g is. stored_stays middle _ g grows (m.stored b g is);

@@ -19,6 +19,7 @@ mod Positions
 mod Refusing
 mod Replying
 mod Scenes
+mod Sending
 mod Steps
 mod Tests
 mod Tracing

@@ -34,7 +34,7 @@ use Rattle.ssm_world.specs.Traces.{all_told}
 use Rattle.ssm_world.specs.Claims.{kept_for, ReadOrder, begun, read_world, ReadAfter}
 use Rattle.ssm_world.proofs.CallAsks.{asked_nonce, one_ask}
 use Rattle.ssm_world.proofs.Asks.{asked_none}
-use Rattle.ssm_world.proofs.Growing.{asked_stays}
+use Rattle.ssm_world.proofs.Growing.{ask_of_call, asked_stays}
 use Rattle.ssm_world.proofs.Histories.{stored_behind, held_was_stored}
 use Rattle.ssm_world.proofs.Holding.{cookie_of, answer_cookie, Holds, holder_holds, kept_of, written_is}
 use Rattle.ssm_world.proofs.Lists.{get_new, none_passes}
@@ -173,7 +173,7 @@ is_since n w v order value i p s there none nonce = elim (cases_lt i (length w.p
       let same : get_or w.packets i p ≡ p = cc in
       let was : slice_get w.packets i ≡ Some p = at ∙ ap (λ q. Some q) same in
       let made : WasMade (new_world n) w p = s.early_made.each i p (omega arith) was none in
-      let asked : WasAsked w made.request = s.early.requests made.was_sent.0 (record { brick = p.brick; frame = made.request }) made.was_sent.1 made.asks in
+      let asked : WasAsked w made.request = ask_of_call w p.brick made.request (s.early.requests made.was_sent.0 (record { brick = p.brick; frame = made.request }) made.was_sent.1 made.asks) in
       let to : RepliesTo made.request p.frame = reply_to p.brick made.earlier made.request p.frame made.reply_is in
       let its : nonce_of asked.1 ≡ order.nonce = asked_nonce w made.request s.early asked ∙ sym to.nonce_is ∙ nonce in
       let apart : same_version (nonce_of asked.1) order.nonce ≡ false = none_passes (λ (c : Call). same_version (nonce_of c) order.nonce) w.calls asked.0 asked.1 s.new_nonce asked.2 in
@@ -197,7 +197,7 @@ replied n w v order value i h frame s among was none nonce =
     let p : Packet = record { brick = h.brick; frame = frame } in
     let holds : Holds w h kept = s.holds i h among in
     let made : WasMade w v p = s.new_made.each was.0 p (is_since n w v order value was.0 p s was.1 none nonce) was.1 none in
-    let asked : WasAsked v made.request = s.late.requests made.was_sent.0 (record { brick = h.brick; frame = made.request }) made.was_sent.1 made.asks in
+    let asked : WasAsked v made.request = ask_of_call v h.brick made.request (s.late.requests made.was_sent.0 (record { brick = h.brick; frame = made.request }) made.was_sent.1 made.asks) in
     let to : RepliesTo made.request frame = reply_to h.brick made.earlier made.request frame made.reply_is in
     let get : made.request ≡ Get order.nonce order.cookie.key order.cookie.version = one_ask v made.request (Get order.nonce order.cookie.key order.cookie.version) s.late asked s.asked (sym to.nonce_is ∙ nonce) in
     let newer : (newer : List BrickEvent) × (made.earlier ≡ newer ++ (holds.later ++ happened.Stored kept ∷ holds.earlier)) = made.since_then (holds.later ++ happened.Stored kept ∷ holds.earlier) holds.history_is in

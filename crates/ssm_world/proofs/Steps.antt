@@ -21,12 +21,13 @@ use Rattle.ssm_world.specs.declared.event.WorldEvent.{WorldEvent}
 use Rattle.ssm_world.specs.declared.event.WorldEvent.TheVariants.{Write, Read, Send, Deliver, Hear, Hush, Crash, Sweep}
 use Rattle.ssm_world.specs.Facts.{AllStored}
 use Rattle.ssm_world.specs.Worlds.{WorldValue, new_world, nonce_of, ask_of, next_of, hear, history, history_at, with_history, with_sent, with_new_call, is_new, same_brick, may_write, may_read, told_by_send, told_by_hush, told_by_packet, packet_by_send, with_told, sent, came, hushed, brick_after, replied, reached, delivered, crashed, swept, step, after}
-use Rattle.ssm_world.specs.Sound.{WasSent, Grows, RepliesSince, WasWritten, IsSound, CallIsSound}
+use Rattle.ssm_world.specs.Sound.{WasSent, bricks_asked, Grows, RepliesSince, WasWritten, IsSound, CallIsSound}
 use Rattle.ssm_world.proofs.Asks.{CameIsSent}
-use Rattle.ssm_world.proofs.Growing.{grows_same, same_ask}
+use Rattle.ssm_world.proofs.Growing.{grows_same, same_ask, same_bricks}
 use Rattle.ssm_world.proofs.Hearing.{hear_untold, hear_is_sound, write_begins, read_begins}
 use Rattle.ssm_world.proofs.Keeping.{StaysSound, stays_same, stays_on, new_call_stays, call_stays_sound, request_stays, history_stays, delivery_stays}
 use Rattle.ssm_world.proofs.Lists.{get_set_same}
+use Rattle.ssm_world.proofs.Sending.{SendsTo, same_sends, next_sends}
 use Rattle.ssm_world.proofs.Tests.{both, brick_is}
 
 -- a call that begins
@@ -67,25 +68,25 @@ packet_comes w i (Some p) (next.Receive brick) t there is = go (same_brick p.bri
         (i, there ∙ (λ l. Some (record { brick = same l; frame = framed l })))
 
 -- a packet that is sent, if one is
-packet_stays : (since w : WorldValue) (k : ℕ) (c : Call) (arrives : Bool) (next : StubNext) → slice_get w.calls k ≡ Some c → StaysSound since w (with_sent w (packet_by_send arrives (ask_of c) next))
-packet_stays since w k c true (next.Send brick) there = request_stays since w brick k c there
-packet_stays since w k c false (next.Send brick) there = stays_same since w
-packet_stays since w k c arrives (next.Receive brick) there = stays_same since w
-packet_stays since w k c arrives next.Ended there = stays_same since w
+packet_stays : (since w : WorldValue) (k : ℕ) (c : Call) (arrives : Bool) (next : StubNext) → slice_get w.calls k ≡ Some c → SendsTo c next → StaysSound since w (with_sent w (packet_by_send arrives (ask_of c) next))
+packet_stays since w k c true (next.Send brick) there to = request_stays since w brick k c there to
+packet_stays since w k c false (next.Send brick) there to = stays_same since w
+packet_stays since w k c arrives (next.Receive brick) there to = stays_same since w
+packet_stays since w k c arrives next.Ended there to = stays_same since w
 
 -- a call after it was told something, if it was
-told_call : (w : WorldValue) (k : ℕ) (c : Call) (o : Option Told) → slice_get w.calls k ≡ Some c → (d : Call) × (slice_get (with_told w k c o).calls k ≡ Some d) × (ask_of d ≡ ask_of c)
-told_call w k c None there = (c, there, refl)
-told_call w k c (Some t) there = (hear c t, get_set_same w.calls k (hear c t) c there, same_ask c (hear c t) (hear_untold c t))
+told_call : (w : WorldValue) (k : ℕ) (c : Call) (o : Option Told) → slice_get w.calls k ≡ Some c → (d : Call) × (slice_get (with_told w k c o).calls k ≡ Some d) × (ask_of d ≡ ask_of c) × (bricks_asked d ≡ bricks_asked c)
+told_call w k c None there = (c, there, refl, refl)
+told_call w k c (Some t) there = (hear c t, get_set_same w.calls k (hear c t) c there, same_ask c (hear c t) (hear_untold c t), same_bricks c (hear c t) (hear_untold c t))
 
 sent_stays : (since w : WorldValue) (k : ℕ) (silent arrives : Bool) (o : Option Call) → slice_get w.calls k ≡ o → StaysSound since w (sent w k silent arrives o)
 sent_stays since w k silent arrives None there = stays_same since w
 sent_stays since w k silent arrives (Some c) there =
     let middle : WorldValue = with_told w k c (told_by_send silent (next_of c)) in
     let first : StaysSound since w middle = told_stays since w k c (told_by_send silent (next_of c)) there (send_comes w silent (next_of c)) in
-    let now : (d : Call) × (slice_get middle.calls k ≡ Some d) × (ask_of d ≡ ask_of c) = told_call w k c (told_by_send silent (next_of c)) there in
+    let now : (d : Call) × (slice_get middle.calls k ≡ Some d) × (ask_of d ≡ ask_of c) × (bricks_asked d ≡ bricks_asked c) = told_call w k c (told_by_send silent (next_of c)) there in
     let S : Frame → Type 0 = λ f. StaysSound since middle (with_sent middle (packet_by_send arrives f (next_of c))) in
-    stays_on since w middle (sent w k silent arrives (Some c)) first (subst S now.2 (packet_stays since middle k now.0 arrives (next_of c) now.1))
+    stays_on since w middle (sent w k silent arrives (Some c)) first (subst S now.2 (packet_stays since middle k now.0 arrives (next_of c) now.1 (same_sends c now.0 (next_of c) now.3 (next_sends c))))
 
 came_stays : (since w : WorldValue) (k i : ℕ) (packet : Option Packet) (o : Option Call) → slice_get w.packets i ≡ packet → slice_get w.calls k ≡ o → StaysSound since w (came w k packet o)
 came_stays since w k i packet None at_packet there = stays_same since w
@@ -125,7 +126,7 @@ swept_stays since w brick moment (Some h) now = history_stays since w brick (hap
 pub step_stays : (since w : WorldValue) (e : WorldEvent) → StaysSound since w (step w e)
 step_stays since w (Write nonce key value expiry bricks least) =
     begins_stay since w _ (may_write w nonce bricks least) (λ may. (both _ _ (both _ _ may).0).0)
-    (λ may v. write_begins v bricks least nonce key value expiry (both _ _ (both _ _ may).0).1 (both _ _ (both _ _ may).1).0)
+    (λ may v. write_begins v bricks least nonce key value expiry (both _ _ (both _ _ may).0).1 (both _ _ may).1)
 step_stays since w (Read nonce now cookie) =
     begins_stay since w _ (may_read w nonce cookie.bricks) (λ may. (both _ _ may).0) (λ may v. read_begins v now nonce cookie (both _ _ may).1)
 step_stays since w (Send call silent arrives) = sent_stays since w call silent (not silent || arrives) (slice_get w.calls call) refl

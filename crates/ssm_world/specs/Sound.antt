@@ -1,5 +1,5 @@
 -- What holds of each world that events make.
-use Rattle.std.specs.Prelude.{◌≡◌, ℕ, ◌≤◌, true, false, List, ◌++◌, length, map, nat_le, slice_get, Option, Some}
+use Rattle.std.specs.Prelude.{◌≡◌, ℕ, ◌≤◌, true, false, List, ◌++◌, length, map, slice_get, Option, Some}
 use Rattle.crash_base.specs.declared.numbers.BrickNo.{BrickNo}
 use Rattle.session_cookie.specs.declared.cookie.Holder.{Holder}
 use Rattle.ssm_frames.specs.declared.frame.Frame.{Frame}
@@ -62,6 +62,20 @@ pub record WasMade (since w : WorldValue) (p : Packet) : Type 0 where
 pub record RepliesSince (since w : WorldValue) : Type 0 where
   pub each : (i : ℕ) (p : Packet) → length since.packets ≤ i → slice_get w.packets i ≡ Some p → is_request p.frame ≡ false → WasMade since w p
 
+-- the bricks that a call asks
+abbrev pub bricks_asked : Call → List BrickNo
+bricks_asked (call.Write s) = asked_of s.asks
+bricks_asked (call.Read s) = bricks_of (asked_of s.asks)
+
+-- a brick is one that a call asks
+abbrev pub Asks : Call → BrickNo → Type 0
+Asks c brick = (i : ℕ) × (slice_get (bricks_asked c) i ≡ Some brick)
+
+-- this request to this brick is the ask of a call that asks this brick
+abbrev pub WasAskedOf : WorldValue → BrickNo → Frame → Type 0
+WasAskedOf w brick frame =
+    (i : ℕ) × (c : Call) × (slice_get w.calls i ≡ Some c) × (ask_of c ≡ frame) × Asks c brick
+
 -- a call asked for this to be kept, under its nonce as version
 abbrev pub WasWritten : WorldValue → Kept → Type 0
 WasWritten w s = WasAsked w (Put s.version s.key s.version s.expiry s.value)
@@ -72,13 +86,14 @@ WereSent {W} {A} w brick_of lawful asks =
     (i : ℕ) (ask : Ask W A) (reply : A) → slice_get asks i ≡ Some ask → ask.ear ≡ Heard (Answered reply)
     → (frame : Frame) × WasSent w (brick_of ask.who) frame × (lawful ask.who frame ≡ Some reply)
 
--- A write asks 1 to 16 distinct bricks to keep a value, of which at least one is to store it, and what it
--- heard was sent.
+-- A write asks 1 to 16 distinct bricks to keep a value, of which at least one and at most all are to store
+-- it, and what it heard was sent.
 pub record WriteIsSound (w : WorldValue) (s : WriteState) : Type 0 where
   pub value : List ℕ
   pub ask_is : s.ask ≡ Put s.nonce s.key s.nonce s.expiry value
   pub bricks : may_be_asked (asked_of s.asks) ≡ true
-  pub some : nat_le 1 s.least ≡ true
+  pub some : 1 ≤ s.least
+  pub at_most_all : s.least ≤ length s.asks
   pub replies : WereSent w (λ brick. brick) (put_lawful s.nonce s.key) s.asks
 
 -- a read asks 1 to 16 distinct bricks, and what it heard was sent
@@ -91,10 +106,10 @@ abbrev pub CallIsSound : WorldValue → Call → Type 0
 CallIsSound w (call.Write s) = WriteIsSound w s
 CallIsSound w (call.Read s) = ReadIsSound w s
 
--- What holds of each world: no two calls have one nonce; each request is the ask of a call; each value that
--- was ever stored was written by a call; and what calls heard was sent.
+-- What holds of each world: no two calls have one nonce; each request is the ask of a call, sent to a brick
+-- that the call asks; each value that was ever stored was written by a call; and what calls heard was sent.
 pub record IsSound (w : WorldValue) : Type 0 where
   pub nonces : (i j : ℕ) (c d : Call) → slice_get w.calls i ≡ Some c → slice_get w.calls j ≡ Some d → nonce_of c ≡ nonce_of d → i ≡ j
-  pub requests : (i : ℕ) (p : Packet) → slice_get w.packets i ≡ Some p → is_request p.frame ≡ true → WasAsked w p.frame
+  pub requests : (i : ℕ) (p : Packet) → slice_get w.packets i ≡ Some p → is_request p.frame ≡ true → WasAskedOf w p.brick p.frame
   pub stored : (brick : BrickNo) (h : List BrickEvent) → history w brick ≡ Some h → AllStored (WasWritten w) h
   pub calls : (i : ℕ) (c : Call) → slice_get w.calls i ≡ Some c → CallIsSound w c

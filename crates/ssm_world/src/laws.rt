@@ -50,9 +50,10 @@ pub fn worlds_only_grow()
         → RepliesSince (after (new_world bricks) earlier) (after (after (new_world bricks) earlier) later) }
 {}
 
-/// Every world is sound: no two calls have one nonce, each request is the ask of a call, and what calls
-/// heard was sent. Each reply was made by its brick, at a moment of the brick's history, to a request that was
-/// sent to it.
+/// Every world is sound: no two calls have one nonce, each request is the ask of a call and was sent to a
+/// brick that this call asks, a write wants at least one and at most all of its bricks to store its value, and
+/// what calls heard was sent. Each reply was made by its brick, at a moment of the brick's history, to a
+/// request that was sent to it.
 pub fn worlds_are_sound()
     ensures sound { (bricks : ℕ) (events : List WorldEvent) → IsSound (after (new_world bricks) events) }
     ensures replies { (bricks : ℕ) (events : List WorldEvent)

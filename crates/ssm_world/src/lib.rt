@@ -16,8 +16,8 @@
 //!
 //! What is promised of every world that events make of a new one, whatever they are:
 //!
-//! - `worlds_are_sound`: each request is the ask of one call, each reply was made by its brick at a
-//!   moment of the brick's history, and what calls heard was sent.
+//! - `worlds_are_sound`: each request is the ask of one call, to a brick that this call asks, each reply was
+//!   made by its brick at a moment of the brick's history, and what calls heard was sent.
 //! - `one_value_per_version`, `acknowledged_values_are_held` and `acknowledged_cookies_may_be_read`: a
 //!   version stands for one value; each holder that an acknowledged cookie names has stored it in the
 //!   incarnation named, and holds it until it crashes or is swept past the lease.
