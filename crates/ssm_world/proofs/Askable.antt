@@ -1,11 +1,14 @@
 -- An acknowledged cookie may be read.
-use Rattle.std.proofs.Common.{◌≡◌, ◌⊎◌, inl, inr, ℕ, zero, suc, ◌≤◌, ◌&&◌, ◌||◌, nat_le, Bool, true, false, not, List, [], ◌∷◌, length, take, refl, sym, ap, ◌∙◌, arith}
+use Rattle.std.proofs.Common.{◌≡◌, ◌≢◌, ◌==◌, All, ◌⊎◌, inl, inr, ℕ, zero, suc, ◌≤◌, ◌&&◌, ◌||◌, nat_le, Bool, true, false, not, List, [], ◌∷◌, length, take, refl, sym, ap, ◌∙◌, arith}
 use Rattle.std.specs.List.{list_any, cons_option, filter_map}
 use Rattle.std.proofs.lemmas.Bool.Decides.{nat_tests}
+use Rattle.std.proofs.lemmas.List.{length-map}
+use Rattle.std.proofs.lemmas.List.Elements.{All-nil, All-cons}
 use Rattle.crash_base.specs.declared.numbers.BrickNo.{BrickNo}
 use Rattle.session_cookie.specs.declared.cookie.Cookie.{Cookie}
 use Rattle.session_cookie.specs.declared.cookie.Holder.{Holder}
 use Rattle.session_cookie.specs.declared.cookie.TheConstants.{MAX_HOLDERS}
+use Rattle.session_cookie.specs.Cookie.{AreDistinct, AreHolders}
 use Rattle.ssm_stub.specs.declared.ask.Ask.{Ask}
 use Rattle.ssm_stub.specs.declared.ear.Outcome.TheVariants as outcome
 use Rattle.ssm_stub.specs.declared.ear.Ear.{Ear}
@@ -20,7 +23,7 @@ use Rattle.ssm_world.specs.Sound.{asked_of, WriteIsSound}
 use Rattle.ssm_world.specs.Claims.{IsAcknowledged}
 use Rattle.ssm_world.proofs.Holding.{cookie_of, answer_cookie}
 use Rattle.ssm_world.proofs.Steps.{world_is_sound}
-use Rattle.ssm_world.proofs.Tests.{both}
+use Rattle.ssm_world.proofs.Tests.{both, number_same}
 
 -- a holder comes from its ask
 holder_brick : (a : Ask BrickNo WriteReply) (hs : List Holder) → (bricks_of (cons_option (holder_of a) hs) ≡ bricks_of hs) ⊎ (bricks_of (cons_option (holder_of a) hs) ≡ a.who ∷ bricks_of hs)
@@ -119,3 +122,30 @@ acknowledged_askable n es cookie value acknowledged =
     let askable : may_be_asked (bricks_of (take s.least holders)) ≡ true =
     (λ l. at_most s.least (length (bricks_of (take s.least holders))) sound.some (taken.1 ∙ long) few l && distinct l) in
     ap (λ (c : Cookie). may_be_asked (bricks_of c.bricks)) (sym answers.0) ∙ askable
+
+-- those that may be asked are holders of a cookie
+apart_from : (h : Holder) (hs : List Holder) → list_any (same_brick h.brick) (bricks_of hs) ≡ false → All (λ (other : Holder). h.brick.0 ≢ other.brick.0) hs
+apart_from h [] none = All-nil (λ (other : Holder). h.brick.0 ≢ other.brick.0)
+apart_from h (other ∷ hs) none =
+    let parts : (same_brick h.brick other.brick ≡ false) × (list_any (same_brick h.brick) (bricks_of hs) ≡ false) = or_false _ _ none in
+    let differ : h.brick.0 ≢ other.brick.0 = λ same. (let equal : same_brick h.brick other.brick ≡ true = ap (λ n. h.brick.0 == n) (sym same) ∙ number_same h.brick.0 in cc) in
+    All-cons (λ (o : Holder). h.brick.0 ≢ o.brick.0) other hs differ (apart_from h hs parts.1)
+
+distinct_holders : (hs : List Holder) → are_distinct (bricks_of hs) ≡ true → AreDistinct hs
+distinct_holders [] d = tt
+distinct_holders (h ∷ hs) d =
+    let parts : (not (list_any (same_brick h.brick) (bricks_of hs)) ≡ true) × (are_distinct (bricks_of hs) ≡ true) = both _ _ d in
+    (apart_from h hs (not_true _ parts.0), distinct_holders hs parts.1)
+
+within : (n : ℕ) → (nat_le 1 n && nat_le n MAX_HOLDERS) ≡ true → (1 ≤ n) × (n ≤ MAX_HOLDERS)
+within n h = (grind (arith, nat_tests), grind (arith, nat_tests))
+
+pub are_holders : (hs : List Holder) → may_be_asked (bricks_of hs) ≡ true → AreHolders hs
+are_holders hs may =
+    let parts : ((nat_le 1 (length (bricks_of hs)) && nat_le (length (bricks_of hs)) MAX_HOLDERS) ≡ true) × (are_distinct (bricks_of hs) ≡ true) = both _ _ may in
+    let many : (1 ≤ length (bricks_of hs)) × (length (bricks_of hs) ≤ MAX_HOLDERS) = within (length (bricks_of hs)) parts.0 in
+    let same : length (bricks_of hs) ≡ length hs = length-map hs (λ (h : Holder). h.brick) in
+    (omega (arith, same, many.0), omega (arith, same, many.1), distinct_holders hs parts.1)
+
+pub acknowledged_holders : (n : ℕ) (es : List WorldEvent) (cookie : Cookie) (value : List ℕ) → IsAcknowledged (after (new_world n) es) cookie value → AreHolders cookie.bricks
+acknowledged_holders n es cookie value acknowledged = are_holders cookie.bricks (acknowledged_askable n es cookie value acknowledged)

@@ -15,6 +15,7 @@ mod Logging
 mod Making
 mod Nonces
 mod Numbering
+mod Origins
 mod Positions
 mod Refusing
 mod Replying

@@ -41,7 +41,7 @@ use Rattle.ssm_world.proofs.Lists.{get_new, none_passes}
 use Rattle.ssm_world.proofs.Replying.{FoundFor, found_for, RepliesTo, reply_to}
 use Rattle.ssm_world.proofs.Steps.{after_stays, world_is_sound, world_replies, replies_since}
 use Rattle.ssm_world.proofs.Tests.{both, version_same}
-use Rattle.ssm_world.proofs.Tracing.{IsRun, read_runs}
+use Rattle.ssm_world.proofs.Tracing.{IsReadRun, read_runs}
 
 -- What the proofs use of the world in which a read began and of a later one: both are sound, each reply was made by
 -- its brick, and those that were sent since the read began were made since; the holders hold the value, and both
@@ -141,7 +141,7 @@ ordered w order value later r read =
 
 -- and it is a run of its machine
 pub runs : (w : WorldValue) (order : ReadOrder) (value : List ℕ) (later : List WorldEvent) (r : ReadState) → ReadAfter w order value later r
-    → IsRun (read_world w order later) (length w.calls) (read_start order.moment order.nonce order.cookie) (all_told (begun w order) (length w.calls) later)
+    → IsReadRun (read_world w order later) (length w.calls) (read_start order.moment order.nonce order.cookie) (all_told (begun w order) (length w.calls) later)
 runs w order value later r read = read_runs (begun w order) (length w.calls) (read_start order.moment order.nonce order.cookie) later (read_there w order read.may_begin)
 
 -- its holders are distinct bricks

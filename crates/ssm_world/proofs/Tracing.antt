@@ -1,5 +1,5 @@
--- A read is what its machine is after all that events told it.
-use Rattle.std.proofs.Common.{◌≡◌, ℕ, zero, suc, ◌==◌, ◌-◌, ◌^◌, ◌&&◌, ◌||◌, Bool, true, false, not, IsTrue, if◌then◌else◌, nat_lt, List, [], ◌∷◌, Option, Some, None, refl, sym, ap, ◌∙◌, subst, arith}
+-- A call is what its machine is after all that events told it.
+use Rattle.std.proofs.Common.{◌≡◌, ℕ, zero, suc, ◌==◌, ◌-◌, ◌^◌, ◌&&◌, ◌||◌, Bool, true, false, not, IsTrue, if◌then◌else◌, nat_lt, List, [], ◌∷◌, map, Option, Some, None, refl, sym, ap, ◌∙◌, subst, arith}
 use Rattle.std.specs.Prelude.{slice_get, slice_set}
 use Rattle.std.specs.List.{list_any, cons_option}
 use Rattle.std.proofs.lemmas.Bool.Decides.{nat_tests}
@@ -22,10 +22,10 @@ use Rattle.ssm_stub.specs.declared.event.StubNext.{StubNext}
 use Rattle.ssm_stub.specs.declared.event.StubNext.TheVariants as next
 use Rattle.ssm_stub.specs.declared.reply.ReadReply.{ReadReply}
 use Rattle.ssm_stub.specs.Ears.{ear_after}
-use Rattle.ssm_stub.specs.Runs.{fits, Fits, after as run}
+use Rattle.ssm_stub.specs.Runs.{Machine, fits, Fits, after as run}
 use Rattle.ssm_stub.specs.Hearing.{AllDiffer, EndsIn, OwnAt, ear_machine, numbers, told_to}
 use Rattle.ssm_stub.specs.Turns.{none_asked}
-use Rattle.ssm_stub.specs.Reads.{ReadState, get_lawful, read_start, read_machine, hear_read}
+use Rattle.ssm_stub.specs.Reads.{ReadState, get_lawful, read_start, read_machine}
 use Rattle.ssm_world.specs.declared.call.Call.{Call}
 use Rattle.ssm_world.specs.declared.call.Call.TheVariants as call
 use Rattle.ssm_world.specs.declared.event.Packet.{Packet}
@@ -187,56 +187,73 @@ told_fits w place n (Hush k) t is = if_told (k == place) (told_by_hush n) n t (h
 told_fits w place n (Crash brick) t is = absurd (cc)
 told_fits w place n (Sweep brick moment) t is = absurd (cc)
 
--- A read after events is its machine after what they told it, each of which could come of what it wanted.
-pub record IsRun (v : WorldValue) (place : ℕ) (s : ReadState) (events : List Told) : Type 0 where
-  pub there : slice_get v.calls place ≡ Some (call.Read (run read_machine s events))
-  pub fitting : Fits read_machine s events
+-- A call after events is its machine after what they told it, each of which could come of what it wanted.
+pub record IsRun {S : Type 0} (m : Machine S) (kind : S → Call) (v : WorldValue) (place : ℕ) (s : S) (events : List Told) : Type 0 where
+  pub there : slice_get v.calls place ≡ Some (kind (run m s events))
+  pub fitting : Fits m s events
 
--- what is told a read at an event, if anything is, comes before what it is told later
-run_on : (v : WorldValue) (place : ℕ) (s : ReadState) (o : Option Told) (later : List Told) → ((t : Told) → o ≡ Some t → IsTrue (fits (next_of (call.Read s)) t))
-    → ((r : ReadState) → told_on (call.Read s) o ≡ call.Read r → IsRun v place r later) → IsRun v place s (cons_option o later)
-run_on v place s None later fit on = on s refl
-run_on v place s (Some t) later fit on =
-    let rest : IsRun v place (hear_read s t) later = on (hear_read s t) refl in
-    record { there = rest.there; fitting = (fit t refl, rest.fitting) }
+module _ {S : Type 0} (m : Machine S) (kind : S → Call) (nexts : (s : S) → next_of (kind s) ≡ m.next s) (hears : (s : S) (t : Told) → hear (kind s) t ≡ kind (m.hear s t)) where
+  -- what is told a call at an event, if anything is, comes before what it is told later
+  run_on : (v : WorldValue) (place : ℕ) (s : S) (o : Option Told) (later : List Told) → ((t : Told) → o ≡ Some t → IsTrue (fits (m.next s) t))
+      → ((r : S) → told_on (kind s) o ≡ kind r → IsRun m kind v place r later) → IsRun m kind v place s (cons_option o later)
+  run_on v place s None later fit on = on s refl
+  run_on v place s (Some t) later fit on =
+      let rest : IsRun m kind v place (m.hear s t) later = on (m.hear s t) (hears s t) in
+      record { there = rest.there; fitting = (fit t refl, rest.fitting) }
 
-pub read_runs : (w : WorldValue) (place : ℕ) (s : ReadState) (es : List WorldEvent) → slice_get w.calls place ≡ Some (call.Read s) → IsRun (after w es) place s (all_told w place es)
-read_runs w place s [] there = record { there = there; fitting = tt }
-read_runs w place s (e ∷ es) there =
-    let o : Option Told = told_by w place (next_of (call.Read s)) e in
-    let told_is : told_at w place e (slice_get w.calls place) ≡ o = ap (told_at w place e) there in
-    let P : Option Told → Type 0 = λ p. IsRun (after (step w e) es) place s (cons_option p (all_told (step w e) place es)) in
-    subst P (sym told_is) (
-    run_on (after (step w e) es) place s o (all_told (step w e) place es) (λ t is. told_fits w place (next_of (call.Read s)) e t is)
-    (λ r is. read_runs (step w e) place r es (call_step w e place (call.Read s) there ∙ ap (λ c. Some c) is)))
+  pub call_runs : (w : WorldValue) (place : ℕ) (s : S) (es : List WorldEvent) → slice_get w.calls place ≡ Some (kind s) → IsRun m kind (after w es) place s (all_told w place es)
+  call_runs w place s [] there = record { there = there; fitting = tt }
+  call_runs w place s (e ∷ es) there =
+      let o : Option Told = told_by w place (next_of (kind s)) e in
+      let told_is : told_at w place e (slice_get w.calls place) ≡ o = ap (told_at w place e) there in
+      let P : Option Told → Type 0 = λ p. IsRun m kind (after (step w e) es) place s (cons_option p (all_told (step w e) place es)) in
+      let fit : (t : Told) → o ≡ Some t → IsTrue (fits (m.next s) t) = λ t is.
+      let F : StubNext → Type 0 = λ n. IsTrue (fits n t) in
+      subst F (nexts s) (told_fits w place (next_of (kind s)) e t is) in
+      subst P (sym told_is) (
+      run_on (after (step w e) es) place s o (all_told (step w e) place es) fit
+      (λ r is. call_runs (step w e) place r es (call_step w e place (kind s) there ∙ ap (λ c. Some c) is)))
+
+-- the same of a read
+abbrev pub IsReadRun : WorldValue → ℕ → ReadState → List Told → Type 0
+IsReadRun v place s events = IsRun read_machine (λ (r : ReadState). call.Read r) v place s events
+
+pub read_runs : (w : WorldValue) (place : ℕ) (s : ReadState) (es : List WorldEvent) → slice_get w.calls place ≡ Some (call.Read s) → IsReadRun (after w es) place s (all_told w place es)
+read_runs w place s es there = call_runs read_machine (λ (r : ReadState). call.Read r) (λ r. refl) (λ r t. refl) w place s es there
 
 -- distinct bricks have different numbers
-distinct_differ : (holders : List Holder) → are_distinct (bricks_of holders) ≡ true → AllDiffer (numbers (λ (holder : Holder). holder.brick) (none_asked {W = Holder} {A = ReadReply} holders))
-distinct_differ [] distinct = λ i j x at_i at_j. absurd (cc)
-distinct_differ (h ∷ hs) distinct =
-    let parts : (not (list_any (same_brick h.brick) (bricks_of hs)) ≡ true) × (are_distinct (bricks_of hs) ≡ true) = both _ _ distinct in
-    let later : AllDiffer (numbers (λ (holder : Holder). holder.brick) (none_asked {W = Holder} {A = ReadReply} hs)) = distinct_differ hs parts.1 in
-    λ i j x at_i at_j. go h hs parts.0 later i j x at_i at_j
+number_of : (bricks : List BrickNo) (i x : ℕ) → slice_get (map (λ (brick : BrickNo). brick.0) bricks) i ≡ Some x → (b : BrickNo) × (slice_get bricks i ≡ Some b) × (b.0 ≡ x)
+number_of [] i x is = absurd (cc)
+number_of (b ∷ bricks) zero x is = (b, refl, cc)
+number_of (b ∷ bricks) (suc i) x is = number_of bricks i x is
+
+other_number : (brick : BrickNo) (bricks : List BrickNo) → not (list_any (same_brick brick) bricks) ≡ true → (i x : ℕ) → slice_get (map (λ (b : BrickNo). b.0) bricks) i ≡ Some x → brick.0 ≡ x → ⊥
+other_number brick bricks none i x at_i is =
+    let found : (b : BrickNo) × (slice_get bricks i ≡ Some b) × (b.0 ≡ x) = number_of bricks i x at_i in
+    let apart : same_brick brick found.0 ≡ false = none_passes (same_brick brick) bricks i found.0 none found.1 in
+    let equal : same_brick brick found.0 ≡ true = ap (λ n. brick.0 == n) (found.2 ∙ sym is) ∙ number_same brick.0 in
+    cc
+
+pub bricks_differ : (bricks : List BrickNo) → are_distinct bricks ≡ true → AllDiffer (map (λ (brick : BrickNo). brick.0) bricks)
+bricks_differ [] distinct = λ i j x at_i at_j. absurd (cc)
+bricks_differ (b ∷ bricks) distinct =
+    let parts : (not (list_any (same_brick b) bricks) ≡ true) × (are_distinct bricks ≡ true) = both _ _ distinct in
+    λ i j x at_i at_j. go parts.0 (bricks_differ bricks parts.1) i j x at_i at_j
   where
-    number_of : (hs : List Holder) (i x : ℕ) → slice_get (numbers (λ (holder : Holder). holder.brick) (none_asked {W = Holder} {A = ReadReply} hs)) i ≡ Some x → (b : BrickNo) × (slice_get (bricks_of hs) i ≡ Some b) × (b.0 ≡ x)
-    number_of [] i x is = absurd (cc)
-    number_of (h ∷ hs) zero x is = (h.brick, refl, cc)
-    number_of (h ∷ hs) (suc i) x is = number_of hs i x is
+    go : not (list_any (same_brick b) bricks) ≡ true → AllDiffer (map (λ (brick : BrickNo). brick.0) bricks)
+        → (i j x : ℕ) → slice_get (map (λ (brick : BrickNo). brick.0) (b ∷ bricks)) i ≡ Some x → slice_get (map (λ (brick : BrickNo). brick.0) (b ∷ bricks)) j ≡ Some x → i ≡ j
+    go none later zero zero x at_i at_j = refl
+    go none later zero (suc j) x at_i at_j = absurd (other_number b bricks none j x at_j (cc))
+    go none later (suc i) zero x at_i at_j = absurd (other_number b bricks none i x at_i (cc))
+    go none later (suc i) (suc j) x at_i at_j = ap suc (later i j x at_i at_j)
 
-    other : (h : Holder) (hs : List Holder) → not (list_any (same_brick h.brick) (bricks_of hs)) ≡ true → (i x : ℕ) → slice_get (numbers (λ (holder : Holder). holder.brick) (none_asked {W = Holder} {A = ReadReply} hs)) i ≡ Some x → h.brick.0 ≡ x → ⊥
-    other h hs none i x at_i is =
-        let found : (b : BrickNo) × (slice_get (bricks_of hs) i ≡ Some b) × (b.0 ≡ x) = number_of hs i x at_i in
-        let apart : same_brick h.brick found.0 ≡ false = none_passes (same_brick h.brick) (bricks_of hs) i found.0 none found.1 in
-        let equal : same_brick h.brick found.0 ≡ true = ap (λ n. h.brick.0 == n) (found.2 ∙ sym is) ∙ number_same h.brick.0 in
-        cc
+-- and so have those of holders
+holder_numbers : (holders : List Holder) → map (λ (brick : BrickNo). brick.0) (bricks_of holders) ≡ numbers (λ (holder : Holder). holder.brick) (none_asked {W = Holder} {A = ReadReply} holders)
+holder_numbers [] = refl
+holder_numbers (h ∷ hs) = ap (λ l. h.brick.0 ∷ l) (holder_numbers hs)
 
-    go : (h : Holder) (hs : List Holder) → not (list_any (same_brick h.brick) (bricks_of hs)) ≡ true → AllDiffer (numbers (λ (holder : Holder). holder.brick) (none_asked {W = Holder} {A = ReadReply} hs))
-        → (i j x : ℕ) → slice_get (numbers (λ (holder : Holder). holder.brick) (none_asked {W = Holder} {A = ReadReply} (h ∷ hs))) i ≡ Some x
-        → slice_get (numbers (λ (holder : Holder). holder.brick) (none_asked {W = Holder} {A = ReadReply} (h ∷ hs))) j ≡ Some x → i ≡ j
-    go h hs none later zero zero x at_i at_j = refl
-    go h hs none later zero (suc j) x at_i at_j = absurd (other h hs none j x at_j (cc))
-    go h hs none later (suc i) zero x at_i at_j = absurd (other h hs none i x at_i (cc))
-    go h hs none later (suc i) (suc j) x at_i at_j = ap suc (later i j x at_i at_j)
+distinct_differ : (holders : List Holder) → are_distinct (bricks_of holders) ≡ true → AllDiffer (numbers (λ (holder : Holder). holder.brick) (none_asked {W = Holder} {A = ReadReply} holders))
+distinct_differ holders distinct = let P : List ℕ → Type 0 = λ l. AllDiffer l in subst P (holder_numbers holders) (bricks_differ (bricks_of holders) distinct)
 
 -- what the stub's laws say of reads
 abbrev pub OwnLaw : Type 0
@@ -256,7 +273,7 @@ get_none_asked (g ∷ hs) (suc i) h is = get_none_asked hs i h is
 
 -- what a read heard of a holder is what events told it of that holder
 pub heard_as : OwnLaw → EndLaw → (v : WorldValue) (place : ℕ) (order : ReadOrder) (events : List Told) (r : ReadState) (i : ℕ) (a : Ask Holder ReadReply) (outcome : Outcome ReadReply)
-    → IsRun v place (read_start order.moment order.nonce order.cookie) events → slice_get v.calls place ≡ Some (call.Read r) → are_distinct (bricks_of order.cookie.bricks) ≡ true
+    → IsReadRun v place (read_start order.moment order.nonce order.cookie) events → slice_get v.calls place ≡ Some (call.Read r) → are_distinct (bricks_of order.cookie.bricks) ≡ true
     → slice_get order.cookie.bricks i ≡ Some a.who → slice_get r.asks i ≡ Some a → a.ear ≡ Heard outcome
     → HeardAs order a.who (told_to read_machine (read_start order.moment order.nonce order.cookie) events a.who.brick) outcome
 heard_as own ends v place order events r i a outcome runs there distinct at_holder at_ask ear =

@@ -1,6 +1,8 @@
 -- What the laws of worlds speak of: acknowledged cookies, what their holders keep, and what reads answer.
-use Rattle.std.specs.Prelude.{◌≡◌, ℕ, ◌+◌, ◌<◌, ◌≤◌, true, false, List, [], ◌∷◌, length, slice_get, Some, Result, Ok, Err}
+use Rattle.std.specs.Prelude.{◌≡◌, ℕ, ◌+◌, ◌<◌, ◌≤◌, true, false, All, List, [], ◌∷◌, ◌++◌, length, take, filter_map, slice_get, Option, Some, Result, Ok, Err}
+use Rattle.crash_base.specs.declared.numbers.BrickNo.{BrickNo}
 use Rattle.crash_base.specs.declared.numbers.Moment.{Moment}
+use Rattle.crash_base.specs.declared.numbers.SessionKey.{SessionKey}
 use Rattle.crash_base.specs.declared.numbers.Version.{Version}
 use Rattle.session_cookie.specs.declared.cookie.Cookie.{Cookie}
 use Rattle.session_cookie.specs.declared.cookie.Holder.{Holder}
@@ -21,13 +23,15 @@ use Rattle.ssm_stub.specs.declared.read_call.ReadRefusal.{ReadRefusal}
 use Rattle.ssm_stub.specs.declared.read_call.ReadRefusal.TheVariants.{Expired, Lost, OutOfMemory}
 use Rattle.ssm_stub.specs.declared.reply.ReadReply.{ReadReply}
 use Rattle.ssm_stub.specs.declared.reply.ReadReply.TheVariants as answer
+use Rattle.ssm_stub.specs.declared.reply.WriteReply.TheVariants.{Stored}
+use Rattle.ssm_stub.specs.Ears.{ear_after}
 use Rattle.ssm_stub.specs.Hearing.{EndsIn, told_to}
-use Rattle.ssm_stub.specs.Writes.{WriteState, write_answer}
+use Rattle.ssm_stub.specs.Writes.{WriteState, put_lawful, holder_by, write_answer, write_start, write_machine}
 use Rattle.ssm_stub.specs.Reads.{ReadState, get_lawful, read_start, read_machine}
 use Rattle.ssm_world.specs.declared.call.Call.TheVariants as call
 use Rattle.ssm_world.specs.declared.event.WorldEvent.{WorldEvent}
-use Rattle.ssm_world.specs.declared.event.WorldEvent.TheVariants.{Read}
-use Rattle.ssm_world.specs.Worlds.{WorldValue, history, may_read, step, after}
+use Rattle.ssm_world.specs.declared.event.WorldEvent.TheVariants.{Write, Read}
+use Rattle.ssm_world.specs.Worlds.{WorldValue, new_world, history, may_write, may_read, step, after}
 use Rattle.ssm_world.specs.Facts.{has_late_sweep, WasStored}
 use Rattle.ssm_world.specs.Traces.{all_told}
 
@@ -151,3 +155,54 @@ pub record ReadAfter (w : WorldValue) (order : ReadOrder) (value : List ℕ) (ev
   pub acknowledged : IsAcknowledged w order.cookie value
   pub may_begin : may_read w order.nonce order.cookie.bricks ≡ true
   pub there : slice_get (read_world w order events).calls (length w.calls) ≡ Some (call.Read read)
+
+-- A write as it is asked for: with this nonce, of this value under this key until this expiry, at these
+-- bricks, of which at least so many are to store it.
+pub record WriteOrder : Type 0 where
+  pub nonce : Version
+  pub key : SessionKey
+  pub value : List ℕ
+  pub expiry : Moment
+  pub bricks : List BrickNo
+  pub least : ℕ
+
+-- the event by which a write begins
+abbrev pub write_event : WriteOrder → WorldEvent
+write_event order = Write order.nonce order.key order.value order.expiry order.bricks order.least
+
+-- a write of which nothing was sent
+abbrev pub write_state : WriteOrder → WriteState
+write_state order = write_start order.bricks order.least order.nonce order.key order.value order.expiry
+
+-- what the events since a write began in a world tell it, in order
+abbrev pub told_to_write : WorldValue → WriteOrder → List WorldEvent → List Told
+told_to_write w order events = all_told (step w (write_event order)) (length w.calls) events
+
+-- what they tell it of a brick, by the steps that it then wants of that brick
+abbrev pub written_told : WorldValue → WriteOrder → List WorldEvent → BrickNo → List Told
+written_told w order events brick = told_to write_machine (write_state order) (told_to_write w order events) brick
+
+-- the brick as a holder, where by what the write was told of it it gave a lawful Stored
+abbrev pub stored_by : WriteOrder → (BrickNo → List Told) → BrickNo → Option Holder
+stored_by order told brick =
+    holder_by brick (ear_after (put_lawful order.nonce order.key brick) (told brick))
+
+-- How a cookie was acknowledged with a value in a world that these events made of a new one: a write of the
+-- value began among them, with its key, nonce and expiry, and the cookie names the first `least` of the
+-- write's bricks of which the events since told it a lawful Stored, in asked order, with the incarnations
+-- that these tell. No brick of which they told one is left out.
+pub record NamesWhoStored (bricks : ℕ) (events : List WorldEvent) (cookie : Cookie) (value : List ℕ) : Type 0 where
+  pub earlier : List WorldEvent
+  pub order : WriteOrder
+  pub later : List WorldEvent
+  pub parts : events ≡ earlier ++ write_event order ∷ later
+  pub may_begin : may_write (after (new_world bricks) earlier) order.nonce order.bricks order.least ≡ true
+  pub value_is : value ≡ order.value
+  pub key_is : cookie.key ≡ order.key
+  pub version_is : cookie.version ≡ order.nonce
+  pub expiry_is : cookie.expiry ≡ order.expiry
+  pub enough : length cookie.bricks ≡ order.least
+  pub first : cookie.bricks ≡ take order.least (filter_map (stored_by order (written_told (after (new_world bricks) earlier) order later)) order.bricks)
+  pub stored : All (λ (holder : Holder). EndsIn (put_lawful order.nonce order.key holder.brick) (written_told (after (new_world bricks) earlier) order later holder.brick) (outcome.Answered (Stored holder.incarnation))) cookie.bricks
+  pub none_left : (brick : BrickNo) (incarnation : ℕ) → EndsIn (put_lawful order.nonce order.key brick) (written_told (after (new_world bricks) earlier) order later brick) (outcome.Answered (Stored incarnation))
+      → stored_by order (written_told (after (new_world bricks) earlier) order later) brick ≡ Some (record { brick = brick; incarnation = incarnation })

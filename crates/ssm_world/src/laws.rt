@@ -8,6 +8,7 @@ ghost use Rattle.crash_base.specs.declared.numbers.SessionKey.{SessionKey};
 ghost use Rattle.crash_base.specs.declared.numbers.Version.{Version};
 ghost use Rattle.session_cookie.specs.declared.cookie.Cookie.{Cookie};
 ghost use Rattle.session_cookie.specs.declared.cookie.Holder.{Holder};
+ghost use Rattle.session_cookie.specs.Cookie.{AreHolders};
 ghost use Rattle.ssm_frames.specs.declared.frame.Frame.{Frame};
 ghost use Rattle.ssm_frames.specs.declared.frame.Frame.TheVariants.{Put, Found};
 ghost use Rattle.ssm_frames.specs.Requests.{is_request};
@@ -26,9 +27,10 @@ ghost use Rattle.ssm_world.specs.declared.event.WorldEvent.{WorldEvent};
 ghost use Rattle.ssm_world.specs.Worlds.{WorldValue, may_be_asked, bricks_of, new_world, step, may_happen, after};
 ghost use Rattle.ssm_world.specs.Facts.{frame_nonce};
 ghost use Rattle.ssm_world.specs.Sound.{IsSound, RepliesSince, Grows};
-ghost use Rattle.ssm_world.specs.Claims.{IsAcknowledged, kept_for, Keeps, IsWithin, HeardAs, IsRight, ReadOrder, ReadAfter, read_world, told_since};
+ghost use Rattle.ssm_world.specs.Claims.{IsAcknowledged, NamesWhoStored, kept_for, Keeps, IsWithin, HeardAs, IsRight, ReadOrder, ReadAfter, read_world, told_since};
 
 use ssm_stub::{an_outcome_of_a_get_has_its_events, each_hears_its_own};
+use stub_laws::answers_stay;
 
 /// An event that may not happen changes nothing.
 pub fn events_that_may_not_happen_change_nothing()
@@ -77,11 +79,32 @@ pub fn acknowledged_values_are_held()
         → Keeps (after (new_world bricks) events) holder (kept_for cookie value) }
 {}
 
-/// An acknowledged cookie names 1 to 16 distinct bricks, so a read of it may begin with any new nonce.
-pub fn acknowledged_cookies_may_be_read()
+/// Whatever follows, a cookie that is acknowledged with a value stays so: a write may go on to hear bricks
+/// after its answer, which stays.
+pub fn acknowledged_cookies_stay_acknowledged()
+    ensures { (bricks : ℕ) (earlier later : List WorldEvent) (cookie : Cookie) (value : List ℕ)
+        → IsAcknowledged (after (new_world bricks) earlier) cookie value
+        → IsAcknowledged (after (after (new_world bricks) earlier) later) cookie value }
+{
+    answers_stay();
+}
+
+/// An acknowledged cookie is that of a write that began among the world's events: it has the write's nonce as
+/// version, its key and its expiry, and names the first `least` of its bricks of which the events since told
+/// it a lawful Stored, in asked order, with the incarnations that these tell.
+pub fn acknowledged_cookies_name_who_stored()
     ensures { (bricks : ℕ) (events : List WorldEvent) (cookie : Cookie) (value : List ℕ)
         → IsAcknowledged (after (new_world bricks) events) cookie value
+        → NamesWhoStored bricks events cookie value }
+{}
+
+/// An acknowledged cookie names 1 to 16 distinct bricks, so a read of it may begin with any new nonce.
+pub fn acknowledged_cookies_may_be_read()
+    ensures asked { (bricks : ℕ) (events : List WorldEvent) (cookie : Cookie) (value : List ℕ)
+        → IsAcknowledged (after (new_world bricks) events) cookie value
         → may_be_asked (bricks_of cookie.bricks) ≡ true }
+    ensures holders { (bricks : ℕ) (events : List WorldEvent) (cookie : Cookie) (value : List ℕ)
+        → IsAcknowledged (after (new_world bricks) events) cookie value → AreHolders cookie.bricks }
 {}
 
 /// A read of a cookie that was acknowledged when the read began answers the acknowledged value, which a

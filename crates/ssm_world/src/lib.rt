@@ -18,9 +18,13 @@
 //!
 //! - `worlds_are_sound`: each request is the ask of one call, to a brick that this call asks, each reply was
 //!   made by its brick at a moment of the brick's history, and what calls heard was sent.
-//! - `one_value_per_version`, `acknowledged_values_are_held` and `acknowledged_cookies_may_be_read`: a
-//!   version stands for one value; each holder that an acknowledged cookie names has stored it in the
-//!   incarnation named, and holds it until it crashes or is swept past the lease.
+//! - `one_value_per_version` and `acknowledged_values_are_held`: a version stands for one value; each holder
+//!   that an acknowledged cookie names has stored it in the incarnation named, and holds it until it
+//!   crashes or is swept past the lease and the grace.
+//! - `acknowledged_cookies_name_who_stored`, `acknowledged_cookies_stay_acknowledged` and
+//!   `acknowledged_cookies_may_be_read`: an acknowledged cookie names the first bricks of its write that
+//!   stored, as the events told the write; it stays acknowledged whatever follows; and its 1 to 16 holders
+//!   are distinct, so a read of it may begin.
 //! - `reads_answer_what_was_written`: a read of a cookie that was acknowledged before answers the acknowledged value,
 //!   or that the cookie has expired, or the cause of each holder, which is right by the holder's history
 //!   and by what the events told this read.
@@ -29,7 +33,7 @@
 //! - `worlds_only_grow`: a later world has all packets and calls of an earlier one, and longer histories.
 //! - `events_that_may_not_happen_change_nothing`, and `events_that_may_happen_change_the_world`.
 //!
-//! A `World` is always one that some events made (`IsMade`, which `World::step` hands out), so these hold
+//! A `World` is always one that some events made (`IsMade`, which `World::is_made` hands out), so these hold
 //! of it. The calls are those of `ssm_stub`, and the bricks those of `brick_store`; a world keeps
 //! beside each brick the list of what happened to it. An event looks at one call, and copies the frame that
 //! it is about. A write and a read that begin look at the latest nonce alone where theirs comes after it,
@@ -51,7 +55,8 @@ mod world_state;
 pub use call::Call;
 pub use event::{Packet, WorldEvent};
 pub use laws::{
-    acknowledged_cookies_may_be_read, acknowledged_values_are_held,
+    acknowledged_cookies_may_be_read, acknowledged_cookies_name_who_stored,
+    acknowledged_cookies_stay_acknowledged, acknowledged_values_are_held,
     events_that_may_happen_change_the_world, events_that_may_not_happen_change_nothing,
     holders_answer_found, one_value_per_version, reads_answer_what_was_written, worlds_are_sound,
     worlds_only_grow,
