@@ -39,7 +39,7 @@ use Rattle.ssm_world.specs.declared.event.WorldEvent.{WorldEvent}
 use Rattle.ssm_world.specs.Facts.{AllStored, is_late_sweep, has_late_sweep, frame_nonce}
 use Rattle.ssm_world.specs.Worlds.{WorldValue, new_world, after}
 use Rattle.ssm_world.specs.Sound.{asked_of, WasSent, WasWritten, ReadIsSound}
-use Rattle.ssm_world.specs.Claims.{kept_for, IsWithin, HasCrashed, WasSwept, ReadOrder, HeardAs, IsLost, AreLost, WasGiven, IsRight, read_world, told_since, ReadAfter}
+use Rattle.ssm_world.specs.Claims.{kept_for, IsIntact, HasCrashed, WasSwept, ReadOrder, HeardAs, IsLost, AreLost, WasGiven, IsRight, read_world, told_since, ReadAfter}
 use Rattle.ssm_world.proofs.Ending.{FoundAt, found_at, none_found, HasOutcome, all_ended}
 use Rattle.ssm_world.proofs.Histories.{incarnation_grows, crash_stands, stored_front, stored_behind, stored_weaker, held_on, swept_stands, stands_behind, no_late_front, no_late_behind}
 use Rattle.ssm_world.proofs.Holding.{written_is}
@@ -89,22 +89,22 @@ swept_is v order value h i moment r late =
       late = late_is moment order.cookie.expiry late;
     }
 
--- a holder that is within its lease and has not crashed replies Found with the value
-pub within_found : (n : ℕ) (w v : WorldValue) (order : ReadOrder) (value : List ℕ) (i : ℕ) (h : Holder) (frame : Frame) → Scene n w v order value → slice_get order.cookie.bricks i ≡ Some h
-    → WasSent v h.brick frame → is_request frame ≡ false → frame_nonce frame ≡ order.nonce → IsWithin v h order.cookie.expiry
+-- a holder that is intact replies Found with the value
+pub intact_found : (n : ℕ) (w v : WorldValue) (order : ReadOrder) (value : List ℕ) (i : ℕ) (h : Holder) (frame : Frame) → Scene n w v order value → slice_get order.cookie.bricks i ≡ Some h
+    → WasSent v h.brick frame → is_request frame ≡ false → frame_nonce frame ≡ order.nonce → IsIntact v h order.cookie.expiry
     → frame ≡ Found order.nonce order.cookie.key order.cookie.version h.brick h.incarnation order.cookie.expiry value
-within_found n w v order value i h frame s among was none nonce within =
+intact_found n w v order value i h frame s among was none nonce intact =
     let r : Replied v order value h frame = replied n w v order value i h frame s among was none nonce in
     let c : Cookie = order.cookie in
     let kept : Kept = kept_for c value in
     let e : List BrickEvent = r.between ++ happened.Stored kept ∷ r.before in
-    let one : Some within.events ≡ Some (r.since ++ e) = sym within.history_is ∙ r.history_is in
-    let events : within.events ≡ r.since ++ e = cc in
-    let now : incarnation_after 1 (r.since ++ e) ≡ h.incarnation = ap (incarnation_after 1) (sym events) ∙ within.uncrashed in
+    let one : Some intact.events ≡ Some (r.since ++ e) = sym intact.history_is ∙ r.history_is in
+    let events : intact.events ≡ r.since ++ e = cc in
+    let now : incarnation_after 1 (r.since ++ e) ≡ h.incarnation = ap (incarnation_after 1) (sym events) ∙ intact.uncrashed in
     let up : incarnation_after 1 r.before ≤ incarnation_after 1 e = incarnation_grows r.between (happened.Stored kept ∷ r.before) in
     let on : incarnation_after 1 e ≤ incarnation_after 1 (r.since ++ e) = incarnation_grows r.since e in
     let stays : incarnation_after 1 e ≡ incarnation_after 1 r.before = omega (arith, now, r.in_named) in
-    let quiet_all : has_late_sweep c.expiry (r.since ++ e) ≡ false = ap (has_late_sweep c.expiry) (sym events) ∙ within.in_lease in
+    let quiet_all : has_late_sweep c.expiry (r.since ++ e) ≡ false = ap (has_late_sweep c.expiry) (sym events) ∙ intact.unswept in
     let quiet : has_late_sweep c.expiry r.between ≡ false = no_late_front c.expiry r.between (happened.Stored kept ∷ r.before) (no_late_behind c.expiry r.since e quiet_all) in
     let all : AllStored (WasWritten v) r.between = stored_front (WasWritten v) r.between (happened.Stored kept ∷ r.before) (stored_behind (WasWritten v) r.since e (s.late.stored h.brick (r.since ++ e) r.history_is)) in
     let same : AllStored (λ (t : Kept). is_under c.key c.version t ≡ true → t ≡ kept) r.between =
@@ -244,21 +244,21 @@ each_asked own ends bricks earlier later order value r place ask o read there ea
 
 pub holder_replies : (n : ℕ) (earlier later : List WorldEvent) (order : ReadOrder) (value : List ℕ) (r : ReadState) (place packet : ℕ) (h : Holder) (frame : Frame)
     → ReadAfter (after (new_world n) earlier) order value later r → slice_get order.cookie.bricks place ≡ Some h
-    → IsWithin (read_world (after (new_world n) earlier) order later) h order.cookie.expiry
+    → IsIntact (read_world (after (new_world n) earlier) order later) h order.cookie.expiry
     → slice_get (read_world (after (new_world n) earlier) order later).packets packet ≡ Some (record { brick = h.brick; frame = frame }) → is_request frame ≡ false → frame_nonce frame ≡ order.nonce
     → frame ≡ Found order.nonce order.cookie.key order.cookie.version h.brick h.incarnation order.cookie.expiry value
-holder_replies n earlier later order value r place packet h frame read among within there none nonce =
-    within_found n (after (new_world n) earlier) (read_world (after (new_world n) earlier) order later) order value place h frame (scene n earlier order value later r read) among (packet, there) none nonce within
+holder_replies n earlier later order value r place packet h frame read among intact there none nonce =
+    intact_found n (after (new_world n) earlier) (read_world (after (new_world n) earlier) order later) order value place h frame (scene n earlier order value later r read) among (packet, there) none nonce intact
 
--- the outcome of a holder that is within its lease and has not crashed
+-- the outcome of a holder that is intact
 abbrev IsServed : List ℕ → Outcome ReadReply → Type 0
 IsServed value o = (o ≡ outcome.Answered (get.Found value)) ⊎ ((o ≡ outcome.Silent) ⊎ (o ≡ outcome.Strayed))
 
-uncrashed : (v : WorldValue) (h : Holder) (expiry : Moment) (kept : Kept) (i : ℕ) → IsWithin v h expiry → HasCrashed v h kept i → ⊥
-uncrashed v h expiry kept i within crashed =
-    let one : Some within.events ≡ Some crashed.events = sym within.history_is ∙ crashed.history_is in
-    let events : within.events ≡ crashed.events = cc in
-    let now : incarnation_after 1 crashed.events ≡ h.incarnation = ap (incarnation_after 1) (sym events) ∙ within.uncrashed in
+uncrashed : (v : WorldValue) (h : Holder) (expiry : Moment) (kept : Kept) (i : ℕ) → IsIntact v h expiry → HasCrashed v h kept i → ⊥
+uncrashed v h expiry kept i intact crashed =
+    let one : Some intact.events ≡ Some crashed.events = sym intact.history_is ∙ crashed.history_is in
+    let events : intact.events ≡ crashed.events = cc in
+    let now : incarnation_after 1 crashed.events ≡ h.incarnation = ap (incarnation_after 1) (sym events) ∙ intact.uncrashed in
     omega (arith, now, crashed.greater, crashed.reached)
 
 not_early : (moment expiry : Moment) → is_late moment expiry ≡ false → expiry.0 + SWEEP_GRACE < moment.0 → ⊥
@@ -268,39 +268,39 @@ not_any : (b : Bool) → b ≡ false → not b ≡ true
 not_any true e = absurd (cc)
 not_any false e = refl
 
-unswept : (v : WorldValue) (h : Holder) (expiry moment : Moment) → IsWithin v h expiry → WasSwept v h expiry moment → ⊥
-unswept v h expiry moment within swept =
-    let one : Some within.events ≡ Some swept.events = sym within.history_is ∙ swept.history_is in
-    let events : within.events ≡ swept.events = cc in
-    let none : has_late_sweep expiry swept.events ≡ false = ap (has_late_sweep expiry) (sym events) ∙ within.in_lease in
+unswept : (v : WorldValue) (h : Holder) (expiry moment : Moment) → IsIntact v h expiry → WasSwept v h expiry moment → ⊥
+unswept v h expiry moment intact swept =
+    let one : Some intact.events ≡ Some swept.events = sym intact.history_is ∙ swept.history_is in
+    let events : intact.events ≡ swept.events = cc in
+    let none : has_late_sweep expiry swept.events ≡ false = ap (has_late_sweep expiry) (sym events) ∙ intact.unswept in
     let early : is_late moment expiry ≡ false = none_passes (is_late_sweep expiry) swept.events swept.place (happened.Sweep moment) (not_any (has_late_sweep expiry swept.events) none) swept.sweep in
     not_early moment expiry early swept.late
 
 served : (n : ℕ) (w v : WorldValue) (order : ReadOrder) (value : List ℕ) (i : ℕ) (h : Holder) (told : List Told) (o : Outcome ReadReply) → Scene n w v order value → slice_get order.cookie.bricks i ≡ Some h
-    → HeardAs order h told o → ((reply : ReadReply) → o ≡ outcome.Answered reply → Evidence v order h reply) → IsWithin v h order.cookie.expiry → IsServed value o
-served n w v order value i h told outcome.Silent s among heard_so its within = inr (inl refl)
-served n w v order value i h told outcome.Strayed s among heard_so its within = inr (inr refl)
-served n w v order value i h told (outcome.Answered (get.Found x)) s among heard_so its within =
+    → HeardAs order h told o → ((reply : ReadReply) → o ≡ outcome.Answered reply → Evidence v order h reply) → IsIntact v h order.cookie.expiry → IsServed value o
+served n w v order value i h told outcome.Silent s among heard_so its intact = inr (inl refl)
+served n w v order value i h told outcome.Strayed s among heard_so its intact = inr (inr refl)
+served n w v order value i h told (outcome.Answered (get.Found x)) s among heard_so its intact =
     inl (ap (λ y. outcome.Answered (get.Found y)) (found_value n w v order value h x s (its (get.Found x) refl)))
-served n w v order value i h told (outcome.Answered (get.Crashed j)) s among heard_so its within = absurd (
+served n w v order value i h told (outcome.Answered (get.Crashed j)) s among heard_so its intact = absurd (
     let lost : (c : Cause) × (loss_by (Heard (outcome.Answered (get.Crashed j))) ≡ Some c) × IsLost v order (kept_for order.cookie value) h told c = lost_by n w v order value i h told (outcome.Answered (get.Crashed j)) s among heard_so its refl in
     let same : lost.0 ≡ cause.Crashed j = cc in
     let P : Cause → Type 0 = λ c. IsLost v order (kept_for order.cookie value) h told c in
     let its : IsLost v order (kept_for order.cookie value) h told (cause.Crashed j) = subst P same lost.2 in
-    uncrashed v h order.cookie.expiry (kept_for order.cookie value) j within its.1)
-served n w v order value i h told (outcome.Answered (get.Swept moment)) s among heard_so its within = absurd (
+    uncrashed v h order.cookie.expiry (kept_for order.cookie value) j intact its.1)
+served n w v order value i h told (outcome.Answered (get.Swept moment)) s among heard_so its intact = absurd (
     let lost : (c : Cause) × (loss_by (Heard (outcome.Answered (get.Swept moment))) ≡ Some c) × IsLost v order (kept_for order.cookie value) h told c = lost_by n w v order value i h told (outcome.Answered (get.Swept moment)) s among heard_so its refl in
     let same : lost.0 ≡ cause.Swept moment = cc in
     let P : Cause → Type 0 = λ c. IsLost v order (kept_for order.cookie value) h told c in
     let its : IsLost v order (kept_for order.cookie value) h told (cause.Swept moment) = subst P same lost.2 in
-    unswept v h order.cookie.expiry moment within its.1)
+    unswept v h order.cookie.expiry moment intact its.1)
 
 pub holder_heard : OwnLaw → EndLaw → (n : ℕ) (earlier later : List WorldEvent) (order : ReadOrder) (value : List ℕ) (r : ReadState) (place : ℕ) (a : Ask Holder ReadReply) (o : Outcome ReadReply)
     → ReadAfter (after (new_world n) earlier) order value later r → slice_get r.asks place ≡ Some a → a.ear ≡ Heard o
-    → IsWithin (read_world (after (new_world n) earlier) order later) a.who order.cookie.expiry
+    → IsIntact (read_world (after (new_world n) earlier) order later) a.who order.cookie.expiry
     → HeardAs order a.who (told_since (after (new_world n) earlier) order later a.who) o
     × ((o ≡ outcome.Answered (get.Found value)) ⊎ ((o ≡ outcome.Silent) ⊎ (o ≡ outcome.Strayed)))
-holder_heard own ends n earlier later order value r place a o read there ear within =
+holder_heard own ends n earlier later order value r place a o read there ear intact =
     let w : WorldValue = after (new_world n) earlier in
     let v : WorldValue = read_world w order later in
     let s : Scene n w v order value = scene n earlier order value later r read in
@@ -308,25 +308,25 @@ holder_heard own ends n earlier later order value r place a o read there ear wit
     let heard_so : HeardAs order a.who (told_since w order later a.who) o = each_heard own ends w order value later r place a o read there ear in (
       heard_so,
       served n w v order value place a.who (told_since w order later a.who) o s (among_holders r order place a its there) heard_so
-          (λ reply is. evidence v order r place a reply (s.late.calls (length w.calls) (call.Read r) read.there) its there (ear ∙ ap (λ x. Heard x) is)) within,
+          (λ reply is. evidence v order r place a reply (s.late.calls (length w.calls) (call.Read r) read.there) its there (ear ∙ ap (λ x. Heard x) is)) intact,
     )
 
--- a cause of a holder that is within its lease and has not crashed is the link's
-unheard : (v : WorldValue) (order : ReadOrder) (kept : Kept) (h : Holder) (told : List Told) (c : Cause) → IsLost v order kept h told c → IsWithin v h order.cookie.expiry → (c ≡ cause.Silent) ⊎ (c ≡ cause.Strayed)
-unheard v order kept h told cause.Silent lost within = inl refl
-unheard v order kept h told cause.Strayed lost within = inr refl
-unheard v order kept h told (cause.Full entries bytes) lost within = absurd lost
-unheard v order kept h told (cause.Crashed i) lost within = absurd (uncrashed v h order.cookie.expiry kept i within lost.1)
-unheard v order kept h told (cause.Swept moment) lost within = absurd (unswept v h order.cookie.expiry moment within lost.1)
+-- a cause of a holder that is intact is the link's
+unheard : (v : WorldValue) (order : ReadOrder) (kept : Kept) (h : Holder) (told : List Told) (c : Cause) → IsLost v order kept h told c → IsIntact v h order.cookie.expiry → (c ≡ cause.Silent) ⊎ (c ≡ cause.Strayed)
+unheard v order kept h told cause.Silent lost intact = inl refl
+unheard v order kept h told cause.Strayed lost intact = inr refl
+unheard v order kept h told (cause.Full entries bytes) lost intact = absurd lost
+unheard v order kept h told (cause.Crashed i) lost intact = absurd (uncrashed v h order.cookie.expiry kept i intact lost.1)
+unheard v order kept h told (cause.Swept moment) lost intact = absurd (unswept v h order.cookie.expiry moment intact lost.1)
 
 pub all_unheard : (v : WorldValue) (order : ReadOrder) (kept : Kept) (told : Holder → List Told) (hs : List Holder) (cs : List BrickCause) (i : ℕ) (h : Holder) (c : BrickCause)
-    → AreLost v order kept told hs cs → slice_get hs i ≡ Some h → slice_get cs i ≡ Some c → IsWithin v h order.cookie.expiry → (c.cause ≡ cause.Silent) ⊎ (c.cause ≡ cause.Strayed)
-all_unheard v order kept told [] cs i h c lost at_h at_c within = absurd (cc)
-all_unheard v order kept told (g ∷ hs) [] i h c lost at_h at_c within = absurd (cc)
-all_unheard v order kept told (g ∷ hs) (d ∷ cs) zero h c lost at_h at_c within =
+    → AreLost v order kept told hs cs → slice_get hs i ≡ Some h → slice_get cs i ≡ Some c → IsIntact v h order.cookie.expiry → (c.cause ≡ cause.Silent) ⊎ (c.cause ≡ cause.Strayed)
+all_unheard v order kept told [] cs i h c lost at_h at_c intact = absurd (cc)
+all_unheard v order kept told (g ∷ hs) [] i h c lost at_h at_c intact = absurd (cc)
+all_unheard v order kept told (g ∷ hs) (d ∷ cs) zero h c lost at_h at_c intact =
     let holder : g ≡ h = cc in
     let same : d ≡ c = cc in
-    let P : Holder → Type 0 = λ x. IsWithin v x order.cookie.expiry in
+    let P : Holder → Type 0 = λ x. IsIntact v x order.cookie.expiry in
     let Q : BrickCause → Type 0 = λ x. (x.cause ≡ cause.Silent) ⊎ (x.cause ≡ cause.Strayed) in
-    subst Q same (unheard v order kept g (told g) d.cause lost.1 (subst P (sym holder) within))
-all_unheard v order kept told (g ∷ hs) (d ∷ cs) (suc i) h c lost at_h at_c within = all_unheard v order kept told hs cs i h c lost.2 at_h at_c within
+    subst Q same (unheard v order kept g (told g) d.cause lost.1 (subst P (sym holder) intact))
+all_unheard v order kept told (g ∷ hs) (d ∷ cs) (suc i) h c lost at_h at_c intact = all_unheard v order kept told hs cs i h c lost.2 at_h at_c intact

@@ -60,8 +60,8 @@ write_begins w bricks least nonce key value expiry may some = record {
   replies = λ i ask reply there is. absurd (none_heard WriteReply bricks i ask reply there is);
 }
 
-pub read_begins : (w : WorldValue) (now : Moment) (nonce : Version) (cookie : Cookie) → may_be_asked (bricks_of cookie.bricks) ≡ true → CallIsSound w (call.Read (read_start now nonce cookie))
-read_begins w now nonce cookie may = record {
+pub read_begins : (w : WorldValue) (moment : Moment) (nonce : Version) (cookie : Cookie) → may_be_asked (bricks_of cookie.bricks) ≡ true → CallIsSound w (call.Read (read_start moment nonce cookie))
+read_begins w moment nonce cookie may = record {
   bricks = ap (λ whos. may_be_asked (bricks_of whos)) (asked_none ReadReply cookie.bricks) ∙ may;
   replies = λ i ask reply there is. absurd (none_heard ReadReply cookie.bricks i ask reply there is);
 }

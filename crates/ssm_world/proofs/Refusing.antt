@@ -25,11 +25,11 @@ not_told : (w : WorldValue) (place : ℕ) (c : Call) (o : Option Told) → is_so
 not_told w place c None is = refl
 not_told w place c (Some told) is = absurd (cc)
 
-not_sent : (w : WorldValue) (place : ℕ) (silent arrives : Bool) (o : Option Call) → is_some (told_if (told_by_send silent) o) ≡ false → sent w place silent arrives o ≡ w
-not_sent w place silent arrives None is = refl
-not_sent w place silent arrives (Some c) is = go (next_of c) is
+not_sent : (w : WorldValue) (place : ℕ) (silent is_sent : Bool) (o : Option Call) → is_some (told_if (told_by_send silent) o) ≡ false → sent w place silent is_sent o ≡ w
+not_sent w place silent is_sent None is = refl
+not_sent w place silent is_sent (Some c) is = go (next_of c) is
   where
-    go : (n : StubNext) → is_some (told_by_send silent n) ≡ false → with_sent (with_told w place c (told_by_send silent n)) (packet_by_send arrives (ask_of c) n) ≡ w
+    go : (n : StubNext) → is_some (told_by_send silent n) ≡ false → with_sent (with_told w place c (told_by_send silent n)) (packet_by_send is_sent (ask_of c) n) ≡ w
     go (next.Send brick) none = absurd (cc)
     go (next.Receive brick) none = refl
     go next.Ended none = refl
@@ -60,8 +60,8 @@ not_swept w brick moment (Some h) is = absurd (cc)
 
 pub refused : (w : WorldValue) (e : WorldEvent) → may_happen w e ≡ false → step w e ≡ w
 refused w (Write nonce key value expiry bricks least) is = not_begun w _ (may_write w nonce bricks least) is
-refused w (Read nonce now cookie) is = not_begun w _ (may_read w nonce cookie.bricks) is
-refused w (Send place silent arrives) is = not_sent w place silent (not silent || arrives) (slice_get w.calls place) is
+refused w (Read nonce moment cookie) is = not_begun w _ (may_read w nonce cookie.bricks) is
+refused w (Send place silent is_sent) is = not_sent w place silent (not silent || is_sent) (slice_get w.calls place) is
 refused w (Deliver packet) is = go (slice_get w.packets packet) is
   where
     go : (o : Option Packet) → is_some (option_and_then (λ (p : Packet). reply_to p (history w p.brick)) o) ≡ false → delivered w o ≡ w

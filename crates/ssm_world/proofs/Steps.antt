@@ -68,25 +68,25 @@ packet_comes w i (Some p) (next.Receive brick) t there is = go (same_brick p.bri
         (i, there ∙ (λ l. Some (record { brick = same l; frame = framed l })))
 
 -- a packet that is sent, if one is
-packet_stays : (since w : WorldValue) (k : ℕ) (c : Call) (arrives : Bool) (next : StubNext) → slice_get w.calls k ≡ Some c → SendsTo c next → StaysSound since w (with_sent w (packet_by_send arrives (ask_of c) next))
+packet_stays : (since w : WorldValue) (k : ℕ) (c : Call) (is_sent : Bool) (next : StubNext) → slice_get w.calls k ≡ Some c → SendsTo c next → StaysSound since w (with_sent w (packet_by_send is_sent (ask_of c) next))
 packet_stays since w k c true (next.Send brick) there to = request_stays since w brick k c there to
 packet_stays since w k c false (next.Send brick) there to = stays_same since w
-packet_stays since w k c arrives (next.Receive brick) there to = stays_same since w
-packet_stays since w k c arrives next.Ended there to = stays_same since w
+packet_stays since w k c is_sent (next.Receive brick) there to = stays_same since w
+packet_stays since w k c is_sent next.Ended there to = stays_same since w
 
 -- a call after it was told something, if it was
 told_call : (w : WorldValue) (k : ℕ) (c : Call) (o : Option Told) → slice_get w.calls k ≡ Some c → (d : Call) × (slice_get (with_told w k c o).calls k ≡ Some d) × (ask_of d ≡ ask_of c) × (bricks_asked d ≡ bricks_asked c)
 told_call w k c None there = (c, there, refl, refl)
 told_call w k c (Some t) there = (hear c t, get_set_same w.calls k (hear c t) c there, same_ask c (hear c t) (hear_untold c t), same_bricks c (hear c t) (hear_untold c t))
 
-sent_stays : (since w : WorldValue) (k : ℕ) (silent arrives : Bool) (o : Option Call) → slice_get w.calls k ≡ o → StaysSound since w (sent w k silent arrives o)
-sent_stays since w k silent arrives None there = stays_same since w
-sent_stays since w k silent arrives (Some c) there =
+sent_stays : (since w : WorldValue) (k : ℕ) (silent is_sent : Bool) (o : Option Call) → slice_get w.calls k ≡ o → StaysSound since w (sent w k silent is_sent o)
+sent_stays since w k silent is_sent None there = stays_same since w
+sent_stays since w k silent is_sent (Some c) there =
     let middle : WorldValue = with_told w k c (told_by_send silent (next_of c)) in
     let first : StaysSound since w middle = told_stays since w k c (told_by_send silent (next_of c)) there (send_comes w silent (next_of c)) in
     let now : (d : Call) × (slice_get middle.calls k ≡ Some d) × (ask_of d ≡ ask_of c) × (bricks_asked d ≡ bricks_asked c) = told_call w k c (told_by_send silent (next_of c)) there in
-    let S : Frame → Type 0 = λ f. StaysSound since middle (with_sent middle (packet_by_send arrives f (next_of c))) in
-    stays_on since w middle (sent w k silent arrives (Some c)) first (subst S now.2 (packet_stays since middle k now.0 arrives (next_of c) now.1 (same_sends c now.0 (next_of c) now.3 (next_sends c))))
+    let S : Frame → Type 0 = λ f. StaysSound since middle (with_sent middle (packet_by_send is_sent f (next_of c))) in
+    stays_on since w middle (sent w k silent is_sent (Some c)) first (subst S now.2 (packet_stays since middle k now.0 is_sent (next_of c) now.1 (same_sends c now.0 (next_of c) now.3 (next_sends c))))
 
 came_stays : (since w : WorldValue) (k i : ℕ) (packet : Option Packet) (o : Option Call) → slice_get w.packets i ≡ packet → slice_get w.calls k ≡ o → StaysSound since w (came w k packet o)
 came_stays since w k i packet None at_packet there = stays_same since w
@@ -127,12 +127,12 @@ pub step_stays : (since w : WorldValue) (e : WorldEvent) → StaysSound since w 
 step_stays since w (Write nonce key value expiry bricks least) =
     begins_stay since w _ (may_write w nonce bricks least) (λ may. (both _ _ (both _ _ may).0).0)
     (λ may v. write_begins v bricks least nonce key value expiry (both _ _ (both _ _ may).0).1 (both _ _ may).1)
-step_stays since w (Read nonce now cookie) =
-    begins_stay since w _ (may_read w nonce cookie.bricks) (λ may. (both _ _ may).0) (λ may v. read_begins v now nonce cookie (both _ _ may).1)
-step_stays since w (Send call silent arrives) = sent_stays since w call silent (not silent || arrives) (slice_get w.calls call) refl
+step_stays since w (Read nonce moment cookie) =
+    begins_stay since w _ (may_read w nonce cookie.bricks) (λ may. (both _ _ may).0) (λ may v. read_begins v moment nonce cookie (both _ _ may).1)
+step_stays since w (Send place silent is_sent) = sent_stays since w place silent (not silent || is_sent) (slice_get w.calls place) refl
 step_stays since w (Deliver packet) = delivered_stays since w packet (slice_get w.packets packet) refl
-step_stays since w (Hear call packet) = came_stays since w call packet (slice_get w.packets packet) (slice_get w.calls call) refl refl
-step_stays since w (Hush call) = hushed_stays since w call (slice_get w.calls call) refl
+step_stays since w (Hear place packet) = came_stays since w place packet (slice_get w.packets packet) (slice_get w.calls place) refl refl
+step_stays since w (Hush place) = hushed_stays since w place (slice_get w.calls place) refl
 step_stays since w (Crash brick) = crashed_stays since w brick (history w brick) refl
 step_stays since w (Sweep brick moment) = swept_stays since w brick moment (history w brick) refl
 

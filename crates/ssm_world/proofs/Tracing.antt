@@ -96,10 +96,10 @@ tells w w' k place c d f calls at_k at_place =
     ap (λ cs. slice_get cs place) calls ∙ told_call w k c (f (next_of c)) place d at_k at_place
     ∙ ap (λ o. Some (told_on d o)) (told_next w place k c d f at_k at_place)
 
-sends_call : (w : WorldValue) (k place : ℕ) (silent arrives : Bool) (o : Option Call) (d : Call) → slice_get w.calls k ≡ o → slice_get w.calls place ≡ Some d
-    → slice_get (sent w k silent arrives o).calls place ≡ Some (told_on d (if k == place then told_by_send silent (next_of d) else None))
-sends_call w k place silent arrives None d at_k at_place = none_told w k place d (told_by_send silent (next_of d)) at_k at_place
-sends_call w k place silent arrives (Some c) d at_k at_place = tells w (sent w k silent arrives (Some c)) k place c d (told_by_send silent) (sent_calls (with_told w k c (told_by_send silent (next_of c))) (packet_by_send arrives (ask_of c) (next_of c))) at_k at_place
+sends_call : (w : WorldValue) (k place : ℕ) (silent is_sent : Bool) (o : Option Call) (d : Call) → slice_get w.calls k ≡ o → slice_get w.calls place ≡ Some d
+    → slice_get (sent w k silent is_sent o).calls place ≡ Some (told_on d (if k == place then told_by_send silent (next_of d) else None))
+sends_call w k place silent is_sent None d at_k at_place = none_told w k place d (told_by_send silent (next_of d)) at_k at_place
+sends_call w k place silent is_sent (Some c) d at_k at_place = tells w (sent w k silent is_sent (Some c)) k place c d (told_by_send silent) (sent_calls (with_told w k c (told_by_send silent (next_of c))) (packet_by_send is_sent (ask_of c) (next_of c))) at_k at_place
 
 comes_call : (w : WorldValue) (k place : ℕ) (packet : Option Packet) (o : Option Call) (d : Call) → slice_get w.calls k ≡ o → slice_get w.calls place ≡ Some d
     → slice_get (came w k packet o).calls place ≡ Some (told_on d (if k == place then told_by_packet packet (next_of d) else None))
@@ -143,8 +143,8 @@ swept_calls w brick moment (Some h) = refl
 -- what becomes of a call at an event
 call_step : (w : WorldValue) (e : WorldEvent) (place : ℕ) (d : Call) → slice_get w.calls place ≡ Some d → slice_get (step w e).calls place ≡ Some (told_on d (told_by w place (next_of d) e))
 call_step w (Write nonce key value expiry bricks least) place d there = new_call_keeps w _ (may_write w nonce bricks least) place d there
-call_step w (Read nonce now cookie) place d there = new_call_keeps w _ (may_read w nonce cookie.bricks) place d there
-call_step w (Send k silent arrives) place d there = sends_call w k place silent (not silent || arrives) (slice_get w.calls k) d refl there
+call_step w (Read nonce moment cookie) place d there = new_call_keeps w _ (may_read w nonce cookie.bricks) place d there
+call_step w (Send k silent is_sent) place d there = sends_call w k place silent (not silent || is_sent) (slice_get w.calls k) d refl there
 call_step w (Deliver packet) place d there = ap (λ cs. slice_get cs place) (delivered_calls w (slice_get w.packets packet)) ∙ there
 call_step w (Hear k packet) place d there = comes_call w k place (slice_get w.packets packet) (slice_get w.calls k) d refl there
 call_step w (Hush k) place d there = hushes_call w k place (slice_get w.calls k) d refl there
@@ -179,8 +179,8 @@ if_told false o n t fit is = absurd (cc)
 
 told_fits : (w : WorldValue) (place : ℕ) (n : StubNext) (e : WorldEvent) (t : Told) → told_by w place n e ≡ Some t → IsTrue (fits n t)
 told_fits w place n (Write nonce key value expiry bricks least) t is = absurd (cc)
-told_fits w place n (Read nonce now cookie) t is = absurd (cc)
-told_fits w place n (Send k silent arrives) t is = if_told (k == place) (told_by_send silent n) n t (send_fits silent n t) is
+told_fits w place n (Read nonce moment cookie) t is = absurd (cc)
+told_fits w place n (Send k silent is_sent) t is = if_told (k == place) (told_by_send silent n) n t (send_fits silent n t) is
 told_fits w place n (Deliver packet) t is = absurd (cc)
 told_fits w place n (Hear k packet) t is = if_told (k == place) (told_by_packet (slice_get w.packets packet) n) n t (packet_fits (slice_get w.packets packet) n t) is
 told_fits w place n (Hush k) t is = if_told (k == place) (told_by_hush n) n t (hush_fits n t) is

@@ -55,13 +55,13 @@ pub record Keeps (w : WorldValue) (holder : Holder) (s : Kept) : Type 0 where
   pub stored : WasStored events holder.incarnation s
   pub holds : incarnation_after 1 events ≡ holder.incarnation → has_late_sweep s.expiry stored.later ≡ false → held events s.key s.version ≡ Some s
 
--- A holder has neither crashed since it stored the value nor passed the lease: it has the incarnation that
--- the cookie names, and no sweep of it was late.
-pub record IsWithin (w : WorldValue) (holder : Holder) (expiry : Moment) : Type 0 where
+-- A holder has neither crashed since it stored the value nor been swept late: it has the incarnation that
+-- the cookie names, and no sweep of it was past the lease and the grace.
+pub record IsIntact (w : WorldValue) (holder : Holder) (expiry : Moment) : Type 0 where
   pub events : List BrickEvent
   pub history_is : history w holder.brick ≡ Some events
   pub uncrashed : incarnation_after 1 events ≡ holder.incarnation
-  pub in_lease : has_late_sweep expiry events ≡ false
+  pub unswept : has_late_sweep expiry events ≡ false
 
 -- A holder has crashed since it stored the value in the incarnation that the cookie names, and has had the
 -- greater incarnation that it told since.
@@ -96,7 +96,7 @@ HeardAs order holder told outcome =
 -- Why a holder did not give this value to a read that was told this of it: the link was silent to the
 -- read's send, or to its receiving; or 64 frames came that are no lawful reply; or the holder told that
 -- it has another incarnation, and has crashed since it stored the value; or it told that it was swept
--- past the lease, and was.
+-- past the lease and the grace, and was.
 abbrev pub IsLost : WorldValue → ReadOrder → Kept → Holder → List Told → Cause → Type 0
 IsLost w order s holder told cause.Silent = HeardAs order holder told outcome.Silent
 IsLost w order s holder told cause.Strayed = HeardAs order holder told outcome.Strayed
@@ -127,8 +127,8 @@ pub record WasGiven (order : ReadOrder) (told : Holder → List Told) (value : L
 abbrev pub IsRight : WorldValue → ReadOrder → List ℕ → (Holder → List Told) → Result (List ℕ) ReadRefusal → Type 0
 IsRight w order value told (Ok answered) =
     (answered ≡ value) × (order.moment.0 ≤ order.cookie.expiry.0) × WasGiven order told answered
-IsRight w order value told (Err (Expired now expiry)) =
-    (now ≡ order.moment) × (expiry ≡ order.cookie.expiry) × (order.cookie.expiry.0 < order.moment.0)
+IsRight w order value told (Err (Expired moment expiry)) =
+    (moment ≡ order.moment) × (expiry ≡ order.cookie.expiry) × (order.cookie.expiry.0 < order.moment.0)
 IsRight w order value told (Err (Lost causes)) =
     (order.moment.0 ≤ order.cookie.expiry.0)
     × AreLost w order (kept_for order.cookie value) told order.cookie.bricks causes

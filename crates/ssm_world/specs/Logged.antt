@@ -1,4 +1,4 @@
--- Bricks with what happened to them.
+-- What the bricks inside a world stand for: no public clause cites it.
 use Rattle.std.specs.Prelude.{◌≡◌, ℕ, ◌+◌, ◌^◌, ◌<◌, List, length, map, slice_get, Some}
 use Rattle.crash_base.specs.declared.numbers.BrickNo.{BrickNo}
 use Rattle.brick_store.specs.declared.event.BrickEvent.{BrickEvent}

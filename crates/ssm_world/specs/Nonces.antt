@@ -1,4 +1,4 @@
--- The order of nonces, by which most of them are known to be new.
+-- The order of nonces, by which the calls inside a world know most of them to be new: no public clause cites it.
 use Rattle.std.specs.Prelude.{◌≡◌, ◌==◌, ◌&&◌, ◌||◌, nat_lt, Bool, true, false, if◌then◌else◌, List, Option, Some, None}
 use Rattle.std.specs.List.{list_any}
 use Rattle.crash_base.specs.declared.numbers.Version.{Version}

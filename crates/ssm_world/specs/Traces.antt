@@ -11,13 +11,13 @@ use Rattle.ssm_world.specs.Worlds.{WorldValue, next_of, told_by_send, told_by_hu
 -- what an event tells the call at a place that wants this, if it tells it anything
 abbrev pub told_by : WorldValue → ℕ → StubNext → WorldEvent → Option Told
 told_by w place next (Write nonce key value expiry bricks least) = None
-told_by w place next (Read nonce now cookie) = None
-told_by w place next (Send call silent arrives) =
-    if call == place then told_by_send silent next else None
+told_by w place next (Read nonce moment cookie) = None
+told_by w place next (Send at silent is_sent) =
+    if at == place then told_by_send silent next else None
 told_by w place next (Deliver packet) = None
-told_by w place next (Hear call packet) =
-    if call == place then told_by_packet (slice_get w.packets packet) next else None
-told_by w place next (Hush call) = if call == place then told_by_hush next else None
+told_by w place next (Hear at packet) =
+    if at == place then told_by_packet (slice_get w.packets packet) next else None
+told_by w place next (Hush at) = if at == place then told_by_hush next else None
 told_by w place next (Crash brick) = None
 told_by w place next (Sweep brick moment) = None
 

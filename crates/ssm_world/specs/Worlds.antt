@@ -149,10 +149,10 @@ told_by_packet packet next.Ended = None
 
 -- the packet with the ask of a call that wants this, where it is sent
 abbrev pub packet_by_send : Bool → Frame → StubNext → Option Packet
-packet_by_send sent ask (next.Send brick) =
-    if sent then Some (record { brick = brick; frame = ask }) else None
-packet_by_send sent ask (next.Receive brick) = None
-packet_by_send sent ask next.Ended = None
+packet_by_send is_sent ask (next.Send brick) =
+    if is_sent then Some (record { brick = brick; frame = ask }) else None
+packet_by_send is_sent ask (next.Receive brick) = None
+packet_by_send is_sent ask next.Ended = None
 
 -- the world where the call at a place was told this, if it was told anything
 abbrev pub with_told : WorldValue → ℕ → Call → Option Told → WorldValue
@@ -161,10 +161,10 @@ with_told w place c (Some told) = with_call w place (hear c told)
 
 -- the world after a call sent, and the packet was sent or not
 abbrev pub sent : WorldValue → ℕ → Bool → Bool → Option Call → WorldValue
-sent w place silent arrives None = w
-sent w place silent arrives (Some c) =
+sent w place silent is_sent None = w
+sent w place silent is_sent (Some c) =
     with_sent (with_told w place c (told_by_send silent (next_of c)))
-    (packet_by_send arrives (ask_of c) (next_of c))
+    (packet_by_send is_sent (ask_of c) (next_of c))
 
 -- the world after a packet came to a call
 abbrev pub came : WorldValue → ℕ → Option Packet → Option Call → WorldValue
@@ -220,10 +220,10 @@ step w (Write nonce key value expiry bricks least) =
     if may_write w nonce bricks least
     then with_new_call w (call.Write (write_start bricks least nonce key value expiry))
     else w
-step w (Read nonce now cookie) =
-    if may_read w nonce cookie.bricks then with_new_call w (call.Read (read_start now nonce cookie)) else w
-step w (Send place silent arrives) =
-    sent w place silent (not silent || arrives) (slice_get w.calls place)
+step w (Read nonce moment cookie) =
+    if may_read w nonce cookie.bricks then with_new_call w (call.Read (read_start moment nonce cookie)) else w
+step w (Send place silent is_sent) =
+    sent w place silent (not silent || is_sent) (slice_get w.calls place)
 step w (Deliver packet) = delivered w (slice_get w.packets packet)
 step w (Hear place packet) = came w place (slice_get w.packets packet) (slice_get w.calls place)
 step w (Hush place) = hushed w place (slice_get w.calls place)
@@ -247,8 +247,8 @@ may_crash (Some h) = nat_lt (incarnation_after 1 h) (2 ^ 64 - 1)
 -- Whether an event may happen.
 abbrev pub may_happen : WorldValue → WorldEvent → Bool
 may_happen w (Write nonce key value expiry bricks least) = may_write w nonce bricks least
-may_happen w (Read nonce now cookie) = may_read w nonce cookie.bricks
-may_happen w (Send place silent arrives) =
+may_happen w (Read nonce moment cookie) = may_read w nonce cookie.bricks
+may_happen w (Send place silent is_sent) =
     is_some (told_if (told_by_send silent) (slice_get w.calls place))
 may_happen w (Deliver packet) =
     is_some (option_and_then (λ (p : Packet). reply_to p (history w p.brick)) (slice_get w.packets packet))

@@ -27,7 +27,7 @@ ghost use Rattle.ssm_world.specs.declared.event.WorldEvent.{WorldEvent};
 ghost use Rattle.ssm_world.specs.Worlds.{WorldValue, may_be_asked, bricks_of, new_world, step, may_happen, after};
 ghost use Rattle.ssm_world.specs.Facts.{frame_nonce};
 ghost use Rattle.ssm_world.specs.Sound.{IsSound, RepliesSince, Grows};
-ghost use Rattle.ssm_world.specs.Claims.{IsAcknowledged, NamesWhoStored, kept_for, Keeps, IsWithin, HeardAs, IsRight, ReadOrder, ReadAfter, read_world, told_since};
+ghost use Rattle.ssm_world.specs.Claims.{IsAcknowledged, NamesWhoStored, kept_for, Keeps, IsIntact, HeardAs, IsRight, ReadOrder, ReadAfter, read_world, told_since};
 
 use ssm_stub::{an_outcome_of_a_get_has_its_events, each_hears_its_own};
 use stub_laws::answers_stay;
@@ -112,8 +112,9 @@ pub fn acknowledged_cookies_may_be_read()
 /// Lost, with the cause of each holder. A cause is Crashed only where the holder has crashed since it stored
 /// the value, Swept only where it was swept past the lease and the grace, Silent only where the link was
 /// silent to this read's send to the holder or to its receiving from it, and Strayed only where this read was
-/// given 64 frames of the holder that are no lawful reply. The cause of a holder that was not swept late and
-/// has not crashed is Silent or Strayed. Whatever the read heard of a holder is by what it was told of it.
+/// given 64 frames of the holder that are no lawful reply. The cause of an intact holder, which has neither
+/// crashed since it stored the value nor been swept past the lease and the grace, is Silent or Strayed.
+/// Whatever the read heard of a holder is by what it was told of it.
 pub fn reads_answer_what_was_written()
     ensures right { (bricks : ℕ) (earlier later : List WorldEvent) (order : ReadOrder) (value : List ℕ) (read : ReadState)
         (result : Result (List ℕ) ReadRefusal)
@@ -126,25 +127,26 @@ pub fn reads_answer_what_was_written()
         → slice_get read.asks place ≡ Some ask → ask.ear ≡ Heard outcome
         → (slice_get order.cookie.bricks place ≡ Some ask.who)
         × HeardAs order ask.who (told_since (after (new_world bricks) earlier) order later ask.who) outcome }
-    ensures within { (bricks : ℕ) (earlier later : List WorldEvent) (order : ReadOrder) (value : List ℕ) (read : ReadState)
+    ensures intact { (bricks : ℕ) (earlier later : List WorldEvent) (order : ReadOrder) (value : List ℕ) (read : ReadState)
         (causes : List BrickCause) (place : ℕ) (holder : Holder) (cause : BrickCause)
         → ReadAfter (after (new_world bricks) earlier) order value later read → read_answer read ≡ Some (Err (Lost causes))
         → slice_get order.cookie.bricks place ≡ Some holder → slice_get causes place ≡ Some cause
-        → IsWithin (read_world (after (new_world bricks) earlier) order later) holder order.cookie.expiry
+        → IsIntact (read_world (after (new_world bricks) earlier) order later) holder order.cookie.expiry
         → (cause.cause ≡ why.Silent) ⊎ (cause.cause ≡ why.Strayed) }
 {
     each_hears_its_own();
     an_outcome_of_a_get_has_its_events();
 }
 
-/// A holder that is within its lease and has not crashed replies Found with the value to the read, and where
-/// the read has heard it, it has heard this, or the link was silent to the read or gave it 64 strays.
+/// A holder that is intact, neither crashed since it stored the value nor swept past the lease and the grace,
+/// replies Found with the value to the read, and where the read has heard it, it has heard this, or the link
+/// was silent to the read or gave it 64 strays.
 pub fn holders_answer_found()
     ensures replies { (bricks : ℕ) (earlier later : List WorldEvent) (order : ReadOrder) (value : List ℕ) (read : ReadState)
         (place packet : ℕ) (holder : Holder) (frame : Frame)
         → ReadAfter (after (new_world bricks) earlier) order value later read
         → slice_get order.cookie.bricks place ≡ Some holder
-        → IsWithin (read_world (after (new_world bricks) earlier) order later) holder order.cookie.expiry
+        → IsIntact (read_world (after (new_world bricks) earlier) order later) holder order.cookie.expiry
         → slice_get (read_world (after (new_world bricks) earlier) order later).packets packet
         ≡ Some (record { brick = holder.brick; frame = frame })
         → is_request frame ≡ false → frame_nonce frame ≡ order.nonce
@@ -153,7 +155,7 @@ pub fn holders_answer_found()
         (place : ℕ) (ask : Ask Holder ReadReply) (outcome : Outcome ReadReply)
         → ReadAfter (after (new_world bricks) earlier) order value later read
         → slice_get read.asks place ≡ Some ask → ask.ear ≡ Heard outcome
-        → IsWithin (read_world (after (new_world bricks) earlier) order later) ask.who order.cookie.expiry
+        → IsIntact (read_world (after (new_world bricks) earlier) order later) ask.who order.cookie.expiry
         → HeardAs order ask.who (told_since (after (new_world bricks) earlier) order later ask.who) outcome
         × ((outcome ≡ ended.Answered (answer.Found value))
         ⊎ ((outcome ≡ ended.Silent) ⊎ (outcome ≡ ended.Strayed))) }

@@ -25,11 +25,11 @@
 //!   `acknowledged_cookies_may_be_read`: an acknowledged cookie names the first bricks of its write that
 //!   stored, as the events told the write; it stays acknowledged whatever follows; and its 1 to 16 holders
 //!   are distinct, so a read of it may begin.
-//! - `reads_answer_what_was_written`: a read of a cookie that was acknowledged before answers the acknowledged value,
-//!   or that the cookie has expired, or the cause of each holder, which is right by the holder's history
-//!   and by what the events told this read.
-//! - `holders_answer_found`: a holder that neither crashed nor was swept past the lease, and was heard,
-//!   gave the value, unless the link was silent to the read or gave it 64 strays.
+//! - `reads_answer_what_was_written`: a read of a cookie that was acknowledged before answers the
+//!   acknowledged value, or that the cookie has expired, or the cause of each holder, which is right by the
+//!   holder's history and by what the events told this read.
+//! - `holders_answer_found`: a holder that neither crashed nor was swept past the lease and the grace, and
+//!   was heard, gave the value, unless the link was silent to the read or gave it 64 strays.
 //! - `worlds_only_grow`: a later world has all packets and calls of an earlier one, and longer histories.
 //! - `events_that_may_not_happen_change_nothing`, and `events_that_may_happen_change_the_world`.
 //!

@@ -161,9 +161,9 @@ impl WorldState {
         alloc: Global,
         call: u64,
         silent: bool,
-        arrives: bool,
+        is_sent: bool,
     ) -> Result<(), OutOfMemory>
-        ensures ok { OnOk result (self.new ≡ sent self.old call silent arrives (slice_get self.old.calls call)) }
+        ensures ok { OnOk result (self.new ≡ sent self.old call silent is_sent (slice_get self.old.calls call)) }
         ensures err { OnErr result (self.new ≡ self.old) }
         ensures memory { OnErr result (is_some (told_if (told_by_send silent) (slice_get self.old.calls call)) ≡ true) }
     {
@@ -173,7 +173,7 @@ impl WorldState {
                 let event = event_of_send(silent);
                 self.packets.reserve(1)?;
                 self.calls.tell(alloc, call, event)?;
-                if arrives {
+                if is_sent {
                     self.packets.push_reserved(Packet { brick, frame });
                 }
                 Ok(())

@@ -11,9 +11,9 @@ returns-clause-right c = read_is_right c.each_hears_its_own.ensures.read c.an_ou
 pub returns-clause-heard : goal.returns-clause-heard
 returns-clause-heard c = each_asked c.each_hears_its_own.ensures.read c.an_outcome_of_a_get_has_its_events.ensures.comes
 
-pub returns-clause-within : goal.returns-clause-within
-returns-clause-within c = λ bricks earlier later order value read causes place holder cause reads is at_holder at_cause within.
+pub returns-clause-intact : goal.returns-clause-intact
+returns-clause-intact c = λ bricks earlier later order value read causes place holder cause reads is at_holder at_cause intact.
     let w : WorldValue = after (new_world bricks) earlier in
     let right : IsRight (read_world w order later) order value (told_since w order later) (Err (Lost causes)) =
     read_is_right c.each_hears_its_own.ensures.read c.an_outcome_of_a_get_has_its_events.ensures.comes bricks earlier later order value read (Err (Lost causes)) reads is in
-    all_unheard (read_world w order later) order (kept_for order.cookie value) (told_since w order later) order.cookie.bricks causes place holder cause right.1 at_holder at_cause within
+    all_unheard (read_world w order later) order (kept_for order.cookie value) (told_since w order later) order.cookie.bricks causes place holder cause right.1 at_holder at_cause intact
