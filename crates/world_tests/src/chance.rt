@@ -196,14 +196,7 @@ fn count_silence(game: &mut Game, call: u64) {
 
 /// Whether a call is to send its ask.
 fn is_to_send(game: &Game, call: u64) -> bool {
-    let next = match game.world.write_of(call) {
-        Some(write) => write.next(),
-        None => match game.world.read_of(call) {
-            Some(read) => read.next(),
-            None => StubNext::Ended,
-        },
-    };
-    matches!(next, StubNext::Send { .. })
+    matches!(game.world.next_of(call), Some(StubNext::Send { .. }))
 }
 
 /// A send, which meets silence by chance.

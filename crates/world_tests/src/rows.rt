@@ -1,6 +1,6 @@
 //! Rows of events, and what calls answer.
 
-use crate::words::{add_answer, expect_words, number};
+use crate::words::{add_answer, add_brick, add_count, add_new, add_next, expect_words, number};
 use crash_base::{BrickNo, Items, Moment, SessionBytes, SessionKey, Version};
 use session_cookie::Cookie;
 use ssm_stub::BrickList;
@@ -9,7 +9,7 @@ use std::alloc::Global;
 use std::process::Abort;
 
 /// Each row: the events, and after `|` the words that are wanted.
-const ROWS: [&str; 9] = [
+const ROWS: [&str; 15] = [
     "write 0 1 1;send 0;deliver 0;deliver 0;hear 0 1;tell 0;crash 1;read 1 0;send 1;deliver 3;hear 1 2;tell 1;hear 1 4;tell 1|ok 1.1 waits lost 1:crashed(2)",
     "write 0 1 1;write 0 1 1;tell 0;tell 1|waits",
     "write 0 3 1 2;write 1 1 1 1;write 2 0 1;tell 0|",
@@ -19,6 +19,12 @@ const ROWS: [&str; 9] = [
     "write 0 1 1;send 0;deliver 0;hear 0 1;sweep 1 1860000;read 1 0;send 1;deliver 2;hear 1 3;tell 1|found a",
     "write 0 1 1;send 0;deliver 0;hear 0 1;sweep 1 1860001;read 1 0;send 1;deliver 2;hear 1 3;tell 1|lost 1:swept(1860001)",
     "write 0 1 1;send 0;deliver 0;hear 0 1;read 1 0;send 1;hush 1;tell 1|lost 1:silent",
+    "write 0 1 1;send 0;deliver 0;hear 0 1;read 1 0 1800000;tell 1;read 2 0 1800001;tell 2;send 2;tell 2;packets|waits expired 1800001 1800000 expired 1800001 1800000 2",
+    "write 0 1 1;send 0;deliver 0;write 1 1 1;send 1;hear 1 1 63;tell 1;hear 1 1;tell 1;deliver 2;hear 1 3;tell 1|waits missed 1:strayed missed 1:strayed",
+    "write 0 1 1;send 0;deliver 0;hear 0 1;write 1 1 1;send 1;hear 1 1 63;deliver 2;hear 1 3;tell 1;read 2 0;send 2;hear 2 1 64;tell 2|ok 1.1 lost 1:strayed",
+    "write 0 1 1 2;next 0;send 0;next 0;send 0;next 0;deliver 0;deliver 1;hear 0 2;tell 0;next 0;hear 0 2;next 0;hear 0 3;tell 0;next 0|send 1 send 2 receive 1 ok 1.1 receive 2 receive 2 ok 1.1 ended",
+    "bricks;calls;packets;write 0 1 1;calls;next 1;send 0;packets;packet 0;packet 1;values 1;deliver 0;values 1;incarnation 1;crash 1;values 1;incarnation 1;values 0;incarnation 4|3 0 0 1 none 1 1 none 0 1 1 0 2 none none",
+    "new 5;write 5 1 1;new 5;write 3 1 1;calls;new 3;new 4;new 5;new 6;write 3 1 1;write 5 1 1;calls;write 6 1 1;calls|new used 2 used new used new 2 3",
 ];
 
 fn version(serial: u64) -> Version {
@@ -69,12 +75,25 @@ fn event(rt: &impl Abort, alloc: Global, world: &World, words: &[&str]) -> World
             bricks: bricks(rt, alloc, asked),
             least: least.parse().expect(rt, least),
         },
-        ["read", nonce, call] => WorldEvent::Read {
-            nonce: version(number(rt, nonce)),
-            now: Moment(5),
-            cookie: cookie_of(rt, alloc, world, number(rt, call)),
-        },
+        ["read", nonce, call] => read(rt, alloc, world, nonce, call, 5),
+        ["read", nonce, call, moment] => { read(rt, alloc, world, nonce, call, number(rt, moment)) }
         _ => plain_event(rt, words),
+    }
+}
+
+/// A read of the cookie that a write answered, at a moment.
+fn read(
+    rt: &impl Abort,
+    alloc: Global,
+    world: &World,
+    nonce: &str,
+    call: &str,
+    moment: u64,
+) -> WorldEvent {
+    WorldEvent::Read {
+        nonce: version(number(rt, nonce)),
+        now: Moment(moment),
+        cookie: cookie_of(rt, alloc, world, number(rt, call)),
     }
 }
 
@@ -109,13 +128,43 @@ fn send(call: u64, silent: bool, sent: bool) -> WorldEvent {
     WorldEvent::Send { call, silent, sent }
 }
 
-/// Makes the event that words spell happen, or adds words for what a call answers.
-fn go_on(rt: &impl Abort, alloc: Global, world: &mut World, found: &mut String, words: &[&str]) {
+/// Adds words for what is asked of a world, if that is what these words spell.
+fn has_told(rt: &impl Abort, world: &World, found: &mut String, words: &[&str]) -> bool {
     match words {
         ["tell", call] => add_answer(rt, found, world, number(rt, call)),
+        ["next", call] => add_next(rt, found, world.next_of(number(rt, call))),
+        ["packet", packet] => add_brick(rt, found, world.packet_of(number(rt, packet))),
+        ["bricks"] => add_count(rt, found, Some(u64::from(world.bricks()))),
+        ["calls"] => add_count(rt, found, Some(world.calls())),
+        ["packets"] => add_count(rt, found, Some(world.packets())),
+        ["values", at] => add_count(rt, found, world.values(brick(rt, at))),
+        ["incarnation", at] => add_count(rt, found, world.incarnation(brick(rt, at))),
+        ["new", nonce] => add_new(rt, found, world.is_new(version(number(rt, nonce)))),
+        _ => return false,
+    }
+    true
+}
+
+/// Makes the event that words spell happen so many times.
+fn repeat(rt: &impl Abort, alloc: Global, world: &mut World, event: &WorldEvent, times: u64) {
+    for _ in 0..times {
+        world.step(alloc, event).expect(rt, "memory");
+    }
+}
+
+/// Adds words for what is asked of a world, or makes the event that words spell happen.
+fn go_on(rt: &impl Abort, alloc: Global, world: &mut World, found: &mut String, words: &[&str]) {
+    if has_told(rt, world, found, words) {
+        return;
+    }
+    match words {
+        ["hear", call, packet, times] => {
+            let event = plain_event(rt, &["hear", call, packet]);
+            repeat(rt, alloc, world, &event, number(rt, times));
+        }
         _ => {
             let event = event(rt, alloc, world, words);
-            world.step(alloc, &event).expect(rt, "memory");
+            repeat(rt, alloc, world, &event, 1);
         }
     }
 }

@@ -2,8 +2,8 @@
 //!
 //! Each crate of tests has its own, since only a test may end the process.
 
-use ssm_stub::{BrickCause, Cause, ReadRefusal, WriteRefusal};
-use ssm_world::World;
+use ssm_stub::{BrickCause, Cause, ReadRefusal, StubNext, WriteRefusal};
+use ssm_world::{Packet, World};
 use std::fmt::Write;
 use std::process::Abort;
 
@@ -79,6 +79,43 @@ fn add_read(rt: &impl Abort, words: &mut String, world: &World, call: u64) {
             }
         }
         Some(Err(ReadRefusal::OutOfMemory)) => write!(words, " memory").expect(rt, "words"),
+    }
+}
+
+/// Adds words for what a call wants next, or `none` where there is no such call.
+pub fn add_next(rt: &impl Abort, words: &mut String, next: Option<StubNext>) {
+    match next {
+        None => write!(words, " none").expect(rt, "words"),
+        Some(StubNext::Send { brick }) => write!(words, " send {}", brick.0).expect(rt, "words"),
+        Some(StubNext::Receive { brick }) => {
+            write!(words, " receive {}", brick.0).expect(rt, "words")
+        }
+        Some(StubNext::Ended) => write!(words, " ended").expect(rt, "words"),
+    }
+}
+
+/// Adds a count, or `none` where there is none.
+pub fn add_count(rt: &impl Abort, words: &mut String, count: Option<u64>) {
+    match count {
+        None => write!(words, " none").expect(rt, "words"),
+        Some(count) => write!(words, " {count}").expect(rt, "words"),
+    }
+}
+
+/// Adds the brick of a packet, or `none` where there is no such packet.
+pub fn add_brick(rt: &impl Abort, words: &mut String, packet: Option<&Packet>) {
+    match packet {
+        None => write!(words, " none").expect(rt, "words"),
+        Some(packet) => write!(words, " {}", packet.brick.0).expect(rt, "words"),
+    }
+}
+
+/// Adds whether a nonce is new or used.
+pub fn add_new(rt: &impl Abort, words: &mut String, is_new: bool) {
+    if is_new {
+        write!(words, " new").expect(rt, "words")
+    } else {
+        write!(words, " used").expect(rt, "words")
     }
 }
 
