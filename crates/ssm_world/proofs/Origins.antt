@@ -30,7 +30,7 @@ use Rattle.ssm_world.specs.declared.event.WorldEvent.{WorldEvent}
 use Rattle.ssm_world.specs.declared.event.WorldEvent.TheVariants.{Write, Read, Send, Deliver, Hear, Hush, Crash, Sweep}
 use Rattle.ssm_world.specs.Worlds.{WorldValue, new_world, are_distinct, ask_of, next_of, hear, history, with_new_call, may_write, may_read, told_by_send, told_by_hush, told_by_packet, packet_by_send, with_told, sent, came, hushed, step, after}
 use Rattle.ssm_world.specs.Traces.{told_at, all_told}
-use Rattle.ssm_world.specs.Claims.{IsAcknowledged, WriteOrder, write_event, write_state, told_to_write, written_told, stored_by, NamesWhoStored}
+use Rattle.ssm_world.specs.Claims.{IsAcknowledged, WriteOrder, write_event, write_state, told_to_write, told_to_write_of, stored_by, NamesWhoStored}
 use Rattle.ssm_world.proofs.Holding.{cookie_of, answer_cookie}
 use Rattle.ssm_world.proofs.Lists.{get_last, get_new, get_set}
 use Rattle.ssm_world.proofs.Tests.{both}
@@ -238,7 +238,7 @@ names_who_stored n events cookie value acknowledged =
     let w : WorldValue = after (new_world n) o.earlier in
     let start : WriteState = write_state order in
     let all : List Told = told_to_write w order o.later in
-    let told : BrickNo → List Told = written_told w order o.later in
+    let told : BrickNo → List Told = told_to_write_of w order o.later in
     let mk : BrickNo → Ask BrickNo WriteReply = ask_by (λ (b : BrickNo). b) (put_lawful order.nonce order.key) told in
     let answered : write_answer (run write_machine start all) ≡ Some (Ok cookie) = ap write_answer (sym t.is) ∙ acknowledged.answers in
     let distinct : are_distinct order.bricks ≡ true = (both _ _ (both _ _ (both _ _ o.may_begin).0).1).1 in

@@ -179,8 +179,8 @@ abbrev pub told_to_write : WorldValue → WriteOrder → List WorldEvent → Lis
 told_to_write w order events = all_told (step w (write_event order)) (length w.calls) events
 
 -- what they tell it of a brick, by the steps that it then wants of that brick
-abbrev pub written_told : WorldValue → WriteOrder → List WorldEvent → BrickNo → List Told
-written_told w order events brick = told_to write_machine (write_state order) (told_to_write w order events) brick
+abbrev pub told_to_write_of : WorldValue → WriteOrder → List WorldEvent → BrickNo → List Told
+told_to_write_of w order events brick = told_to write_machine (write_state order) (told_to_write w order events) brick
 
 -- the brick as a holder, where by what the write was told of it it gave a lawful Stored
 abbrev pub stored_by : WriteOrder → (BrickNo → List Told) → BrickNo → Option Holder
@@ -190,7 +190,8 @@ stored_by order told brick =
 -- How a cookie was acknowledged with a value in a world that these events made of a new one: a write of the
 -- value began among them, with its key, nonce and expiry, and the cookie names the first `least` of the
 -- write's bricks of which the events since told it a lawful Stored, in asked order, with the incarnations
--- that these tell. No brick of which they told one is left out.
+-- that these tell. Of each holder they told one (`stored`), and no brick of which they told one is passed
+-- over (`none_left`).
 pub record NamesWhoStored (bricks : ℕ) (events : List WorldEvent) (cookie : Cookie) (value : List ℕ) : Type 0 where
   pub earlier : List WorldEvent
   pub order : WriteOrder
@@ -202,7 +203,7 @@ pub record NamesWhoStored (bricks : ℕ) (events : List WorldEvent) (cookie : Co
   pub version_is : cookie.version ≡ order.nonce
   pub expiry_is : cookie.expiry ≡ order.expiry
   pub enough : length cookie.bricks ≡ order.least
-  pub first : cookie.bricks ≡ take order.least (filter_map (stored_by order (written_told (after (new_world bricks) earlier) order later)) order.bricks)
-  pub stored : All (λ (holder : Holder). EndsIn (put_lawful order.nonce order.key holder.brick) (written_told (after (new_world bricks) earlier) order later holder.brick) (outcome.Answered (Stored holder.incarnation))) cookie.bricks
-  pub none_left : (brick : BrickNo) (incarnation : ℕ) → EndsIn (put_lawful order.nonce order.key brick) (written_told (after (new_world bricks) earlier) order later brick) (outcome.Answered (Stored incarnation))
-      → stored_by order (written_told (after (new_world bricks) earlier) order later) brick ≡ Some (record { brick = brick; incarnation = incarnation })
+  pub first : cookie.bricks ≡ take order.least (filter_map (stored_by order (told_to_write_of (after (new_world bricks) earlier) order later)) order.bricks)
+  pub stored : All (λ (holder : Holder). EndsIn (put_lawful order.nonce order.key holder.brick) (told_to_write_of (after (new_world bricks) earlier) order later holder.brick) (outcome.Answered (Stored holder.incarnation))) cookie.bricks
+  pub none_left : (brick : BrickNo) (incarnation : ℕ) → EndsIn (put_lawful order.nonce order.key brick) (told_to_write_of (after (new_world bricks) earlier) order later brick) (outcome.Answered (Stored incarnation))
+      → stored_by order (told_to_write_of (after (new_world bricks) earlier) order later) brick ≡ Some (record { brick = brick; incarnation = incarnation })
