@@ -21,7 +21,7 @@ ghost use Rattle.send_windows.specs.Passes.{HaveDistinctBricks};
 ghost use Rattle.ssm_stub.specs.Runs.{Ran};
 ghost use Rattle.ssm_stub.specs.Reads.{ReadState, read_start, read_answer_of, read_machine, get_lawful};
 ghost use Rattle.session_cookie.specs.declared.cookie.Cookie.{Cookie};
-ghost use Rattle.session_cookie.specs.Cookie.{AreHolders};
+ghost use Rattle.session_cookie.specs.Cookie.{AreDistinct};
 ghost use Rattle.ssm_stub.specs.Writes.{WriteState, answer_of, pass_of, write_start, write_until, write_machine, write_answer, put_lawful};
 ghost use Rattle.crash_base.specs.declared.numbers.Moment.{Moment};
 ghost use Rattle.crash_base.specs.declared.numbers.SessionKey.{SessionKey};
@@ -121,7 +121,7 @@ pub fn writes_over_the_link()
 pub fn reads_over_the_link()
     ensures { (now : Moment) (nonce : Version) (cookie : Cookie) (ask : List ℕ) (events : List StubEvent)
         (end : ReadState) (old new : ScriptValue)
-        → AreHolders cookie.bricks
+        → AreDistinct cookie.bricks
         → Ran read_machine ScriptMakes ask (read_start now nonce cookie) old events end new
         → Leaves (λ holder. holder.brick) (get_lawful nonce cookie.key cookie.version cookie.expiry) ask end.asks old new }
 {}

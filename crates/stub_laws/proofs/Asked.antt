@@ -1,5 +1,5 @@
 -- Those that were asked in a run are the first ones.
-use Rattle.std.proofs.Common.{◌≡◌, ◌∙◌, ap, sym, ℕ, List, ◌++◌, length, map, take}
+use Rattle.std.proofs.Common.{◌≡◌, ◌∙◌, ap, sym, ℕ, List, ◌++◌, length, take}
 use Rattle.std.proofs.Math.Seq.{take-append_seam}
 use Rattle.std.proofs.lemmas.List.{take-map}
 use Rattle.crash_base.specs.declared.numbers.BrickNo.{BrickNo}

@@ -1,11 +1,11 @@
 -- At its answer a write has heard nothing of a brick without an outcome.
 use Rattle.std.proofs.Common.{arith, ◌≡◌, ◌∙◌, ap, sym, refl, subst, inl, inr, ℕ, zero, suc, ◌<◌, Bool, true, false, IsTrue, nat_le, if◌then◌else◌, List, [], ◌∷◌, length, filter_map, take, Option, Some, None, position, slice_get, slice_set, Result, Ok}
-use Rattle.std.specs.List.{position_or_len, cons_option}
+use Rattle.std.specs.List.{position_or_len}
 use Rattle.std.specs.Option.{option_and_then, option_or}
 use Rattle.std.proofs.lemmas.Bool.{cases_eq}
 use Rattle.std.proofs.lemmas.List.{get_or-set_other, length-set}
 use Rattle.std.proofs.lemmas.List.Folds.{position_or_len-set}
-use Rattle.std.proofs.lemmas.Option.{option_and_then_some, slice_get-get_or, slice_get_within, get_or_from_slice_get}
+use Rattle.std.proofs.lemmas.Option.{slice_get-get_or, slice_get_within, get_or_from_slice_get}
 use Rattle.crash_base.specs.declared.numbers.BrickNo.{BrickNo}
 use Rattle.session_cookie.specs.declared.cookie.Cookie.{Cookie}
 use Rattle.ssm_frames.specs.declared.frame.Frame.{Frame}
@@ -13,16 +13,15 @@ use Rattle.ssm_stub.specs.declared.ask.Ask.{Ask}
 use Rattle.ssm_stub.specs.declared.ask.Turn.{Turn}
 use Rattle.ssm_stub.specs.declared.ear.Stage.{Stage}
 use Rattle.ssm_stub.specs.declared.ear.Stage.TheVariants.{Unasked, Asked}
-use Rattle.ssm_stub.specs.declared.ear.Ear.{Ear}
 use Rattle.ssm_stub.specs.declared.ear.Ear.TheVariants.{Open}
 use Rattle.ssm_stub.specs.declared.event.Told.{Told}
 use Rattle.ssm_stub.specs.declared.event.Told.TheVariants.{Sent, Came, Silent as NoneCame}
 use Rattle.ssm_stub.specs.declared.reply.WriteReply.{WriteReply}
 use Rattle.ssm_stub.specs.declared.write_call.WriteRefusal.{WriteRefusal}
 use Rattle.ssm_stub.specs.Ears.{heard}
-use Rattle.ssm_stub.specs.Turns.{none_asked, is_unasked, is_asked, turn_with, turn_at, turn_after_asks, asks_after, with_ear, wanted_of, wanted, next_unless}
+use Rattle.ssm_stub.specs.Turns.{none_asked, is_unasked, is_asked, turn_with, turn_at, turn_after_asks, asks_after, wanted_of, wanted, next_unless}
 use Rattle.ssm_stub.specs.Runs.{fits, Fits, after}
-use Rattle.ssm_stub.specs.Writes.{WriteState, put_lawful, holder_of, cause_of, missed_unless, write_answer, write_next, write_until, hear_write}
+use Rattle.ssm_stub.specs.Writes.{WriteState, put_lawful, holder_of, cause_of, missed_unless, write_answer, write_until, hear_write}
 use Rattle.ssm_stub.proofs.Places.{slice_get-set, turn_after_asks-stands, with_ear-there}
 use Rattle.stub_laws.proofs.Unasked.{none_goes, turn_place}
 

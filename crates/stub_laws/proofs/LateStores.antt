@@ -1,15 +1,12 @@
 -- The answer of a write stays.
-use Rattle.std.proofs.Common.{arith, ◌≡◌, ◌∙◌, ap, sym, refl, subst, inl, inr, ◌⊎◌, ℕ, zero, suc, ◌≤◌, Bool, true, false, IsTrue, nat_le, if◌then◌else◌, List, [], ◌∷◌, ◌++◌, length, take, filter_map, length-append, Option, Some, None, Result, Ok, slice_get, slice_set, position, append-nil}
-use Rattle.std.specs.List.{cons_option, fold}
+use Rattle.std.proofs.Common.{arith, ◌≡◌, ◌∙◌, ap, sym, refl, subst, inl, inr, ◌⊎◌, ℕ, zero, suc, ◌≤◌, Bool, true, false, IsTrue, nat_le, if◌then◌else◌, List, [], ◌∷◌, ◌++◌, length, take, filter_map, length-append, Option, Some, None, Result, Ok, slice_get, slice_set, position}
+use Rattle.std.specs.List.{cons_option}
 use Rattle.std.specs.Option.{option_or, option_and_then}
 use Rattle.std.proofs.lemmas.Bool.{leb-true, le-leb}
 use Rattle.std.proofs.lemmas.List.{take-append-le}
 use Rattle.std.proofs.lemmas.List.Sums.{fold-append}
 use Rattle.crash_base.proofs.Positions.{position-cons}
 use Rattle.crash_base.specs.declared.numbers.BrickNo.{BrickNo}
-use Rattle.crash_base.specs.declared.numbers.Moment.{Moment}
-use Rattle.crash_base.specs.declared.numbers.SessionKey.{SessionKey}
-use Rattle.crash_base.specs.declared.numbers.Version.{Version}
 use Rattle.session_cookie.specs.declared.cookie.Cookie.{Cookie}
 use Rattle.session_cookie.specs.declared.cookie.Holder.{Holder}
 use Rattle.ssm_frames.specs.declared.frame.Frame.{Frame}
@@ -18,7 +15,6 @@ use Rattle.ssm_stub.specs.declared.ear.Stage.{Stage}
 use Rattle.ssm_stub.specs.declared.ear.Stage.TheVariants.{Unasked, Asked}
 use Rattle.ssm_stub.specs.declared.ear.Ear.{Ear}
 use Rattle.ssm_stub.specs.declared.ear.Ear.TheVariants.{Open, Heard}
-use Rattle.ssm_stub.specs.declared.event.StubNext.{StubNext}
 use Rattle.ssm_stub.specs.declared.event.Told.{Told}
 use Rattle.ssm_stub.specs.declared.event.Told.TheVariants.{Sent, Came, Silent as NoneCame}
 use Rattle.ssm_stub.specs.declared.ask.Ask.{Ask}
@@ -26,12 +22,12 @@ use Rattle.ssm_stub.specs.declared.ask.Turn.{Turn}
 use Rattle.ssm_stub.specs.declared.reply.WriteReply.{WriteReply}
 use Rattle.ssm_stub.specs.declared.write_call.WriteRefusal.{WriteRefusal}
 use Rattle.ssm_stub.specs.Ears.{heard}
-use Rattle.ssm_stub.specs.Turns.{none_asked, is_unasked, is_asked, turn_at, turn_after_asks, with_ear, asks_after, wanted_of, wanted}
+use Rattle.ssm_stub.specs.Turns.{none_asked, is_unasked, is_asked, turn_at, turn_after_asks, asks_after, wanted_of, wanted}
 use Rattle.ssm_stub.specs.Runs.{Machine, fits, Fits, after}
-use Rattle.ssm_stub.specs.Writes.{WriteState, put_lawful, holder_of, cause_of, missed_unless, write_start, write_answer, write_next, write_machine, hear_write}
+use Rattle.ssm_stub.specs.Writes.{WriteState, put_lawful, holder_of, cause_of, missed_unless, write_answer, write_next, write_machine, hear_write}
 use Rattle.ssm_stub.proofs.Places.{with_ear-there, turn_after_asks-stands}
 use Rattle.stub_laws.proofs.Unasked.{unasked_by, none_goes, some_parts, turn_place, asked_place}
-use Rattle.stub_laws.proofs.WriteSending.{left_of, Patient, had, had_first, one_patient, answered_all, none_stored, keeps_least}
+use Rattle.stub_laws.proofs.WriteSending.{Patient, had, had_first, one_patient, none_stored}
 
 -- a run in two parts
 pub fits_parts : {S : Type 0} (m : Machine S) (s : S) (first more : List Told) → Fits m s (first ++ more) → Fits m s first × Fits m (after m s first) more

@@ -1,5 +1,5 @@
 mod Asked
-mod Begun
+pub mod Begun
 mod LateStores
 mod Marked
 mod ReadSending

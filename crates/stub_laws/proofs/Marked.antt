@@ -1,5 +1,5 @@
 -- The marks of passes are of what was heard of their bricks.
-use Rattle.std.proofs.Common.{arith, ◌≡◌, ◌≢◌, ◌∙◌, ap, sym, refl, subst, inl, inr, ◌⊎◌, ◌↔◌, ℕ, zero, suc, ◌+◌, ◌-◌, ◌<◌, ◌≤◌, nat_lt, Bool, true, false, IsTrue, if◌then◌else◌, All, List, [], ◌∷◌, map, filter_map, Option, Some, None, Result, slice_get}
+use Rattle.std.proofs.Common.{arith, ◌≡◌, ◌∙◌, ap, sym, refl, subst, inl, inr, ℕ, zero, suc, ◌+◌, ◌-◌, ◌<◌, ◌≤◌, nat_lt, Bool, true, false, IsTrue, if◌then◌else◌, All, List, [], ◌∷◌, map, Option, Some, None, Result, slice_get}
 use Rattle.std.specs.Prelude.{option_map}
 use Rattle.std.specs.List.{fold}
 use Rattle.std.specs.Option.{option_and_then}
@@ -17,9 +17,7 @@ use Rattle.send_windows.specs.declared.pass.PassMark.TheVariants as pass_mark
 use Rattle.ssm_frames.specs.declared.frame.Frame.{Frame}
 use Rattle.ssm_frames.specs.Spelling.{encode_of}
 use Rattle.ssm_stub.specs.declared.ear.TheConstants.{MAX_STRAYS}
-use Rattle.ssm_stub.specs.declared.ear.Stage.{Stage}
 use Rattle.ssm_stub.specs.declared.ear.Stage.TheVariants.{Unasked, Asked}
-use Rattle.ssm_stub.specs.declared.ear.Outcome.{Outcome}
 use Rattle.ssm_stub.specs.declared.ear.Outcome.TheVariants.{Answered, Silent, Strayed}
 use Rattle.ssm_stub.specs.declared.ear.Ear.{Ear}
 use Rattle.ssm_stub.specs.declared.ear.Ear.TheVariants.{Open, Heard}
@@ -30,7 +28,7 @@ use Rattle.ssm_stub.specs.declared.reply.WriteReply.{WriteReply}
 use Rattle.ssm_stub.specs.declared.write_call.WriteRefusal.{WriteRefusal}
 use Rattle.ssm_stub.specs.Ears.{after_frame, heard, heard_on, ear_after}
 use Rattle.ssm_stub.specs.Ends.{bricks_of, WriteEnds}
-use Rattle.ssm_stub.specs.Hearing.{AllDiffer, EndsIn, all_about, ear_machine, told_to}
+use Rattle.ssm_stub.specs.Hearing.{AllDiffer, all_about, ear_machine, told_to}
 use Rattle.ssm_stub.specs.Runs.{told_of, fits, Fits, calls, after}
 use Rattle.ssm_stub.specs.Writes.{WriteState, put_lawful, mark_by, pass_of, write_start, write_answer, write_machine, write_until}
 use Rattle.ssm_stub.proofs.OwnEvents.{write_asking}

@@ -1,8 +1,8 @@
 -- What a read sends.
-use Rattle.std.proofs.Common.{◌≡◌, ◌∙◌, ap, sym, refl, subst, ℕ, zero, suc, IsTrue, All, List, [], ◌∷◌, ◌++◌, map, filter_map, Option, Some, None, Result, Ok, slice_get, slice_set, append-nil, append_assoc}
+use Rattle.std.proofs.Common.{◌≡◌, ◌∙◌, ap, sym, refl, subst, ℕ, IsTrue, All, List, [], ◌∷◌, ◌++◌, map, Option, Some, None, Result, slice_set, append-nil, append_assoc}
 use Rattle.std.specs.List.{cons_option}
 use Rattle.std.proofs.lemmas.List.{map-append, append_cancel_right}
-use Rattle.std.proofs.lemmas.List.Elements.{filter_map-append, All-head, All-tail}
+use Rattle.std.proofs.lemmas.List.Elements.{All-head, All-tail}
 use Rattle.crash_base.specs.declared.numbers.BrickNo.{BrickNo}
 use Rattle.crash_base.specs.declared.numbers.Moment.{Moment}
 use Rattle.crash_base.specs.declared.numbers.Version.{Version}
@@ -13,10 +13,8 @@ use Rattle.ssm_frames.specs.declared.frame.Frame.{Frame}
 use Rattle.ssm_stub.specs.declared.cause.BrickCause.{BrickCause}
 use Rattle.ssm_stub.specs.declared.cause.Cause.{Cause}
 use Rattle.ssm_stub.specs.declared.cause.Cause.TheVariants as cause
-use Rattle.ssm_stub.specs.declared.ear.Stage.TheVariants.{Unasked}
 use Rattle.ssm_stub.specs.declared.ear.Outcome.{Outcome}
 use Rattle.ssm_stub.specs.declared.ear.Outcome.TheVariants.{Answered, Silent, Strayed}
-use Rattle.ssm_stub.specs.declared.ear.Ear.{Ear}
 use Rattle.ssm_stub.specs.declared.ear.Ear.TheVariants.{Open, Heard}
 use Rattle.ssm_stub.specs.declared.event.StubEvent.{StubEvent}
 use Rattle.ssm_stub.specs.declared.event.StubNext.{StubNext}

@@ -1,5 +1,5 @@
 -- What a machine sends in a run goes to the bricks that were not asked, in order.
-use Rattle.std.proofs.Common.{◌≡◌, ◌∙◌, ap, sym, refl, subst, ℕ, Bool, true, false, IsTrue, List, [], ◌∷◌, ◌++◌, map, filter_map, Option, Some, None, slice_get, slice_set, append_assoc}
+use Rattle.std.proofs.Common.{◌≡◌, ◌∙◌, ap, sym, refl, subst, ℕ, Bool, true, false, IsTrue, List, [], ◌∷◌, ◌++◌, map, Option, Some, None, slice_get, slice_set, append_assoc}
 use Rattle.std.proofs.lemmas.List.Elements.{filter_map-append}
 use Rattle.crash_base.specs.declared.numbers.BrickNo.{BrickNo}
 use Rattle.ssm_frames.specs.declared.frame.Frame.{Frame}
@@ -8,12 +8,10 @@ use Rattle.ssm_stub.specs.declared.ear.TheConstants.{MAX_STRAYS}
 use Rattle.ssm_stub.specs.declared.ear.Stage.{Stage}
 use Rattle.ssm_stub.specs.declared.ear.Stage.TheVariants.{Unasked, Asked}
 use Rattle.ssm_stub.specs.declared.ear.Outcome.TheVariants.{Silent, Strayed}
-use Rattle.ssm_stub.specs.declared.ear.Ear.{Ear}
 use Rattle.ssm_stub.specs.declared.ear.Ear.TheVariants.{Open, Heard}
 use Rattle.ssm_stub.specs.declared.event.StubEvent.{StubEvent}
 use Rattle.ssm_stub.specs.declared.event.StubEvent.TheVariants as event
 use Rattle.ssm_stub.specs.declared.event.StubNext.{StubNext}
-use Rattle.ssm_stub.specs.declared.event.Told.{Told}
 use Rattle.ssm_stub.specs.declared.ask.Ask.{Ask}
 use Rattle.ssm_stub.specs.declared.ask.Turn.{Turn}
 use Rattle.std.specs.Prelude.{◌-◌, nat_lt, if◌then◌else◌, ◌+◌}

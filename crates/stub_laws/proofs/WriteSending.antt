@@ -1,5 +1,5 @@
 -- What a write sends.
-use Rattle.std.proofs.Common.{arith, ◌≡◌, ◌∙◌, ap, sym, refl, subst, inl, inr, ◌⊎◌, ℕ, zero, suc, ◌≤◌, Bool, true, false, IsTrue, nat_le, if◌then◌else◌, List, [], ◌∷◌, ◌++◌, length, map, take, filter_map, Option, Some, None, Result, Ok, Err, slice_get, slice_set, append-nil, append_assoc}
+use Rattle.std.proofs.Common.{arith, ◌≡◌, ◌∙◌, ap, sym, refl, inl, inr, ◌⊎◌, ℕ, zero, suc, ◌≤◌, Bool, true, false, IsTrue, nat_le, if◌then◌else◌, List, [], ◌∷◌, ◌++◌, length, map, take, filter_map, Option, Some, None, Result, Ok, slice_get, slice_set, append-nil}
 use Rattle.std.proofs.lemmas.Bool.{leb-true}
 use Rattle.std.specs.List.{cons_option}
 use Rattle.std.specs.Option.{option_and_then}
@@ -17,7 +17,6 @@ use Rattle.ssm_stub.specs.declared.cause.BrickCause.{BrickCause}
 use Rattle.ssm_stub.specs.declared.ear.Stage.{Stage}
 use Rattle.ssm_stub.specs.declared.ear.Stage.TheVariants.{Unasked, Asked}
 use Rattle.ssm_stub.specs.declared.ear.Outcome.TheVariants.{Silent}
-use Rattle.ssm_stub.specs.declared.ear.Ear.{Ear}
 use Rattle.ssm_stub.specs.declared.ear.Ear.TheVariants.{Open, Heard}
 use Rattle.ssm_stub.specs.declared.event.StubEvent.{StubEvent}
 use Rattle.ssm_stub.specs.declared.event.StubNext.TheVariants.{Ended}
@@ -30,7 +29,7 @@ use Rattle.ssm_stub.specs.declared.write_call.WriteRefusal.{WriteRefusal}
 use Rattle.ssm_stub.specs.Ears.{heard}
 use Rattle.ssm_stub.specs.Turns.{none_asked, is_unasked, turn_after_asks, with_ear, asks_after, wanted_of, wanted}
 use Rattle.ssm_stub.specs.Runs.{told_of, fits, Fits, calls, after}
-use Rattle.ssm_stub.specs.Writes.{WriteState, put_lawful, holder_of, cause_of, missed_unless, answer_of, write_start, write_answer, write_next, write_machine, write_until, hear_write}
+use Rattle.ssm_stub.specs.Writes.{WriteState, put_lawful, holder_of, cause_of, missed_unless, write_start, write_answer, write_next, write_machine, write_until, hear_write}
 use Rattle.ssm_stub.specs.Ends.{WriteEnds}
 use Rattle.ssm_stub.proofs.LinkTelling.{until-fits, until-calls}
 use Rattle.ssm_stub.proofs.OwnEvents.{write_asking}

@@ -13,6 +13,6 @@ pub returns : goal.returns
 returns c = λ now nonce cookie ask events end old new differ ran.
     let s = read_start now nonce cookie in
     let lawful = get_lawful nonce cookie.key cookie.version cookie.expiry in
-    let left = leaves_by (λ (holder : Holder). holder.brick) lawful ask read_machine (reads s) (read_turned s) events (none_asked cookie.bricks) end old new (none_distinct ReadReply (λ (holder : Holder). holder.brick) cookie.bricks (holders_apart cookie.bricks differ.2)) (none_yet cookie.bricks) ran in
+    let left = leaves_by (λ (holder : Holder). holder.brick) lawful ask read_machine (reads s) (read_turned s) events (none_asked cookie.bricks) end old new (none_distinct ReadReply (λ (holder : Holder). holder.brick) cookie.bricks (holders_apart cookie.bricks differ)) (none_yet cookie.bricks) ran in
     let P : ReadState → Type 0 = λ e. Leaves (λ (holder : Holder). holder.brick) lawful ask e.asks old new in
     subst P (sym left.1) left.2

@@ -1,4 +1,4 @@
-use Rattle.std.proofs.Common.{map, subst, sym}
+use Rattle.std.proofs.Common.{map, refl, subst, sym}
 use Rattle.ssm_stub.specs.Ends.{bricks_of}
 use Rattle.ssm_stub.specs.Runs.{told_of}
 use Rattle.ssm_stub.specs.Turns.{none_asked}
@@ -9,7 +9,7 @@ use Rattle.link_memory.proofs.Apart.{passes_apart, none_distinct}
 use Rattle.link_memory.proofs.Asking.{leaves_by}
 use Rattle.link_memory.proofs.Turns.{writes, write_turned, until_turned, none_yet}
 use Rattle.link_memory.specs.Script.{lane_of}
-use Rattle.link_memory.proofs.Unheard.{none_begun, all_wait}
+use Rattle.link_memory.proofs.Unheard.{none_strayed, all_wait}
 use Rattle.link_memory.proofs.laws.writes_over_the_link.Goals as goal
 
 pub returns-clause-until_answer : goal.returns-clause-until_answer
@@ -31,5 +31,5 @@ returns-clause-to_the_end c = λ before least nonce key value expiry ask events 
 pub returns-clause-unheard : goal.returns-clause-unheard
 returns-clause-unheard c = λ before least nonce key value expiry ask events end old new answer differ ran answers i strays a lane here ear found.
     let left = (returns-clause-until_answer c before least nonce key value expiry ask events end old new differ ran).of_asked i a here in
-    let none = none_begun (write_start (bricks_of before) least nonce key value expiry) (map told_of events) (none_asked (bricks_of before)) end answer (none_yet (bricks_of before)) ran.fitting ran.ends answers i strays a here ear in
+    let none = none_strayed (map told_of events) (bricks_of before) (write_start (bricks_of before) least nonce key value expiry) end answer refl ran.fitting ran.ends answers i strays a here ear in
     (none, all_wait (put_lawful nonce key a.who) ask a.ear strays (lane_of old a.who.0) (lane_of new a.who.0) lane left ear none found)

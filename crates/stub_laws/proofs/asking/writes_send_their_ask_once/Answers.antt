@@ -1,5 +1,4 @@
 use Rattle.std.proofs.Common.{◌∙◌, ap, map, length}
-use Rattle.crash_base.specs.declared.numbers.BrickNo.{BrickNo}
 use Rattle.ssm_stub.specs.Runs.{told_of, after, calls}
 use Rattle.ssm_stub.specs.Writes.{write_machine, write_start}
 use Rattle.stub_laws.specs.Sends.{each_sent, sends_in}
