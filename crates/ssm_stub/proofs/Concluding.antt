@@ -34,7 +34,7 @@ wanted_of-goes_on : (brick : BrickNo) (stage : Stage) → wanted_of brick stage 
 wanted_of-goes_on brick Unasked h = cc
 wanted_of-goes_on brick (Asked strays) h = cc
 
-wanted-ended : {W : Type 0} (brick_of : W → BrickNo) (turn : Option (Turn W)) → wanted brick_of turn ≡ Ended → turn ≡ None
+pub wanted-ended : {W : Type 0} (brick_of : W → BrickNo) (turn : Option (Turn W)) → wanted brick_of turn ≡ Ended → turn ≡ None
 wanted-ended brick_of None h = refl
 wanted-ended brick_of (Some t) h = absurd (wanted_of-goes_on (brick_of t.who) t.stage h)
 

@@ -117,7 +117,7 @@ heard_so lawful brick (Came frame ∷ events) outcome (first, rest) h = absurd c
 heard_so lawful brick (NoneCame ∷ events) outcome (first, rest) h = so_silent lawful brick events outcome rest h
 
 -- strays, fewer than 64 in all, leave a brick without outcome
-strays_pass : {A : Type 0} (lawful : Frame → Option A) (strays : List (Option Frame)) (n : ℕ) (rest : List Told) → All (IsStray lawful) strays → n + length strays < 64 → fold (heard_on lawful) (Open (Asked n)) (map Came strays ++ rest) ≡ fold (heard_on lawful) (Open (Asked (n + length strays))) rest
+pub strays_pass : {A : Type 0} (lawful : Frame → Option A) (strays : List (Option Frame)) (n : ℕ) (rest : List Told) → All (IsStray lawful) strays → n + length strays < 64 → fold (heard_on lawful) (Open (Asked n)) (map Came strays ++ rest) ≡ fold (heard_on lawful) (Open (Asked (n + length strays))) rest
 strays_pass lawful [] n rest all few = ap (λ k. fold (heard_on lawful) (Open (Asked k)) rest) (let e : n ≡ n + 0 = omega arith in e)
 strays_pass lawful (frame ∷ strays) n rest all few =
     let head = All-head (IsStray lawful) frame strays all in
@@ -128,7 +128,7 @@ strays_pass lawful (frame ∷ strays) n rest all few =
     ∙ (strays_pass lawful strays (n + 1) rest tail (omega arith)
     ∙ ap (λ k. fold (heard_on lawful) (Open (Asked k)) rest) (let e : n + 1 + length strays ≡ n + length (frame ∷ strays) = omega arith in e)))
 
-heard_stays : {A : Type 0} (lawful : Frame → Option A) (outcome : Outcome A) (events : List Told) → fold (heard_on lawful) (Heard outcome) events ≡ Heard outcome
+pub heard_stays : {A : Type 0} (lawful : Frame → Option A) (outcome : Outcome A) (events : List Told) → fold (heard_on lawful) (Heard outcome) events ≡ Heard outcome
 heard_stays lawful outcome [] = refl
 heard_stays lawful outcome (event ∷ events) = heard_stays lawful outcome events
 

@@ -1,6 +1,6 @@
 mod AllHeard
 pub mod ByEvents
-mod Concluding
+pub mod Concluding
 mod CountedCauses
 mod Counting
 pub mod Distinct
@@ -12,10 +12,10 @@ pub mod OwnEvents
 mod PassByPass
 pub mod Places
 pub mod ReadFacts
-mod ReadOrder
+pub mod ReadOrder
 pub mod ReadOutcomes
 mod Running
 pub mod Searching
-mod Weights
+pub mod Weights
 pub mod WriteFacts
 pub mod WriteOutcomes

@@ -36,7 +36,7 @@ slice_get-set xs i x within =
     let long : i < length (slice_set xs i x) = let e = length-set xs i x in omega arith in
     slice_get-get_or (slice_set xs i x) i x long ∙ ap (λ y. Some y) (get_or-set_same xs i x x within)
 
-slice_set-back : {X : Type 0} (xs : List X) (i : ℕ) (x : X) → slice_get xs i ≡ Some x → slice_set xs i x ≡ xs
+pub slice_set-back : {X : Type 0} (xs : List X) (i : ℕ) (x : X) → slice_get xs i ≡ Some x → slice_set xs i x ≡ xs
 slice_set-back xs i x stands = ap (slice_set xs i) (sym (get_or_from_slice_get xs i x x stands)) ∙ set-get_or xs i x
 
 -- what was put in place of an ask is taken back by putting what stood there

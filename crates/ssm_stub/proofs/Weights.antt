@@ -1,8 +1,8 @@
 -- How much is left to hear: each event takes some of it.
-use Rattle.std.proofs.Common.{arith, refl, ◌≡◌, ap, ℕ, ◌+◌, ◌-◌, ◌<◌, Bool, true, false, IsTrue, List, get_or, slice_set, slice_get, Option, Some, None, nat_lt, if◌then◌else◌}
+use Rattle.std.proofs.Common.{arith, refl, ◌≡◌, ap, ℕ, ◌+◌, ◌-◌, ◌*◌, ◌<◌, ◌≤◌, Bool, true, false, IsTrue, List, [], ◌∷◌, length, get_or, slice_set, slice_get, Option, Some, None, nat_lt, if◌then◌else◌}
 use Rattle.std.specs.List.{sum_by}
 use Rattle.std.proofs.lemmas.Bool.{ltb-true}
-use Rattle.std.proofs.lemmas.List.Sums.{sum_by-set}
+use Rattle.std.proofs.lemmas.List.Sums.{sum_by-cons, sum_by-set}
 use Rattle.std.proofs.lemmas.Option.{slice_get_within, get_or_from_slice_get}
 use Rattle.crash_base.specs.declared.numbers.BrickNo.{BrickNo}
 use Rattle.ssm_stub.specs.declared.ear.Stage.{Stage}
@@ -68,13 +68,34 @@ told_falls {W} {A} lawful brick told asks t stands fitting =
     let less : sum_by of (slice_set asks t.at (record ask { ear = ear })) < sum_by of asks = omega arith in
     rw put less
 
-turned_falls : {W A : Type 0} (lawful : W → Frame → Option A) (brick_of : W → BrickNo) (told : Told) (asks : List (Ask W A)) (turn : Option (Turn W)) → ((t : Turn W) → turn ≡ Some t → slice_get asks t.at ≡ Some (record { who = t.who; ear = Open t.stage })) → IsTrue (fits (wanted brick_of turn) told) → weight (asks_after lawful told asks turn) < weight asks
+-- what is left of those who are asked falls
+pub turned_falls : {W A : Type 0} (lawful : W → Frame → Option A) (brick_of : W → BrickNo) (told : Told) (asks : List (Ask W A)) (turn : Option (Turn W)) → ((t : Turn W) → turn ≡ Some t → slice_get asks t.at ≡ Some (record { who = t.who; ear = Open t.stage })) → IsTrue (fits (wanted brick_of turn) told) → weight (asks_after lawful told asks turn) < weight asks
 turned_falls lawful brick_of told asks None stands fitting = cc
 turned_falls lawful brick_of told asks (Some t) stands fitting = told_falls lawful (brick_of t.who) told asks t (stands t refl) fitting
 
 next_unless-fits : {X : Type 0} (answer : Option X) (next : StubNext) (told : Told) → IsTrue (fits (next_unless answer next) told) → IsTrue (fits next told)
 next_unless-fits (Some answer) next told h = cc
 next_unless-fits None next told h = h
+
+stage_within : (stage : Stage) → stage_weight stage ≤ 66
+stage_within Unasked = omega arith
+stage_within (Asked strays) = omega arith
+
+ear_within : {A : Type 0} (ear : Ear A) → ear_weight ear ≤ 66
+ear_within (Open stage) = stage_within stage
+ear_within (Heard outcome) = omega arith
+
+-- each who is asked is told 66 events at most
+pub weight_within : {W A : Type 0} (asks : List (Ask W A)) → weight asks ≤ 66 * length asks
+unfolding weight
+weight_within [] = omega arith
+weight_within {W} {A} (ask ∷ asks) =
+    let of : Ask W A → ℕ = λ a. ear_weight a.ear in
+    let here : ear_weight ask.ear ≤ 66 = ear_within ask.ear in
+    let later : sum_by of asks ≤ 66 * length asks = weight_within asks in
+    let both : sum_by of (ask ∷ asks) ≡ ear_weight ask.ear + sum_by of asks = sum_by-cons of ask asks in
+    let whole : sum_by of (ask ∷ asks) ≤ 66 * length (ask ∷ asks) = omega arith in
+    whole
 
 -- what is left of a write falls
 pub write_falls : (s : WriteState) (told : Told) → IsTrue (fits (write_until.next s) told) → weight (hear_write s told).asks < weight s.asks

@@ -106,10 +106,10 @@ intact_found n w v order value i h frame s among was none nonce intact =
     let stays : incarnation_after 1 e ≡ incarnation_after 1 r.before = omega (arith, now, r.in_named) in
     let quiet_all : has_late_sweep c.expiry (r.since ++ e) ≡ false = ap (has_late_sweep c.expiry) (sym events) ∙ intact.unswept in
     let quiet : has_late_sweep c.expiry r.between ≡ false = no_late_front c.expiry r.between (happened.Stored kept ∷ r.before) (no_late_behind c.expiry r.since e quiet_all) in
-    let all : AllStored (WasWritten v) r.between = stored_front (WasWritten v) r.between (happened.Stored kept ∷ r.before) (stored_behind (WasWritten v) r.since e (s.late.stored h.brick (r.since ++ e) r.history_is)) in
+    let all : AllStored (WasWritten v h.brick) r.between = stored_front (WasWritten v h.brick) r.between (happened.Stored kept ∷ r.before) (stored_behind (WasWritten v h.brick) r.since e (s.late.stored h.brick (r.since ++ e) r.history_is)) in
     let same : AllStored (λ (t : Kept). is_under c.key c.version t ≡ true → t ≡ kept) r.between =
-    stored_weaker (WasWritten v) (λ (t : Kept). is_under c.key c.version t ≡ true → t ≡ kept) r.between
-    (λ t written under. written_is v c.version c.key c.expiry value t s.late s.wrote written (both (same_key c.key t.key) (same_version c.version t.version) under).1)
+    stored_weaker (WasWritten v h.brick) (λ (t : Kept). is_under c.key c.version t ≡ true → t ≡ kept) r.between
+    (λ t written under. written_is v h.brick c.version c.key c.expiry value t s.late s.wrote written (both (same_key c.key t.key) (same_version c.version t.version) under).1)
     all in
     let holds : held e c.key c.version ≡ Some kept = held_on r.between r.before kept same stays quiet in
     let there : kept_under c.key c.version (all_held e) ≡ Some kept = all_found e c.key c.version ∙ holds in

@@ -123,11 +123,11 @@ brick_asked_stays w v brick frame grows was =
 pub sent_stays : (w v : WorldValue) (brick : BrickNo) (frame : Frame) → Grows w v → WasSent w brick frame → WasSent v brick frame
 sent_stays w v brick frame grows was = (was.0, grows.packets was.0 (record { brick = brick; frame = frame }) was.1)
 
-pub stored_stays : (w v : WorldValue) (h : List BrickEvent) → Grows w v → AllStored (WasWritten w) h → AllStored (WasWritten v) h
-stored_stays w v [] grows all = tt
-stored_stays w v (Stored s ∷ h) grows all = (asked_stays w v _ grows all.0, stored_stays w v h grows all.1)
-stored_stays w v (Sweep moment ∷ h) grows all = stored_stays w v h grows all
-stored_stays w v (Crash ∷ h) grows all = stored_stays w v h grows all
+pub stored_stays : (w v : WorldValue) (brick : BrickNo) (h : List BrickEvent) → Grows w v → AllStored (WasWritten w brick) h → AllStored (WasWritten v brick) h
+stored_stays w v brick [] grows all = tt
+stored_stays w v brick (Stored s ∷ h) grows all = (brick_asked_stays w v brick _ grows all.0, stored_stays w v brick h grows all.1)
+stored_stays w v brick (Sweep moment ∷ h) grows all = stored_stays w v brick h grows all
+stored_stays w v brick (Crash ∷ h) grows all = stored_stays w v brick h grows all
 
 were_stay : {W A : Type 0} (w v : WorldValue) (brick_of : W → BrickNo) (lawful : W → Frame → Option A) (asks : List (Ask W A)) → Grows w v → WereSent w brick_of lawful asks → WereSent v brick_of lawful asks
 were_stay w v brick_of lawful asks grows were =

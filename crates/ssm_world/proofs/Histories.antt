@@ -21,7 +21,7 @@ incarnation_grows (Sweep moment ∷ later) h = incarnation_grows later h
 incarnation_grows (Crash ∷ later) h = omega (arith, incarnation_grows later h)
 
 -- what a sweep left was held before it
-left_is : (moment : Moment) (o : Option Kept) (s : Kept) → left_by moment o ≡ Some s → o ≡ Some s
+pub left_is : (moment : Moment) (o : Option Kept) (s : Kept) → left_by moment o ≡ Some s → o ≡ Some s
 left_is moment None s is = is
 left_is moment (Some t) s is = go (is_late moment t.expiry) is
   where

@@ -104,10 +104,10 @@ holder_ask (a ∷ asks) i h is = go (holder_of a) refl i (λ j e. next_ask a ask
     go (Some g) of (suc j) later e = later j e
 
 -- what was stored under the version of a write is what it wrote
-pub written_is : (w : WorldValue) (n : Version) (k : SessionKey) (d : Moment) (x : List ℕ) (s : Kept) → IsSound w → WasAsked w (Put n k n d x) → WasWritten w s → same_version n s.version ≡ true → s ≡ put_value k n d x
-written_is w n k d x s sound was written same =
+pub written_is : (w : WorldValue) (brick : BrickNo) (n : Version) (k : SessionKey) (d : Moment) (x : List ℕ) (s : Kept) → IsSound w → WasAsked w (Put n k n d x) → WasWritten w brick s → same_version n s.version ≡ true → s ≡ put_value k n d x
+written_is w brick n k d x s sound was written same =
     let version : s.version ≡ n = sym (version_is n s.version same) in
-    let one : Put s.version s.key s.version s.expiry s.value ≡ Put n k n d x = one_ask w (Put s.version s.key s.version s.expiry s.value) (Put n k n d x) sound written was version in
+    let one : Put s.version s.key s.version s.expiry s.value ≡ Put n k n d x = one_ask w (Put s.version s.key s.version s.expiry s.value) (Put n k n d x) sound (ask_of_call w brick (Put s.version s.key s.version s.expiry s.value) written) was version in
     let key : s.key ≡ k = cc in
     let expiry : s.expiry ≡ d = cc in
     let value : s.value ≡ x = cc in
@@ -152,10 +152,10 @@ pub keeps_value : (w : WorldValue) (n : Version) (k : SessionKey) (d : Moment) (
 keeps_value w n k d x h sound was holds =
     let s : Kept = put_value k n d x in
     let events : List BrickEvent = holds.later ++ happened.Stored s ∷ holds.earlier in
-    let all : AllStored (WasWritten w) holds.later = stored_front (WasWritten w) holds.later (happened.Stored s ∷ holds.earlier) (sound.stored h.brick events holds.history_is) in
+    let all : AllStored (WasWritten w h.brick) holds.later = stored_front (WasWritten w h.brick) holds.later (happened.Stored s ∷ holds.earlier) (sound.stored h.brick events holds.history_is) in
     let same : AllStored (λ (t : Kept). is_under k n t ≡ true → t ≡ s) holds.later =
-    stored_weaker (WasWritten w) (λ (t : Kept). is_under k n t ≡ true → t ≡ s) holds.later
-    (λ t written under. written_is w n k d x t sound was written (both (same_key k t.key) (same_version n t.version) under).1)
+    stored_weaker (WasWritten w h.brick) (λ (t : Kept). is_under k n t ≡ true → t ≡ s) holds.later
+    (λ t written under. written_is w h.brick n k d x t sound was written (both (same_key k t.key) (same_version n t.version) under).1)
     all in
     record {
       events = events;

@@ -17,7 +17,7 @@ use Rattle.ssm_world.specs.declared.event.Packet.{Packet}
 use Rattle.ssm_world.specs.declared.call.Call.{Call}
 use Rattle.ssm_world.specs.Facts.{AllStored}
 use Rattle.ssm_world.specs.Worlds.{WorldValue, nonce_of, ask_of, history, with_history, with_packet, with_new_call, with_call, is_new, brick_after}
-use Rattle.ssm_world.specs.Sound.{untold, Asks, WasAsked, Grows, WasMade, RepliesSince, WasWritten, CallIsSound, IsSound}
+use Rattle.ssm_world.specs.Sound.{untold, Asks, WasAskedOf, Grows, WasMade, RepliesSince, WasWritten, CallIsSound, IsSound}
 use Rattle.ssm_world.proofs.CallAsks.{put_asked, ask_is_request}
 use Rattle.ssm_world.proofs.Growing.{same_nonce, grows_same, grows_on, grows_packet, grows_new_call, grows_call, grows_history, ask_of_call, brick_asked_stays, sent_stays, stored_stays, call_stays, made_stays}
 use Rattle.ssm_world.proofs.Lists.{get_last, get_set, history_set, history_set_same, none_passes}
@@ -70,7 +70,7 @@ new_call_stays since w c new begins =
           ]
         ];
         requests = λ i p is asks. brick_asked_stays w _ p.brick p.frame grows (s.requests i p is asks);
-        stored = λ brick h is. stored_stays w _ h grows (s.stored brick h is);
+        stored = λ brick h is. stored_stays w _ brick h grows (s.stored brick h is);
         calls = λ k d is. elim (get_last w.calls c k d is) [
           | inl old ↦ call_stays w _ d grows (s.calls k d old)
           | inr new ↦ (let P : Call → Type 0 = λ x. CallIsSound (with_new_call w c) x in subst P new.1 (begins (with_new_call w c)))
@@ -98,7 +98,7 @@ call_stays_sound since w k c d there same hears =
             let was_j = was_call w k c d there same j f at_j in
             s.nonces i j was_i.0 was_j.0 was_i.1 was_j.1 (sym (same_nonce was_i.0 e was_i.2) ∙ equal ∙ same_nonce was_j.0 f was_j.2);
         requests = λ i p is asks. brick_asked_stays w _ p.brick p.frame grows (s.requests i p is asks);
-        stored = λ brick h is. stored_stays w _ h grows (s.stored brick h is);
+        stored = λ brick h is. stored_stays w _ brick h grows (s.stored brick h is);
         calls = λ j e is. elim (get_set w.calls k d j e is) [
           | inl old ↦ call_stays w _ e grows (s.calls j e old)
           | inr new ↦ (let P : Call → Type 0 = λ x. CallIsSound (with_call w k d) x in subst P new.1 (call_stays w _ d grows (hears (s.calls k c there))))
@@ -122,7 +122,7 @@ request_stays since w brick k c there to =
               let A : BrickNo → Type 0 = λ b. Asks c b in
               brick_asked_stays w _ p.brick p.frame grows (k, c, there, ap (λ (q : Packet). q.frame) last.1, subst A (ap (λ (q : Packet). q.brick) last.1) to))
         ];
-        stored = λ b h is. stored_stays w _ h grows (s.stored b h is);
+        stored = λ b h is. stored_stays w _ b h grows (s.stored b h is);
         calls = λ j d is. call_stays w _ d grows (s.calls j d is);
       };
       replies = λ s g r. record {
@@ -136,7 +136,7 @@ request_stays since w brick k c there to =
     }
 
 -- a brick goes on
-pub history_stays : (since w : WorldValue) (brick : BrickNo) (newer h : List BrickEvent) → history w brick ≡ Some h → (IsSound w → AllStored (WasWritten w) (newer ++ h)) → StaysSound since w (with_history w brick (newer ++ h))
+pub history_stays : (since w : WorldValue) (brick : BrickNo) (newer h : List BrickEvent) → history w brick ≡ Some h → (IsSound w → AllStored (WasWritten w brick) (newer ++ h)) → StaysSound since w (with_history w brick (newer ++ h))
 history_stays since w brick newer h there stores =
     let grows : Grows w (with_history w brick (newer ++ h)) = grows_history w brick newer h there in
     record {
@@ -145,33 +145,35 @@ history_stays since w brick newer h there stores =
         nonces = s.nonces;
         requests = λ i p is asks. brick_asked_stays w _ p.brick p.frame grows (s.requests i p is asks);
         stored = λ b g is. elim (history_set w.histories brick.0 (newer ++ h) b.0 g is) [
-          | inl old ↦ stored_stays w _ g grows (s.stored b g old)
+          | inl old ↦ stored_stays w _ b g grows (s.stored b g old)
           | inr new ↦ (
-              let P : List BrickEvent → Type 0 = λ x. AllStored (WasWritten (with_history w brick (newer ++ h))) x in
-              subst P new.1 (stored_stays w _ (newer ++ h) grows (stores s)))
+              let its : brick ≡ b = (let number : b.0 ≡ brick.0 = new.0 in λ l. record { 0 = sym number l }) in
+              let P : List BrickEvent → Type 0 = λ x. AllStored (WasWritten (with_history w brick (newer ++ h)) b) x in
+              let B : BrickNo → Type 0 = λ c. AllStored (WasWritten (with_history w brick (newer ++ h)) c) (newer ++ h) in
+              subst P new.1 (subst B its (stored_stays w _ brick (newer ++ h) grows (stores s))))
         ];
         calls = λ k c is. call_stays w _ c grows (s.calls k c is);
       };
       replies = λ s g r. same_packets since w (with_history w brick (newer ++ h)) grows refl r;
     }
 
--- what a call's ask stores was written
-heard_stored : (w : WorldValue) (h : List BrickEvent) (frame : Frame) → IsSound w → WasAsked w frame → AllStored (WasWritten w) h → AllStored (WasWritten w) (heard h frame)
-heard_stored w h (Put n k v d x) sound was all = go (is_full (all_held h) (put_value k v d x))
+-- what a call's ask to a brick stores there was written to it
+heard_stored : (w : WorldValue) (brick : BrickNo) (h : List BrickEvent) (frame : Frame) → IsSound w → WasAskedOf w brick frame → AllStored (WasWritten w brick) h → AllStored (WasWritten w brick) (heard h frame)
+heard_stored w brick h (Put n k v d x) sound was all = go (is_full (all_held h) (put_value k v d x))
   where
-    go : (b : Bool) → AllStored (WasWritten w) (if b then h else happened.Stored (put_value k v d x) ∷ h)
+    go : (b : Bool) → AllStored (WasWritten w brick) (if b then h else happened.Stored (put_value k v d x) ∷ h)
     go true = all
     go false =
-        let nonce : n ≡ v = put_asked w n k v d x sound was in
-        let P : Version → Type 0 = λ m. WasAsked w (Put m k v d x) in
+        let nonce : n ≡ v = put_asked w n k v d x sound (ask_of_call w brick (Put n k v d x) was) in
+        let P : Version → Type 0 = λ m. WasAskedOf w brick (Put m k v d x) in
         (subst P nonce was, all)
-heard_stored w h (Get n k v) sound was all = all
-heard_stored w h (Sweep n moment) sound was all = all
-heard_stored w h (Stored n k v b i) sound was all = all
-heard_stored w h (Found n k v b i d x) sound was all = all
-heard_stored w h (Absent n k v b i s) sound was all = all
-heard_stored w h (BrickFull n k v b i s t) sound was all = all
-heard_stored w h (Swept n b i s) sound was all = all
+heard_stored w brick h (Get n k v) sound was all = all
+heard_stored w brick h (Sweep n moment) sound was all = all
+heard_stored w brick h (Stored n k v b i) sound was all = all
+heard_stored w brick h (Found n k v b i d x) sound was all = all
+heard_stored w brick h (Absent n k v b i s) sound was all = all
+heard_stored w brick h (BrickFull n k v b i s t) sound was all = all
+heard_stored w brick h (Swept n b i s) sound was all = all
 
 -- a request reaches its brick, which replies
 pub delivery_stays : (since w : WorldValue) (i : ℕ) (p : Packet) (h : List BrickEvent) (frame : Frame) → slice_get w.packets i ≡ Some p → history w p.brick ≡ Some h
@@ -180,11 +182,11 @@ pub delivery_stays : (since w : WorldValue) (i : ℕ) (p : Packet) (h : List Bri
 delivery_stays since w i p h frame there now replies =
     let to : RepliesTo p.frame frame = reply_to p.brick h p.frame frame replies in
     let more : (newer : List BrickEvent) × (heard h p.frame ≡ newer ++ h) = heard_is h p.frame in
-    let stores : IsSound w → AllStored (WasWritten w) (heard h p.frame) =
-    λ s. heard_stored w h p.frame s (ask_of_call w p.brick p.frame (s.requests i p there to.asks)) (s.stored p.brick h now) in
+    let stores : IsSound w → AllStored (WasWritten w p.brick) (heard h p.frame) =
+    λ s. heard_stored w p.brick h p.frame s (s.requests i p there to.asks) (s.stored p.brick h now) in
     let middle : WorldValue = with_history w p.brick (heard h p.frame) in
     let S : List BrickEvent → Type 0 = λ g. StaysSound since w (with_history w p.brick g) in
-    let A : List BrickEvent → Type 0 = λ g. AllStored (WasWritten w) g in
+    let A : List BrickEvent → Type 0 = λ g. AllStored (WasWritten w p.brick) g in
     let first : StaysSound since w middle = subst S (sym more.1) (history_stays since w p.brick more.0 h now (λ s. subst A more.1 (stores s))) in
     let new : Packet = record { brick = p.brick; frame = frame } in
     let grows : Grows middle (with_packet middle new) = grows_packet middle new in
@@ -199,7 +201,7 @@ delivery_stays since w i p h frame there now replies =
               | inl old ↦ brick_asked_stays middle _ q.brick q.frame grows (m.requests j q old asked)
               | inr last ↦ absurd (let none : is_request q.frame ≡ false = ap (λ (x : Packet). is_request x.frame) (sym last.1) ∙ to.replies in cc)
             ];
-            stored = λ b g is. stored_stays middle _ g grows (m.stored b g is);
+            stored = λ b g is. stored_stays middle _ b g grows (m.stored b g is);
             calls = λ k c is. call_stays middle _ c grows (m.calls k c is);
           };
       replies = λ s g r.

@@ -1,26 +1,26 @@
-mod Askable
 mod Answering
-mod Asks
-mod CallAsks
+pub mod Askable
+pub mod Asks
+pub mod CallAsks
 mod Changing
-mod Ending
-mod Growing
-mod Hearing
-mod Histories
-mod Holding
-mod Keeping
-mod Lawful
-mod Lists
+pub mod Ending
+pub mod Growing
+pub mod Hearing
+pub mod Histories
+pub mod Holding
+pub mod Keeping
+pub mod Lawful
+pub mod Lists
 mod Logging
-mod Making
+pub mod Making
 mod Nonces
-mod Numbering
+pub mod Numbering
 mod Origins
 mod Positions
 mod Refusing
-mod Replying
+pub mod Replying
 mod Scenes
 mod Sending
-mod Steps
-mod Tests
+pub mod Steps
+pub mod Tests
 mod Tracing

@@ -3,11 +3,11 @@ use Rattle.std.proofs.Common.{◌≡◌, List, [], ◌∷◌, ◌++◌, Result, 
 use Rattle.ssm_world.specs.declared.event.WorldEvent.{WorldEvent}
 use Rattle.ssm_world.specs.Worlds.{WorldValue, new_world, step, after, IsMade}
 
-after_more : (w : WorldValue) (es : List WorldEvent) (e : WorldEvent) → step (after w es) e ≡ after w (es ++ e ∷ [])
+pub after_more : (w : WorldValue) (es : List WorldEvent) (e : WorldEvent) → step (after w es) e ≡ after w (es ++ e ∷ [])
 after_more w [] e = refl
 after_more w (d ∷ es) e = after_more (step w d) es e
 
-step_made : (w : WorldValue) (e : WorldEvent) → IsMade w → IsMade (step w e)
+pub step_made : (w : WorldValue) (e : WorldEvent) → IsMade w → IsMade (step w e)
 step_made w e made = record {
   bricks = made.bricks;
   events = made.events ++ e ∷ [];

@@ -3,6 +3,7 @@ use Rattle.std.proofs.Common.{◌≡◌, ◌⊎◌, inl, inr, ℕ, ◌≤◌, �
 use Rattle.std.specs.Prelude.{slice_get, nat_le}
 use Rattle.std.specs.List.{cons_option, filter_map}
 use Rattle.std.proofs.lemmas.Bool.Decides.{nat_tests}
+use Rattle.std.proofs.lemmas.Bool.{leb-true}
 use Rattle.std.proofs.lemmas.List.{length-take-le}
 use Rattle.crash_base.specs.declared.numbers.BrickNo.{BrickNo}
 use Rattle.crash_base.specs.declared.numbers.Moment.{Moment}
@@ -13,16 +14,18 @@ use Rattle.ssm_frames.specs.declared.frame.Frame.TheVariants.{Put}
 use Rattle.session_cookie.specs.declared.cookie.Holder.{Holder}
 use Rattle.ssm_stub.specs.declared.ask.Ask.{Ask}
 use Rattle.ssm_stub.specs.declared.event.Told.{Told}
+use Rattle.ssm_stub.specs.declared.event.StubNext.TheVariants as next
 use Rattle.ssm_stub.specs.declared.ear.Outcome.TheVariants as outcome
 use Rattle.ssm_stub.specs.declared.reply.WriteReply.{WriteReply}
 use Rattle.ssm_stub.specs.declared.reply.WriteReply.TheVariants.{Stored}
 use Rattle.ssm_stub.specs.declared.write_call.WriteRefusal.{WriteRefusal}
 use Rattle.ssm_stub.specs.Runs.{Fits, after as run}
-use Rattle.ssm_stub.specs.Writes.{WriteState, put_lawful, holder_by, holder_of, write_start, write_answer, write_machine, hear_write}
+use Rattle.ssm_stub.specs.Writes.{WriteState, put_lawful, holder_by, holder_of, write_start, write_answer, write_next, write_machine, hear_write}
 use Rattle.ssm_stub.proofs.ByEvents.{ask_by}
 use Rattle.ssm_stub.proofs.HearingEnds.{so_heard}
 use Rattle.ssm_stub.proofs.WriteFacts.{told_facts}
 use Rattle.ssm_stub.proofs.WriteOutcomes.{filter_map_map, named}
+use Rattle.stub_laws.proofs.WriteSending.{sends_nothing}
 use Rattle.ssm_world.specs.declared.call.Call.{Call}
 use Rattle.ssm_world.specs.declared.call.Call.TheVariants as call
 use Rattle.ssm_world.specs.declared.event.Packet.{Packet}
@@ -180,6 +183,15 @@ story n events place s there = elim (origin (new_world n) events place s there) 
       record { began = o; fitting = runs.fitting; is = cc })
 ]
 
+-- once it has an answer it sends nothing more
+pub answered_sends_nothing : (n : ℕ) (events : List WorldEvent) (place : ℕ) (s : WriteState) (answer : Result Cookie WriteRefusal) (brick : BrickNo) → slice_get (after (new_world n) events).calls place ≡ Some (call.Write s) → write_answer s ≡ Some answer → write_next s ≡ next.Send brick → ⊥
+answered_sends_nothing n events place s answer brick there answers sends =
+    let t : Story n events place s = story n events place s there in
+    let order : WriteOrder = t.began.order in
+    let told : List Told = told_to_write (after (new_world n) t.began.earlier) order t.began.later in
+    let some : 1 ≤ order.least = leb-true 1 order.least (both _ _ (both _ _ t.began.may_begin).1).0 in
+    sends_nothing told order.bricks (write_state order) answer refl some t.fitting (ap write_answer (sym t.is) ∙ answers) brick (ap write_next (sym t.is) ∙ sends)
+
 -- what is acknowledged: the write's value, of its order
 story_value : (n : ℕ) (events : List WorldEvent) (place : ℕ) (s : WriteState) (value : List ℕ) (t : Story n events place s) → s.ask ≡ Put s.nonce s.key s.nonce s.expiry value → value ≡ t.began.order.value
 story_value n events place s value t ask_is =
@@ -197,11 +209,18 @@ StayLaw =
     → write_answer (run write_machine (write_start bricks least nonce key value expiry) first) ≡ Some answer
     → write_answer (run write_machine (write_start bricks least nonce key value expiry) (first ++ more)) ≡ Some answer
 
--- what is acknowledged stays so
-pub acknowledged_stays : StayLaw → (n : ℕ) (earlier later : List WorldEvent) (cookie : Cookie) (value : List ℕ) → IsAcknowledged (after (new_world n) earlier) cookie value → IsAcknowledged (after (after (new_world n) earlier) later) cookie value
-acknowledged_stays stay n earlier later cookie value acknowledged =
-    let t : Story n earlier acknowledged.place acknowledged.write = story n earlier acknowledged.place acknowledged.write acknowledged.there in
-    let o : Origin (new_world n) earlier acknowledged.place = t.began in
+-- A write that has an answer has it in a later world, where else it may have heard more.
+pub record StillAnswers (v : WorldValue) (place : ℕ) (s : WriteState) (answer : Result Cookie WriteRefusal) : Type 0 where
+  pub now : WriteState
+  pub there : slice_get v.calls place ≡ Some (call.Write now)
+  pub answers : write_answer now ≡ Some answer
+  pub same : now ≡ record s { asks = now.asks }
+
+pub still_answers : StayLaw → (n : ℕ) (earlier later : List WorldEvent) (place : ℕ) (s : WriteState) (answer : Result Cookie WriteRefusal) → slice_get (after (new_world n) earlier).calls place ≡ Some (call.Write s) → write_answer s ≡ Some answer
+    → StillAnswers (after (after (new_world n) earlier) later) place s answer
+still_answers stay n earlier later place s answer there answers =
+    let t : Story n earlier place s = story n earlier place s there in
+    let o : Origin (new_world n) earlier place = t.began in
     let w : WorldValue = after (new_world n) o.earlier in
     let begun : WorldValue = step w (write_event o.order) in
     let start : WriteState = write_state o.order in
@@ -211,22 +230,33 @@ acknowledged_stays stay n earlier later cookie value acknowledged =
     let parts : all ≡ first ++ more = told_append begun (length w.calls) o.later later in
     let runs : IsRun write_machine (λ r. call.Write r) (after begun (o.later ++ later)) (length w.calls) start all = write_runs w o.order (o.later ++ later) o.may_begin in
     let Fit : List Told → Type 0 = λ events. Fits write_machine start events in
-    let answered : write_answer (run write_machine start first) ≡ Some (Ok cookie) = ap write_answer (sym t.is) ∙ acknowledged.answers in
-    let answers : write_answer (run write_machine start (first ++ more)) ≡ Some (Ok cookie) =
-    stay first more o.order.bricks o.order.least o.order.nonce o.order.key o.order.value o.order.expiry (Ok cookie) (subst Fit parts runs.fitting) answered in
+    let answered : write_answer (run write_machine start first) ≡ Some answer = ap write_answer (sym t.is) ∙ answers in
+    let stays : write_answer (run write_machine start (first ++ more)) ≡ Some answer =
+    stay first more o.order.bricks o.order.least o.order.nonce o.order.key o.order.value o.order.expiry answer (subst Fit parts runs.fitting) answered in
     let now : WriteState = run write_machine start all in
-    let keeps : now ≡ record start { asks = now.asks } = run_keeps all start in
+    let before : s ≡ record start { asks = (run write_machine start first).asks } = t.is ∙ run_keeps first start in
+    record {
+      now = now;
+      there =
+          ap (λ (v : WorldValue). slice_get v.calls place) (sym (whole (new_world n) earlier place o later))
+          ∙ ap (slice_get (after begun (o.later ++ later)).calls) o.place_is ∙ runs.there;
+      answers = ap (λ events. write_answer (run write_machine start events)) parts ∙ stays;
+      same = run_keeps all start ∙ ap (λ (r : WriteState). record r { asks = now.asks }) (sym before);
+    }
+
+-- what is acknowledged stays so
+pub acknowledged_stays : StayLaw → (n : ℕ) (earlier later : List WorldEvent) (cookie : Cookie) (value : List ℕ) → IsAcknowledged (after (new_world n) earlier) cookie value → IsAcknowledged (after (after (new_world n) earlier) later) cookie value
+acknowledged_stays stay n earlier later cookie value acknowledged =
+    let still : StillAnswers (after (after (new_world n) earlier) later) acknowledged.place acknowledged.write (Ok cookie) =
+    still_answers stay n earlier later acknowledged.place acknowledged.write (Ok cookie) acknowledged.there acknowledged.answers in
     record {
       place = acknowledged.place;
-      write = now;
-      there =
-          ap (λ (v : WorldValue). slice_get v.calls acknowledged.place) (sym (whole (new_world n) earlier acknowledged.place o later))
-          ∙ ap (slice_get (after begun (o.later ++ later)).calls) o.place_is ∙ runs.there;
-      answers = ap (λ events. write_answer (run write_machine start events)) parts ∙ answers;
+      write = still.now;
+      there = still.there;
+      answers = still.answers;
       value_is =
-          ap (λ (r : WriteState). r.ask) keeps
-          ∙ (λ l. Put o.order.nonce o.order.key o.order.nonce o.order.expiry (sym (story_value n earlier acknowledged.place acknowledged.write value t acknowledged.value_is) l))
-          ∙ sym (ap (λ (r : WriteState). Put r.nonce r.key r.nonce r.expiry value) keeps);
+          ap (λ (r : WriteState). r.ask) still.same ∙ acknowledged.value_is
+          ∙ sym (ap (λ (r : WriteState). Put r.nonce r.key r.nonce r.expiry value) still.same);
     }
 
 -- and it names who stored the value

@@ -156,10 +156,10 @@ found_is n w v order value h i until x s was =
     let made : WasMade (new_world n) v p = s.all_made.each was.0 p (omega arith) was.1 refl in
     let for : FoundFor made.earlier made.request order.nonce order.cookie.key order.cookie.version x = found_for h.brick h.brick made.earlier made.request _ _ _ _ _ _ made.reply_is in
     let history_now : history v h.brick ≡ Some (made.later ++ made.earlier) = made.history_is ∙ ap (λ f. Some (made.later ++ heard made.earlier f)) for.request_is in
-    let all : AllStored (WasWritten v) made.earlier = stored_behind (WasWritten v) made.later made.earlier (s.late.stored h.brick (made.later ++ made.earlier) history_now) in
-    let was_stored : WasWritten v for.found × (is_under order.cookie.key order.cookie.version for.found ≡ true) = held_was_stored (WasWritten v) made.earlier order.cookie.key order.cookie.version for.found all for.held_is in
+    let all : AllStored (WasWritten v h.brick) made.earlier = stored_behind (WasWritten v h.brick) made.later made.earlier (s.late.stored h.brick (made.later ++ made.earlier) history_now) in
+    let was_stored : WasWritten v h.brick for.found × (is_under order.cookie.key order.cookie.version for.found ≡ true) = held_was_stored (WasWritten v h.brick) made.earlier order.cookie.key order.cookie.version for.found all for.held_is in
     let version : same_version order.cookie.version for.found.version ≡ true = (both (same_key order.cookie.key for.found.key) (same_version order.cookie.version for.found.version) was_stored.1).1 in
-    let same : for.found ≡ kept_for order.cookie value = written_is v order.cookie.version order.cookie.key order.cookie.expiry value for.found s.late s.wrote was_stored.0 version in
+    let same : for.found ≡ kept_for order.cookie value = written_is v h.brick order.cookie.version order.cookie.key order.cookie.expiry value for.found s.late s.wrote was_stored.0 version in
     sym for.value_is ∙ ap (λ (k : Kept). k.value) same
 
 -- a reply with the read's nonce was sent after the read began

@@ -147,7 +147,7 @@ none_there zero brick h is = absurd (cc)
 none_there (suc n) zero h is = cc
 none_there (suc n) (suc brick) h is = none_there n brick h is
 
-new_history : (n : ℕ) (brick : ℕ) (h : List BrickEvent) → history_at (replicate n []) brick ≡ Some h → h ≡ []
+pub new_history : (n : ℕ) (brick : ℕ) (h : List BrickEvent) → history_at (replicate n []) brick ≡ Some h → h ≡ []
 new_history n zero h is = absurd (cc)
 new_history n (suc brick) h is = none_there n brick h is
 
@@ -156,7 +156,7 @@ new_is_sound n = record {
   nonces = λ j k c d at_j at_k same. absurd (cc);
   requests = λ i p is asks. absurd (cc);
   stored = λ brick h is. (
-      let P : List BrickEvent → Type 0 = λ x. AllStored (WasWritten (new_world n)) x in
+      let P : List BrickEvent → Type 0 = λ x. AllStored (WasWritten (new_world n) brick) x in
       subst P (sym (new_history n brick.0 h is)) tt);
   calls = λ k c is. absurd (cc);
 }

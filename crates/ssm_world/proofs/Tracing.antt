@@ -1,7 +1,7 @@
 -- A call is what its machine is after all that events told it.
-use Rattle.std.proofs.Common.{◌≡◌, ℕ, zero, suc, ◌==◌, ◌-◌, ◌^◌, ◌&&◌, ◌||◌, Bool, true, false, not, IsTrue, if◌then◌else◌, nat_lt, List, [], ◌∷◌, map, Option, Some, None, refl, sym, ap, ◌∙◌, subst, arith}
+use Rattle.std.proofs.Common.{◌≡◌, ℕ, zero, suc, ◌==◌, ◌-◌, ◌^◌, ◌&&◌, ◌||◌, Bool, true, false, not, IsTrue, if◌then◌else◌, nat_lt, List, [], ◌∷◌, map, Option, Some, None, Result, refl, sym, ap, ◌∙◌, subst, arith}
 use Rattle.std.specs.Prelude.{slice_get, slice_set}
-use Rattle.std.specs.List.{list_any, cons_option}
+use Rattle.std.specs.List.{list_any, cons_option, fold}
 use Rattle.std.proofs.lemmas.Bool.Decides.{nat_tests}
 use Rattle.crash_base.specs.declared.numbers.BrickNo.{BrickNo}
 use Rattle.crash_base.specs.declared.numbers.Moment.{Moment}
@@ -24,8 +24,9 @@ use Rattle.ssm_stub.specs.declared.reply.ReadReply.{ReadReply}
 use Rattle.ssm_stub.specs.Ears.{ear_after}
 use Rattle.ssm_stub.specs.Runs.{Machine, fits, Fits, after as run}
 use Rattle.ssm_stub.specs.Hearing.{AllDiffer, EndsIn, OwnAt, ear_machine, numbers, told_to}
-use Rattle.ssm_stub.specs.Turns.{none_asked}
-use Rattle.ssm_stub.specs.Reads.{ReadState, get_lawful, read_start, read_machine}
+use Rattle.ssm_stub.specs.Turns.{none_asked, turn_in_order, wanted}
+use Rattle.ssm_stub.specs.Reads.{ReadState, get_lawful, read_start, read_answer, turn_unless, read_machine}
+use Rattle.ssm_stub.specs.declared.read_call.ReadRefusal.{ReadRefusal}
 use Rattle.ssm_world.specs.declared.call.Call.{Call}
 use Rattle.ssm_world.specs.declared.call.Call.TheVariants as call
 use Rattle.ssm_world.specs.declared.event.Packet.{Packet}
@@ -150,6 +151,44 @@ call_step w (Hear k packet) place d there = comes_call w k place (slice_get w.pa
 call_step w (Hush k) place d there = hushes_call w k place (slice_get w.calls k) d refl there
 call_step w (Crash brick) place d there = ap (λ cs. slice_get cs place) (crashed_calls w brick (history w brick)) ∙ there
 call_step w (Sweep brick moment) place d there = ap (λ cs. slice_get cs place) (swept_calls w brick moment (history w brick)) ∙ there
+
+-- and at all events: it has heard what they told it, in order
+pub calls_hear : (w : WorldValue) (place : ℕ) (c : Call) (es : List WorldEvent) → slice_get w.calls place ≡ Some c → slice_get (after w es).calls place ≡ Some (fold hear c (all_told w place es))
+calls_hear w place c [] there = there
+calls_hear w place c (e ∷ es) there =
+    let P : Option Told → Type 0 = λ o. slice_get (after (step w e) es).calls place ≡ Some (fold hear c (cons_option o (all_told (step w e) place es))) in
+    subst P (sym (ap (told_at w place e) there)) (go (λ d now. calls_hear (step w e) place d es now) (told_by w place (next_of c) e) (call_step w e place c there))
+  where
+    go : ((d : Call) → slice_get (step w e).calls place ≡ Some d → slice_get (after (step w e) es).calls place ≡ Some (fold hear d (all_told (step w e) place es)))
+        → (o : Option Told) → slice_get (step w e).calls place ≡ Some (told_on c o) → slice_get (after (step w e) es).calls place ≡ Some (fold hear c (cons_option o (all_told (step w e) place es)))
+    go on None now = on c now
+    go on (Some t) now = on (hear c t) now
+
+-- a call that wants nothing hears nothing
+none_either : (b : Bool) (o : Option Told) → o ≡ None → (if b then o else None) ≡ None
+none_either true o none = none
+none_either false o none = refl
+
+ended_told : (w : WorldValue) (place : ℕ) (e : WorldEvent) → told_by w place next.Ended e ≡ None
+ended_told w place (Write nonce key value expiry bricks least) = refl
+ended_told w place (Read nonce moment cookie) = refl
+ended_told w place (Send k silent is_sent) = none_either (k == place) None refl
+ended_told w place (Deliver packet) = refl
+ended_told w place (Hear k packet) = none_either (k == place) None refl
+ended_told w place (Hush k) = none_either (k == place) None refl
+ended_told w place (Crash brick) = refl
+ended_told w place (Sweep brick moment) = refl
+
+ended_stays : (w : WorldValue) (place : ℕ) (c : Call) (es : List WorldEvent) → slice_get w.calls place ≡ Some c → next_of c ≡ next.Ended → slice_get (after w es).calls place ≡ Some c
+ended_stays w place c [] there ended = there
+ended_stays w place c (e ∷ es) there ended =
+    let none : told_by w place (next_of c) e ≡ None = ap (λ n. told_by w place n e) ended ∙ ended_told w place e in
+    ended_stays (step w e) place c es (call_step w e place c there ∙ ap (λ o. Some (told_on c o)) none) ended
+
+-- so a read that has answered stays as it is
+pub answered_read_stays : (w : WorldValue) (place : ℕ) (s : ReadState) (answer : Result (List ℕ) ReadRefusal) (es : List WorldEvent) → slice_get w.calls place ≡ Some (call.Read s) → read_answer s ≡ Some answer → slice_get (after w es).calls place ≡ Some (call.Read s)
+answered_read_stays w place s answer es there answers =
+    ended_stays w place (call.Read s) es there (ap (λ o. wanted (λ (holder : Holder). holder.brick) (turn_unless o (turn_in_order s.asks))) answers)
 
 -- an event tells a call only what can come of what it wants
 pub send_fits : (silent : Bool) (n : StubNext) (t : Told) → told_by_send silent n ≡ Some t → IsTrue (fits n t)

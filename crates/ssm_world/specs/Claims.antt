@@ -63,8 +63,8 @@ pub record IsIntact (w : WorldValue) (holder : Holder) (expiry : Moment) : Type 
   pub uncrashed : incarnation_after 1 events ≡ holder.incarnation
   pub unswept : has_late_sweep expiry events ≡ false
 
--- A holder has crashed since it stored the value in the incarnation that the cookie names, and has had the
--- greater incarnation that it told since.
+-- A holder has crashed since it stored the value, and has since had the incarnation that it told, which is
+-- greater than the cookie's.
 pub record HasCrashed (w : WorldValue) (holder : Holder) (s : Kept) (incarnation : ℕ) : Type 0 where
   pub events : List BrickEvent
   pub history_is : history w holder.brick ≡ Some events
@@ -121,9 +121,9 @@ pub record WasGiven (order : ReadOrder) (told : Holder → List Told) (value : L
   pub there : slice_get order.cookie.bricks place ≡ Some holder
   pub gave : HeardAs order holder (told holder) (outcome.Answered (answer.Found value))
 
--- What a read of a cookie answers that was acknowledged with this value: the value, where the read's moment
--- is not past the expiry, and which a holder gave to the read; or that the cookie has
--- expired, where the read's moment is past its expiry; or, where it is not, the cause of each holder.
+-- The right answer of a read of a cookie that was acknowledged with this value: the value, where the read's
+-- moment is not past the expiry and a holder gave it to the read; or that the cookie has expired, where the
+-- read's moment is past its expiry; or, where it is not, the cause of each holder.
 abbrev pub IsRight : WorldValue → ReadOrder → List ℕ → (Holder → List Told) → Result (List ℕ) ReadRefusal → Type 0
 IsRight w order value told (Ok answered) =
     (answered ≡ value) × (order.moment.0 ≤ order.cookie.expiry.0) × WasGiven order told answered
@@ -182,7 +182,7 @@ told_to_write w order events = all_told (step w (write_event order)) (length w.c
 abbrev pub told_to_write_of : WorldValue → WriteOrder → List WorldEvent → BrickNo → List Told
 told_to_write_of w order events brick = told_to write_machine (write_state order) (told_to_write w order events) brick
 
--- the brick as a holder, where by what the write was told of it it gave a lawful Stored
+-- the brick as a holder, where what the write was told of it ends in a lawful Stored
 abbrev pub stored_by : WriteOrder → (BrickNo → List Told) → BrickNo → Option Holder
 stored_by order told brick =
     holder_by brick (ear_after (put_lawful order.nonce order.key brick) (told brick))

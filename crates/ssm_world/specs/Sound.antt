@@ -39,8 +39,8 @@ WasSent w brick frame =
 abbrev pub WasAsked : WorldValue → Frame → Type 0
 WasAsked w frame = (i : ℕ) × (c : Call) × (slice_get w.calls i ≡ Some c) × (ask_of c ≡ frame)
 
--- The later world has all that the earlier one has: each packet; each call, which was told more at most;
--- and the history of each brick, behind newer events.
+-- The later world has all that the earlier one has: each packet; each call, which began as it did, whatever
+-- it has heard; and the history of each brick, behind newer events.
 pub record Grows (w v : WorldValue) : Type 0 where
   pub packets : (i : ℕ) (p : Packet) → slice_get w.packets i ≡ Some p → slice_get v.packets i ≡ Some p
   pub calls : (i : ℕ) (c : Call) → slice_get w.calls i ≡ Some c → (d : Call) × (slice_get v.calls i ≡ Some d) × (untold d ≡ untold c)
@@ -76,9 +76,9 @@ abbrev pub WasAskedOf : WorldValue → BrickNo → Frame → Type 0
 WasAskedOf w brick frame =
     (i : ℕ) × (c : Call) × (slice_get w.calls i ≡ Some c) × (ask_of c ≡ frame) × Asks c brick
 
--- a call asked for this to be kept, under its nonce as version
-abbrev pub WasWritten : WorldValue → Kept → Type 0
-WasWritten w s = WasAsked w (Put s.version s.key s.version s.expiry s.value)
+-- a call asked this brick to keep this, under its nonce as version
+abbrev pub WasWritten : WorldValue → BrickNo → Kept → Type 0
+WasWritten w brick s = WasAskedOf w brick (Put s.version s.key s.version s.expiry s.value)
 
 -- each reply that was heard of one that is asked is lawful, and its brick sent it
 abbrev pub WereSent : {W A : Type 0} → WorldValue → (W → BrickNo) → (W → Frame → Option A) → List (Ask W A) → Type 0
@@ -107,9 +107,10 @@ CallIsSound w (call.Write s) = WriteIsSound w s
 CallIsSound w (call.Read s) = ReadIsSound w s
 
 -- What holds of each world: no two calls have one nonce; each request is the ask of a call, sent to a brick
--- that the call asks; each value that was ever stored was written by a call; and what calls heard was sent.
+-- that the call asks; each value that a brick ever stored is one that a write asked this brick to keep; and
+-- what calls heard was sent.
 pub record IsSound (w : WorldValue) : Type 0 where
   pub nonces : (i j : ℕ) (c d : Call) → slice_get w.calls i ≡ Some c → slice_get w.calls j ≡ Some d → nonce_of c ≡ nonce_of d → i ≡ j
   pub requests : (i : ℕ) (p : Packet) → slice_get w.packets i ≡ Some p → is_request p.frame ≡ true → WasAskedOf w p.brick p.frame
-  pub stored : (brick : BrickNo) (h : List BrickEvent) → history w brick ≡ Some h → AllStored (WasWritten w) h
+  pub stored : (brick : BrickNo) (h : List BrickEvent) → history w brick ≡ Some h → AllStored (WasWritten w brick) h
   pub calls : (i : ℕ) (c : Call) → slice_get w.calls i ≡ Some c → CallIsSound w c

@@ -2,6 +2,7 @@
 //! needs the law calls the function.
 
 ghost use Rattle.std.specs.Prelude.{◌≡◌, ◌≢◌, ◌⊎◌, ℕ, List, length, true, false, slice_get, Some, Result, Ok, Err};
+ghost use Rattle.std.specs.List.{fold};
 ghost use Rattle.crash_base.specs.declared.numbers.BrickNo.{BrickNo};
 ghost use Rattle.crash_base.specs.declared.numbers.Moment.{Moment};
 ghost use Rattle.crash_base.specs.declared.numbers.SessionKey.{SessionKey};
@@ -13,6 +14,7 @@ ghost use Rattle.ssm_frames.specs.declared.frame.Frame.{Frame};
 ghost use Rattle.ssm_frames.specs.declared.frame.Frame.TheVariants.{Put, Found};
 ghost use Rattle.ssm_frames.specs.Requests.{is_request};
 ghost use Rattle.ssm_stub.specs.declared.ask.Ask.{Ask};
+ghost use Rattle.ssm_stub.specs.declared.event.StubNext.TheVariants as next;
 ghost use Rattle.ssm_stub.specs.declared.ear.Outcome.{Outcome};
 ghost use Rattle.ssm_stub.specs.declared.ear.Outcome.TheVariants as ended;
 ghost use Rattle.ssm_stub.specs.declared.ear.Ear.TheVariants.{Heard};
@@ -22,9 +24,14 @@ ghost use Rattle.ssm_stub.specs.declared.cause.BrickCause.{BrickCause};
 ghost use Rattle.ssm_stub.specs.declared.cause.Cause.TheVariants as why;
 ghost use Rattle.ssm_stub.specs.declared.read_call.ReadRefusal.{ReadRefusal};
 ghost use Rattle.ssm_stub.specs.declared.read_call.ReadRefusal.TheVariants.{Lost};
+ghost use Rattle.ssm_stub.specs.declared.write_call.WriteRefusal.{WriteRefusal};
 ghost use Rattle.ssm_stub.specs.Reads.{ReadState, read_answer};
+ghost use Rattle.ssm_stub.specs.Writes.{WriteState, write_answer, write_next};
+ghost use Rattle.ssm_world.specs.declared.call.Call.{Call};
+ghost use Rattle.ssm_world.specs.declared.call.Call.TheVariants as kind;
 ghost use Rattle.ssm_world.specs.declared.event.WorldEvent.{WorldEvent};
-ghost use Rattle.ssm_world.specs.Worlds.{WorldValue, may_be_asked, bricks_of, new_world, step, may_happen, after};
+ghost use Rattle.ssm_world.specs.Worlds.{WorldValue, hear, may_be_asked, bricks_of, new_world, step, may_happen, after};
+ghost use Rattle.ssm_world.specs.Traces.{all_told};
 ghost use Rattle.ssm_world.specs.Facts.{frame_nonce};
 ghost use Rattle.ssm_world.specs.Sound.{IsSound, RepliesSince, Grows};
 ghost use Rattle.ssm_world.specs.Claims.{IsAcknowledged, NamesWhoStored, kept_for, Keeps, IsIntact, HeardAs, IsRight, ReadOrder, ReadAfter, read_world, told_since};
@@ -42,20 +49,25 @@ pub fn events_that_may_happen_change_the_world()
     ensures { (w : WorldValue) (event : WorldEvent) → may_happen w event ≡ true → step w event ≢ w }
 {}
 
-/// Worlds only grow: a later world has each packet and each call of an earlier one, a call was told more at
-/// most, and the history of each brick stands behind its newer events. Each reply that was sent since was
-/// made since.
+/// Worlds only grow: a later world has each packet and each call of an earlier one, and the history of each
+/// brick stands behind its newer events. A call has heard besides, in order, what the events since told it,
+/// and nothing else. Each reply that was sent since was made since.
 pub fn worlds_only_grow()
     ensures grows { (bricks : ℕ) (earlier later : List WorldEvent)
         → Grows (after (new_world bricks) earlier) (after (after (new_world bricks) earlier) later) }
+    ensures calls { (bricks : ℕ) (earlier later : List WorldEvent) (place : ℕ) (call : Call)
+        → slice_get (after (new_world bricks) earlier).calls place ≡ Some call
+        → slice_get (after (after (new_world bricks) earlier) later).calls place
+        ≡ Some (fold hear call (all_told (after (new_world bricks) earlier) place later)) }
     ensures replies { (bricks : ℕ) (earlier later : List WorldEvent)
         → RepliesSince (after (new_world bricks) earlier) (after (after (new_world bricks) earlier) later) }
 {}
 
 /// Every world is sound: no two calls have one nonce, each request is the ask of a call and was sent to a
-/// brick that this call asks, a write wants at least one and at most all of its bricks to store its value, and
-/// what calls heard was sent. Each reply was made by its brick, at a moment of the brick's history, to a
-/// request that was sent to it.
+/// brick that this call asks, each value that a brick ever stored is one that a write asked this brick to
+/// keep, a write wants at least one and at most all of its bricks to store its value, and what calls heard
+/// was sent. Each reply was made by its brick, at a moment of the brick's history, to a request that was sent
+/// to it.
 pub fn worlds_are_sound()
     ensures sound { (bricks : ℕ) (events : List WorldEvent) → IsSound (after (new_world bricks) events) }
     ensures replies { (bricks : ℕ) (events : List WorldEvent)
@@ -78,6 +90,29 @@ pub fn acknowledged_values_are_held()
         → IsAcknowledged (after (new_world bricks) events) cookie value → slice_get cookie.bricks place ≡ Some holder
         → Keeps (after (new_world bricks) events) holder (kept_for cookie value) }
 {}
+
+/// Whatever follows, an answer stays: a write may go on to hear bricks after it, but sends nothing more, and
+/// a read hears nothing more.
+pub fn answers_stay_in_later_worlds()
+    ensures write { (bricks : ℕ) (earlier later : List WorldEvent) (place : ℕ) (write : WriteState)
+        (answer : Result Cookie WriteRefusal)
+        → slice_get (after (new_world bricks) earlier).calls place ≡ Some (kind.Write write)
+        → write_answer write ≡ Some answer
+        → (now : WriteState)
+        × (slice_get (after (after (new_world bricks) earlier) later).calls place ≡ Some (kind.Write now))
+        × (write_answer now ≡ Some answer) }
+    ensures read { (bricks : ℕ) (earlier later : List WorldEvent) (place : ℕ) (read : ReadState)
+        (answer : Result (List ℕ) ReadRefusal)
+        → slice_get (after (new_world bricks) earlier).calls place ≡ Some (kind.Read read)
+        → read_answer read ≡ Some answer
+        → slice_get (after (after (new_world bricks) earlier) later).calls place ≡ Some (kind.Read read) }
+    ensures sends { (bricks : ℕ) (events : List WorldEvent) (place : ℕ) (write : WriteState)
+        (answer : Result Cookie WriteRefusal) (brick : BrickNo)
+        → slice_get (after (new_world bricks) events).calls place ≡ Some (kind.Write write)
+        → write_answer write ≡ Some answer → write_next write ≢ next.Send brick }
+{
+    answers_stay();
+}
 
 /// Whatever follows, a cookie that is acknowledged with a value stays so: a write may go on to hear bricks
 /// after its answer, which stays.
@@ -114,7 +149,7 @@ pub fn acknowledged_cookies_may_be_read()
 /// silent to this read's send to the holder or to its receiving from it, and Strayed only where this read was
 /// given 64 frames of the holder that are no lawful reply. The cause of an intact holder, which has neither
 /// crashed since it stored the value nor been swept past the lease and the grace, is Silent or Strayed.
-/// Whatever the read heard of a holder is by what it was told of it.
+/// What the read heard of each holder is the outcome of what it was told of that holder.
 pub fn reads_answer_what_was_written()
     ensures right { (bricks : ℕ) (earlier later : List WorldEvent) (order : ReadOrder) (value : List ℕ) (read : ReadState)
         (result : Result (List ℕ) ReadRefusal)

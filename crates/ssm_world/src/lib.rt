@@ -16,8 +16,9 @@
 //!
 //! What is promised of every world that events make of a new one, whatever they are:
 //!
-//! - `worlds_are_sound`: each request is the ask of one call, to a brick that this call asks, each reply was
-//!   made by its brick at a moment of the brick's history, and what calls heard was sent.
+//! - `worlds_are_sound`: each request is the ask of one call, to a brick that this call asks, each stored
+//!   value is one that a write asked its brick to keep, each reply was made by its brick at a moment of the
+//!   brick's history, and what calls heard was sent.
 //! - `one_value_per_version` and `acknowledged_values_are_held`: a version stands for one value; each holder
 //!   that an acknowledged cookie names has stored it in the incarnation named, and holds it until it
 //!   crashes or is swept past the lease and the grace.
@@ -30,7 +31,9 @@
 //!   holder's history and by what the events told this read.
 //! - `holders_answer_found`: a holder that neither crashed nor was swept past the lease and the grace, and
 //!   was heard, gave the value, unless the link was silent to the read or gave it 64 strays.
-//! - `worlds_only_grow`: a later world has all packets and calls of an earlier one, and longer histories.
+//! - `worlds_only_grow` and `answers_stay_in_later_worlds`: a later world has all packets of an earlier one,
+//!   longer histories, and its calls, which have heard besides what the events since told them, and whose
+//!   answers stay.
 //! - `events_that_may_not_happen_change_nothing`, and `events_that_may_happen_change_the_world`.
 //!
 //! A `World` is always one that some events made (`IsMade`, which `World::is_made` hands out), so these hold
@@ -57,8 +60,8 @@ pub use event::{Packet, WorldEvent};
 pub use laws::{
     acknowledged_cookies_may_be_read, acknowledged_cookies_name_who_stored,
     acknowledged_cookies_stay_acknowledged, acknowledged_values_are_held,
-    events_that_may_happen_change_the_world, events_that_may_not_happen_change_nothing,
-    holders_answer_found, one_value_per_version, reads_answer_what_was_written, worlds_are_sound,
-    worlds_only_grow,
+    answers_stay_in_later_worlds, events_that_may_happen_change_the_world,
+    events_that_may_not_happen_change_nothing, holders_answer_found, one_value_per_version,
+    reads_answer_what_was_written, worlds_are_sound, worlds_only_grow,
 };
 pub use world::World;

@@ -130,11 +130,12 @@ impl World {
     }
 
     /// An event happens. One that may not happen changes nothing, and takes no memory. Where memory runs
-    /// out, the world is as it was. Whatever happens, some events have made the world of a new one, so each law of this crate holds of it.
+    /// out, the world is as it was. Whatever happens, some events have made the world of a new one, so
+    /// each law of this crate holds of it.
     ///
     /// A Write or a Read costs what `is_new` does, and copies what it is given; a Send and a Hear copy the
-    /// frame; a Deliver costs what the brick's answer does, and copies a value that is stored once
-    /// more; a Crash and a Sweep visit each value of the brick.
+    /// frame; a Deliver costs what the brick's answer does, and makes one more copy of a value that is
+    /// stored; a Crash and a Sweep visit each value of the brick.
     pub fn step(&mut self, alloc: Global, event: &WorldEvent) -> Result<(), OutOfMemory>
         ensures ok { OnOk result (self.new ≡ step self.old event.now) }
         ensures err { OnErr result (self.new ≡ self.old) }

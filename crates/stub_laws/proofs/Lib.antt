@@ -5,4 +5,4 @@ mod Marked
 mod ReadSending
 mod Sending
 mod Unasked
-mod WriteSending
+pub mod WriteSending

@@ -19,7 +19,7 @@ use Rattle.ssm_stub.specs.declared.ear.Stage.TheVariants.{Unasked, Asked}
 use Rattle.ssm_stub.specs.declared.ear.Outcome.TheVariants.{Silent}
 use Rattle.ssm_stub.specs.declared.ear.Ear.TheVariants.{Open, Heard}
 use Rattle.ssm_stub.specs.declared.event.StubEvent.{StubEvent}
-use Rattle.ssm_stub.specs.declared.event.StubNext.TheVariants.{Ended}
+use Rattle.ssm_stub.specs.declared.event.StubNext.TheVariants.{Ended, Send}
 use Rattle.ssm_stub.specs.declared.event.Told.{Told}
 use Rattle.ssm_stub.specs.declared.event.Told.TheVariants as told
 use Rattle.ssm_stub.specs.declared.ask.Ask.{Ask}
@@ -220,3 +220,24 @@ ends_sent makes bricks least nonce key value expiry old new passes answer some e
     let ask = encode_of start.ask in
     ap sends_in (until-calls ask ends.events start ends.ran.fitting)
     ∙ sent_at_the_answer ask ends.events bricks least nonce key value expiry (until-fits (map told_of ends.events) start ends.ran.fitting) answer some (ap write_answer (sym ends.ran.ends) ∙ ends.answers)
+
+fresh_sends : (brick to : BrickNo) (stage : Stage) → wanted_of to stage ≡ Send brick → stage ≡ Unasked
+fresh_sends brick to Unasked h = refl
+fresh_sends brick to (Asked strays) h = absurd cc
+
+-- a write that has an answer sends nothing more
+pub sends_nothing : (events : List Told) (bricks : List BrickNo) (s : WriteState) (answer : Result Cookie WriteRefusal) → s.asks ≡ none_asked bricks → 1 ≤ s.least → Fits write_machine s events → write_answer (after write_machine s events) ≡ Some answer
+    → (brick : BrickNo) → write_next (after write_machine s events) ≡ Send brick → ⊥
+unfolding Patient
+sends_nothing events bricks s answer begins some fitting h brick sends = go (turn_after_asks e.asks) refl sends
+  where
+    e : WriteState
+    e = after write_machine s events
+
+    none : left_of e.asks ≡ []
+    none = answered_all e answer (let same = keeps_least events s in omega (arith, some)) (stays_patient events s fitting (inr (ap (filter_map holder_of) begins ∙ none_stored bricks))) h
+
+    go : (turn : Option (Turn BrickNo)) → turn_after_asks e.asks ≡ turn → wanted (λ (b : BrickNo). b) turn ≡ Send brick → ⊥
+    go None is now = cc
+    go (Some t) is now =
+        had (λ (x : Ask BrickNo WriteReply). unasked_by x.who x.ear) e.asks t.at (record { who = t.who; ear = Open t.stage }) t.who (turn_after_asks-stands e.asks t is) (ap (λ stage. unasked_by {A = WriteReply} t.who (Open stage)) (fresh_sends brick t.who t.stage now)) none

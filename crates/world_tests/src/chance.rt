@@ -46,23 +46,33 @@ impl Dice {
     }
 }
 
-/// What is known of a call: of a write its value, which is the number of its nonce; of a read the value that
-/// its cookie was acknowledged with, the moment, the expiry and the holders. How often it met silence.
+/// What is known of a call: of a write its value, which is the number of its nonce, and the bricks that it
+/// asks, of which `least` are to store; of a read the value that its cookie was acknowledged with, the moment
+/// and the holders. And by each brick's number how often the link was silent to the call and how many strays
+/// the call was given of the brick, and the incarnation in which the brick made the reply that the call was
+/// given, or 0.
 #[derive(Drop)]
 struct Known {
     value: u64,
     moment: u64,
     expiry: u64,
+    least: u64,
+    bricks: BrickList,
     holders: Vec<Holder>,
-    silences: u64,
+    silences: [u64; 4],
+    strays: [u64; 4],
+    replied: [u64; 4],
     is_read: bool,
     is_told: bool,
 }
 
-/// A packet: the call whose ask it is or replies to, and whether it is the ask.
+/// A packet: the call whose ask it is or replies to, its brick, whether it is the ask, and of a reply the
+/// incarnation in which the brick made it.
 #[derive(Clone, Copy)]
 struct Sent {
     call: u64,
+    brick: BrickNo,
+    incarnation: u64,
     is_ask: bool,
 }
 
@@ -78,12 +88,13 @@ struct Game {
     swept: [u64; 4],
 }
 
-/// How many reads found a value, had expired, and were lost.
+/// How many reads found a value, had expired, and were lost, and how many causes were Strayed.
 #[derive(Clone, Copy)]
 struct Answers {
     found: u64,
     expired: u64,
     lost: u64,
+    strayed: u64,
 }
 
 fn version(serial: u64) -> Version {
@@ -131,8 +142,12 @@ fn write(rt: &impl Abort, alloc: Global, dice: &mut Dice, game: &mut Game) -> Wo
             value,
             moment: 0,
             expiry,
+            least,
+            bricks: bricks_from(rt, alloc, first, count),
             holders: Vec::new(alloc),
-            silences: 0,
+            silences: [0; 4],
+            strays: [0; 4],
+            replied: [0; 4],
             is_read: false,
             is_told: false,
         };
@@ -174,8 +189,12 @@ fn read(rt: &impl Abort, alloc: Global, dice: &mut Dice, game: &mut Game) -> Opt
         value,
         moment,
         expiry: cookie.expiry.0,
+        least: 0,
+        bricks: Items::new(alloc),
         holders: copied_holders(rt, alloc, cookie.bricks.as_slice()),
-        silences: 0,
+        silences: [0; 4],
+        strays: [0; 4],
+        replied: [0; 4],
         is_read: true,
         is_told: false,
     };
@@ -187,16 +206,23 @@ fn read(rt: &impl Abort, alloc: Global, dice: &mut Dice, game: &mut Game) -> Opt
     })
 }
 
-/// A call meets silence.
-fn count_silence(game: &mut Game, call: u64) {
-    if let Some(known) = game.calls.get_mut(call as usize) {
-        known.silences = known.silences.saturating_add(1);
+/// What was counted of a brick.
+fn count_of(rt: &impl Abort, counts: &[u64; 4], brick: BrickNo) -> u64 {
+    *counts.get(brick.0 as usize).expect(rt, "a brick")
+}
+
+/// Counts one more of a brick.
+fn count(counts: &mut [u64; 4], brick: BrickNo) {
+    if let Some(count) = counts.get_mut(brick.0 as usize) {
+        *count = count.saturating_add(1);
     }
 }
 
-/// Whether a call is to send its ask.
-fn is_to_send(game: &Game, call: u64) -> bool {
-    matches!(game.world.next_of(call), Some(StubNext::Send { .. }))
+/// The link is silent to a call that sends to a brick or receives from it.
+fn count_silence(game: &mut Game, call: u64, brick: BrickNo) {
+    if let Some(known) = game.calls.get_mut(call as usize) {
+        count(&mut known.silences, brick);
+    }
 }
 
 /// A send, which meets silence by chance.
@@ -204,16 +230,30 @@ fn send(rt: &impl Abort, dice: &mut Dice, game: &mut Game) -> WorldEvent {
     let call = dice.late(game.calls.len() as u64);
     let silent = dice.below(12) == 0;
     let sent = dice.below(2) == 0;
-    if is_to_send(game, call) {
+    if let Some(StubNext::Send { brick }) = game.world.next_of(call) {
         if silent {
-            count_silence(game, call);
+            count_silence(game, call, brick);
         }
         if sent || !silent {
-            let ask = Sent { call, is_ask: true };
+            let ask = Sent {
+                call,
+                brick,
+                incarnation: 0,
+                is_ask: true,
+            };
             game.packets.push(ask).expect(rt, "packets");
         }
     }
     WorldEvent::Send { call, silent, sent }
+}
+
+/// The link is silent to a call's receiving, if it is to receive.
+fn hush(dice: &mut Dice, game: &mut Game) -> WorldEvent {
+    let call = dice.late(game.calls.len() as u64);
+    if let Some(StubNext::Receive { brick }) = game.world.next_of(call) {
+        count_silence(game, call, brick);
+    }
+    WorldEvent::Hush { call }
 }
 
 /// A delivery: where the packet is an ask, its brick replies.
@@ -221,8 +261,11 @@ fn deliver(rt: &impl Abort, dice: &mut Dice, game: &mut Game) -> WorldEvent {
     let packet = dice.late(game.packets.len() as u64);
     if let Some(sent) = game.packets.get(packet as usize).copied() {
         if sent.is_ask {
+            let crashes = count_of(rt, &game.crashes, sent.brick);
             let reply = Sent {
                 call: sent.call,
+                brick: sent.brick,
+                incarnation: crashes.saturating_add(1),
                 is_ask: false,
             };
             game.packets.push(reply).expect(rt, "packets");
@@ -231,23 +274,61 @@ fn deliver(rt: &impl Abort, dice: &mut Dice, game: &mut Game) -> WorldEvent {
     WorldEvent::Deliver { packet }
 }
 
+/// The packet, if it is a reply of the brick that a call receives from.
+fn reply_for(game: &Game, call: u64, packet: u64) -> Option<Sent> {
+    let sent = *game.packets.get(packet as usize)?;
+    match game.world.next_of(call) {
+        Some(StubNext::Receive { brick }) if brick.0 == sent.brick.0 && !sent.is_ask => Some(sent),
+        _ => None,
+    }
+}
+
+/// Notes that a packet comes to a call: a reply to another call is a stray.
+fn note_heard(game: &mut Game, call: u64, packet: u64) {
+    let Some(sent) = reply_for(game, call, packet) else {
+        return;
+    };
+    let Some(known) = game.calls.get_mut(call as usize) else {
+        return;
+    };
+    if sent.call != call {
+        count(&mut known.strays, sent.brick);
+    } else if let Some(replied) = known.replied.get_mut(sent.brick.0 as usize) {
+        *replied = sent.incarnation;
+    }
+}
+
 /// A packet comes to a call: mostly to the one that it is a reply to.
-fn hear(dice: &mut Dice, game: &Game) -> WorldEvent {
+fn hear(dice: &mut Dice, game: &mut Game) -> WorldEvent {
     let packet = dice.late(game.packets.len() as u64);
     let call = match game.packets.get(packet as usize) {
         Some(sent) if dice.below(8) > 0 => sent.call,
         _ => dice.late(game.calls.len() as u64),
     };
+    note_heard(game, call, packet);
     WorldEvent::Hear { call, packet }
+}
+
+/// A packet comes to a call 64 times, if it is a stray for the call.
+fn flood(rt: &impl Abort, alloc: Global, dice: &mut Dice, game: &mut Game) {
+    let call = dice.late(game.calls.len() as u64);
+    let packet = dice.late(game.packets.len() as u64);
+    match reply_for(game, call, packet) {
+        Some(sent) if sent.call != call => {}
+        _ => return,
+    }
+    let event = WorldEvent::Hear { call, packet };
+    for _ in 0..64 {
+        note_heard(game, call, packet);
+        game.world.step(alloc, &event).expect(rt, "memory");
+    }
 }
 
 /// A crash or a sweep, which is counted.
 fn harm(dice: &mut Dice, game: &mut Game) -> WorldEvent {
     let brick = dice.brick();
     if dice.below(2) == 0 {
-        if let Some(crashes) = game.crashes.get_mut(brick.0 as usize) {
-            *crashes = crashes.saturating_add(1);
-        }
+        count(&mut game.crashes, brick);
         return WorldEvent::Crash { brick };
     }
     let moment = dice.below(63_000);
@@ -268,34 +349,39 @@ fn event(rt: &impl Abort, alloc: Global, dice: &mut Dice, game: &mut Game) -> Op
         16..=39 => Some(send(rt, dice, game)),
         40..=64 => Some(deliver(rt, dice, game)),
         65..=94 => Some(hear(dice, game)),
-        95..=97 => {
-            let call = dice.late(game.calls.len() as u64);
-            count_silence(game, call);
-            Some(WorldEvent::Hush { call })
-        }
+        95..=97 => Some(hush(dice, game)),
         _ => Some(harm(dice, game)),
     }
 }
 
-/// The cause of a holder is right by what happened to its brick.
+/// The cause of a holder is right by what happened to its brick, and by what came of it to the read.
 fn expect_cause(rt: &impl Abort, game: &Game, read: &Known, holder: &Holder, cause: &BrickCause) {
-    let brick = holder.brick.0 as usize;
-    assert!(rt; cause.brick.0 == holder.brick.0);
+    let brick = holder.brick;
+    assert!(rt; cause.brick.0 == brick.0);
     match cause.cause {
-        Cause::Silent => assert!(rt; read.silences > 0),
-        Cause::Strayed => {}
+        Cause::Silent => assert!(rt; count_of(rt, &read.silences, brick) > 0),
+        Cause::Strayed => assert!(rt; count_of(rt, &read.strays, brick) >= 64),
         Cause::Full { .. } => panic!(rt; "a read was told that a brick is full"),
         Cause::Crashed { incarnation } => {
-            let crashes = *game.crashes.get(brick).expect(rt, "a brick");
             assert!(rt; holder.incarnation < incarnation);
-            assert!(rt; incarnation <= crashes.saturating_add(1));
+            assert!(rt; incarnation == count_of(rt, &read.replied, brick));
         }
         Cause::Swept { moment } => {
-            let swept = *game.swept.get(brick).expect(rt, "a brick");
-            assert!(rt; moment.0 <= swept);
+            assert!(rt; moment.0 <= count_of(rt, &game.swept, brick));
             assert!(rt; moment.0 > read.expiry.saturating_add(60_000));
         }
     }
+}
+
+/// How many of these causes are Strayed.
+fn strayed_among(causes: &[BrickCause]) -> u64 {
+    let mut strayed: u64 = 0;
+    for cause in causes {
+        if matches!(cause.cause, Cause::Strayed) {
+            strayed = strayed.saturating_add(1);
+        }
+    }
+    strayed
 }
 
 /// A read's answer is right, where it has one.
@@ -325,14 +411,36 @@ fn expect_answer(
                 expect_cause(rt, game, read, holder, cause);
             }
             answers.lost = answers.lost.saturating_add(1);
+            let strayed = strayed_among(causes.as_slice());
+            answers.strayed = answers.strayed.saturating_add(strayed);
         }
         Some(Err(ReadRefusal::OutOfMemory)) => panic!(rt; "memory"),
     }
     true
 }
 
+/// A cookie is right by what its write was told: it names the first `least` of the write's bricks, in asked
+/// order, that stored the value, and in which incarnations.
+fn expect_cookie(rt: &impl Abort, write: &Known, cookie: &Cookie) {
+    let holders = cookie.bricks.as_slice();
+    let mut named: u64 = 0;
+    for brick in write.bricks.as_slice() {
+        let incarnation = count_of(rt, &write.replied, *brick);
+        if incarnation > 0 && named < write.least {
+            let holder = holders.get(named as usize).expect(rt, "a holder");
+            assert!(rt; holder.brick.0 == brick.0);
+            assert!(rt; holder.incarnation == incarnation);
+            named = named.saturating_add(1);
+        }
+    }
+    assert!(rt; named == write.least);
+    assert!(rt; holders.len() as u64 == write.least);
+    assert!(rt; cookie.version.serial == write.value);
+    assert!(rt; cookie.expiry.0 == write.expiry);
+}
+
 /// Whether a call has answered that had not before; of a write, whether it is acknowledged. A read's answer
-/// is right.
+/// and a write's cookie are right.
 fn has_answered(rt: &impl Abort, game: &Game, call: u64, answers: &mut Answers) -> bool {
     let known = game.calls.get(call as usize).expect(rt, "a call");
     if known.is_told {
@@ -342,7 +450,13 @@ fn has_answered(rt: &impl Abort, game: &Game, call: u64, answers: &mut Answers) 
         return expect_answer(rt, game, known, call, answers);
     }
     let write = game.world.write_of(call).expect(rt, "a write");
-    matches!(write.answer(), Some(Ok(_)))
+    match write.answer() {
+        Some(Ok(cookie)) => {
+            expect_cookie(rt, known, cookie);
+            true
+        }
+        _ => false,
+    }
 }
 
 /// A call has answered: a write is acknowledged by it.
@@ -380,8 +494,11 @@ fn play(rt: &impl Abort, alloc: Global, dice: &mut Dice, answers: &mut Answers) 
         }
         if number % 20 == 19 {
             look(rt, &mut game, answers);
+            flood(rt, alloc, dice, &mut game);
         }
     }
+    assert!(rt; game.world.packets() == game.packets.len() as u64);
+    assert!(rt; game.world.calls() == game.calls.len() as u64);
 }
 
 #[test]
@@ -391,9 +508,11 @@ fn reads_answer_what_was_written(rt: HostRuntime) {
         found: 0,
         expired: 0,
         lost: 0,
+        strayed: 0,
     };
     for _ in 0..WORLDS {
         play(&rt, rt.alloc(), &mut dice, &mut answers);
     }
     assert!(rt; answers.found > WORLDS && answers.expired > WORLDS && answers.lost > WORLDS);
+    assert!(rt; answers.strayed > WORLDS);
 }

@@ -8,23 +8,23 @@ use ssm_world::{World, WorldEvent};
 use std::alloc::Global;
 use std::process::Abort;
 
-/// Each row: the events, and after `|` the words that are wanted.
+/// Each row: the number of bricks, the events, and the words that are wanted, with `|` between them.
 const ROWS: [&str; 15] = [
-    "write 0 1 1;send 0;deliver 0;deliver 0;hear 0 1;tell 0;crash 1;read 1 0;send 1;deliver 3;hear 1 2;tell 1;hear 1 4;tell 1|ok 1.1 waits lost 1:crashed(2)",
-    "write 0 1 1;write 0 1 1;tell 0;tell 1|waits",
-    "write 0 3 1 2;write 1 1 1 1;write 2 0 1;tell 0|",
-    "write 0 1 1 2;half 0;send 0;deliver 0;deliver 1;hear 0 2;tell 0;hear 0 3;tell 0|waits ok 2.1",
-    "write 0 1 1;lose 0;tell 0;deliver 0;hear 0 0;tell 0|missed 1:silent missed 1:silent",
-    "write 0 2 1 2 3;send 0;send 0;send 0;deliver 0;deliver 1;hear 0 3;hear 0 4;tell 0;crash 1;read 1 0;send 1;deliver 5;hear 1 6;send 1;deliver 7;hear 1 8;tell 1|ok 1.1 2.1 found a",
-    "write 0 1 1;send 0;deliver 0;hear 0 1;sweep 1 1860000;read 1 0;send 1;deliver 2;hear 1 3;tell 1|found a",
-    "write 0 1 1;send 0;deliver 0;hear 0 1;sweep 1 1860001;read 1 0;send 1;deliver 2;hear 1 3;tell 1|lost 1:swept(1860001)",
-    "write 0 1 1;send 0;deliver 0;hear 0 1;read 1 0;send 1;hush 1;tell 1|lost 1:silent",
-    "write 0 1 1;send 0;deliver 0;hear 0 1;read 1 0 1800000;tell 1;read 2 0 1800001;tell 2;send 2;tell 2;packets|waits expired 1800001 1800000 expired 1800001 1800000 2",
-    "write 0 1 1;send 0;deliver 0;write 1 1 1;send 1;hear 1 1 63;tell 1;hear 1 1;tell 1;deliver 2;hear 1 3;tell 1|waits missed 1:strayed missed 1:strayed",
-    "write 0 1 1;send 0;deliver 0;hear 0 1;write 1 1 1;send 1;hear 1 1 63;deliver 2;hear 1 3;tell 1;read 2 0;send 2;hear 2 1 64;tell 2|ok 1.1 lost 1:strayed",
-    "write 0 1 1 2;next 0;send 0;next 0;send 0;next 0;deliver 0;deliver 1;hear 0 2;tell 0;next 0;hear 0 2;next 0;hear 0 3;tell 0;next 0|send 1 send 2 receive 1 ok 1.1 receive 2 receive 2 ok 1.1 ended",
-    "bricks;calls;packets;write 0 1 1;calls;next 1;send 0;packets;packet 0;packet 1;values 1;deliver 0;values 1;incarnation 1;crash 1;values 1;incarnation 1;values 0;incarnation 4|3 0 0 1 none 1 1 none 0 1 1 0 2 none none",
-    "new 5;write 5 1 1;new 5;write 3 1 1;calls;new 3;new 4;new 5;new 6;write 3 1 1;write 5 1 1;calls;write 6 1 1;calls|new used 2 used new used new 2 3",
+    "1|write 0 1 1;send 0;deliver 0;deliver 0;hear 0 1;tell 0;crash 1;read 1 0;send 1;deliver 3;hear 1 2;tell 1;hear 1 4;tell 1|ok 1.1 waits lost 1:crashed(2)",
+    "1|write 0 1 1;write 0 1 1;tell 0;tell 1|waits",
+    "2|write 0 3 1 2;write 1 1 1 1;write 2 0 1;tell 0|",
+    "2|write 0 1 1 2;half 0;send 0;deliver 0;deliver 1;hear 0 2;tell 0;hear 0 3;tell 0|waits ok 2.1",
+    "1|write 0 1 1;lose 0;tell 0;deliver 0;hear 0 0;tell 0|missed 1:silent missed 1:silent",
+    "3|write 0 2 1 2 3;send 0;send 0;send 0;deliver 0;deliver 1;hear 0 3;hear 0 4;tell 0;crash 1;read 1 0;send 1;deliver 5;hear 1 6;send 1;deliver 7;hear 1 8;tell 1|ok 1.1 2.1 found a",
+    "1|write 0 1 1;send 0;deliver 0;hear 0 1;sweep 1 1860000;read 1 0;send 1;deliver 2;hear 1 3;tell 1|found a",
+    "1|write 0 1 1;send 0;deliver 0;hear 0 1;sweep 1 1860001;read 1 0;send 1;deliver 2;hear 1 3;tell 1|lost 1:swept(1860001)",
+    "1|write 0 1 1;send 0;deliver 0;hear 0 1;read 1 0;send 1;hush 1;tell 1|lost 1:silent",
+    "1|write 0 1 1;send 0;deliver 0;hear 0 1;read 1 0 1800000;tell 1;read 2 0 1800001;tell 2;send 2;tell 2;packets|waits expired 1800001 1800000 expired 1800001 1800000 2",
+    "1|write 0 1 1;send 0;deliver 0;write 1 1 1;send 1;hear 1 1 63;tell 1;hear 1 1;tell 1;deliver 2;hear 1 3;tell 1|waits missed 1:strayed missed 1:strayed",
+    "1|write 0 1 1;send 0;deliver 0;hear 0 1;write 1 1 1;send 1;hear 1 1 63;deliver 2;hear 1 3;tell 1;read 2 0;send 2;hear 2 1 64;tell 2|ok 1.1 lost 1:strayed",
+    "2|write 0 1 1 2;next 0;send 0;next 0;send 0;next 0;deliver 0;deliver 1;hear 0 2;tell 0;next 0;hear 0 2;next 0;hear 0 3;tell 0;next 0|send 1 send 2 receive 1 ok 1.1 receive 2 receive 2 ok 1.1 ended",
+    "3|bricks;calls;packets;write 0 1 1;calls;next 1;send 0;packets;packet 0;packet 1;values 1;deliver 0;values 1;incarnation 1;crash 1;values 1;incarnation 1;values 0;incarnation 4|3 0 0 1 none 1 1 none 0 1 1 0 2 none none",
+    "1|new 5;write 5 1 1;new 5;write 3 1 1;calls;new 3;new 4;new 5;new 6;write 3 1 1;write 5 1 1;calls;write 6 1 1;calls|new used 2 used new used new 2 3",
 ];
 
 fn version(serial: u64) -> Version {
@@ -170,8 +170,10 @@ fn go_on(rt: &impl Abort, alloc: Global, world: &mut World, found: &mut String, 
 }
 
 fn run_row(rt: &impl Abort, alloc: Global, row: &str) {
-    let (events, want) = row.split_once('|').expect(rt, row);
-    let mut world = World::new(alloc, 3).expect(rt, "a world");
+    let (bricks, rest) = row.split_once('|').expect(rt, row);
+    let (events, want) = rest.split_once('|').expect(rt, row);
+    let count = bricks.parse().expect(rt, row);
+    let mut world = World::new(alloc, count).expect(rt, "a world");
     let mut found = String::new(alloc);
     for line in events.split(';') {
         let mut words = Vec::new(alloc);
