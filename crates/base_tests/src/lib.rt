@@ -8,8 +8,12 @@
 #[cfg(test)]
 mod bases;
 #[cfg(test)]
+mod lines;
+#[cfg(test)]
 mod outsides;
 #[cfg(test)]
 mod scenario_lines;
+#[cfg(test)]
+mod session_lines;
 #[cfg(test)]
 mod words;

@@ -1,93 +1,10 @@
 //! Lines that are read, and lines that are not.
 
-use crate::words::{
-    add_bytes, add_number, add_text, add_word, bytes, cut, expect_bytes, expect_words, number,
-};
-use scenario_text::{HexBytes, Line, ended_line, read_line, write_hex};
+use crate::lines::{expect_lengths, expect_lines, expect_refused};
+use crate::words::{bytes, cut, expect_bytes, expect_words};
+use scenario_text::{HexBytes, ended_line, write_hex};
 use std::alloc::Global;
 use std::process::Abort;
-
-/// Adds the word of a line's form, and a caller, a table or a key.
-fn add_numbered(rt: &impl Abort, words: &mut String, form: &str, number: u64) {
-    add_word(rt, words, form);
-    add_number(rt, words, number);
-}
-
-/// Adds the word of a line's form, and a component.
-fn add_named(rt: &impl Abort, words: &mut String, form: &str, name: &[u8]) {
-    add_word(rt, words, form);
-    add_text(rt, words, " ", name);
-}
-
-/// Adds the word of a line's form, and a component and the one that it refers to.
-fn add_reference(rt: &impl Abort, words: &mut String, form: &str, name: &[u8], other: &[u8]) {
-    add_named(rt, words, form, name);
-    add_text(rt, words, " ", other);
-}
-
-/// Adds a line: `event` where it is one, its form, and what its words say.
-fn add_line(rt: &impl Abort, words: &mut String, line: &Line) {
-    if line.is_event() {
-        add_word(rt, words, "event");
-    }
-    match line {
-        Line::Pass => add_word(rt, words, "pass"),
-        Line::Component(name) => add_named(rt, words, "component", name.as_slice()),
-        Line::Hard(name, other) => {
-            add_reference(rt, words, "hard", name.as_slice(), other.as_slice())
-        }
-        Line::Soft(name, other) => {
-            add_reference(rt, words, "soft", name.as_slice(), other.as_slice())
-        }
-        Line::Owns(name, table) => {
-            add_named(rt, words, "owns", name.as_slice());
-            add_number(rt, words, *table);
-        }
-        Line::Limit(entries, bytes) => {
-            add_numbered(rt, words, "limit", *entries);
-            add_number(rt, words, *bytes);
-        }
-        Line::Begin(caller) => add_numbered(rt, words, "begin", *caller),
-        Line::Enter(caller, name) => {
-            add_numbered(rt, words, "enter", *caller);
-            add_text(rt, words, " ", name.as_slice());
-        }
-        Line::Exit(caller) => add_numbered(rt, words, "exit", *caller),
-        Line::Read(caller, table, key) => {
-            add_numbered(rt, words, "read", *caller);
-            add_number(rt, words, *table);
-            add_number(rt, words, *key);
-        }
-        Line::List(caller, table) => {
-            add_numbered(rt, words, "list", *caller);
-            add_number(rt, words, *table);
-        }
-        Line::Put(caller, table, key, bytes) => {
-            add_numbered(rt, words, "put", *caller);
-            add_number(rt, words, *table);
-            add_number(rt, words, *key);
-            add_bytes(rt, words, bytes.as_slice());
-        }
-        Line::Commit(caller) => add_numbered(rt, words, "commit", *caller),
-        Line::Drop(caller) => add_numbered(rt, words, "drop", *caller),
-        Line::Down(name) => add_named(rt, words, "down", name.as_slice()),
-        Line::Up(name) => add_named(rt, words, "up", name.as_slice()),
-        Line::Reboot(name) => add_named(rt, words, "reboot", name.as_slice()),
-        Line::Table => add_word(rt, words, "table"),
-        Line::Journal => add_word(rt, words, "journal"),
-        Line::Reopen => add_word(rt, words, "reopen"),
-    }
-}
-
-/// Asserts what is read of a line.
-fn expect_line(rt: &impl Abort, alloc: Global, line: &str, want: &str) {
-    let mut words = String::new(alloc);
-    match read_line(alloc, line.as_bytes()).expect(rt, line) {
-        Some(line) => add_line(rt, &mut words, &line),
-        None => add_word(rt, &mut words, "refused"),
-    }
-    expect_words(rt, &words, want, line);
-}
 
 /// What is read of a line, and after a bar the line.
 const FORMS: &str = "pass|
@@ -129,17 +46,7 @@ event reopen|reopen";
 
 #[test]
 fn reads_each_form(rt: HostRuntime) {
-    for row in FORMS.split('\n') {
-        let (want, line) = cut(&rt, row, '|');
-        expect_line(&rt, rt.alloc(), line, want);
-    }
-}
-
-/// Asserts that lines, which have slashes between them, are refused.
-fn expect_refused(rt: &impl Abort, alloc: Global, lines: &str) {
-    for line in lines.split('/') {
-        expect_line(rt, alloc, line, "refused");
-    }
+    expect_lines(&rt, rt.alloc(), FORMS);
 }
 
 const SPACES: &str =
@@ -212,42 +119,6 @@ const FURTHER: &str =
 #[test]
 fn refuses_further_words(rt: HostRuntime) {
     expect_refused(&rt, rt.alloc(), FURTHER);
-}
-
-/// Adds how many bytes a line puts: 0 where it is another line.
-fn add_length(rt: &impl Abort, alloc: Global, words: &mut String, line: &str) {
-    match read_line(alloc, line.as_bytes()).expect(rt, line) {
-        Some(Line::Put(_, _, _, bytes)) => add_number(rt, words, bytes.as_slice().len() as u64),
-        Some(_) => add_number(rt, words, 0),
-        None => add_word(rt, words, "refused"),
-    }
-}
-
-/// A text, and then another one a number of times.
-fn filled(rt: &impl Abort, alloc: Global, text: &str, fill: &str, times: u64) -> String {
-    let mut line = String::from_str(alloc, text).expect(rt, text);
-    for _ in 0..times {
-        line.push_str(fill).expect(rt, text);
-    }
-    line
-}
-
-/// A row has, between bars, how a line begins, what it goes on with and how often, and how many
-/// bytes it puts.
-fn expect_length(rt: &impl Abort, alloc: Global, row: &str) {
-    let (text, rest) = cut(rt, row, '|');
-    let (fill, rest) = cut(rt, rest, '|');
-    let (times, want) = cut(rt, rest, '|');
-    let line = filled(rt, alloc, text, fill, number(rt, times));
-    let mut words = String::new(alloc);
-    add_length(rt, alloc, &mut words, &line);
-    expect_words(rt, &words, want, row);
-}
-
-fn expect_lengths(rt: &impl Abort, alloc: Global, table: &str) {
-    for row in table.split('\n') {
-        expect_length(rt, alloc, row);
-    }
 }
 
 const NAME_LENGTHS: &str = "component |Z|32|0

@@ -25,13 +25,13 @@ use Rattle.drive_engine.specs.declared.ending.Ending.{Ending}
 use Rattle.drive_engine.specs.declared.ending.Ending.TheVariants as endings
 use Rattle.drive_engine.specs.declared.words.Command.TheVariants.{Drive}
 use Rattle.drive_engine.specs.Command.{Runs}
-use Rattle.drive_engine.specs.Drive.{AreRead, AreReadWithFeeds, HasDone, BootsStand, WritesTranscript, StopsAtStart, StopsAtLongLine, StopsAtFailedRead, StopsOutOfMemory, StopsPastLimit}
+use Rattle.drive_engine.specs.Drive.{AreRead, AreReadWithFeeds, HasDone, ScenarioStands, WritesTranscript, StopsAtStart, StopsAtLongLine, StopsAtFailedRead, StopsOutOfMemory, StopsPastLimit}
 use Rattle.drive_engine.specs.Exchange.{Exchange, exchange, IsRead}
 use Rattle.drive_engine.specs.Play.{PlayState, DoesLine, WritesNoText, EndsAtLine, HasCome}
 
 -- a keeper that was called as turns say tells so
-abbrev pub BootsDoStand : Type 0
-BootsDoStand = (turns : List Turn) (old new : Option KeeperTold) → TellsCalls (calls_from first turns) old new → BootsStand turns old new
+abbrev pub ScenariosDoStand : Type 0
+ScenariosDoStand = (turns : List Turn) (old new : Option KeeperTold) → TellsCalls (calls_from first turns) old new → ScenarioStands turns old new
 
 -- the part that was kept and the one that ends the line are that line
 line_joined : (lines : List (List ℕ)) (kept none part rest past : List ℕ) → none ≡ [] → text_of_lines lines ++ (kept ++ ((part ++ 10 ∷ rest) ++ past)) ≡ text_of_lines (lines ++ (kept ++ part) ∷ []) ++ (none ++ (rest ++ past))
@@ -86,7 +86,7 @@ comes_kept left left_now written old told before more past p q rest one is short
     })
 
 -- what was read of a line that is too long
-pub ends_long : (left left_now written old : Option (List ℕ)) (told before : Option KeeperTold) (more : ℕ) (past : List ℕ) (p : PlayState) (rest : List ℕ) → BootsDoStand → IsOneLine rest → MAX_LINE_BYTES < length (p.part ++ rest) → HasCome (exchange left left_now written old told before) more rest past p → StopsAtLongLine p.number (exchange left left_now written old told before)
+pub ends_long : (left left_now written old : Option (List ℕ)) (told before : Option KeeperTold) (more : ℕ) (past : List ℕ) (p : PlayState) (rest : List ℕ) → ScenariosDoStand → IsOneLine rest → MAX_LINE_BYTES < length (p.part ++ rest) → HasCome (exchange left left_now written old told before) more rest past p → StopsAtLongLine p.number (exchange left left_now written old told before)
 ends_long left left_now written old told before more past p rest law one long h = record {
   before = h.turns;
   line = p.part ++ rest;
@@ -99,7 +99,7 @@ ends_long left left_now written old told before more past p rest law one long h 
   number = h.number;
   done = record { done = h.done; written = h.written };
   long = long;
-  boots = law h.turns told before h.told;
+  stands = law h.turns told before h.told;
 }
 
 -- A line was read after lines that were done.
@@ -116,7 +116,7 @@ has_done : (left left_now written old new : Option (List ℕ)) (told after : Opt
 has_done left left_now written old new told after turns s done so_far same = record { done = done; written = same ∙ so_far }
 
 -- a boot that it needs was not started
-ends_at_start : (r : StartRefusal) (left left_now written old new : Option (List ℕ)) (told before after : Option KeeperTold) (turns : List Turn) (s t : State) (line : List ℕ) → BootsDoStand → end_from first 1 turns ≡ Ended s → old ≡ appended written (transcript first turns) → TellsCalls (calls_from first turns) told before → HasLine (exchange left left_now written new told after) (lines_in turns) line → WritesNoText line old new → Does s (line_of line) (NotStarted t r) before after → StopsAtStart r (exchange left left_now written new told after)
+ends_at_start : (r : StartRefusal) (left left_now written old new : Option (List ℕ)) (told before after : Option KeeperTold) (turns : List Turn) (s t : State) (line : List ℕ) → ScenariosDoStand → end_from first 1 turns ≡ Ended s → old ≡ appended written (transcript first turns) → TellsCalls (calls_from first turns) told before → HasLine (exchange left left_now written new told after) (lines_in turns) line → WritesNoText line old new → Does s (line_of line) (NotStarted t r) before after → StopsAtStart r (exchange left left_now written new told after)
 ends_at_start r left left_now written old new told before after turns s t line law done so_far tells h (short, same) d = record {
   before = turns;
   turn = record { line = line; replies = d.replies };
@@ -126,11 +126,11 @@ ends_at_start r left left_now written old new told before after turns s t line l
   done = has_done left left_now written old new told after turns s done so_far same;
   short = short;
   unstarted = turn_done s line (NotStarted t r) before after d;
-  boots = law (turns ++ record { line = line; replies = d.replies } ∷ []) told after (told-push s turns line (NotStarted t r) told before after done short tells d);
+  stands = law (turns ++ record { line = line; replies = d.replies } ∷ []) told after (told-push s turns line (NotStarted t r) told before after done short tells d);
 }
 
 -- it ends the scenario
-ends_at_line : (e : Ending) (left left_now written old new : Option (List ℕ)) (told before after : Option KeeperTold) (turns : List Turn) (s : State) (number : ℕ) (line : List ℕ) → BootsDoStand → end_from first 1 turns ≡ Ended s → number ≡ length turns + 1 → old ≡ appended written (transcript first turns) → TellsCalls (calls_from first turns) told before → HasLine (exchange left left_now written new told after) (lines_in turns) line → EndsAtLine e number s line old new before after → Runs Drive e (exchange left left_now written new told after)
+ends_at_line : (e : Ending) (left left_now written old new : Option (List ℕ)) (told before after : Option KeeperTold) (turns : List Turn) (s : State) (number : ℕ) (line : List ℕ) → ScenariosDoStand → end_from first 1 turns ≡ Ended s → number ≡ length turns + 1 → old ≡ appended written (transcript first turns) → TellsCalls (calls_from first turns) told before → HasLine (exchange left left_now written new told after) (lines_in turns) line → EndsAtLine e number s line old new before after → Runs Drive e (exchange left left_now written new told after)
 ends_at_line endings.Done left left_now written old new told before after turns s number line law done next so_far tells h ends = absurd ends
 ends_at_line endings.UnknownCommand left left_now written old new told before after turns s number line law done next so_far tells h ends = absurd ends
 ends_at_line (endings.LineRefused n) left left_now written old new told before after turns s number line law done next so_far tells h (is, (short, same), (t, d)) = (
@@ -145,7 +145,7 @@ ends_at_line (endings.LineRefused n) left left_now written old new told before a
     done = has_done left left_now written old new told after turns s done so_far same;
     short = short;
     refused = turn_done s line (RefusedIn t) before after d;
-    boots = law (turns ++ record { line = line; replies = d.replies } ∷ []) told after (told-push s turns line (RefusedIn t) told before after done short tells d);
+    stands = law (turns ++ record { line = line; replies = d.replies } ∷ []) told after (told-push s turns line (RefusedIn t) told before after done short tells d);
   },
 )
 ends_at_line endings.ReadFailed left left_now written old new told before after turns s number line law done next so_far tells h ends = absurd ends
@@ -162,7 +162,7 @@ ends_at_line endings.WriteFailed left left_now written old new told before after
   answer = turn_done s line (DoneTo t wrote) before after d;
   begins = begins;
   written = is ∙ ap (λ o. appended o prefix) so_far ∙ appended_more written (transcript first turns) prefix;
-  boots = law (turns ++ record { line = line; replies = d.replies } ∷ []) told after (told-push s turns line (DoneTo t wrote) told before after done short tells d);
+  stands = law (turns ++ record { line = line; replies = d.replies } ∷ []) told after (told-push s turns line (DoneTo t wrote) told before after done short tells d);
 }
 ends_at_line endings.KeeperFailed left left_now written old new told before after turns s number line law done next so_far tells h (none, (t, d)) = (refl, ends_at_start refusals.KeeperFailed left left_now written old new told before after turns s t line law done so_far tells h none d)
 ends_at_line (endings.BadRow id) left left_now written old new told before after turns s number line law done next so_far tells h (none, (t, d)) = (refl, ends_at_start (refusals.BadRow id) left left_now written old new told before after turns s t line law done so_far tells h none d)
@@ -178,7 +178,7 @@ ends_at_line (endings.LineTooLong n) left left_now written old new told before a
   number = is ∙ next;
   done = has_done left left_now written old new told after turns s done so_far same;
   long = long;
-  boots = law turns told after (subst (λ o. TellsCalls (calls_from first turns) told o) (sym unasked) tells);
+  stands = law turns told after (subst (λ o. TellsCalls (calls_from first turns) told o) (sym unasked) tells);
 }
 ends_at_line endings.OutOfMemory left left_now written old new told before after turns s number line law done next so_far tells h ((short, same), partly) = record {
   before = turns;
@@ -186,7 +186,7 @@ ends_at_line endings.OutOfMemory left left_now written old new told before after
   between = before;
   read = record { rest = line ++ h.rest; taken = h.taken; plain = h.plain; within = omega (arith, h.within, length-append (text_of_lines (lines_in turns)) line) };
   done = has_done left left_now written old new told after turns s done so_far same;
-  boots = law turns told before tells;
+  stands = law turns told before tells;
   last = inr (record { line = line; read = h.read; short = short; partly = partly; rows = numbers_alone s (line_of line) before after partly });
 }
 ends_at_line endings.DescriptorsRefused left left_now written old new told before after turns s number line law done next so_far tells h ends = absurd ends
@@ -194,7 +194,7 @@ ends_at_line endings.BootsSpent left left_now written old new told before after 
 ends_at_line endings.ScenarioTooLong left left_now written old new told before after turns s number line law done next so_far tells h ends = absurd ends
 
 -- a line that ends in a piece ends the scenario
-pub ends_in_piece : (e : Ending) (left left_now written old new : Option (List ℕ)) (told before after : Option KeeperTold) (more : ℕ) (past : List ℕ) (p : PlayState) (part rest : List ℕ) → BootsDoStand → IsOneLine part → EndsAtLine e p.number p.state (p.part ++ part) old new before after → HasCome (exchange left left_now written old told before) more (part ++ 10 ∷ rest) past p → Runs Drive e (exchange left left_now written new told after)
+pub ends_in_piece : (e : Ending) (left left_now written old new : Option (List ℕ)) (told before after : Option KeeperTold) (more : ℕ) (past : List ℕ) (p : PlayState) (part rest : List ℕ) → ScenariosDoStand → IsOneLine part → EndsAtLine e p.number p.state (p.part ++ part) old new before after → HasCome (exchange left left_now written old told before) more (part ++ 10 ∷ rest) past p → Runs Drive e (exchange left left_now written new told after)
 ends_in_piece e left left_now written old new told before after more past p part rest law one ends h =
     let line = p.part ++ part in
     let lines = lines_in h.turns in
@@ -230,7 +230,7 @@ lines_whole : (lines : List (List ℕ)) (part : List ℕ) → All IsOneLine line
 lines_whole lines part plain one some = lines_fed lines part plain ∙ ap (λ ls. lines ++ ls) (line_unfed part one some)
 
 -- the last line, which has no line feed, ends the scenario
-pub ends_at_end : (e : Ending) (left left_now written old new : Option (List ℕ)) (told before after : Option KeeperTold) (more : ℕ) (p : PlayState) → BootsDoStand → p.part ≢ [] → EndsAtLine e p.number p.state p.part old new before after → HasEnded left_now → HasCome (exchange left left_now written old told before) more [] [] p → Runs Drive e (exchange left left_now written new told after)
+pub ends_at_end : (e : Ending) (left left_now written old new : Option (List ℕ)) (told before after : Option KeeperTold) (more : ℕ) (p : PlayState) → ScenariosDoStand → p.part ≢ [] → EndsAtLine e p.number p.state p.part old new before after → HasEnded left_now → HasCome (exchange left left_now written old told before) more [] [] p → Runs Drive e (exchange left left_now written new told after)
 ends_at_end e left left_now written old new told before after more p law some ends ended h =
     let lines = lines_in h.turns in
     let read = read_whole left left_now written old new told before after more p ended h in
@@ -245,7 +245,7 @@ ends_at_end e left left_now written old new told before after more p law some en
     ends_at_line e left left_now written old new told before after h.turns p.state p.number p.part law h.done h.number h.written h.told has ends
 
 -- all lines were done, and the last one ended with its line feed
-pub ends_with_feed : (left left_now written old : Option (List ℕ)) (told before : Option KeeperTold) (more : ℕ) (p : PlayState) → BootsDoStand → p.part ≡ [] → HasEnded left_now → HasCome (exchange left left_now written old told before) more [] [] p → WritesTranscript (exchange left left_now written old told before)
+pub ends_with_feed : (left left_now written old : Option (List ℕ)) (told before : Option KeeperTold) (more : ℕ) (p : PlayState) → ScenariosDoStand → p.part ≡ [] → HasEnded left_now → HasCome (exchange left left_now written old told before) more [] [] p → WritesTranscript (exchange left left_now written old told before)
 ends_with_feed left left_now written old told before more p law none ended h =
     let lines = lines_in h.turns in
     let cut : lines_of (text_of_lines lines ++ p.part) ≡ lines = lines_fed lines p.part h.plain ∙ ap (λ t. lines ++ lines_of t) none ∙ append-nil lines in
@@ -256,11 +256,11 @@ ends_with_feed left left_now written old told before more p law none ended h =
       lines = sym cut;
       state = p.state;
       done = record { done = h.done; written = h.written };
-      boots = law h.turns told before h.told;
+      stands = law h.turns told before h.told;
     }
 
 -- and the last one has none
-pub ends_without_feed : (left left_now written old new : Option (List ℕ)) (told before after : Option KeeperTold) (more : ℕ) (p : PlayState) (t : State) → BootsDoStand → p.part ≢ [] → DoesLine p.state t p.part old new before after → HasEnded left_now → HasCome (exchange left left_now written old told before) more [] [] p → WritesTranscript (exchange left left_now written new told after)
+pub ends_without_feed : (left left_now written old new : Option (List ℕ)) (told before after : Option KeeperTold) (more : ℕ) (p : PlayState) (t : State) → ScenariosDoStand → p.part ≢ [] → DoesLine p.state t p.part old new before after → HasEnded left_now → HasCome (exchange left left_now written old told before) more [] [] p → WritesTranscript (exchange left left_now written new told after)
 ends_without_feed left left_now written old new told before after more p t law some does ended h =
     let lines = lines_in h.turns in
     let turn : Turn = record { line = p.part; replies = does.done.replies } in
@@ -275,7 +275,7 @@ ends_without_feed left left_now written old new told before after more p t law s
         done = end_from-push p.state t h.turns turn does.text h.done does.short done;
         written = does.written ∙ ap (λ o. appended o does.text) h.written ∙ appended_more written (transcript first h.turns) does.text ∙ ap (appended written) (sym (transcript-push p.state t h.turns turn does.text h.done done));
       };
-      boots = law (h.turns ++ turn ∷ []) told after (told-push p.state h.turns p.part (DoneTo t does.text) told before after h.done does.short h.told does.done);
+      stands = law (h.turns ++ turn ∷ []) told after (told-push p.state h.turns p.part (DoneTo t does.text) told before after h.done does.short h.told does.done);
     }
 
 -- bytes were read, of which a part is the next piece
@@ -305,7 +305,7 @@ text_read : (lines : List (List ℕ)) (part past : List ℕ) → text_of_lines l
 text_read lines part past = simp append_assoc
 
 -- a read failed
-pub stops_at_failed_read : (left before now written old : Option (List ℕ)) (told asked : Option KeeperTold) (more : ℕ) (p : PlayState) → BootsDoStand → now ≡ before → HasCome (exchange left before written old told asked) more [] [] p → StopsAtFailedRead (exchange left now written old told asked)
+pub stops_at_failed_read : (left before now written old : Option (List ℕ)) (told asked : Option KeeperTold) (more : ℕ) (p : PlayState) → ScenariosDoStand → now ≡ before → HasCome (exchange left before written old told asked) more [] [] p → StopsAtFailedRead (exchange left now written old told asked)
 stops_at_failed_read left before now written old told asked more p law same h =
     let lines = lines_in h.turns in
     record {
@@ -318,11 +318,11 @@ stops_at_failed_read left before now written old told asked more p law same h =
       within = omega (arith, h.within, length-append (text_of_lines lines) (p.part ++ []), length-append p.part [], length-append (text_of_lines lines) p.part);
       short = h.short;
       done = record { done = h.done; written = h.written };
-      boots = law h.turns told asked h.told;
+      stands = law h.turns told asked h.told;
     }
 
 -- bytes were read past the limit
-pub stops_past_limit : (left now written old : Option (List ℕ)) (told asked : Option KeeperTold) (past : List ℕ) (p : PlayState) → BootsDoStand → past ≢ [] → HasCome (exchange left now written old told asked) 0 [] past p → StopsPastLimit (exchange left now written old told asked)
+pub stops_past_limit : (left now written old : Option (List ℕ)) (told asked : Option KeeperTold) (past : List ℕ) (p : PlayState) → ScenariosDoStand → past ≢ [] → HasCome (exchange left now written old told asked) 0 [] past p → StopsPastLimit (exchange left now written old told asked)
 stops_past_limit left now written old told asked past p law some h =
     let lines = lines_in h.turns in
     record {
@@ -337,7 +337,7 @@ stops_past_limit left now written old told asked past p law some h =
       cut = record { whole = refl; plain = h.plain; one = h.one };
       short = h.short;
       done = record { done = h.done; written = h.written };
-      boots = law h.turns told asked h.told;
+      stands = law h.turns told asked h.told;
     }
 
 nothing_read : (left : Option (List ℕ)) → left ≡ prepended [] left
@@ -364,14 +364,14 @@ comes_first left written told = record {
 }
 
 -- and there is no memory to read any
-pub stops_at_first : (left written : Option (List ℕ)) (told : Option KeeperTold) → BootsDoStand → StopsOutOfMemory (exchange left left written written told told)
+pub stops_at_first : (left written : Option (List ℕ)) (told : Option KeeperTold) → ScenariosDoStand → StopsOutOfMemory (exchange left left written written told told)
 stops_at_first left written told law = record {
   before = [];
   state = first;
   between = told;
   read = record { rest = []; taken = nothing_read left; plain = All-nil IsOneLine; within = omega arith };
   done = record { done = refl; written = nothing_written written };
-  boots = law [] told told refl;
+  stands = law [] told told refl;
   last = inl refl;
 }
 

@@ -23,7 +23,7 @@ use Rattle.drive_engine.specs.declared.words.Command.TheVariants.{Drive, Groups}
 use Rattle.drive_engine.specs.declared.ending.Ending.{Ending}
 use Rattle.drive_engine.specs.declared.ending.Ending.TheVariants as endings
 use Rattle.drive_engine.specs.Command.{DescriptorsCallFor, IsCalledFor, Runs, Ends, status_of_refusal, status_of_end, status_past_limit}
-use Rattle.drive_engine.specs.Drive.{AreRead, HasDone, BootsStand, StopsAtLine, StopsAtStart, StopsAtLongLine, StopsPastLimit, WritesTranscript}
+use Rattle.drive_engine.specs.Drive.{AreRead, HasDone, ScenarioStands, StopsAtLine, StopsAtStart, StopsAtLongLine, StopsPastLimit, WritesTranscript}
 use Rattle.drive_engine.specs.Ending.{status, IsReported}
 use Rattle.drive_engine.specs.Exchange.{Exchange, IsRead}
 use Rattle.drive_engine.specs.Groups.{IsDeployment, IsRefused}
@@ -102,7 +102,7 @@ decided_at_turns x text turns is read stops tells = go read
         }
 
 -- a turn after turns that were done stops a scenario
-decided_at_turn : (x : Exchange) (text : List ℕ) (before : List Turn) (turn : Turn) (s : State) (e : End) → x.left_before ≡ Some text → AreRead x (lines_in before ++ turn.line ∷ []) → HasDone x before s → end_from s (1 + length before) (turn ∷ []) ≡ e → Stops e → BootsStand (before ++ turn ∷ []) x.told_before x.told_after → IsCalledFor Drive text x.told_before x.told_after (status_of_end e)
+decided_at_turn : (x : Exchange) (text : List ℕ) (before : List Turn) (turn : Turn) (s : State) (e : End) → x.left_before ≡ Some text → AreRead x (lines_in before ++ turn.line ∷ []) → HasDone x before s → end_from s (1 + length before) (turn ∷ []) ≡ e → Stops e → ScenarioStands (before ++ turn ∷ []) x.told_before x.told_after → IsCalledFor Drive text x.told_before x.told_after (status_of_end e)
 decided_at_turn x text before turn s e is read done ends stops keeper =
     let all = before ++ turn ∷ [] in
     let whole : end_from first 1 all ≡ e = end_from-more first s 1 before (turn ∷ []) done.done ∙ ends in
@@ -111,11 +111,11 @@ decided_at_turn x text before turn s e is read done ends stops keeper =
 
 -- a line was refused
 decided_at_line : (x : Exchange) (text : List ℕ) (n : ℕ) → x.left_before ≡ Some text → StopsAtLine n x → IsCalledFor Drive text x.told_before x.told_after 3
-decided_at_line x text n is h = decided_at_turn x text h.before h.turn h.state (RefusedAt h.after (1 + length h.before)) is h.read h.done (end_from-refused h.state h.after (1 + length h.before) h.turn h.short h.refused) tt h.boots
+decided_at_line x text n is h = decided_at_turn x text h.before h.turn h.state (RefusedAt h.after (1 + length h.before)) is h.read h.done (end_from-refused h.state h.after (1 + length h.before) h.turn h.short h.refused) tt h.stands
 
 -- a boot was not started
 decided_at_start : (x : Exchange) (text : List ℕ) (r : StartRefusal) → x.left_before ≡ Some text → StopsAtStart r x → IsCalledFor Drive text x.told_before x.told_after (status_of_refusal r)
-decided_at_start x text r is h = decided_at_turn x text h.before h.turn h.state (Unstarted h.after r) is h.read h.done (end_from-unstarted h.state h.after (1 + length h.before) h.turn r h.short h.unstarted) tt h.boots
+decided_at_start x text r is h = decided_at_turn x text h.before h.turn h.state (Unstarted h.after r) is h.read h.done (end_from-unstarted h.state h.after (1 + length h.before) h.turn r h.short h.unstarted) tt h.stands
 
 -- lines whose first, or else what follows them, is too long
 long_within : (s : State) (n k : ℕ) (lines : List (List ℕ)) (part : List ℕ) → MAX_LINE_BYTES < k → IsOneLine part → FirstHas k lines part → (status_of_end (end_from s n (turns_of (lines ++ lines_of part))) ≡ 8) × (calls_from s (turns_of (lines ++ lines_of part)) ≡ [])
@@ -152,7 +152,7 @@ long_line_within x text n tail h whole short =
     record {
       turns = h.before ++ more;
       calls = inl (record { short = short; lines = lines_in-more h.before (a.0 ++ lines_of a.1) ∙ sym lines; called = sym (ap status_of_end (end_from-more first h.state 1 h.before more h.done.done) ∙ long.0) });
-      told = unasked_more h.state h.before more x.told_before x.told_after h.done.done long.1 h.boots.calls;
+      told = unasked_more h.state h.before more x.told_before x.told_after h.done.done long.1 h.stands.calls;
     }
 
 -- and in one that goes on past it
@@ -176,7 +176,7 @@ long_line_past x text n tail h whole long =
         cut = subst (λ ls. IsCut (take MAX_SCENARIO_BYTES text) ls a.1) (sym (lines_in-more h.before a.0)) cut;
         called = sym (ap (λ e. status_past_limit e (length a.1)) (end_from-more first h.state 1 h.before more h.done.done) ∙ past.0);
       });
-      told = unasked_more h.state h.before more x.told_before x.told_after h.done.done past.1 h.boots.calls;
+      told = unasked_more h.state h.before more x.told_before x.told_after h.done.done past.1 h.stands.calls;
     }
 
 -- a line was too long
@@ -207,7 +207,7 @@ decided_past_limit x text is h =
         cut = subst (λ t. IsCut t (lines_in h.turns) h.part) (sym head) h.cut;
         called = sym (ap (λ e. status_past_limit e (length h.part)) h.done.done ∙ ap (λ b. cond b 8 12) test);
       });
-      told = h.boots.calls;
+      told = h.stands.calls;
     }
   where
     more_than : (more : List ℕ) → more ≢ [] → (n k : ℕ) → n ≡ MAX_SCENARIO_BYTES + (length more + k) → MAX_SCENARIO_BYTES < n
@@ -221,7 +221,7 @@ decided_at_end x text is h =
     record {
       turns = h.turns;
       calls = inl (record { short = omega (arith, h.read.short, ap length whole); lines = h.lines ∙ ap lines_of (sym whole); called = sym (ap status_of_end h.done.done) });
-      told = h.boots.calls;
+      told = h.stands.calls;
     }
 
 -- descriptors, which leave the keeper as it was

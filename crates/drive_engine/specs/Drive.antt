@@ -11,6 +11,7 @@ use Rattle.scenario_text.specs.Cutting.{lines_of, text_of_lines, IsOneLine, IsCu
 use Rattle.scenario_text.specs.Reading.{line_of}
 use Rattle.scenario_text.specs.declared.line.TheConstants.{MAX_LINE_BYTES}
 use Rattle.scenario_engine.specs.KeeperCalls.{TellsCalls}
+use Rattle.scenario_engine.specs.Sessions.{HasSessions}
 use Rattle.scenario_engine.specs.Sound.{CommitsUnrebooted, RunsSerially, CommitsOwnRequests}
 use Rattle.scenario_engine.specs.State.{State, RefusedIn, DoneTo, NotStarted}
 use Rattle.scenario_engine.specs.Telling.{DoesPartly, HoldsRowsButNumber}
@@ -41,17 +42,18 @@ pub record HasDone (x : Exchange) (turns : List Turn) (state : State) : Type 0 w
   pub done : end_from first 1 turns ≡ Ended state
   pub written : IsWritten x (transcript first turns)
 
--- The boots of these turns stand: the keeper was called as the turns say and holds the rows that they leave; each boot is
--- sound; no commit comes after a reboot of a group that its call entered; each journal is a serial execution of its
--- calls; and each commit is of a request of its own boot. A turn that ended the scenario is the last of them, since it may
--- have called the keeper, too.
-pub record BootsStand (turns : List Turn) (old new : Option KeeperTold) : Type 0 where
+-- What turns did stands: the keeper was called as they say and holds the rows that they leave; each boot is sound; no
+-- commit comes after a reboot of a group that its call entered; each journal is a serial execution of its calls; each
+-- commit is of a request of its own boot; and each fetch answers what was written, or says why it does not. A turn that
+-- ended the scenario is the last of them, since it may have called the keeper, too.
+pub record ScenarioStands (turns : List Turn) (old new : Option KeeperTold) : Type 0 where
   pub calls : TellsCalls (calls_from first turns) old new
   pub told : Tells turns old new
   pub sound : All IsSound (boots_from first turns)
   pub unrebooted : All CommitsUnrebooted (boots_from first turns)
   pub serial : All RunsSerially (boots_from first turns)
   pub own : All CommitsOwnRequests (boots_from first turns)
+  pub sessions : HasSessions turns
 
 -- A scenario was read and came to its end, and its transcript was written.
 pub record WritesTranscript (x : Exchange) : Type 0 where
@@ -61,7 +63,7 @@ pub record WritesTranscript (x : Exchange) : Type 0 where
   pub lines : lines_in turns ≡ lines_of text
   pub state : State
   pub done : HasDone x turns state
-  pub boots : BootsStand turns x.told_before x.told_after
+  pub stands : ScenarioStands turns x.told_before x.told_after
 
 -- The line of this number was read to its end and was refused, after the lines before it were done.
 pub record StopsAtLine (n : ℕ) (x : Exchange) : Type 0 where
@@ -74,7 +76,7 @@ pub record StopsAtLine (n : ℕ) (x : Exchange) : Type 0 where
   pub done : HasDone x before state
   pub short : length turn.line ≤ MAX_LINE_BYTES
   pub refused : turn_outcome state turn ≡ RefusedIn after
-  pub boots : BootsStand (before ++ turn ∷ []) x.told_before x.told_after
+  pub stands : ScenarioStands (before ++ turn ∷ []) x.told_before x.told_after
 
 -- A line was read to its end and needs a boot that was not started for this refusal, after the lines before it were done.
 pub record StopsAtStart (refusal : StartRefusal) (x : Exchange) : Type 0 where
@@ -86,7 +88,7 @@ pub record StopsAtStart (refusal : StartRefusal) (x : Exchange) : Type 0 where
   pub done : HasDone x before state
   pub short : length turn.line ≤ MAX_LINE_BYTES
   pub unstarted : turn_outcome state turn ≡ NotStarted after refusal
-  pub boots : BootsStand (before ++ turn ∷ []) x.told_before x.told_after
+  pub stands : ScenarioStands (before ++ turn ∷ []) x.told_before x.told_after
 
 -- More bytes than a line may have were read of the line of this number, after the lines before it were done.
 pub record StopsAtLongLine (n : ℕ) (x : Exchange) : Type 0 where
@@ -102,7 +104,7 @@ pub record StopsAtLongLine (n : ℕ) (x : Exchange) : Type 0 where
   pub number : n ≡ length before + 1
   pub done : HasDone x before state
   pub long : MAX_LINE_BYTES < length line
-  pub boots : BootsStand before x.told_before x.told_after
+  pub stands : ScenarioStands before x.told_before x.told_after
 
 -- A read failed, after the lines that had ended by then were done.
 pub record StopsAtFailedRead (x : Exchange) : Type 0 where
@@ -115,7 +117,7 @@ pub record StopsAtFailedRead (x : Exchange) : Type 0 where
   pub within : length text ≤ MAX_SCENARIO_BYTES
   pub short : length part ≤ MAX_LINE_BYTES
   pub done : HasDone x turns state
-  pub boots : BootsStand turns x.told_before x.told_after
+  pub stands : ScenarioStands turns x.told_before x.told_after
 
 -- A line was read to its end and done, and a prefix of what it writes was written, after the lines before it were done.
 pub record StopsAtFailedWrite (x : Exchange) : Type 0 where
@@ -131,7 +133,7 @@ pub record StopsAtFailedWrite (x : Exchange) : Type 0 where
   pub answer : turn_outcome state turn ≡ DoneTo after wrote
   pub begins : IsPrefix prefix wrote
   pub written : IsWritten x (transcript first before ++ prefix)
-  pub boots : BootsStand (before ++ turn ∷ []) x.told_before x.told_after
+  pub stands : ScenarioStands (before ++ turn ∷ []) x.told_before x.told_after
 
 -- A line was read to its end after these lines, and memory ran out while it was done: the first of its calls of the keeper
 -- were made. No commit was kept: of the keeper's rows, where it tells, at most that of the boot's number is another.
@@ -150,7 +152,7 @@ pub record StopsOutOfMemory (x : Exchange) : Type 0 where
   pub between : Option KeeperTold
   pub read : AreReadWithFeeds x (lines_in before)
   pub done : HasDone x before state
-  pub boots : BootsStand before x.told_before between
+  pub stands : ScenarioStands before x.told_before between
   pub last : (x.told_after ≡ between) ⊎ RunsOutAtLine x (lines_in before) state between
 
 -- There is no memory for the numbers of a report: that of a line which was refused or is too long, or those of a bad row.
@@ -173,4 +175,4 @@ pub record StopsPastLimit (x : Exchange) : Type 0 where
   pub cut : IsCut text (lines_in turns) part
   pub short : length part ≤ MAX_LINE_BYTES
   pub done : HasDone x turns state
-  pub boots : BootsStand turns x.told_before x.told_after
+  pub stands : ScenarioStands turns x.told_before x.told_after

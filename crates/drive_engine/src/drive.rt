@@ -7,7 +7,7 @@ ghost use Rattle.drive_engine.specs.Command.{Runs};
 ghost use Rattle.drive_engine.specs.Exchange.{exchange};
 
 use crate::ending::Ending;
-use crate::laws::boots_stand;
+use crate::laws::scenarios_stand;
 use crate::play::Play;
 use crate::words::Command;
 use crash_base::OutOfMemory;
@@ -40,7 +40,7 @@ fn play_on<S: Source, T: Sink, K: Keeper>(
         → Rose (K.faults keeper.old) (K.faults keeper.new) }
     ensures keeper_count { K.faults keeper.old ≤ K.faults keeper.new }
 {
-    boots_stand();
+    scenarios_stand();
     let mut room = [0u8; PIECE_BYTES];
     let mut more = MAX_SCENARIO_BYTES;
     'pieces: loop {
@@ -79,7 +79,7 @@ pub fn drive<S: Source, T: Sink, K: Keeper>(
         → Rose (K.faults keeper.old) (K.faults keeper.new) }
     ensures keeper_count { K.faults keeper.old ≤ K.faults keeper.new }
 {
-    boots_stand();
+    scenarios_stand();
     match Play::new(alloc) {
         Ok(mut play) => play_on(alloc, &mut play, input, out, keeper),
         Err(OutOfMemory) => Ending::OutOfMemory,

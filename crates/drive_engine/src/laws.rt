@@ -7,24 +7,25 @@ ghost use Rattle.scenario_engine.specs.KeeperCalls.{TellsCalls};
 ghost use Rattle.scenario_engine.specs.Transcript.{Turn, lines_in, first, calls_from};
 ghost use Rattle.drive_engine.specs.declared.words.Command.{Command};
 ghost use Rattle.drive_engine.specs.Command.{CallsFor};
-ghost use Rattle.drive_engine.specs.Drive.{BootsStand};
+ghost use Rattle.drive_engine.specs.Drive.{ScenarioStands};
 
 use descriptor_text::texts_have_an_answer;
 use scenario_engine::{
     boots_are_sound, commits_are_of_their_boot, keepers_tell, no_turns_break_the_order,
-    no_turns_commit_after_a_reboot,
+    no_turns_commit_after_a_reboot, scenarios_have_sessions,
 };
 
-/// Whatever the turns, their boots stand where the keeper was called as they say.
-pub(crate) fn boots_stand()
+/// Whatever the turns, what they did stands where the keeper was called as they say.
+pub(crate) fn scenarios_stand()
     ensures { (turns : List Turn) (old new : Option KeeperTold)
-        → TellsCalls (calls_from first turns) old new → BootsStand turns old new }
+        → TellsCalls (calls_from first turns) old new → ScenarioStands turns old new }
 {
     keepers_tell();
     boots_are_sound();
     no_turns_commit_after_a_reboot();
     no_turns_break_the_order();
     commits_are_of_their_boot();
+    scenarios_have_sessions();
 }
 
 /// A text has lines, and calls for a status whatever the keeper replies to each of them. So each text has one of the

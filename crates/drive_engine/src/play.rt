@@ -11,14 +11,13 @@ ghost use Rattle.drive_engine.specs.Play.{DoesLine, EndsAtLine, HasCome, Comes, 
 
 use crate::drive::MAX_SCENARIO_BYTES;
 use crate::ending::Ending;
-use crate::laws::boots_stand;
+use crate::laws::scenarios_stand;
 use crate::words::Command;
 use boot_core::StartRefusal;
 use crash_base::OutOfMemory;
-use line_steps::LineAnswer;
 use outside::{Keeper, Sink, write_all};
 use scenario_engine::Engine;
-use scenario_text::{MAX_LINE_BYTES, ended_line};
+use scenario_text::{LineAnswer, MAX_LINE_BYTES, ended_line};
 use std::alloc::Global;
 use std::marker::Model;
 
@@ -198,7 +197,7 @@ impl Play {
             → Rose (K.faults keeper.old) (K.faults keeper.new) }
         ensures keeper_count { K.faults keeper.old ≤ K.faults keeper.new }
     {
-        boots_stand();
+        scenarios_stand();
         let mut rest = piece;
         while let Some((part, more)) = ended_line(rest) {
             match self.end_line(alloc, part, out, keeper) {
@@ -231,7 +230,7 @@ impl Play {
             → Rose (K.faults keeper.old) (K.faults keeper.new) }
         ensures keeper_count { K.faults keeper.old ≤ K.faults keeper.new }
     {
-        boots_stand();
+        scenarios_stand();
         if self.part.is_empty() {
             return Ending::Done;
         }

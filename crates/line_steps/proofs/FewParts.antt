@@ -11,8 +11,9 @@ use Rattle.journal_model.specs.declared.limits.TheConstants.{MAX_ENTRIES, MAX_JO
 use Rattle.scenario_text.specs.declared.line.Line.{Line}
 use Rattle.scenario_text.specs.declared.line.Line.TheVariants as lines
 use Rattle.line_steps.specs.declared.head.Head.{Head}
-use Rattle.line_steps.specs.Answer.{Answer, Done, refused_if, within}
-use Rattle.line_steps.specs.Head.{head_line, plain, with_parts, with_component, component_step, reference_step, owns_step, limit_step}
+use Rattle.session_steps.specs.Setup.{SetupState, bricks_step, key_step}
+use Rattle.scenario_text.specs.Answer.{Answer, Refused, Done, refused_if, within}
+use Rattle.line_steps.specs.Head.{head_line, plain, with_parts, with_setup, with_component, component_step, reference_step, owns_step, limit_step}
 use Rattle.line_steps.specs.Tables.{table_of}
 use Rattle.line_steps.proofs.Leaving.{Leaves, leaves-refused_if, leaves-or_refused, leaves-within}
 
@@ -53,6 +54,10 @@ unfolding limit_step
 few_limit head entries bytes few =
     leaves-refused_if (λ (h : Head). AreFew h.parts) (nat_lt MAX_ENTRIES entries) _ (λ low. leaves-refused_if (λ (h : Head). AreFew h.parts) (nat_lt MAX_JOURNAL_BYTES bytes) _ (λ small. few))
 
+few_setup : (head : Head) (a : Answer SetupState) → AreFew head.parts → Leaves (λ h. AreFew h.parts) (within (with_setup head) a)
+few_setup head Refused few = tt
+few_setup head (Done setup text) few = few
+
 pub few_head : (head : Head) (line : Line) → AreFew head.parts → Leaves (λ h. AreFew h.parts) (head_line head line)
 few_head head lines.Pass few = few
 few_head head (lines.Component name) few = few_parts head (component_step head.parts name) (few_component head.parts name)
@@ -60,6 +65,8 @@ few_head head (lines.Hard from to) few = few_parts head (reference_step head.par
 few_head head (lines.Soft from to) few = few_parts head (reference_step head.parts from to false) (few_reference head.parts from to false few)
 few_head head (lines.Owns name table) few = few_parts head (owns_step head.parts name table) (few_owns head.parts name table few)
 few_head head (lines.Limit entries bytes) few = few_limit head entries bytes few
+few_head head (lines.Bricks bricks most least) few = few_setup head (bricks_step head.setup bricks most least) few
+few_head head (lines.Key bytes) few = few_setup head (key_step head.setup bytes) few
 few_head head (lines.Begin c) few = tt
 few_head head (lines.Enter c name) few = tt
 few_head head (lines.Exit c) few = tt
@@ -74,3 +81,4 @@ few_head head (lines.Reboot name) few = tt
 few_head head lines.Table few = tt
 few_head head lines.Journal few = tt
 few_head head lines.Reopen few = tt
+few_head head (lines.Session line) few = tt

@@ -1,6 +1,6 @@
 -- What answers leave.
 use Rattle.std.proofs.Common.{◌≡◌, Bool, true, false, Option, Some, None, refl}
-use Rattle.line_steps.specs.Answer.{Answer, Refused, Done, refused_if, or_refused, within}
+use Rattle.scenario_text.specs.Answer.{Answer, Refused, Done, refused_if, or_refused, within}
 
 -- What an answer leaves is so, where it is not refused.
 abbrev pub Leaves : {S : Type 0} → (S → Type 0) → Answer S → Type 0

@@ -29,7 +29,7 @@ use Rattle.line_steps.specs.declared.call_lines.CallLine.{CallLine}
 use Rattle.line_steps.specs.declared.call_lines.CallLine.TheVariants as calls
 use Rattle.line_steps.specs.declared.callers.Caller.{Caller}
 use Rattle.line_steps.specs.declared.callers.Caller.TheVariants.{Absent, Live}
-use Rattle.line_steps.specs.Answer.{Answer, Done, refused_if}
+use Rattle.scenario_text.specs.Answer.{Answer, Done, refused_if}
 use Rattle.line_steps.specs.CallLines.{step_answer, row, row_id, rows_then, enter_step, exit_step, read_step, list_step, put_step, call_line}
 use Rattle.line_steps.specs.Callers.{caller_at, padded, can_begin, new_ticket, caller_line, begin_step, call_step, request_of, AllFit, FitsCaller}
 use Rattle.line_steps.specs.Tables.{table_of}

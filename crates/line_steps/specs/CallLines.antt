@@ -14,7 +14,7 @@ use Rattle.boot_core.specs.Steps.{ticket_entered, ticket_has_read, ticket_has_li
 use Rattle.boot_core.specs.declared.refusals.CallRefusal.{CallRefusal}
 use Rattle.line_steps.specs.declared.call_lines.CallLine.{CallLine}
 use Rattle.line_steps.specs.declared.call_lines.CallLine.TheVariants as calls
-use Rattle.line_steps.specs.Answer.{Answer, Done, refused_if, or_refused}
+use Rattle.scenario_text.specs.Answer.{Answer, Done, refused_if, or_refused}
 use Rattle.line_steps.specs.Tables.{table_of}
 use Rattle.line_steps.specs.Texts.{refusal_text, row_answer_text, list_answer_text}
 

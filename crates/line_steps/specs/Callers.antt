@@ -8,7 +8,7 @@ use Rattle.scenario_text.specs.declared.line.TheConstants.{MAX_CALLER}
 use Rattle.line_steps.specs.declared.call_lines.CallLine.{CallLine}
 use Rattle.line_steps.specs.declared.callers.Caller.{Caller}
 use Rattle.line_steps.specs.declared.callers.Caller.TheVariants.{Absent, Live}
-use Rattle.line_steps.specs.Answer.{Answer, Refused, Done, refused_if, within}
+use Rattle.scenario_text.specs.Answer.{Answer, Refused, Done, refused_if, within}
 use Rattle.line_steps.specs.CallLines.{call_line}
 
 -- what a caller has in hand, of callers by their numbers; those past the end have no call

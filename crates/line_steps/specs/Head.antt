@@ -1,4 +1,4 @@
--- Head lines, which build the parts of a deployment and set the limits of the journal.
+-- Head lines, which build the parts of a deployment, set the limits of the journal, and set up sessions.
 use Rattle.std.specs.Prelude.{ℕ, nat_le, nat_lt, not, Bool, true, false, List, [], ◌∷◌, ◌++◌, length, is_some}
 use Rattle.crash_base.specs.Names.{is_component_name}
 use Rattle.crash_base.specs.declared.scope.TheConstants.{MAX_GROUPS}
@@ -9,24 +9,30 @@ use Rattle.deployment.specs.Parts.{named, owner_of, component_no, one_call}
 use Rattle.deployment.specs.declared.parts.ComponentPart.{ComponentPart}
 use Rattle.deployment.specs.declared.parts.Parts.{Parts}
 use Rattle.deployment.specs.declared.parts.Reference.{Reference}
-use Rattle.line_steps.specs.Answer.{Answer, Refused, Done, refused_if, or_refused, within}
+use Rattle.scenario_text.specs.Answer.{Answer, Refused, Done, refused_if, or_refused, within}
 use Rattle.line_steps.specs.Tables.{table_of}
 use Rattle.line_steps.specs.declared.head.Head.{Head}
+use Rattle.session_steps.specs.Setup.{SetupState, no_setup, bricks_step, key_step}
 
 -- no parts
 abbrev pub no_parts : Parts
 no_parts = record { components = []; references = []; tables = [] }
 
--- what there is before the first line: no parts, and the greatest limits
+-- what there is before the first line: no parts, the greatest limits, and no bricks
 abbrev pub no_head : Head
 no_head = record {
   parts = no_parts;
   limits = record { entries = MAX_ENTRIES; bytes = MAX_JOURNAL_BYTES };
+  setup = no_setup;
 }
 
 -- the same head with these parts
 abbrev pub with_parts : Head → Parts → Head
 with_parts head parts = record head { parts = parts }
+
+-- the same head with this setup of sessions
+abbrev pub with_setup : Head → SetupState → Head
+with_setup head setup = record head { setup = setup }
 
 -- a component with one method `call`, which may be called again
 abbrev pub plain : List ℕ → ComponentPart
@@ -92,6 +98,9 @@ head_line head (lines.Soft from to) =
 head_line head (lines.Owns name table) =
     within (with_parts head) (owns_step head.parts name table)
 head_line head (lines.Limit entries bytes) = limit_step head entries bytes
+head_line head (lines.Bricks bricks most least) =
+    within (with_setup head) (bricks_step head.setup bricks most least)
+head_line head (lines.Key bytes) = within (with_setup head) (key_step head.setup bytes)
 head_line head (lines.Begin c) = Refused
 head_line head (lines.Enter c name) = Refused
 head_line head (lines.Exit c) = Refused
@@ -106,3 +115,4 @@ head_line head (lines.Reboot name) = Refused
 head_line head lines.Table = Refused
 head_line head lines.Journal = Refused
 head_line head lines.Reopen = Refused
+head_line head (lines.Session line) = Refused

@@ -1,4 +1,3 @@
-pub mod Answer
 pub mod Tables
 pub mod Texts
 pub mod Head

@@ -2,15 +2,14 @@
 
 ghost use Rattle.std.specs.Prelude.{◌≡◌, IfOk};
 ghost use Rattle.boot_core.specs.Fits.{FitsIn};
-ghost use Rattle.line_steps.specs.Answer.{KeepsRefused, answer_of};
+ghost use Rattle.scenario_text.specs.Answer.{KeepsRefused, answer_of};
 ghost use Rattle.line_steps.specs.CallLines.{call_line, enter_step, exit_step, read_step, list_step, put_step};
 
-use crate::answer::LineAnswer;
 use crate::tables::table_of;
 use crate::texts::{list_answer_text, refusal_text, row_answer_text};
 use boot_core::{Boot, CallRefusal, MAX_STEPS, Ticket};
 use crash_base::{ComponentName, OutOfMemory, RowBytes, RowId, RowWrite};
-use scenario_text::HexBytes;
+use scenario_text::{HexBytes, LineAnswer};
 use std::alloc::Global;
 
 /// What a line does to its caller's call.

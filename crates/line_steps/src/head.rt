@@ -1,23 +1,24 @@
-//! Head lines, which build the parts of a deployment and set the limits of the journal.
+//! Head lines, which build the parts of a deployment, set the limits of the journal, and set up sessions.
 
 ghost use Rattle.std.specs.Prelude.{◌≡◌, None, IfOk, true, false};
 ghost use Rattle.deployment.specs.Refusals.{deploy_refusal};
-ghost use Rattle.line_steps.specs.Answer.{KeepsRefused, answer_of, within};
+ghost use Rattle.scenario_text.specs.Answer.{KeepsRefused, answer_of, within};
 ghost use Rattle.line_steps.specs.Head.{no_head, component_step, reference_step, owns_step, limit_step, head_line};
 
-use crate::answer::LineAnswer;
 use crate::tables::table_of;
 use boot_core::{JournalLimits, MAX_ENTRIES, MAX_JOURNAL_BYTES};
 use crash_base::{ComponentName, ComponentNo, MAX_GROUPS, OutOfMemory, is_component_name};
 use deployment::{ComponentPart, Parts, Reference, TablePart, one_call};
-use scenario_text::Line;
+use scenario_text::{Line, LineAnswer};
+use session_steps::Setup;
 use std::alloc::Global;
 
-/// What head lines have said: the parts of a deployment, and the limits of the journal.
+/// What head lines have said: the parts of a deployment, the limits of the journal, and the bricks and the key of sessions.
 #[derive(Drop)]
 pub struct Head {
     pub parts: Parts,
     pub limits: JournalLimits,
+    pub setup: Setup,
 }
 
 /// The next component.
@@ -112,7 +113,7 @@ fn limit_step(head: &mut Head, entries: u64, bytes: u64) -> LineAnswer
 }
 
 impl Head {
-    /// No parts, and the greatest limits. It takes no memory.
+    /// No parts, the greatest limits, and no bricks. It takes no memory.
     pub fn new(alloc: Global) -> Head
         ensures { result ≡ no_head }
     {
@@ -122,6 +123,7 @@ impl Head {
                 entries: MAX_ENTRIES,
                 bytes: MAX_JOURNAL_BYTES,
             },
+            setup: Setup::new(),
         }
     }
 }
@@ -140,6 +142,8 @@ pub fn head_line(alloc: Global, head: &mut Head, line: Line) -> Result<LineAnswe
         Line::Soft(from, to) => reference_step(&mut head.parts, from, to, false),
         Line::Owns(name, number) => owns_step(&mut head.parts, name, number),
         Line::Limit(entries, bytes) => Ok(limit_step(head, entries, bytes)),
+        Line::Bricks(bricks, most, least) => Ok(head.setup.bricks_line(bricks, most, least)),
+        Line::Key(key) => Ok(head.setup.key_line(key)),
         Line::Begin(_)
         | Line::Enter(_, _)
         | Line::Exit(_)
@@ -153,6 +157,7 @@ pub fn head_line(alloc: Global, head: &mut Head, line: Line) -> Result<LineAnswe
         | Line::Reboot(_)
         | Line::Table
         | Line::Journal
-        | Line::Reopen => Ok(LineAnswer::Refused),
+        | Line::Reopen
+        | Line::Session(_) => Ok(LineAnswer::Refused),
     }
 }

@@ -19,14 +19,12 @@
 //! each fits its boot. A line visits its bytes and those that it writes, and what its call of the boot visits.
 #![tactic(auto)]
 
-mod answer;
 mod call_lines;
 mod callers;
 mod head;
 mod tables;
 mod texts;
 
-pub use answer::LineAnswer;
 pub use call_lines::{CallLine, call_line};
 pub use callers::{Caller, Callers, request_of};
 pub use head::{Head, head_line};

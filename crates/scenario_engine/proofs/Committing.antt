@@ -7,7 +7,7 @@ use Rattle.boot_core.specs.Keeper.{kept_writes, TellsCause}
 use Rattle.boot_core.specs.Refusals.{IsCause}
 use Rattle.boot_core.specs.declared.refusals.CommitRefusal.{CommitRefusal}
 use Rattle.boot_core.specs.declared.refusals.CommitRefusal.TheVariants as commits
-use Rattle.line_steps.specs.Answer.{Answer}
+use Rattle.scenario_text.specs.Answer.{Answer}
 use Rattle.line_steps.specs.Callers.{caller_at}
 use Rattle.line_steps.specs.declared.callers.Caller.{Caller}
 use Rattle.line_steps.specs.declared.callers.Caller.TheVariants.{Live, Absent}

@@ -13,13 +13,14 @@ use Rattle.scenario_text.specs.Reading.{line_of}
 use Rattle.scenario_text.specs.Spelling.{IsInRange}
 use Rattle.scenario_text.proofs.Spelled.{line_in_range}
 use Rattle.line_steps.specs.declared.head.Head.{Head}
-use Rattle.line_steps.specs.Answer.{Answer, Refused, Done}
+use Rattle.scenario_text.specs.Answer.{Answer, Refused, Done}
 use Rattle.line_steps.specs.Head.{head_line}
 use Rattle.line_steps.proofs.Leaving.{Leaves}
 use Rattle.scenario_engine.specs.declared.kind.LineKind.{LineKind}
 use Rattle.scenario_engine.specs.declared.kind.LineKind.TheVariants as kinds
 use Rattle.scenario_engine.specs.Engine.{Replies, Target, TheHead, TheBoot, NoBoot, opened_target, target_of, kind_of, in_head, in_boot, next_opening, reopens, line_over, line_on, step, ended_by, ends_over, ends_on, ended_boots}
 use Rattle.scenario_engine.specs.Opening.{StartReplies, Opening, Opened, Shut, opening}
+use Rattle.session_steps.specs.Setup.{set_up}
 use Rattle.scenario_engine.specs.Running.{started, commit_step, quiet_line}
 use Rattle.scenario_engine.specs.State.{RunningState, State, Heading, Running, Outcome, RefusedIn, DoneTo, NotStarted}
 use Rattle.scenario_engine.specs.Transcript.{Turn, answer_to, turn_outcome, ends_to, turn_ends, boots_in, boots_from, end_from, last_state, RefusedAt, TooLong, Unstarted}
@@ -43,8 +44,8 @@ short_line _ range = tt
 -- Each line keeps what holds of a head, and of a boot with its callers; and a boot that starts has it.
 pub record Keeps (H : Head → Type 0) (R : RunningState → Type 0) : Type 0 where
   pub heads : (head : Head) (line : Line) → H head → Leaves H (head_line head line)
-  pub opens : (head : Head) (replies : StartReplies) (start : Start) → H head → opening head.parts head.limits replies ≡ Opened start → R (started start)
-  pub reopens : (r : RunningState) (replies : StartReplies) (start : Start) → R r → next_opening r replies ≡ Opened start → R (started start)
+  pub opens : (head : Head) (replies : StartReplies) (start : Start) → H head → opening head.parts head.limits replies ≡ Opened start → R (started (set_up head.setup 0) start)
+  pub reopens : (r : RunningState) (replies : StartReplies) (start : Start) → R r → next_opening r replies ≡ Opened start → R (started r.sessions start)
   pub commits : (r : RunningState) (n : ℕ) (keeps : Bool) → R r → Leaves R (commit_step r n keeps)
   pub quiet : (r : RunningState) (line : Line) → IsShortLine line → R r → Leaves R (quiet_line r line)
 

@@ -2,6 +2,7 @@ pub mod Calls
 pub mod Committing
 pub mod Deciding
 pub mod Keeping
+mod Leading
 pub mod Numbering
 pub mod Rebooting
 pub mod Requesting

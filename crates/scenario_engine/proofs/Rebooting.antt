@@ -10,14 +10,14 @@ use Rattle.boot_core.specs.Boot.{BootValue, with_entry}
 use Rattle.boot_core.specs.Refusals.{reboot_refusal, RebootAnswer}
 use Rattle.boot_core.specs.declared.refusals.RebootRefusal.{RebootRefusal}
 use Rattle.boot_core.specs.declared.refusals.RebootRefusal.TheVariants.{Busy, JournalFull, OutOfMemory}
-use Rattle.line_steps.specs.Answer.{Answer, Done, or_refused}
+use Rattle.scenario_text.specs.Answer.{Answer, Done, or_refused}
 use Rattle.scenario_engine.specs.State.{RunningState}
 use Rattle.scenario_engine.specs.Running.{scope_of, with_boot_entry, reboots, up_step, reboot_step}
 use Rattle.line_steps.specs.Texts.{down_text, up_text, reboot_refusal_text}
 
--- the same callers of another boot
+-- the same callers and sessions of another boot
 abbrev over : RunningState → BootValue → RunningState
-over r c = record { boot = c; callers = r.callers }
+over r c = record r { boot = c }
 
 -- a Down that comes last is undone
 pub undone_last : (es : List Entry) (s : Scope) → IsUndone (es ++ Down s ∷ []) (length es) s

@@ -26,7 +26,8 @@ use Rattle.line_steps.specs.declared.call_lines.CallLine.{CallLine}
 use Rattle.line_steps.specs.declared.call_lines.CallLine.TheVariants as calls
 use Rattle.line_steps.specs.declared.callers.Caller.{Caller}
 use Rattle.line_steps.specs.declared.callers.Caller.TheVariants.{Absent, Live}
-use Rattle.line_steps.specs.Answer.{Answer, Done, refused_if, or_refused, within}
+use Rattle.session_steps.specs.Sessions.{SessionsState, session_line}
+use Rattle.scenario_text.specs.Answer.{Answer, Refused, Done, refused_if, or_refused, within}
 use Rattle.line_steps.specs.CallLines.{step_answer, row, row_id, rows_then, enter_step, exit_step, read_step, list_step, put_step, call_line}
 use Rattle.line_steps.specs.Callers.{caller_at, padded, can_begin, new_ticket, caller_line, begin_step, call_step, ended}
 use Rattle.line_steps.specs.Head.{head_line}
@@ -34,7 +35,7 @@ use Rattle.line_steps.specs.Tables.{table_of}
 use Rattle.line_steps.specs.Texts.{row_answer_text, list_answer_text}
 use Rattle.line_steps.proofs.Stepping.{is_outside}
 use Rattle.line_steps.proofs.Leaving.{Leaves, leaves-refused_if, leaves-or_refused, leaves-within, leaves-weaker, leaves-nothing}
-use Rattle.scenario_engine.specs.Running.{with_callers, with_boot_entry, commit_ends, with_keeper, boot_refusal, caller_commits, caller_drops, commit_step, drop_step, scope_of, goes_down, reboots, down_step, up_step, reboot_step, table_step, journal_step, quiet_line}
+use Rattle.scenario_engine.specs.Running.{with_callers, with_sessions, with_boot_entry, commit_ends, with_keeper, boot_refusal, caller_commits, caller_drops, commit_step, drop_step, scope_of, goes_down, reboots, down_step, up_step, reboot_step, table_step, journal_step, quiet_line}
 use Rattle.scenario_engine.specs.Sound.{CommitsOwnRequests}
 use Rattle.scenario_engine.specs.State.{RunningState}
 use Rattle.scenario_engine.specs.Transcript.{Turn, first, boots_from}
@@ -224,6 +225,10 @@ own_reboot r name run =
     leaves-or_refused IsOwnRun (scope_of r.boot.start.deployment name) _ (λ s known.
     own_reboots r s (reboot_refusal r.boot.start.limits r.boot.entries s) run)
 
+own_session : (r : RunningState) (a : Answer SessionsState) → IsOwnRun r → Leaves IsOwnRun (within (with_sessions r) a)
+own_session r Refused run = tt
+own_session r (Done sessions text) run = record { entries = run.entries; callers = run.callers }
+
 own_quiet : (r : RunningState) (line : Line) → IsOwnRun r → Leaves IsOwnRun (quiet_line r line)
 unfolding table_step journal_step
 own_quiet r lines.Pass run = run
@@ -232,6 +237,8 @@ own_quiet r (lines.Hard from to) run = tt
 own_quiet r (lines.Soft from to) run = tt
 own_quiet r (lines.Owns name table) run = tt
 own_quiet r (lines.Limit entries bytes) run = tt
+own_quiet r (lines.Bricks bricks most least) run = tt
+own_quiet r (lines.Key bytes) run = tt
 own_quiet r (lines.Begin c) run = own_begin r c run
 own_quiet r (lines.Enter c name) run = own_call r c (calls.Enter name) run
 own_quiet r (lines.Exit c) run = own_call r c calls.Exit run
@@ -246,6 +253,7 @@ own_quiet r (lines.Reboot name) run = own_reboot r name run
 own_quiet r lines.Table run = run
 own_quiet r lines.Journal run = run
 own_quiet r lines.Reopen run = tt
+own_quiet r (lines.Session line) run = own_session r (session_line r.sessions line) run
 
 -- all turns
 

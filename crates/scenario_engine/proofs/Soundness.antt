@@ -38,7 +38,9 @@ use Rattle.line_steps.specs.declared.call_lines.CallLine.{CallLine}
 use Rattle.line_steps.specs.declared.call_lines.CallLine.TheVariants as calls
 use Rattle.line_steps.specs.declared.callers.Caller.{Caller}
 use Rattle.line_steps.specs.declared.callers.Caller.TheVariants.{Absent, Live}
-use Rattle.line_steps.specs.Answer.{Answer, within}
+use Rattle.scenario_text.specs.Answer.{Answer, Refused, Done, within}
+use Rattle.session_steps.specs.Sessions.{SessionsState, session_line}
+use Rattle.session_steps.specs.Setup.{set_up}
 use Rattle.line_steps.specs.Callers.{caller_at, begin_step, call_step, ended, AllFit, FitsCaller}
 use Rattle.line_steps.proofs.FewParts.{AreFew, few_head}
 use Rattle.line_steps.proofs.Fitting.{fit_set, fit_at, fit_after}
@@ -48,7 +50,7 @@ use Rattle.line_steps.specs.Head.{no_head}
 use Rattle.scenario_engine.proofs.Keeping.{IsShortLine, Keeps, kept_boots, kept_at_end}
 use Rattle.scenario_engine.proofs.Rebooting.{undone_last}
 use Rattle.scenario_engine.specs.Opening.{StartReplies, Opening, Opened, Shut, is_spent, opening, opening_of, opening_over}
-use Rattle.scenario_engine.specs.Running.{started, with_callers, with_boot_entry, commit_ends, with_keeper, boot_refusal, caller_commits, caller_drops, commit_step, drop_step, scope_of, goes_down, reboots, down_step, up_step, reboot_step, table_step, journal_step, quiet_line}
+use Rattle.scenario_engine.specs.Running.{started, with_callers, with_sessions, with_boot_entry, commit_ends, with_keeper, boot_refusal, caller_commits, caller_drops, commit_step, drop_step, scope_of, goes_down, reboots, down_step, up_step, reboot_step, table_step, journal_step, quiet_line}
 use Rattle.scenario_engine.specs.Sound.{CommitsUnrebooted, RunsSerially}
 use Rattle.scenario_engine.specs.State.{RunningState}
 use Rattle.scenario_engine.specs.Transcript.{Turn, first, boots_in, boots_from, end_from, last_state}
@@ -166,6 +168,10 @@ sound_reboot laws r name run =
     leaves-or_refused IsSoundRun (scope_of r.boot.start.deployment name) (λ s. reboots r s (reboot_refusal r.boot.start.limits r.boot.entries s)) (λ s found.
     sound_reboots laws r s (reboot_refusal r.boot.start.limits r.boot.entries s) refl (scope_known r.boot.start.deployment name s run.few found) run)
 
+sound_session : (r : RunningState) (a : Answer SessionsState) → IsSoundRun r → Leaves IsSoundRun (within (with_sessions r) a)
+sound_session r Refused run = tt
+sound_session r (Done sessions text) run = record { sound = run.sound; few = run.few; fit = run.fit }
+
 sound_quiet : (laws : BootLaws) (r : RunningState) (line : Line) → IsShortLine line → IsSoundRun r → Leaves IsSoundRun (quiet_line r line)
 unfolding table_step journal_step
 sound_quiet laws r lines.Pass short run = run
@@ -174,6 +180,8 @@ sound_quiet laws r (lines.Hard from to) short run = tt
 sound_quiet laws r (lines.Soft from to) short run = tt
 sound_quiet laws r (lines.Owns name table) short run = tt
 sound_quiet laws r (lines.Limit entries bytes) short run = tt
+sound_quiet laws r (lines.Bricks bricks most least) short run = tt
+sound_quiet laws r (lines.Key bytes) short run = tt
 sound_quiet laws r (lines.Begin c) short run = sound_begin r c run
 sound_quiet laws r (lines.Enter c name) short run = sound_call r c (calls.Enter name) tt run
 sound_quiet laws r (lines.Exit c) short run = sound_call r c calls.Exit tt run
@@ -188,6 +196,7 @@ sound_quiet laws r (lines.Reboot name) short run = sound_reboot laws r name run
 sound_quiet laws r lines.Table short run = run
 sound_quiet laws r lines.Journal short run = run
 sound_quiet laws r lines.Reopen short run = tt
+sound_quiet laws r (lines.Session line) short run = sound_session r (session_line r.sessions line) run
 
 -- a boot opens with few components
 abbrev OpensFew : Opening → Type 0
@@ -211,8 +220,8 @@ few_opening parts limits replies few = given replies.rows
     given (Some rows) = over rows (first_bad rows)
 
 -- a boot that was just started goes on
-sound_started : (laws : BootLaws) (start : Start) → AreFew start.deployment → IsSoundRun (started start)
-sound_started laws start few = record { sound = laws.started start; few = few; fit = All-nil (FitsCaller (new_boot start)) }
+sound_started : (laws : BootLaws) (sessions : SessionsState) (start : Start) → AreFew start.deployment → IsSoundRun (started sessions start)
+sound_started laws sessions start few = record { sound = laws.started start; few = few; fit = All-nil (FitsCaller (new_boot start)) }
 
 -- each line keeps the components few, and each boot sound
 sound_keeps : BootLaws → Keeps (λ head. AreFew head.parts) IsSoundRun
@@ -220,10 +229,10 @@ sound_keeps laws = record {
   heads = few_head;
   opens = (λ head replies start few opened.
       let P : Opening → Type 0 = λ how. OpensFew how in
-      sound_started laws start (subst P opened (few_opening head.parts head.limits replies few)));
+      sound_started laws (set_up head.setup 0) start (subst P opened (few_opening head.parts head.limits replies few)));
   reopens = (λ r replies start run opened.
       let P : Opening → Type 0 = λ how. OpensFew how in
-      sound_started laws start (subst P opened (few_opening r.boot.start.deployment r.boot.start.limits replies run.few)));
+      sound_started laws r.sessions start (subst P opened (few_opening r.boot.start.deployment r.boot.start.limits replies run.few)));
   commits = sound_commit laws;
   quiet = sound_quiet laws;
 }

@@ -13,7 +13,7 @@ use Rattle.boot_core.specs.declared.refusals.StartRefusal.TheVariants as refusal
 use Rattle.container_core.specs.Start.{boot_row, first_bad, last_boot, greatest_boot, start_over, IsOpened, IsRefusedStart}
 use Rattle.scenario_engine.specs.KeeperCalls.{KeeperCall, Gave, TellsCalls, apply_calls}
 use Rattle.scenario_engine.specs.Opening.{StartReplies, Opened, Shut, is_spent, opening_over, opening_of, calls_over_rows, start_calls_of}
-use Rattle.scenario_engine.specs.Telling.{Opens, IsShut}
+use Rattle.scenario_engine.specs.Telling.{Opens, OpensPartly, IsShut}
 
 -- whether a number has come up to another
 
@@ -95,4 +95,11 @@ shut parts limits old new refusals.OutOfMemory (inr (rows, good, after)) = recor
     told = (loaded old, (good.given, refl), refl);
     last = elim after [ inl is ↦ inl is | inr tells ↦ inr (λ none. cc, tells) ];
   };
+}
+
+-- memory ran out before the keeper was called
+pub shut_at_once : (told : Option KeeperTold) → OpensPartly told told
+shut_at_once told = record {
+  replies = record { rows = None; keeps = true };
+  told = record { made = []; more = start_calls_of None true; begins = refl; between = told; told = refl; last = inl refl };
 }

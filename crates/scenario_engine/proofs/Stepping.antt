@@ -5,11 +5,11 @@ use Rattle.outside.specs.Keeper.{KeeperTold}
 use Rattle.boot_core.specs.declared.boot.Start.{Start}
 use Rattle.boot_core.specs.declared.refusals.StartRefusal.{StartRefusal}
 use Rattle.boot_core.specs.declared.refusals.StartRefusal.TheVariants as refusals
-use Rattle.line_steps.specs.Answer.{Answer, Refused, KeepsRefused, answer_of}
+use Rattle.scenario_text.specs.Answer.{Answer, Refused, KeepsRefused, answer_of}
 use Rattle.line_steps.specs.Head.{head_line}
 use Rattle.line_steps.specs.Texts.{boot_text}
-use Rattle.line_steps.specs.declared.answer.LineAnswer.{LineAnswer}
-use Rattle.line_steps.specs.declared.answer.LineAnswer.TheVariants as answers
+use Rattle.scenario_text.specs.declared.answer.LineAnswer.{LineAnswer}
+use Rattle.scenario_text.specs.declared.answer.LineAnswer.TheVariants as answers
 use Rattle.line_steps.specs.declared.head.Head.{Head}
 use Rattle.scenario_text.specs.declared.line.Line.{Line}
 use Rattle.scenario_text.specs.declared.line.Line.TheVariants as lines
@@ -19,6 +19,7 @@ use Rattle.scenario_engine.specs.declared.kind.LineKind.TheVariants as kinds
 use Rattle.scenario_engine.specs.Engine.{Replies, Target, TheHead, TheBoot, NoBoot, target_in, opened_target, target_of, target_calls, kind_of, in_head, in_boot, reopens, line_over, line_on, calls_over, calls_on, step, line_calls}
 use Rattle.scenario_engine.specs.KeeperCalls.{TellsCalls, TellsSome}
 use Rattle.scenario_engine.specs.Opening.{StartReplies, Opened, Shut, start_calls}
+use Rattle.session_steps.specs.Setup.{set_up}
 use Rattle.scenario_engine.specs.Running.{started, quiet_line}
 use Rattle.scenario_engine.specs.State.{RunningState, State, Heading, Running, Outcome, RefusedIn, DoneTo, NotStarted}
 use Rattle.scenario_engine.specs.Telling.{Opens, IsShut, Commits, CommitsPartly, Reaches, IsUnreached, DoesOn, DoesPartlyOn, AnswersOn, EndsOn, Does, DoesPartly, Answers, Ends}
@@ -39,7 +40,7 @@ reached (Running r) told = record { replies = no_start; is = refl; told = refl }
 pub reached_running : (r : RunningState) (told : Option KeeperTold) → Reaches (Running r) true (TheBoot r) told told
 reached_running r told = record { replies = no_start; is = refl; told = refl }
 
-pub reached_opened : (head : Head) (start : Start) (old new : Option KeeperTold) → Opens head.parts head.limits (Opened start) old new → Reaches (Heading head) true (TheBoot (started start)) old new
+pub reached_opened : (head : Head) (start : Start) (old new : Option KeeperTold) → Opens head.parts head.limits (Opened start) old new → Reaches (Heading head) true (TheBoot (started (set_up head.setup 0) start)) old new
 reached_opened head start old new h = record {
   replies = h.replies;
   is = ap (λ o. opened_target head o) h.opens;
@@ -70,6 +71,8 @@ not_quiet (lines.Hard from to) head kind = absurd (kind refl)
 not_quiet (lines.Soft from to) head kind = absurd (kind refl)
 not_quiet (lines.Owns name table) head kind = absurd (kind refl)
 not_quiet (lines.Limit entries bytes) head kind = absurd (kind refl)
+not_quiet (lines.Bricks bricks most least) head kind = absurd (kind refl)
+not_quiet (lines.Key bytes) head kind = absurd (kind refl)
 not_quiet (lines.Begin c) head kind = refl
 not_quiet (lines.Enter c name) head kind = refl
 not_quiet (lines.Exit c) head kind = refl
@@ -84,6 +87,7 @@ not_quiet (lines.Reboot name) head kind = refl
 not_quiet lines.Table head kind = refl
 not_quiet lines.Journal head kind = refl
 not_quiet lines.Reopen head kind = refl
+not_quiet (lines.Session line) head kind = refl
 
 pub refused_in_head : (line : Line) (head : Head) (told : Option KeeperTold) → kind_of line ≢ kinds.Quiet → AnswersOn answers.Refused (Heading head) (TheHead head) line told told
 refused_in_head line head told kind = record {
@@ -131,12 +135,12 @@ commit_partly line r caller old new kind h =
 abbrev to_reopen : StartReplies → Replies
 to_reopen again = record { first = no_start; again = again; keeps = false }
 
-pub reopened : (line : Line) (r : RunningState) (start : Start) (text : List ℕ) (old new : Option KeeperTold) → kind_of line ≡ kinds.Reopens → Opens r.boot.start.deployment r.boot.start.limits (Opened start) old new → text ≡ boot_text start.boot → DoesOn (TheBoot r) line (DoneTo (Running (started start)) text) old new
+pub reopened : (line : Line) (r : RunningState) (start : Start) (text : List ℕ) (old new : Option KeeperTold) → kind_of line ≡ kinds.Reopens → Opens r.boot.start.deployment r.boot.start.limits (Opened start) old new → text ≡ boot_text start.boot → DoesOn (TheBoot r) line (DoneTo (Running (started r.sessions start)) text) old new
 reopened line r start text old new kind h wrote =
     let replies : Replies = to_reopen h.replies in
     record {
       replies = replies;
-      answers = ap (DoneTo (Running (started start))) wrote ∙ ap (reopens r) h.opens ∙ ap (λ k. line_over r k line replies) (sym kind);
+      answers = ap (DoneTo (Running (started r.sessions start))) wrote ∙ ap (reopens r) h.opens ∙ ap (λ k. line_over r k line replies) (sym kind);
       told = subst (λ k. TellsCalls (calls_over r k replies) old new) (sym kind) h.told;
     }
 
@@ -267,7 +271,7 @@ pub spells_none : (s : State) (line : Option Line) (told : Option KeeperTold) �
 spells_none s line told none = subst (λ o. Answers answers.Refused s s o told told) (sym none) (record { replies = no_replies; answers = refl; told = refl })
 
 -- the number of the next boot was written
-pub reopened_text : (line : Line) (r next : RunningState) (start : Start) (text : List ℕ) (old new : Option KeeperTold) → kind_of line ≡ kinds.Reopens → next ≡ started start → Opens r.boot.start.deployment r.boot.start.limits (Opened start) old new → text ≡ boot_text next.boot.start.boot → DoesOn (TheBoot r) line (DoneTo (Running next) text) old new
+pub reopened_text : (line : Line) (r next : RunningState) (start : Start) (text : List ℕ) (old new : Option KeeperTold) → kind_of line ≡ kinds.Reopens → next ≡ started r.sessions start → Opens r.boot.start.deployment r.boot.start.limits (Opened start) old new → text ≡ boot_text next.boot.start.boot → DoesOn (TheBoot r) line (DoneTo (Running next) text) old new
 reopened_text line r next start text old new kind is h wrote =
     let P : RunningState → Type 0 = λ n. text ≡ boot_text n.boot.start.boot → DoesOn (TheBoot r) line (DoneTo (Running n) text) old new in
     subst P (sym is) (λ w. reopened line r start text old new kind h w) wrote

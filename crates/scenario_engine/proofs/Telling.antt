@@ -34,7 +34,8 @@ use Rattle.line_steps.specs.declared.call_lines.CallLine.TheVariants as calls
 use Rattle.line_steps.specs.declared.callers.Caller.{Caller}
 use Rattle.line_steps.specs.declared.callers.Caller.TheVariants.{Absent, Live}
 use Rattle.line_steps.specs.declared.head.Head.{Head}
-use Rattle.line_steps.specs.Answer.{Answer, Refused, Done, within}
+use Rattle.scenario_text.specs.Answer.{Answer, Refused, Done, within}
+use Rattle.session_steps.specs.Sessions.{SessionsState, session_line}
 use Rattle.line_steps.specs.Callers.{caller_at, begin_step, call_step}
 use Rattle.line_steps.specs.Head.{head_line}
 use Rattle.line_steps.proofs.Leaving.{Leaves, leaves-or_refused, leaves-within, leaves-weaker, leaves-nothing}
@@ -43,7 +44,7 @@ use Rattle.scenario_engine.specs.declared.kind.LineKind.TheVariants as kinds
 use Rattle.scenario_engine.specs.Engine.{Replies, Target, TheHead, TheBoot, NoBoot, opened_target, target_of, target_calls, kind_of, in_head, in_boot, next_opening, reopens, line_over, line_on, step, calls_over as calls_of_kind, calls_on, line_calls, ended_by, ends_over, ends_on, ended_boots}
 use Rattle.scenario_engine.specs.KeeperCalls.{KeeperCall, Gave, Kept, Failed, apply_calls, TellsCall, TellsCalls}
 use Rattle.scenario_engine.specs.Opening.{StartReplies, Opening, Opened, Shut, is_spent, opening, opening_of, opening_over, calls_over_rows, start_calls, start_calls_of}
-use Rattle.scenario_engine.specs.Running.{with_callers, with_boot_entry, commit_ends, with_keeper, boot_refusal, keep_calls, caller_commits, caller_calls, caller_drops, commit_step, commit_calls, drop_step, scope_of, goes_down, reboots, down_step, up_step, reboot_step, table_step, journal_step, quiet_line}
+use Rattle.scenario_engine.specs.Running.{with_callers, with_sessions, with_boot_entry, commit_ends, with_keeper, boot_refusal, keep_calls, caller_commits, caller_calls, caller_drops, commit_step, commit_calls, drop_step, scope_of, goes_down, reboots, down_step, up_step, reboot_step, table_step, journal_step, quiet_line}
 use Rattle.scenario_engine.specs.State.{RunningState, State, Heading, Running, Outcome, RefusedIn, DoneTo, NotStarted}
 use Rattle.scenario_engine.specs.Told.{HoldsStateRows, IsOver, IsChained, Tells}
 use Rattle.scenario_engine.specs.Transcript.{Turn, first, answer_to, turn_outcome, calls_to, turn_calls, ends_to, turn_ends, calls_from, boots_in, boots_from, end_from, last_state, RefusedAt, TooLong, Unstarted}
@@ -258,6 +259,10 @@ rows_reboot r name =
     leaves-or_refused (HasSameRows r) (scope_of r.boot.start.deployment name) (λ s. reboots r s (reboot_refusal r.boot.start.limits r.boot.entries s)) (λ s found.
     rows_rebooted r s (reboot_refusal r.boot.start.limits r.boot.entries s))
 
+rows_session : (r : RunningState) (a : Answer SessionsState) → Leaves (HasSameRows r) (within (with_sessions r) a)
+rows_session r Refused = tt
+rows_session r (Done sessions text) = (refl, refl)
+
 rows_quiet : (r : RunningState) (line : Line) → Leaves (HasSameRows r) (quiet_line r line)
 unfolding table_step journal_step
 rows_quiet r lines.Pass = (refl, refl)
@@ -266,6 +271,8 @@ rows_quiet r (lines.Hard from to) = tt
 rows_quiet r (lines.Soft from to) = tt
 rows_quiet r (lines.Owns name table) = tt
 rows_quiet r (lines.Limit entries bytes) = tt
+rows_quiet r (lines.Bricks bricks most least) = tt
+rows_quiet r (lines.Key bytes) = tt
 rows_quiet r (lines.Begin c) = rows_called r (begin_step r.boot r.callers c)
 rows_quiet r (lines.Enter c name) = rows_called r (call_step r.boot r.callers c (calls.Enter name))
 rows_quiet r (lines.Exit c) = rows_called r (call_step r.boot r.callers c calls.Exit)
@@ -280,6 +287,7 @@ rows_quiet r (lines.Reboot name) = rows_reboot r name
 rows_quiet r lines.Table = (refl, refl)
 rows_quiet r lines.Journal = (refl, refl)
 rows_quiet r lines.Reopen = tt
+rows_quiet r (lines.Session line) = rows_session r (session_line r.sessions line)
 
 -- a commit
 

@@ -4,12 +4,13 @@ use Rattle.boot_core.specs.Boot.{BootValue}
 use Rattle.boot_core.specs.declared.refusals.StartRefusal.{StartRefusal}
 use Rattle.deployment.specs.Refusals.{deploy_refusal}
 use Rattle.line_steps.specs.declared.head.Head.{Head}
-use Rattle.line_steps.specs.Answer.{Answer, Refused, Done}
+use Rattle.scenario_text.specs.Answer.{Answer, Refused, Done}
 use Rattle.line_steps.specs.Head.{head_line}
 use Rattle.line_steps.specs.Texts.{boot_text}
 use Rattle.scenario_text.specs.declared.line.Line.{Line}
-use Rattle.scenario_text.specs.declared.line.Line.TheVariants.{Pass, Component, Hard, Soft, Owns, Limit, Begin, Enter, Exit, Read, List as ListLine, Put, Commit, Drop, Down, Up, Reboot, Table, Journal, Reopen}
+use Rattle.scenario_text.specs.declared.line.Line.TheVariants.{Pass, Component, Hard, Soft, Owns, Limit, Bricks, Key, Begin, Enter, Exit, Read, List as ListLine, Put, Commit, Drop, Down, Up, Reboot, Table, Journal, Reopen, Session}
 use Rattle.scenario_text.specs.Line.{is_event}
+use Rattle.session_steps.specs.Setup.{set_up}
 use Rattle.scenario_engine.specs.declared.engine.Stage.{Stage}
 use Rattle.scenario_engine.specs.declared.engine.Stage.TheVariants as stages
 use Rattle.scenario_engine.specs.declared.kind.LineKind.{LineKind}
@@ -49,7 +50,7 @@ target_in (Running r) = TheBoot r
 
 -- the boot over a head that opens so
 abbrev pub opened_target : Head → Opening → Target
-opened_target head (Opened start) = TheBoot (started start)
+opened_target head (Opened start) = TheBoot (started (set_up head.setup 0) start)
 opened_target head (Shut refusal) = NoBoot head refusal
 
 -- what a line is done to that is an event line, or is none
@@ -73,6 +74,8 @@ kind_of (Hard name other) = kinds.Quiet
 kind_of (Soft name other) = kinds.Quiet
 kind_of (Owns name table) = kinds.Quiet
 kind_of (Limit entries bytes) = kinds.Quiet
+kind_of (Bricks bricks most least) = kinds.Quiet
+kind_of (Key bytes) = kinds.Quiet
 kind_of (Begin caller) = kinds.Quiet
 kind_of (Enter caller name) = kinds.Quiet
 kind_of (Exit caller) = kinds.Quiet
@@ -87,6 +90,7 @@ kind_of (Reboot name) = kinds.Quiet
 kind_of Table = kinds.Quiet
 kind_of Journal = kinds.Quiet
 kind_of Reopen = kinds.Reopens
+kind_of (Session line) = kinds.Quiet
 
 -- a line of the head, by its answer
 abbrev pub in_head : Head → Answer Head → Outcome
@@ -102,9 +106,9 @@ in_boot r (Done next text) = DoneTo (Running next) text
 abbrev pub next_opening : RunningState → StartReplies → Opening
 next_opening r replies = opening r.boot.start.deployment r.boot.start.limits replies
 
--- the next boot, where it opens so; the callers of the boot before are gone
+-- the next boot, where it opens so; the callers of the boot before are gone, and the sessions stay
 abbrev pub reopens : RunningState → Opening → Outcome
-reopens r (Opened start) = DoneTo (Running (started start)) (boot_text start.boot)
+reopens r (Opened start) = DoneTo (Running (started r.sessions start)) (boot_text start.boot)
 reopens r (Shut refusal) = NotStarted (Running r) refusal
 
 -- a line over a boot, by its kind

@@ -7,3 +7,4 @@ pub mod Transcript
 pub mod Telling
 pub mod Told
 pub mod Sound
+pub mod Sessions

@@ -26,17 +26,23 @@ use Rattle.line_steps.specs.declared.callers.Caller.{Caller}
 use Rattle.line_steps.specs.declared.callers.Caller.TheVariants.{Absent, Live}
 use Rattle.scenario_engine.specs.KeeperCalls.{KeeperCall, apply_calls}
 use Rattle.scenario_engine.specs.State.{RunningState}
-use Rattle.line_steps.specs.Answer.{Answer, Refused, Done, or_refused, within}
+use Rattle.session_steps.specs.Sessions.{SessionsState, reopened, session_line}
+use Rattle.scenario_text.specs.Answer.{Answer, Refused, Done, or_refused, within}
 use Rattle.line_steps.specs.Callers.{caller_at, ended, begin_step, call_step}
 use Rattle.line_steps.specs.Texts.{committed_text, commit_refusal_text, down_text, up_text, reboot_refusal_text, table_text, journal_text}
 
--- a boot that was just started, without callers
-abbrev pub started : Start → RunningState
-started start = record { boot = new_boot start; callers = [] }
+-- a boot that was just started over these sessions, without callers
+abbrev pub started : SessionsState → Start → RunningState
+started sessions start =
+    record { boot = new_boot start; callers = []; sessions = reopened sessions start.boot }
 
 -- the same boot with these callers
 abbrev pub with_callers : RunningState → List Caller → RunningState
 with_callers r callers = record r { callers = callers }
+
+-- the same boot with these sessions
+abbrev pub with_sessions : RunningState → SessionsState → RunningState
+with_sessions r sessions = record r { sessions = sessions }
 
 -- the same callers of a boot whose journal has one entry more
 abbrev pub with_boot_entry : RunningState → Entry → RunningState
@@ -45,7 +51,7 @@ with_boot_entry r e = record r { boot = with_entry r.boot e }
 -- The call of a caller joins the journal, or is refused; it ends in each case.
 abbrev pub commit_ends : RunningState → ℕ → TicketValue → Option CommitRefusal → Answer RunningState
 commit_ends r caller ticket None =
-    Done (record {
+    Done (record r {
       boot = with_entry r.boot (Commit (entry_of ticket.call None));
       callers = ended r.callers caller;
     }) (committed_text caller (length r.boot.entries))
@@ -154,6 +160,8 @@ quiet_line r (lines.Hard from to) = Refused
 quiet_line r (lines.Soft from to) = Refused
 quiet_line r (lines.Owns name table) = Refused
 quiet_line r (lines.Limit entries bytes) = Refused
+quiet_line r (lines.Bricks bricks most least) = Refused
+quiet_line r (lines.Key bytes) = Refused
 quiet_line r (lines.Begin c) = within (with_callers r) (begin_step r.boot r.callers c)
 quiet_line r (lines.Enter c name) =
     within (with_callers r) (call_step r.boot r.callers c (calls.Enter name))
@@ -173,3 +181,4 @@ quiet_line r (lines.Reboot name) = reboot_step r name
 quiet_line r lines.Table = table_step r
 quiet_line r lines.Journal = journal_step r
 quiet_line r lines.Reopen = Refused
+quiet_line r (lines.Session line) = within (with_sessions r) (session_line r.sessions line)

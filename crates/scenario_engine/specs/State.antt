@@ -4,11 +4,13 @@ use Rattle.boot_core.specs.Boot.{BootValue}
 use Rattle.boot_core.specs.declared.refusals.StartRefusal.{StartRefusal}
 use Rattle.line_steps.specs.declared.callers.Caller.{Caller}
 use Rattle.line_steps.specs.declared.head.Head.{Head}
+use Rattle.session_steps.specs.Sessions.{SessionsState}
 
--- a boot that is started, and its callers
+-- a boot that is started, its callers, and the sessions
 pub record RunningState : Type 0 where
   pub boot : BootValue
   pub callers : List Caller
+  pub sessions : SessionsState
 
 -- Head lines build a deployment and set limits. The first event line starts the boot over them.
 pub data State : Type 0 where

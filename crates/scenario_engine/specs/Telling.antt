@@ -8,9 +8,9 @@ use Rattle.crash_base.specs.Rows.{put_all}
 use Rattle.deployment.specs.declared.parts.Parts.{Parts}
 use Rattle.journal_model.specs.declared.limits.JournalLimits.{JournalLimits}
 use Rattle.outside.specs.Keeper.{KeeperTold}
-use Rattle.line_steps.specs.Answer.{Answer}
-use Rattle.line_steps.specs.declared.answer.LineAnswer.{LineAnswer}
-use Rattle.line_steps.specs.declared.answer.LineAnswer.TheVariants as answers
+use Rattle.scenario_text.specs.Answer.{Answer}
+use Rattle.scenario_text.specs.declared.answer.LineAnswer.{LineAnswer}
+use Rattle.scenario_text.specs.declared.answer.LineAnswer.TheVariants as answers
 use Rattle.line_steps.specs.declared.head.Head.{Head}
 use Rattle.scenario_text.specs.declared.line.Line.{Line}
 use Rattle.scenario_engine.specs.Engine.{Replies, Target, NoBoot, target_of, target_calls, line_on, calls_on}

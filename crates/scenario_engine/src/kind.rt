@@ -29,6 +29,8 @@ pub(crate) fn kind_of(line: &Line) -> LineKind
         | Line::Soft(_, _)
         | Line::Owns(_, _)
         | Line::Limit(_, _)
+        | Line::Bricks(_, _, _)
+        | Line::Key(_)
         | Line::Begin(_)
         | Line::Enter(_, _)
         | Line::Exit(_)
@@ -40,6 +42,7 @@ pub(crate) fn kind_of(line: &Line) -> LineKind
         | Line::Up(_)
         | Line::Reboot(_)
         | Line::Table
-        | Line::Journal => LineKind::Quiet,
+        | Line::Journal
+        | Line::Session(_) => LineKind::Quiet,
     }
 }

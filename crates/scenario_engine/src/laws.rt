@@ -7,6 +7,7 @@ ghost use Rattle.outside.specs.Keeper.{KeeperTold};
 ghost use Rattle.scenario_engine.specs.KeeperCalls.{TellsCalls};
 ghost use Rattle.scenario_engine.specs.Sound.{CommitsUnrebooted, RunsSerially, CommitsOwnRequests};
 ghost use Rattle.scenario_text.specs.declared.line.Line.{Line};
+ghost use Rattle.scenario_engine.specs.Sessions.{HasSessions};
 ghost use Rattle.scenario_engine.specs.State.{State};
 ghost use Rattle.scenario_engine.specs.Telling.{DoesPartly, HoldsRowsButNumber};
 ghost use Rattle.scenario_engine.specs.Told.{Tells};
@@ -14,6 +15,7 @@ ghost use Rattle.scenario_engine.specs.Transcript.{Turn, lines_in, first, transc
 
 use boot_core::boots_stay_sound;
 use journal_model::{legal_journals_are_serial, no_commit_after_a_reboot};
+use session_steps::sessions_stand;
 
 /// Whatever the turns, each boot is sound, and so is the one at the end, also where they stop at a line: its journal is
 /// legal and within its limits, and each commit wrote only rows of tables whose owners' groups it entered.
@@ -49,6 +51,14 @@ pub fn no_turns_break_the_order()
 pub fn commits_are_of_their_boot()
     ensures { (turns : List Turn) → All CommitsOwnRequests (boots_from first turns) }
 {}
+
+/// Whatever the turns, their sessions stand: the bricks, packets and calls are a world's, and each fetch answers what was
+/// written, or says why it does not.
+pub fn scenarios_have_sessions()
+    ensures { (turns : List Turn) → HasSessions turns }
+{
+    sessions_stand();
+}
 
 /// Whatever the turns, a keeper that was called as they say, and that tells, holds just the rows that the journal of the
 /// last boot leaves, or those that it held first where no boot is started; and each boot was started over the rows that

@@ -27,4 +27,5 @@ pub use engine::Engine;
 pub use laws::{
     boots_are_sound, commits_are_of_their_boot, keepers_decide, keepers_tell,
     no_commit_is_kept_partly, no_turns_break_the_order, no_turns_commit_after_a_reboot,
+    scenarios_have_sessions,
 };

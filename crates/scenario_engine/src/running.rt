@@ -3,7 +3,7 @@
 ghost use Rattle.std.specs.Prelude.{◌≡◌, ◌≤◌, ◌+◌, ◌++◌, length, None, IfOk, IfSome, MatchResult, option_map, string_bytes};
 ghost use Rattle.commit_journal.specs.Journal.{IsScope};
 ghost use Rattle.deployment.specs.Refusals.{deploy_refusal};
-ghost use Rattle.line_steps.specs.Answer.{KeepsRefused, answer_of, within};
+ghost use Rattle.scenario_text.specs.Answer.{KeepsRefused, answer_of, within};
 ghost use Rattle.journal_model.specs.Rows.{rows_after};
 ghost use Rattle.boot_core.specs.Fits.{FitsIn};
 ghost use Rattle.line_steps.specs.Texts.{committed_text};
@@ -12,6 +12,7 @@ ghost use Rattle.scenario_text.specs.declared.line.TheConstants.{MAX_CALLER};
 ghost use Rattle.boot_core.specs.Boot.{new_boot};
 ghost use Rattle.boot_core.specs.declared.boot.Start.{Start};
 ghost use Rattle.outside.specs.Faults.{Rose};
+ghost use Rattle.session_steps.specs.Setup.{set_up};
 ghost use Rattle.scenario_engine.specs.Opening.{Opened};
 ghost use Rattle.scenario_engine.specs.Running.{started, with_callers, scope_of, drop_step, down_step, up_step, reboot_step, table_step, journal_step, quiet_line};
 ghost use Rattle.scenario_engine.specs.Telling.{Opens, IsShut, Commits, CommitsPartly};
@@ -21,19 +22,21 @@ use container_core::start_boot;
 use crash_base::{APPLICATION, ComponentName, LatestRows, OutOfMemory, Place, Scope, WorkerNo};
 use deployment::Deployment;
 use line_steps::{
-    CallLine, Callers, Head, LineAnswer, commit_refusal_text, committed_text, down_text,
-    journal_text, reboot_refusal_text, rebooted_text, request_of, table_text, up_text,
+    CallLine, Callers, Head, commit_refusal_text, committed_text, down_text, journal_text,
+    reboot_refusal_text, rebooted_text, request_of, table_text, up_text,
 };
 use outside::Keeper;
-use scenario_text::{Line, MAX_CALLER};
+use scenario_text::{Line, LineAnswer, MAX_CALLER};
+use session_steps::Sessions;
 use std::alloc::Global;
 use std::marker::Model;
 
-/// A boot that is started, and its callers.
+/// A boot that is started, its callers, and the sessions.
 #[derive(Drop)]
 pub(crate) struct Running {
     boot: Boot,
     callers: Callers,
+    sessions: Sessions,
 }
 
 impl Model for Running {
@@ -42,7 +45,7 @@ impl Model for Running {
 
     ghost Value = { RunningState };
 
-    ghost view = { λ a. record { boot = a.boot; callers = a.callers } };
+    ghost view = { λ a. record { boot = a.boot; callers = a.callers; sessions = a.sessions } };
 
     ghost invariant = { λ a. AllFit a.boot a.callers };
 }
@@ -81,15 +84,16 @@ fn current_rows<'a>(alloc: Global, boot: &'a Boot) -> Result<LatestRows<'a>, Out
 }
 
 impl Running {
-    /// Opens a boot over the rows of the keeper, without callers.
+    /// Opens a boot over the rows of the keeper and these sessions, without callers.
     fn open<K: Keeper>(
         alloc: Global,
         deployment: Deployment,
         limits: JournalLimits,
+        mut sessions: Sessions,
         keeper: &mut K,
     ) -> Result<Running, StartRefusal>
         ensures opens { MatchResult result
-            (λ r. (start : Start) × (r ≡ started start)
+            (λ r. (start : Start) × (r ≡ started sessions start)
             × Opens deployment limits (Opened start) (K.told keeper.old) (K.told keeper.new))
             (λ refusal. IsShut refusal deployment limits (K.told keeper.old) (K.told keeper.new)) }
         ensures failed { result ≡ Err StartRefusal.KeeperFailed
@@ -97,10 +101,14 @@ impl Running {
         ensures count { K.faults keeper.old ≤ K.faults keeper.new }
     {
         match start_boot(alloc, deployment, limits, keeper) {
-            Ok(boot) => Ok(Running {
-                boot,
-                callers: Callers::new(alloc),
-            }),
+            Ok(boot) => {
+                sessions.reopen(boot.number());
+                Ok(Running {
+                    boot,
+                    callers: Callers::new(alloc),
+                    sessions,
+                })
+            }
             Err(refusal) => Err(refusal),
         }
     }
@@ -113,7 +121,7 @@ impl Running {
     ) -> Result<Running, StartRefusal>
         requires { deploy_refusal head.parts ≡ None }
         ensures opens { MatchResult result
-            (λ r. (start : Start) × (r ≡ started start)
+            (λ r. (start : Start) × (r ≡ started (set_up head.setup 0) start)
             × Opens head.parts head.limits (Opened start) (K.told keeper.old) (K.told keeper.new))
             (λ refusal. IsShut refusal head.parts head.limits
             (K.told keeper.old) (K.told keeper.new)) }
@@ -122,20 +130,23 @@ impl Running {
         ensures count { K.faults keeper.old ≤ K.faults keeper.new }
     {
         let limits = head.limits;
+        let Ok(sessions) = Sessions::new(alloc, head.setup) else {
+            return Err(StartRefusal::OutOfMemory);
+        };
         match Deployment::check(head.parts) {
-            Ok(deployment) => Running::open(alloc, deployment, limits, keeper),
+            Ok(deployment) => Running::open(alloc, deployment, limits, sessions, keeper),
             Err(_) => unreachable!(),
         }
     }
 
-    /// Starts the next boot, over the same deployment and limits. The callers of this one are gone.
+    /// Starts the next boot, over the same deployment and limits. The callers of this one are gone, and the sessions stay.
     pub(crate) fn reopen<K: Keeper>(
         self,
         alloc: Global,
         keeper: &mut K,
     ) -> Result<Running, StartRefusal>
         ensures opens { MatchResult result
-            (λ r. (start : Start) × (r ≡ started start)
+            (λ r. (start : Start) × (r ≡ started self.sessions start)
             × Opens self.boot.start.deployment self.boot.start.limits (Opened start)
             (K.told keeper.old) (K.told keeper.new))
             (λ refusal. IsShut refusal self.boot.start.deployment self.boot.start.limits
@@ -145,7 +156,13 @@ impl Running {
         ensures count { K.faults keeper.old ≤ K.faults keeper.new }
     {
         let limits = self.boot.journal().limits();
-        Running::open(alloc, self.boot.into_deployment(), limits, keeper)
+        Running::open(
+            alloc,
+            self.boot.into_deployment(),
+            limits,
+            self.sessions,
+            keeper,
+        )
     }
 
     /// The number of the boot.
@@ -326,6 +343,8 @@ impl Running {
             | Line::Soft(_, _)
             | Line::Owns(_, _)
             | Line::Limit(_, _)
+            | Line::Bricks(_, _, _)
+            | Line::Key(_)
             | Line::Commit(_)
             | Line::Reopen => Ok(LineAnswer::Refused),
             Line::Begin(caller) => self.begin_step(alloc, caller),
@@ -344,6 +363,7 @@ impl Running {
             Line::Reboot(name) => self.reboot_step(alloc, name),
             Line::Table => self.table_step(alloc),
             Line::Journal => self.journal_step(alloc),
+            Line::Session(line) => self.sessions.step(alloc, line),
         }
     }
 }

@@ -12,7 +12,7 @@ use Rattle.std.proofs.lemmas.Slice.Eq.{bytes_eq-Decides}
 use Rattle.scenario_text.specs.Fields.{hex_digit, hex_byte, bytes_of_digits, hex_bytes}
 use Rattle.scenario_text.specs.declared.line.TheConstants.{MAX_HEX_BYTES}
 use Rattle.scenario_text.specs.Texts.{byte_text, hex_text}
-use Rattle.scenario_text.specs.Spelling.{AreBytes}
+use Rattle.scenario_text.specs.FieldSpelling.{AreBytes}
 use Rattle.scenario_text.proofs.OneWord.{then_some, map_some}
 use Rattle.scenario_text.proofs.Splits.{is_whole, whole_more}
 

@@ -4,5 +4,9 @@ pub mod Forms
 pub mod OneWord
 pub mod Splits
 pub mod Hexadecimal
+pub mod SessionWords
 pub mod WordKinds
+pub mod LineForms
+pub mod LineReads
+pub mod SessionSpelled
 pub mod Spelled

@@ -1,4 +1,4 @@
--- Numbers, callers and names: what one word says, and what spells it.
+-- Numbers, lettered numbers and names: what one word says, and what spells it.
 use Rattle.std.proofs.Common.{◌≡◌, ℕ, ◌+◌, ◌*◌, ◌-◌, ◌^◌, ◌<◌, ◌≤◌, ◌==◌, ◌&&◌, ◌||◌, ◌⊎◌, inl, inr, Bool, true, false, cond, nat_lt, nat_le, List, [], ◌∷◌, length, get_or, slice_index, Option, Some, None, option_and_then, refl, ap, sym, ◌∙◌, arith, rules}
 use Rattle.std.specs.Bool.{Decides}
 use Rattle.std.specs.Fmt.{decimal}
@@ -14,9 +14,8 @@ use Rattle.std.proofs.lemmas.Bool.Decides.{nat_tests, Decides-by_and}
 use borrow.Author.Tests.{tests}
 use Rattle.crash_base.specs.declared.names.TheConstants.{MAX_NAME_BYTES}
 use Rattle.crash_base.specs.Names.{is_name, is_name_byte}
-use Rattle.scenario_text.specs.declared.line.TheConstants.{MAX_CALLER}
-use Rattle.scenario_text.specs.Fields.{name_of, digits_from, decimal_number, caller_number}
-use Rattle.scenario_text.specs.Spelling.{IsNumber, IsCaller, IsName, IsNameByte, caller_word}
+use Rattle.scenario_text.specs.Fields.{name_of, digits_from, decimal_number, lettered_number}
+use Rattle.scenario_text.specs.FieldSpelling.{IsWithin, IsNumber, IsName, IsNameByte}
 
 -- the number that digits go on to
 abbrev read : ℕ → List ℕ → ℕ
@@ -114,27 +113,29 @@ number_read n h =
 pub decimal_digits : (n : ℕ) → IsNumber n → all_ascii_digits (decimal n) ≡ true
 decimal_digits n h = digits_decimal own n h
 
--- a word that says a caller is c and its number
-pub caller_spelled : (word : List ℕ) (c : ℕ) → caller_number word ≡ Some c → (word ≡ caller_word c) × IsCaller c
-caller_spelled [] c h = cc
-caller_spelled (x ∷ ds) c h =
-    let f : ℕ → Option ℕ = λ n. cond (x == 99 && (nat_le 1 n && nat_le n MAX_CALLER)) (Some n) None in
+-- a word that says a lettered number is the letter and that number
+pub lettered_spelled : (letter highest : ℕ) (word : List ℕ) (c : ℕ) → lettered_number letter highest word ≡ Some c → (word ≡ letter ∷ decimal c) × IsWithin 1 highest c
+lettered_spelled letter highest [] c h = cc
+lettered_spelled letter highest (x ∷ ds) c h =
+    let f : ℕ → Option ℕ = λ n. cond (x == letter && (nat_le 1 n && nat_le n highest)) (Some n) None in
     let (n, e, k) = then_some f (decimal_number ds) c h in
-    let g = cond_some (x == 99 && (nat_le 1 n && nat_le n MAX_CALLER)) n c k in
+    let g = cond_some (x == letter && (nat_le 1 n && nat_le n highest)) n c k in
     let d = number_spelled ds n e in
     let same : n ≡ c = g.1 in
-    let t = and_parts (x == 99) (nat_le 1 n && nat_le n MAX_CALLER) g.0 in
-    let letter : x ≡ 99 = grind (arith, nat_tests) in
+    let t = and_parts (x == letter) (nat_le 1 n && nat_le n highest) g.0 in
+    let first : x ≡ letter = grind (arith, nat_tests) in
     let low : 1 ≤ c = grind (arith, nat_tests) in
-    let high : c ≤ MAX_CALLER = grind (arith, nat_tests) in
-    (ap (λ y. y ∷ ds) letter ∙ ap (λ ys. 99 ∷ ys) (d.0 ∙ ap decimal same), (low, high))
+    let high : c ≤ highest = grind (arith, nat_tests) in
+    (ap (λ y. y ∷ ds) first ∙ ap (λ ys. letter ∷ ys) (d.0 ∙ ap decimal same), (low, high))
 
-in_range : (c : ℕ) → IsCaller c → (nat_le 1 c && nat_le c MAX_CALLER) ≡ true
-in_range c (low, high) = grind (arith, nat_tests)
+in_range : (letter highest c : ℕ) → IsWithin 1 highest c → (letter == letter && (nat_le 1 c && nat_le c highest)) ≡ true
+in_range letter highest c (low, high) = grind (arith, nat_tests)
 
 -- that word says it
-pub caller_read : (c : ℕ) → IsCaller c → caller_number (caller_word c) ≡ Some c
-caller_read c (low, high) = rw (number_read c (omega arith), in_range c (low, high)) refl
+pub lettered_read : (letter highest : ℕ) → highest < 2 ^ 64 → (c : ℕ) → IsWithin 1 highest c → lettered_number letter highest (letter ∷ decimal c) ≡ Some c
+lettered_read letter highest bound c (low, high) =
+    let small : c < 2 ^ 64 = omega arith in
+    rw (number_read c small, in_range letter highest c (low, high)) refl
 
 -- the test of a byte of a name decides what the grammar says of it, and so for names
 name_byte_decides : (b : ℕ) → Decides (is_name_byte b) (IsNameByte b)

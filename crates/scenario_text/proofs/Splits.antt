@@ -72,21 +72,20 @@ words_joined word (next ∷ words) h (k, ks) = slice_split_at space word 32 (joi
 pub whole_more : (b : ℕ) (bs : List ℕ) → (b == 32) ≡ false → is_whole bs ≡ true → is_whole (b ∷ bs) ≡ true
 whole_more b bs h k = rw (h, k) refl
 
+-- nor has a word whose bytes pass a test that a space fails
+pub tested_whole : (test : ℕ → Bool) → ((b : ℕ) → test b ≡ true → (b == 32) ≡ false) → (word : List ℕ) → list_all test word ≡ true → is_whole word ≡ true
+tested_whole test other [] h = refl
+tested_whole test other (b ∷ bs) h =
+    let g = and_parts (test b) (list_all test bs) h in
+    whole_more b bs (other b g.0) (tested_whole test other bs g.1)
+
 -- digits have no space
 pub digits_whole : (ds : List ℕ) → all_ascii_digits ds ≡ true → is_whole ds ≡ true
-digits_whole [] h = refl
-digits_whole (c ∷ cs) h =
-    let g = and_parts (is_ascii_digit c) (all_ascii_digits cs) h in
-    let other : (c == 32) ≡ false = grind (arith, nat_tests) in
-    whole_more c cs other (digits_whole cs g.1)
+digits_whole ds h = tested_whole is_ascii_digit (λ b d. grind (arith, nat_tests)) ds h
 
 -- nor do bytes of a name
 pub name_whole : (word : List ℕ) → list_all is_name_byte word ≡ true → is_whole word ≡ true
-name_whole [] h = refl
-name_whole (b ∷ bs) h =
-    let g = and_parts (is_name_byte b) (list_all is_name_byte bs) h in
-    let other : (b == 32) ≡ false = grind (arith, nat_tests) in
-    whole_more b bs other (name_whole bs g.1)
+name_whole word h = tested_whole is_name_byte (λ b n. grind (arith, nat_tests)) word h
 
 -- nothing is left past the end
 pub none_left : (xs : List ℕ) → take (length xs - length xs) (drop (length xs) xs) ≡ []

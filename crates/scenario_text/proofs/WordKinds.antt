@@ -5,12 +5,16 @@ use Rattle.std.specs.List.{list_all}
 use Rattle.std.specs.Option.{option_zip}
 use Rattle.std.proofs.lemmas.Bool.{and_parts}
 use Rattle.crash_base.specs.Names.{is_name_byte}
-use Rattle.scenario_text.specs.Fields.{name_of, decimal_number, caller_number, hex_bytes}
+use Rattle.scenario_text.specs.declared.line.TheConstants.{MAX_CALLER}
+use Rattle.scenario_text.specs.declared.session_line.TheConstants.{MAX_KEY}
+use Rattle.scenario_text.specs.declared.session_line.Freed.{Freed}
+use Rattle.scenario_text.specs.Fields.{name_of, decimal_number, caller_number, key_number, hex_bytes, presented_text, freed_of}
 use Rattle.scenario_text.specs.Texts.{hex_text}
-use Rattle.scenario_text.specs.Spelling.{IsName, IsNumber, IsCaller, AreBytes, caller_word}
+use Rattle.scenario_text.specs.FieldSpelling.{IsName, IsNumber, IsCaller, IsSessionKey, IsPresented, AreBytes, caller_word, key_word, freed_word}
 use Rattle.scenario_text.specs.Words.{one_word, two_words, three_words, four_words}
-use Rattle.scenario_text.proofs.OneWord.{number_read, number_spelled, decimal_digits, caller_read, caller_spelled, is_name_read, name_read, name_spelled}
+use Rattle.scenario_text.proofs.OneWord.{number_read, number_spelled, decimal_digits, lettered_read, lettered_spelled, is_name_read, name_read, name_spelled}
 use Rattle.scenario_text.proofs.Splits.{is_whole, whole_more, digits_whole, name_whole}
+use Rattle.scenario_text.proofs.SessionWords.{presented_read, presented_spelled, presented_whole, freed_read, freed_spelled, freed_whole}
 use Rattle.scenario_text.proofs.Hexadecimal.{hex_spelled, hex_read, hex_whole}
 
 -- A kind of words: what one says, the word of what it says, and what that may be. Each of both follows from the other.
@@ -31,6 +35,9 @@ number_whole n h = digits_whole (decimal n) (decimal_digits n h)
 pub caller_whole : (c : ℕ) → IsCaller c → is_whole (caller_word c) ≡ true
 caller_whole c (low, high) = whole_more 99 (decimal c) refl (number_whole c (omega arith))
 
+pub key_whole : (k : ℕ) → IsSessionKey k → is_whole (key_word k) ≡ true
+key_whole k (low, high) = whole_more 107 (decimal k) refl (number_whole k (omega arith))
+
 abbrev pub names : Kind (List ℕ)
 names = record { says = name_of; word = λ n. n; IsIn = IsName; spelled = name_spelled; read = name_read; whole = named_whole }
 
@@ -38,7 +45,16 @@ abbrev pub numbers : Kind ℕ
 numbers = record { says = decimal_number; word = decimal; IsIn = IsNumber; spelled = number_spelled; read = number_read; whole = number_whole }
 
 abbrev pub callers : Kind ℕ
-callers = record { says = caller_number; word = caller_word; IsIn = IsCaller; spelled = caller_spelled; read = caller_read; whole = caller_whole }
+callers = record { says = caller_number; word = caller_word; IsIn = IsCaller; spelled = lettered_spelled 99 MAX_CALLER; read = lettered_read 99 MAX_CALLER (omega arith); whole = caller_whole }
+
+abbrev pub keys : Kind ℕ
+keys = record { says = key_number; word = key_word; IsIn = IsSessionKey; spelled = lettered_spelled 107 MAX_KEY; read = lettered_read 107 MAX_KEY (omega arith); whole = key_whole }
+
+abbrev pub texts : Kind (List ℕ)
+texts = record { says = presented_text; word = λ t. t; IsIn = IsPresented; spelled = presented_spelled; read = presented_read; whole = presented_whole }
+
+abbrev pub outcomes : Kind Freed
+outcomes = record { says = freed_of; word = freed_word; IsIn = λ _. Unit {0}; spelled = freed_spelled; read = λ f _. freed_read f; whole = λ f _. freed_whole f }
 
 abbrev pub bytes : Kind (List ℕ)
 bytes = record { says = hex_bytes; word = hex_text; IsIn = AreBytes; spelled = hex_spelled; read = hex_read; whole = λ a h. hex_whole a }

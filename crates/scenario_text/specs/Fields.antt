@@ -1,10 +1,14 @@
 -- What one word of a line says.
-use Rattle.std.specs.Prelude.{ℕ, ◌+◌, ◌*◌, ◌-◌, ◌^◌, ◌==◌, ◌&&◌, ◌||◌, nat_lt, nat_le, if◌then◌else◌, List, [], ◌∷◌, length, slice_index, Option, Some, None, option_and_then, codes}
-use Rattle.std.specs.Char.{is_ascii_digit}
+use Rattle.std.specs.Prelude.{ℕ, Bool, not, ◌+◌, ◌*◌, ◌-◌, ◌^◌, ◌==◌, ◌&&◌, ◌||◌, nat_lt, nat_le, if◌then◌else◌, List, [], ◌∷◌, length, slice_index, Option, Some, None, option_and_then, codes}
+use Rattle.std.specs.Char.{is_ascii, is_ascii_digit}
 use Rattle.std.specs.Option.{option_map}
 use Rattle.std.specs.Str.{bytes_eq}
+use Rattle.std.specs.List.{list_all}
 use Rattle.crash_base.specs.Names.{is_name}
 use Rattle.scenario_text.specs.declared.line.TheConstants.{MAX_HEX_BYTES, MAX_CALLER}
+use Rattle.scenario_text.specs.declared.session_line.TheConstants.{MAX_KEY}
+use Rattle.scenario_text.specs.declared.session_line.Freed.{Freed}
+use Rattle.scenario_text.specs.declared.session_line.Freed.TheVariants.{Answered, Silent}
 
 -- a word that is a name
 abbrev pub name_of : List ℕ → Option (List ℕ)
@@ -25,13 +29,21 @@ decimal_number word =
     then None
     else digits_from 0 word
 
--- the number of a caller: c and a number from 1 to the highest
-abbrev pub caller_number : List ℕ → Option ℕ
-caller_number [] = None
-caller_number (c ∷ bs) =
+-- a letter, and a number from 1 to a highest one
+abbrev pub lettered_number : ℕ → ℕ → List ℕ → Option ℕ
+lettered_number letter highest [] = None
+lettered_number letter highest (b ∷ bs) =
     option_and_then
-    (λ n. if c == 99 && (nat_le 1 n && nat_le n MAX_CALLER) then Some n else None)
+    (λ n. if b == letter && (nat_le 1 n && nat_le n highest) then Some n else None)
     (decimal_number bs)
+
+-- the number of a caller, after c
+abbrev pub caller_number : List ℕ → Option ℕ
+caller_number word = lettered_number 99 MAX_CALLER word
+
+-- the number of a session key, after k
+abbrev pub key_number : List ℕ → Option ℕ
+key_number word = lettered_number 107 MAX_KEY word
 
 -- the value of a lower case hexadecimal digit
 abbrev pub hex_digit : ℕ → Option ℕ
@@ -62,3 +74,18 @@ hex_bytes word =
     if nat_le 1 (length word) && nat_le (length word) (2 * MAX_HEX_BYTES)
     then bytes_of_digits word
     else None)
+
+-- ASCII, and no space and no carriage return
+abbrev pub is_presented_byte : ℕ → Bool
+is_presented_byte b = is_ascii b && (not (b == 32) && not (b == 13))
+
+-- a word that is a text to present: some such bytes
+abbrev pub presented_text : List ℕ → Option (List ℕ)
+presented_text word =
+    if nat_le 1 (length word) && list_all is_presented_byte word then Some word else None
+
+-- how a pass is spent, by the word for it
+abbrev pub freed_of : List ℕ → Option Freed
+freed_of word =
+    if bytes_eq word (codes "answered") then Some Answered else (
+    if bytes_eq word (codes "silent") then Some Silent else None)

@@ -1,7 +1,12 @@
+pub mod Answer
+pub mod Arguments
 pub mod Cutting
+pub mod FieldSpelling
 pub mod Fields
 pub mod Line
 pub mod Reading
+pub mod SessionReading
+pub mod SessionSpelling
 pub mod Spelling
 pub mod Texts
 pub mod Words

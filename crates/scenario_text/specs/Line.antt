@@ -1,7 +1,7 @@
 -- Kinds of lines.
 use Rattle.std.specs.Prelude.{Bool, true, false}
 use Rattle.scenario_text.specs.declared.line.Line.{Line}
-use Rattle.scenario_text.specs.declared.line.Line.TheVariants.{Pass, Component, Hard, Soft, Owns, Limit, Begin, Enter, Exit, Read, List as ListLine, Put, Commit, Drop, Down, Up, Reboot, Table, Journal, Reopen}
+use Rattle.scenario_text.specs.declared.line.Line.TheVariants.{Pass, Component, Hard, Soft, Owns, Limit, Bricks, Key, Begin, Enter, Exit, Read, List as ListLine, Put, Commit, Drop, Down, Up, Reboot, Table, Journal, Reopen, Session}
 
 -- whether a line is an event line: neither passed over nor part of the head
 abbrev pub is_event : Line → Bool
@@ -11,6 +11,8 @@ is_event (Hard name other) = false
 is_event (Soft name other) = false
 is_event (Owns name table) = false
 is_event (Limit entries bytes) = false
+is_event (Bricks bricks most least) = false
+is_event (Key bytes) = false
 is_event (Begin caller) = true
 is_event (Enter caller name) = true
 is_event (Exit caller) = true
@@ -25,3 +27,4 @@ is_event (Reboot name) = true
 is_event Table = true
 is_event Journal = true
 is_event Reopen = true
+is_event (Session line) = true

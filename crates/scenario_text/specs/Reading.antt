@@ -1,54 +1,16 @@
 -- Which line a text spells.
 use Rattle.std.specs.Prelude.{ℕ, Bool, nat_lt, ◌==◌, ◌&&◌, true, not, if◌then◌else◌, List, [], ◌∷◌, length, Option, Some, None, option_and_then, codes}
 use Rattle.std.specs.Char.{is_ascii}
-use Rattle.std.specs.Option.{option_map, option_zip}
+use Rattle.std.specs.Option.{option_map}
 use Rattle.std.specs.Str.{bytes_eq}
 use Rattle.std.specs.List.{list_all}
 use Rattle.scenario_text.specs.declared.line.TheConstants.{MAX_LINE_BYTES}
 use Rattle.scenario_text.specs.declared.line.Line.{Line}
-use Rattle.scenario_text.specs.declared.line.Line.TheVariants.{Pass, Component, Hard, Soft, Owns, Limit, Begin, Enter, Exit, Read, List as ListLine, Put, Commit, Drop, Down, Up, Reboot, Table, Journal, Reopen}
-use Rattle.scenario_text.specs.Fields.{name_of, decimal_number, caller_number, hex_bytes}
-use Rattle.scenario_text.specs.Words.{words_of, no_words, one_word, two_words, three_words, four_words}
-
--- the name that is the only word
-abbrev pub one_name : List (List ℕ) → Option (List ℕ)
-one_name words = option_and_then name_of (one_word words)
-
--- the caller that is the only word
-abbrev pub one_caller : List (List ℕ) → Option ℕ
-one_caller words = option_and_then caller_number (one_word words)
-
--- two words, a name each
-abbrev pub two_names : List (List ℕ) → Option (List ℕ × List ℕ)
-two_names words =
-    option_and_then (λ w. option_zip (name_of w.0) (name_of w.1)) (two_words words)
-
--- two words, a number each
-abbrev pub two_numbers : List (List ℕ) → Option (ℕ × ℕ)
-two_numbers words =
-    option_and_then (λ w. option_zip (decimal_number w.0) (decimal_number w.1)) (two_words words)
-
--- two words, a name and a number
-abbrev pub name_and_number : List (List ℕ) → Option (List ℕ × ℕ)
-name_and_number words =
-    option_and_then (λ w. option_zip (name_of w.0) (decimal_number w.1)) (two_words words)
-
--- two words, a caller and a name
-abbrev pub caller_and_name : List (List ℕ) → Option (ℕ × List ℕ)
-caller_and_name words =
-    option_and_then (λ w. option_zip (caller_number w.0) (name_of w.1)) (two_words words)
-
--- two words, a caller and a number
-abbrev pub caller_and_number : List (List ℕ) → Option (ℕ × ℕ)
-caller_and_number words =
-    option_and_then (λ w. option_zip (caller_number w.0) (decimal_number w.1)) (two_words words)
-
--- three words, a caller and two numbers
-abbrev pub caller_and_two_numbers : List (List ℕ) → Option (ℕ × (ℕ × ℕ))
-caller_and_two_numbers words =
-    option_and_then
-    (λ w. option_zip (caller_number w.0) (option_zip (decimal_number w.1) (decimal_number w.2)))
-    (three_words words)
+use Rattle.scenario_text.specs.declared.line.Line.TheVariants.{Pass, Component, Hard, Soft, Owns, Limit, Bricks, Key, Begin, Enter, Exit, Read, List as ListLine, Put, Commit, Drop, Down, Up, Reboot, Table, Journal, Reopen, Session}
+use Rattle.scenario_text.specs.Fields.{decimal_number, caller_number, hex_bytes}
+use Rattle.scenario_text.specs.Words.{words_of, no_words, four_words}
+use Rattle.scenario_text.specs.Arguments.{one_name, one_caller, one_bytes, two_names, two_numbers, name_and_number, caller_and_name, caller_and_number, caller_and_two_numbers, three_numbers}
+use Rattle.scenario_text.specs.SessionReading.{session_line}
 
 -- the line of put and these words: a caller, the numbers of a table and a key, and bytes
 abbrev pub put_line : List (List ℕ) → Option Line
@@ -76,7 +38,8 @@ event_line first words =
     if bytes_eq first (codes "reboot") then option_map (λ n. Reboot n) (one_name words) else (
     if bytes_eq first (codes "table") then option_map (λ _. Table) (no_words words) else (
     if bytes_eq first (codes "journal") then option_map (λ _. Journal) (no_words words) else (
-    if bytes_eq first (codes "reopen") then option_map (λ _. Reopen) (no_words words) else None)))))))))))))
+    if bytes_eq first (codes "reopen") then option_map (λ _. Reopen) (no_words words) else
+    option_map (λ s. Session s) (session_line first words))))))))))))))
 
 -- the line of the head, or else the event line, that they spell
 abbrev pub line_from : List ℕ → List (List ℕ) → Option Line
@@ -85,8 +48,10 @@ line_from first words =
     if bytes_eq first (codes "hard") then option_map (λ p. Hard p.0 p.1) (two_names words) else (
     if bytes_eq first (codes "soft") then option_map (λ p. Soft p.0 p.1) (two_names words) else (
     if bytes_eq first (codes "owns") then option_map (λ p. Owns p.0 p.1) (name_and_number words) else (
-    if bytes_eq first (codes "limit") then option_map (λ p. Limit p.0 p.1) (two_numbers words) else
-    event_line first words))))
+    if bytes_eq first (codes "limit") then option_map (λ p. Limit p.0 p.1) (two_numbers words) else (
+    if bytes_eq first (codes "bricks") then option_map (λ p. Bricks p.0 p.1.0 p.1.1) (three_numbers words) else (
+    if bytes_eq first (codes "key") then option_map (λ b. Key b) (one_bytes words) else
+    event_line first words))))))
 
 -- the line that words spell
 abbrev pub line_of_words : List (List ℕ) → Option Line

@@ -1,36 +1,13 @@
 -- What spells a line, in the words of the scenario's grammar.
-use Rattle.std.specs.Prelude.{◌≡◌, ◌≢◌, ℕ, ◌^◌, ◌<◌, ◌≤◌, ◌⊎◌, List, [], ◌∷◌, length, All, codes}
+use Rattle.std.specs.Prelude.{◌≡◌, ◌≢◌, ℕ, ◌<◌, ◌≤◌, ◌⊎◌, List, [], ◌∷◌, length, All, codes}
 use Rattle.std.specs.Fmt.{decimal}
 use Rattle.std.specs.List.{join_with_byte}
-use Rattle.crash_base.specs.declared.names.TheConstants.{MAX_NAME_BYTES}
-use Rattle.scenario_text.specs.declared.line.TheConstants.{MAX_LINE_BYTES, MAX_HEX_BYTES, MAX_CALLER}
+use Rattle.scenario_text.specs.declared.line.TheConstants.{MAX_LINE_BYTES}
 use Rattle.scenario_text.specs.declared.line.Line.{Line}
-use Rattle.scenario_text.specs.declared.line.Line.TheVariants.{Pass, Component, Hard, Soft, Owns, Limit, Begin, Enter, Exit, Read, List as ListLine, Put, Commit, Drop, Down, Up, Reboot, Table, Journal, Reopen}
+use Rattle.scenario_text.specs.declared.line.Line.TheVariants.{Pass, Component, Hard, Soft, Owns, Limit, Bricks, Key, Begin, Enter, Exit, Read, List as ListLine, Put, Commit, Drop, Down, Up, Reboot, Table, Journal, Reopen, Session}
 use Rattle.scenario_text.specs.Texts.{hex_text}
-
--- from a first number to a last one
-abbrev pub IsWithin : ℕ → ℕ → ℕ → Type 0
-IsWithin first last n = (first ≤ n) × (n ≤ last)
-
--- a digit, a capital letter, a small letter or _
-abbrev pub IsNameByte : ℕ → Type 0
-IsNameByte b = IsWithin 48 57 b ⊎ (IsWithin 65 90 b ⊎ (IsWithin 97 122 b ⊎ (b ≡ 95)))
-
--- 1 to 32 (`MAX_NAME_BYTES`) such bytes
-abbrev pub IsName : List ℕ → Type 0
-IsName name = IsWithin 1 MAX_NAME_BYTES (length name) × All IsNameByte name
-
--- what the number of a table, a key, entries or bytes may be
-abbrev pub IsNumber : ℕ → Type 0
-IsNumber n = n < 2 ^ 64
-
--- what the number of a caller may be
-abbrev pub IsCaller : ℕ → Type 0
-IsCaller caller = IsWithin 1 MAX_CALLER caller
-
--- what a line may give in hexadecimal
-abbrev pub AreBytes : List ℕ → Type 0
-AreBytes bytes = (length bytes ≤ MAX_HEX_BYTES) × All (λ b. b < 256) bytes
+use Rattle.scenario_text.specs.FieldSpelling.{IsName, IsNumber, IsCaller, AreBytes, caller_word}
+use Rattle.scenario_text.specs.SessionSpelling.{IsSessionInRange, words_of_session_line}
 
 -- the numbers, names and bytes of a line are in their ranges
 abbrev pub IsInRange : Line → Type 0
@@ -40,6 +17,8 @@ IsInRange (Hard name other) = IsName name × IsName other
 IsInRange (Soft name other) = IsName name × IsName other
 IsInRange (Owns name table) = IsName name × IsNumber table
 IsInRange (Limit entries bytes) = IsNumber entries × IsNumber bytes
+IsInRange (Bricks bricks most least) = IsNumber bricks × IsNumber most × IsNumber least
+IsInRange (Key bytes) = AreBytes bytes
 IsInRange (Begin caller) = IsCaller caller
 IsInRange (Enter caller name) = IsCaller caller × IsName name
 IsInRange (Exit caller) = IsCaller caller
@@ -55,10 +34,7 @@ IsInRange (Reboot name) = IsName name
 IsInRange Table = Unit {0}
 IsInRange Journal = Unit {0}
 IsInRange Reopen = Unit {0}
-
--- a caller's word: c and its number
-abbrev pub caller_word : ℕ → List ℕ
-caller_word caller = 99 ∷ decimal caller
+IsInRange (Session line) = IsSessionInRange line
 
 -- the words of a line that is not passed over
 abbrev pub words_of_line : Line → List (List ℕ)
@@ -68,6 +44,9 @@ words_of_line (Hard name other) = codes "hard" ∷ name ∷ other ∷ []
 words_of_line (Soft name other) = codes "soft" ∷ name ∷ other ∷ []
 words_of_line (Owns name table) = codes "owns" ∷ name ∷ decimal table ∷ []
 words_of_line (Limit entries bytes) = codes "limit" ∷ decimal entries ∷ decimal bytes ∷ []
+words_of_line (Bricks bricks most least) =
+    codes "bricks" ∷ decimal bricks ∷ decimal most ∷ decimal least ∷ []
+words_of_line (Key bytes) = codes "key" ∷ hex_text bytes ∷ []
 words_of_line (Begin caller) = codes "begin" ∷ caller_word caller ∷ []
 words_of_line (Enter caller name) = codes "enter" ∷ caller_word caller ∷ name ∷ []
 words_of_line (Exit caller) = codes "exit" ∷ caller_word caller ∷ []
@@ -84,6 +63,7 @@ words_of_line (Reboot name) = codes "reboot" ∷ name ∷ []
 words_of_line Table = codes "table" ∷ []
 words_of_line Journal = codes "journal" ∷ []
 words_of_line Reopen = codes "reopen" ∷ []
+words_of_line (Session line) = words_of_session_line line
 
 -- its words, with one space between each two; nothing for a line that is passed over
 abbrev pub spelling : Line → List ℕ

@@ -2,10 +2,12 @@
 
 ghost use Rattle.std.specs.Prelude.{◌≡◌, ◌<◌, ◌≤◌, ◌*◌, length, IfOk, IfSome, Option};
 ghost use Rattle.std.specs.Option.{option_map};
-ghost use Rattle.scenario_text.specs.Fields.{name_of, decimal_number, caller_number, hex_digit, hex_byte, bytes_of_digits, hex_bytes};
+ghost use Rattle.std.specs.List.{list_all};
+ghost use Rattle.scenario_text.specs.Fields.{name_of, decimal_number, lettered_number, caller_number, key_number, hex_digit, hex_byte, bytes_of_digits, hex_bytes, is_presented_byte, presented_text, freed_of};
 
 use crate::line::{HexBytes, MAX_CALLER, MAX_HEX_BYTES};
-use crash_base::{ComponentName, OutOfMemory, is_name};
+use crate::session_line::{Freed, MAX_KEY};
+use crash_base::{ComponentName, CookieText, OutOfMemory, is_name};
 use std::alloc::Global;
 
 /// A copy of a word that is a name.
@@ -39,21 +41,35 @@ pub fn decimal_number(word: &[u8]) -> Option<u64>
     Some(n)
 }
 
-/// The number of a caller.
-pub fn caller_number(word: &[u8]) -> Option<u64>
-    ensures { result ≡ caller_number word.now }
+/// A letter, and a number from 1 to a highest one.
+fn lettered_number(word: &[u8], letter: u8, highest: u64) -> Option<u64>
+    ensures { result ≡ lettered_number letter highest word.now }
 {
     match word {
         [] => None,
-        [c, digits @ ..] => {
+        [first, digits @ ..] => {
             let n = decimal_number(digits)?;
-            if *c == b'c' && 1 <= n && n <= MAX_CALLER {
+            if *first == letter && 1 <= n && n <= highest {
                 Some(n)
             } else {
                 None
             }
         }
     }
+}
+
+/// The number of a caller.
+pub fn caller_number(word: &[u8]) -> Option<u64>
+    ensures { result ≡ caller_number word.now }
+{
+    lettered_number(word, b'c', MAX_CALLER)
+}
+
+/// The number of a session key.
+pub fn key_number(word: &[u8]) -> Option<u64>
+    ensures { result ≡ key_number word.now }
+{
+    lettered_number(word, b'k', MAX_KEY)
 }
 
 /// The value of a lower case hexadecimal digit.
@@ -114,4 +130,41 @@ pub fn hex_bytes(alloc: Global, word: &[u8]) -> Result<Option<HexBytes>, OutOfMe
         return Ok(None);
     };
     Ok(Some(HexBytes::from_vec(bytes)))
+}
+
+/// Whether a text to present may have this byte.
+fn is_presented_byte(b: u8) -> bool
+    ensures { result ≡ is_presented_byte b }
+{
+    b.is_ascii() && b != b' ' && b != b'\r'
+}
+
+/// Whether a text to present may have each of these bytes.
+fn has_presented_bytes(word: &[u8]) -> bool
+    ensures { result ≡ list_all is_presented_byte word.now }
+{
+    word.iter().all(|b| is_presented_byte(*b))
+}
+
+/// A copy of a word that is a text to present.
+pub fn presented_text(alloc: Global, word: &[u8]) -> Result<Option<CookieText>, OutOfMemory>
+    ensures { IfOk result (λ text. text ≡ presented_text word.now) }
+{
+    if word.is_empty() || !has_presented_bytes(word) {
+        return Ok(None);
+    }
+    Ok(Some(CookieText::copied(alloc, word)?))
+}
+
+/// How a pass is spent, by the word for it.
+pub fn freed_of(word: &[u8]) -> Option<Freed>
+    ensures { result ≡ freed_of word.now }
+{
+    if word == b"answered".as_slice() {
+        Some(Freed::Answered)
+    } else if word == b"silent".as_slice() {
+        Some(Freed::Silent)
+    } else {
+        None
+    }
 }

@@ -9,6 +9,8 @@
 //! hard desk ledger
 //! owns ledger 1
 //! limit 1000 65536
+//! bricks 5 3 2
+//! key 000102030405060708090a0b0c0d0e0f
 //! begin c1
 //! enter c1 desk
 //! enter c1 ledger
@@ -25,32 +27,58 @@
 //! table
 //! journal
 //! reopen
+//! now 1000
+//! write k1 00ff
+//! fetch k1
+//! cookie k1
+//! present a-cookie
+//! lose 0 1
+//! mute 1 2
+//! repeat 2 1
+//! crash 0
+//! sweep 1
+//! sweep 2 900
+//! values 1
+//! windows
+//! hold 4
+//! free 4 answered
+//! hold 3
+//! free 3 silent
 //! ```
 //!
 //! `ended_line` takes the first line that has ended off a text, and `read_line` answers which line it
-//! spells. Words are separated by single spaces. A name is 1 to 32 letters, digits or `_`; a caller is `c` and a
-//! number from 1 to 65,535 (`MAX_CALLER`); numbers are decimal without leading zeros, and below
-//! 2^64; bytes are in lower case hexadecimal, at most 4,000 (`MAX_HEX_BYTES`), and `-` where there
-//! are none. An empty line passes, and so does a comment: `#` and then ASCII without a carriage
-//! return. A line has at most 8,192 bytes (`MAX_LINE_BYTES`).
+//! spells. Words are separated by single spaces. A name is 1 to 32 letters, digits or `_`; a caller
+//! is `c` and a number from 1 to 65,535 (`MAX_CALLER`), and a session key is `k` and a number from 1
+//! to 65,535 (`MAX_KEY`); numbers are decimal without leading zeros, and below 2^64; bytes are in
+//! lower case hexadecimal, at most 4,000 (`MAX_HEX_BYTES`), and `-` where there are none. The text of
+//! `present` is one word that is not empty, of ASCII without spaces and carriage returns. A pass is
+//! freed as `answered` or as `silent`. An empty line passes, and so does a comment: `#` and then ASCII
+//! without a carriage return. A line has at most 8,192 bytes (`MAX_LINE_BYTES`).
 //!
 //! `read_line` is exact: it answers `line_of` of the text. `spelling_law` says that this is a line
-//! exactly where the text is the words of that line, with its numbers, names and bytes in their
-//! ranges; so only a line that passes has more than one spelling. `lines_law` says the same of
-//! cutting. Reading visits each byte of a line a few times, and takes memory only for the names and
-//! the bytes that the line says, without spare room. `write_hex` writes bytes as a line spells them.
+//! exactly where the text is the words of that line, with its numbers, names, bytes and text in
+//! their ranges; so only a line that passes has more than one spelling. `lines_law` says the same of
+//! cutting. Reading visits each byte of a line a few times, and takes memory only for the names, the
+//! bytes and the text that the line says, without spare room. `write_hex` writes bytes as a line
+//! spells them.
 #![tactic(auto)]
 
+mod answer;
+mod arguments;
 mod cutting;
 mod fields;
 mod laws;
 mod line;
 mod reading;
+mod session_line;
+mod session_reading;
 mod texts;
 mod words;
 
+pub use answer::LineAnswer;
 pub use cutting::ended_line;
 pub use laws::{lines_law, spelling_law};
 pub use line::{HexBytes, Line, MAX_CALLER, MAX_HEX_BYTES, MAX_LINE_BYTES};
 pub use reading::read_line;
+pub use session_line::{Freed, MAX_KEY, SessionLine};
 pub use texts::write_hex;

@@ -3,6 +3,7 @@
 ghost use Rattle.std.specs.Prelude.{◌≡◌};
 ghost use Rattle.scenario_text.specs.Line.{is_event};
 
+use crate::session_line::SessionLine;
 use crash_base::{BoundedItems, ComponentName};
 
 /// The most bytes of a line, without its line feed.
@@ -31,6 +32,10 @@ pub enum Line {
     Owns(ComponentName, u64),
     /// The most entries of the journal, and the most bytes.
     Limit(u64, u64),
+    /// How many bricks there are, the most that a write asks, and the fewest that are to store its value.
+    Bricks(u64, u64, u64),
+    /// The key of the service, under which cookies are made.
+    Key(HexBytes),
     /// The caller.
     Begin(u64),
     /// The caller, and the component that it enters.
@@ -56,6 +61,8 @@ pub enum Line {
     Table,
     Journal,
     Reopen,
+    /// A line about sessions.
+    Session(SessionLine),
 }
 
 impl Line {
@@ -69,7 +76,9 @@ impl Line {
             | Line::Hard(_, _)
             | Line::Soft(_, _)
             | Line::Owns(_, _)
-            | Line::Limit(_, _) => false,
+            | Line::Limit(_, _)
+            | Line::Bricks(_, _, _)
+            | Line::Key(_) => false,
             Line::Begin(_)
             | Line::Enter(_, _)
             | Line::Exit(_)
@@ -83,7 +92,8 @@ impl Line {
             | Line::Reboot(_)
             | Line::Table
             | Line::Journal
-            | Line::Reopen => true,
+            | Line::Reopen
+            | Line::Session(_) => true,
         }
     }
 }

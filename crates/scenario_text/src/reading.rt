@@ -3,83 +3,18 @@
 ghost use Rattle.std.specs.Prelude.{◌≡◌, ◌∷◌, IfOk};
 ghost use Rattle.std.specs.List.{list_all};
 ghost use Rattle.scenario_text.specs.Words.{words_after};
-ghost use Rattle.scenario_text.specs.Reading.{line_of, passes, is_comment_byte, line_from, event_line, put_line, one_name, one_caller, two_names, two_numbers, name_and_number, caller_and_name, caller_and_number, caller_and_two_numbers};
+ghost use Rattle.scenario_text.specs.Reading.{line_of, passes, is_comment_byte, line_from, event_line, put_line};
 
-use crate::fields::{caller_number, decimal_number, hex_bytes, name_of};
+use crate::arguments::{
+    caller_and_name, caller_and_number, caller_and_two_numbers, name_and_number, one_bytes,
+    one_caller, one_name, three_numbers, two_names, two_numbers,
+};
+use crate::fields::{caller_number, decimal_number, hex_bytes};
 use crate::line::{Line, MAX_LINE_BYTES};
-use crate::words::{first_word, four_words, no_words, one_word, three_words, two_words};
-use crash_base::{ComponentName, OutOfMemory};
+use crate::session_reading::session_line;
+use crate::words::{first_word, four_words, no_words};
+use crash_base::OutOfMemory;
 use std::alloc::Global;
-
-fn one_name(alloc: Global, left: &[u8]) -> Result<Option<ComponentName>, OutOfMemory>
-    ensures { IfOk result (λ name. name ≡ one_name (words_after left.now)) }
-{
-    match one_word(left) {
-        Some(name) => name_of(alloc, name),
-        None => Ok(None),
-    }
-}
-
-fn one_caller(left: &[u8]) -> Option<u64>
-    ensures { result ≡ one_caller (words_after left.now) }
-{
-    caller_number(one_word(left)?)
-}
-
-fn two_names(
-    alloc: Global,
-    left: &[u8],
-) -> Result<Option<(ComponentName, ComponentName)>, OutOfMemory>
-    ensures { IfOk result (λ names. names ≡ two_names (words_after left.now)) }
-{
-    let Some((name, other)) = two_words(left) else {
-        return Ok(None);
-    };
-    let name = name_of(alloc, name)?;
-    let other = name_of(alloc, other)?;
-    Ok(name.zip(other))
-}
-
-fn two_numbers(left: &[u8]) -> Option<(u64, u64)>
-    ensures { result ≡ two_numbers (words_after left.now) }
-{
-    let (number, other) = two_words(left)?;
-    decimal_number(number).zip(decimal_number(other))
-}
-
-fn name_and_number(alloc: Global, left: &[u8]) -> Result<Option<(ComponentName, u64)>, OutOfMemory>
-    ensures { IfOk result (λ words. words ≡ name_and_number (words_after left.now)) }
-{
-    let Some((name, number)) = two_words(left) else {
-        return Ok(None);
-    };
-    let name = name_of(alloc, name)?;
-    Ok(name.zip(decimal_number(number)))
-}
-
-fn caller_and_name(alloc: Global, left: &[u8]) -> Result<Option<(u64, ComponentName)>, OutOfMemory>
-    ensures { IfOk result (λ words. words ≡ caller_and_name (words_after left.now)) }
-{
-    let Some((caller, name)) = two_words(left) else {
-        return Ok(None);
-    };
-    let name = name_of(alloc, name)?;
-    Ok(caller_number(caller).zip(name))
-}
-
-fn caller_and_number(left: &[u8]) -> Option<(u64, u64)>
-    ensures { result ≡ caller_and_number (words_after left.now) }
-{
-    let (caller, number) = two_words(left)?;
-    caller_number(caller).zip(decimal_number(number))
-}
-
-fn caller_and_two_numbers(left: &[u8]) -> Option<(u64, (u64, u64))>
-    ensures { result ≡ caller_and_two_numbers (words_after left.now) }
-{
-    let (caller, number, other) = three_words(left)?;
-    caller_number(caller).zip(decimal_number(number).zip(decimal_number(other)))
-}
 
 fn put_line(alloc: Global, left: &[u8]) -> Result<Option<Line>, OutOfMemory>
     ensures { IfOk result (λ line. line ≡ put_line (words_after left.now)) }
@@ -133,7 +68,7 @@ fn event_line(alloc: Global, first: &[u8], left: &[u8]) -> Result<Option<Line>, 
     } else if first == b"reopen".as_slice() {
         Ok(no_words(left).map(|()| Line::Reopen))
     } else {
-        Ok(None)
+        Ok(session_line(alloc, first, left)?.map(Line::Session))
     }
 }
 
@@ -151,6 +86,10 @@ fn line_from(alloc: Global, first: &[u8], left: &[u8]) -> Result<Option<Line>, O
         Ok(name_and_number(alloc, left)?.map(|(name, table)| Line::Owns(name, table)))
     } else if first == b"limit".as_slice() {
         Ok(two_numbers(left).map(|(entries, bytes)| Line::Limit(entries, bytes)))
+    } else if first == b"bricks".as_slice() {
+        Ok(three_numbers(left).map(|(bricks, writes)| Line::Bricks(bricks, writes.0, writes.1)))
+    } else if first == b"key".as_slice() {
+        Ok(one_bytes(alloc, left)?.map(Line::Key))
     } else {
         event_line(alloc, first, left)
     }

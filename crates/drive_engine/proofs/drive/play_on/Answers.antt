@@ -27,7 +27,7 @@ returns-in-Err-clause-runs g c =
     let left = g.S.Source.left in
     let written = g.T.Sink.written in
     let told = g.K.Keeper.told in
-    stops_at_failed_read (left c.args.input.now) (left c.pieces.input) (left c.read.new.self) (written c.args.out.now) (written c.pieces.out) (told c.args.keeper.now) (told c.pieces.keeper) c.pieces.more c.pieces.play c.boots_stand.ensures c.in-Err.ensures.err c.pieces.invariant.come
+    stops_at_failed_read (left c.args.input.now) (left c.pieces.input) (left c.read.new.self) (written c.args.out.now) (written c.pieces.out) (told c.args.keeper.now) (told c.pieces.keeper) c.pieces.more c.pieces.play c.scenarios_stand.ensures c.in-Err.ensures.err c.pieces.invariant.come
 
 pub returns-in-Ok-eq0-clause-runs : goal.returns-in-Ok-eq0-clause-runs
 returns-in-Ok-eq0-clause-runs g c =
@@ -69,7 +69,7 @@ returns-then-n-more-clause-runs g c =
     let some : past ≢ [] = λ none. let empty : length past ≡ 0 = ap length none in absurd (omega (arith, c.in-Ok.ensures.within, length-drop k c.read.new.into)) in
     let come = comes_read (left c.args.input.now) (left c.pieces.input) (left c.read.new.self) (written c.args.out.now) (written c.pieces.out) (told c.args.keeper.now) (told c.pieces.keeper) c.pieces.more 0 n k c.read.new.into c.pieces.play (omega arith) (omega (arith, c.in-Ok.ensures.within)) (omega arith) c.in-Ok.ensures.taken c.pieces.invariant.come in (
       refl,
-      stops_past_limit (left c.args.input.now) (left c.read.new.self) (written c.args.out.now) (written c.feed.new.out) (told c.args.keeper.now) (told c.feed.new.keeper) past c.feed.new.self c.boots_stand.ensures some
+      stops_past_limit (left c.args.input.now) (left c.read.new.self) (written c.args.out.now) (written c.feed.new.out) (told c.args.keeper.now) (told c.feed.new.keeper) past c.feed.new.self c.scenarios_stand.ensures some
           (c.in-Ok-feed.ensures.comes (left c.args.input.now) (left c.read.new.self) (written c.args.out.now) (told c.args.keeper.now) 0 past come),
     )
 

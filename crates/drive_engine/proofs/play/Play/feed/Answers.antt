@@ -19,7 +19,7 @@ returns-in-Err-clause-comes g c =
     let cut = c.in-Some.ensures.ended in
     λ left left_now written told room past h.
     let P : List ℕ → Type 0 = λ t. HasCome (exchange left left_now written old told before) room t past c.loop-part.self in
-    ends_in_piece c.in-Err.ending left left_now written old new told before after room past c.loop-part.self part more c.boots_stand.ensures cut.0 c.in-Err.ensures.does (subst P cut.1 (c.loop-part.invariant.comes left left_now written told room past h))
+    ends_in_piece c.in-Err.ending left left_now written old new told before after room past c.loop-part.self part more c.scenarios_stand.ensures cut.0 c.in-Err.ensures.does (subst P cut.1 (c.loop-part.invariant.comes left left_now written told room past h))
 
 pub loop-part-preserved : goal.loop-part-preserved
 loop-part-preserved g c =
@@ -56,4 +56,4 @@ returns-clause-comes g c =
     (λ x k. λ left left_now written told room past h. comes_kept left left_now written new told after room past p c.keep.new.self rest one k.0 k.1 (come left left_now written told room past h))
     (λ ending k. λ left left_now written told room past h.
     let P : Ending → Type 0 = λ e. Runs Drive e (exchange left left_now written new told after) in
-    subst P (sym k.0) (ends_long left left_now written new told after room past p rest c.boots_stand.ensures one k.1 (come left left_now written told room past h)))
+    subst P (sym k.0) (ends_long left left_now written new told after room past p rest c.scenarios_stand.ensures one k.1 (come left left_now written told room past h)))

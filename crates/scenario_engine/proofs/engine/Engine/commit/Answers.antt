@@ -1,6 +1,6 @@
 use Rattle.std.proofs.Common.{◌≡◌, ◌≢◌, Ok, Err, ap, sym, ◌∙◌, refl}
 use Rattle.boot_core.specs.declared.refusals.StartRefusal.TheVariants.{OutOfMemory}
-use Rattle.line_steps.specs.declared.answer.LineAnswer.TheVariants.{Refused}
+use Rattle.scenario_text.specs.declared.answer.LineAnswer.TheVariants.{Refused}
 use Rattle.scenario_engine.specs.declared.kind.LineKind.TheVariants.{Quiet}
 use Rattle.scenario_engine.specs.Engine.{state_of, kind_of}
 use Rattle.scenario_engine.specs.State.{Heading, Running}

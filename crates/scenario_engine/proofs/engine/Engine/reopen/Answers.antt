@@ -1,7 +1,7 @@
 use Rattle.std.proofs.Common.{◌≡◌, ◌≢◌, Ok, Err, ap, sym, ◌∙◌, refl, subst}
 use Rattle.boot_core.specs.declared.refusals.StartRefusal.TheVariants.{OutOfMemory}
 use Rattle.deployment.proofs.Growing.{none_of_nothing}
-use Rattle.line_steps.specs.declared.answer.LineAnswer.TheVariants.{Wrote}
+use Rattle.scenario_text.specs.declared.answer.LineAnswer.TheVariants.{Wrote}
 use Rattle.line_steps.specs.Head.{no_head}
 use Rattle.line_steps.specs.Texts.{boot_text}
 use Rattle.scenario_engine.specs.declared.engine.Stage.{Stage}

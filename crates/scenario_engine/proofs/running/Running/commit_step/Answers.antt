@@ -1,6 +1,6 @@
 use Rattle.std.proofs.Common.{◌≡◌, List, Some, string_bytes, ap, ◌∙◌, subst}
 use Rattle.boot_core.specs.Boot.{BootValue}
-use Rattle.line_steps.specs.Answer.{Done}
+use Rattle.scenario_text.specs.Answer.{Done}
 use Rattle.line_steps.specs.Callers.{FitsCaller, ended}
 use Rattle.line_steps.specs.declared.callers.Caller.{Caller}
 use Rattle.line_steps.proofs.Fitting.{fit_at, fit_ended}
@@ -22,10 +22,10 @@ pub returns-in-Ok-commit_refusal_text-clause-answer : goal.returns-in-Ok-commit_
 returns-in-Ok-commit_refusal_text-clause-answer g c =
     let old = g.K.Keeper.told c.args.keeper.now in
     let new = g.K.Keeper.told c.commit.new.keeper in
-    let r : RunningState = record { boot = c.self.inside.boot; callers = c.self.inside.callers } in
+    let r : RunningState = record { boot = c.self.inside.boot; callers = c.self.inside.callers; sessions = c.self.inside.sessions } in
     let text = string_bytes c.in-Ok-commit_refusal_text.text in
     let refused = c.in-Err-commit.refused in
-    let over : BootValue → List Caller → RunningState = λ boot callers. record { boot = boot; callers = callers } in
+    let over : BootValue → List Caller → RunningState = λ boot callers. record { boot = boot; callers = callers; sessions = c.self.inside.sessions } in
     let answers : Done (over c.commit.new.self c.take.new.self) text ≡ commit_ends r c.args.caller c.in-Some.ticket (Some refused.cause) =
     ap (λ (b : BootValue). Done (over b c.take.new.self) text) c.in-Err-commit.ensures.same
     ∙ ap (λ (cs : List Caller). Done (over r.boot cs) text) c.in-Some.ensures.taken
@@ -37,6 +37,6 @@ pub returns-clause-answer : goal.returns-clause-answer
 returns-clause-answer g c =
     let old = g.K.Keeper.told c.args.keeper.now in
     let new = g.K.Keeper.told c.commit.new.keeper in
-    let r : RunningState = record { boot = c.self.inside.boot; callers = c.self.inside.callers } in
+    let r : RunningState = record { boot = c.self.inside.boot; callers = c.self.inside.callers; sessions = c.self.inside.sessions } in
     let P : RunningState → Type 0 = λ s. CommitsPartly s c.args.caller old new in
     subst P c.self.view_is (refused_partly r c.args.caller c.in-Some.ticket c.in-Err-commit.refused.cause old new c.in-Some.ensures.live c.in-Err-commit.ensures.answer c.in-Err-commit.ensures.keeps)

@@ -3,7 +3,7 @@ use Rattle.crash_base.specs.declared.scope.Scope.{Scope}
 use Rattle.journal_model.specs.Reboots.{IsUndone}
 use Rattle.journal_model.specs.declared.entry.Entry.TheVariants.{Down, Up}
 use Rattle.boot_core.specs.Boot.{BootValue, with_entry}
-use Rattle.line_steps.specs.Answer.{Done}
+use Rattle.scenario_text.specs.Answer.{Done}
 use Rattle.scenario_engine.specs.State.{RunningState}
 use Rattle.scenario_engine.specs.Running.{scope_of, reboot_step}
 use Rattle.line_steps.specs.Texts.{down_text, up_text}
@@ -19,7 +19,7 @@ end_reboot-up-requires c =
 
 pub returns-clause-answer : goal.returns-clause-answer
 returns-clause-answer c =
-    let r : RunningState = record { boot = c.self.inside.boot; callers = c.self.inside.callers } in
+    let r : RunningState = record { boot = c.self.inside.boot; callers = c.self.inside.callers; sessions = c.self.inside.sessions } in
     let s : Scope = c.in-Some.scope in
     let found : scope_of r.boot.start.deployment c.args.name ≡ Some s = sym (c.in-Some.ensures.scope ∙ ap (λ p. scope_of p c.args.name) c.deployment.ensures) in
     let there : reboot_step r c.args.name ≡ reboot_step c.args.self.now c.args.name = ap (λ (s : RunningState). reboot_step s c.args.name) c.self.view_is in

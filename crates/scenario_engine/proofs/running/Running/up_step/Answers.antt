@@ -14,7 +14,7 @@ end_reboot-place-requires c =
 
 pub returns-clause-answer : goal.returns-clause-answer
 returns-clause-answer c =
-    let r : RunningState = record { boot = c.self.inside.boot; callers = c.self.inside.callers } in
+    let r : RunningState = record { boot = c.self.inside.boot; callers = c.self.inside.callers; sessions = c.self.inside.sessions } in
     let undone : IsUndone r.boot.entries c.in-Some-undone_of.down.0 c.in-Some.scope = found_of r.boot.entries c.in-Some.scope c.in-Some-undone_of.down (sym c.in-Some-undone_of.ensures) in
     let wrote = c.in_ok-text.ensures ∙ ap (λ (n : ℕ). up_text n) c.end_reboot-place.ensures.place in
     let parts : Parts = c.deployment.result.now in

@@ -1,7 +1,7 @@
 -- What a line of a scenario answers.
 use Rattle.std.specs.Prelude.{◌≡◌, ℕ, Bool, true, false, List, [], Option, Some, None, string_bytes}
-use Rattle.line_steps.specs.declared.answer.LineAnswer.{LineAnswer}
-use Rattle.line_steps.specs.declared.answer.LineAnswer.TheVariants as answers
+use Rattle.scenario_text.specs.declared.answer.LineAnswer.{LineAnswer}
+use Rattle.scenario_text.specs.declared.answer.LineAnswer.TheVariants as answers
 
 -- A line is refused, or is done: the state that it leaves, and what it writes.
 pub data Answer (S : Type 0) : Type 0 where

@@ -1,4 +1,4 @@
-use Rattle.drive_engine.proofs.laws.boots_stand.Goals as goal
+use Rattle.drive_engine.proofs.laws.scenarios_stand.Goals as goal
 
 pub returns : goal.returns
 returns c = λ turns old new calls. record {
@@ -8,4 +8,5 @@ returns c = λ turns old new calls. record {
   unrebooted = c.no_turns_commit_after_a_reboot.ensures turns;
   serial = c.no_turns_break_the_order.ensures turns;
   own = c.commits_are_of_their_boot.ensures turns;
+  sessions = c.scenarios_have_sessions.ensures turns;
 }

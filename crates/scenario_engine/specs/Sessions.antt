@@ -1,0 +1,81 @@
+-- The sessions of a scenario: what its turns do to them.
+use Rattle.std.specs.Prelude.{ℕ, nat_lt, if◌then◌else◌, List, [], ◌∷◌, ◌++◌, length, map, Option, Some, None}
+use Rattle.boot_core.specs.Boot.{BootValue}
+use Rattle.scenario_text.specs.declared.line.Line.{Line}
+use Rattle.scenario_text.specs.declared.line.Line.TheVariants.{Pass, Component, Hard, Soft, Owns, Limit, Bricks, Key, Begin, Enter, Exit, Read, List as ListLine, Put, Commit, Drop, Down, Up, Reboot, Table, Journal, Reopen, Session}
+use Rattle.scenario_text.specs.declared.line.TheConstants.{MAX_LINE_BYTES}
+use Rattle.scenario_text.specs.Line.{is_event}
+use Rattle.scenario_text.specs.Reading.{line_of}
+use Rattle.session_steps.specs.Promise.{SessionTurn, Does, Boots}
+use Rattle.session_steps.specs.Sessions.{SessionsState}
+use Rattle.session_steps.specs.Setup.{SetupState}
+use Rattle.session_steps.specs.Standing.{SessionsStand}
+use Rattle.scenario_engine.specs.Engine.{Replies, Target, TheHead, TheBoot, NoBoot, target_of}
+use Rattle.scenario_engine.specs.State.{State, Heading, Running, RefusedIn, DoneTo, NotStarted}
+use Rattle.scenario_engine.specs.Transcript.{Turn, first, turn_outcome, boots_in}
+
+-- the starts of the boot of a state, for sessions
+abbrev pub start_turns : State → List SessionTurn
+start_turns t = map (λ (b : BootValue). Boots b.start.boot) (boots_in t)
+
+-- what a line does to sessions that was done, left this state and wrote this text: a line about sessions, and the start of
+-- the next boot
+abbrev pub turns_by : Line → State → List ℕ → List SessionTurn
+turns_by Pass t text = []
+turns_by (Component name) t text = []
+turns_by (Hard name other) t text = []
+turns_by (Soft name other) t text = []
+turns_by (Owns name table) t text = []
+turns_by (Limit entries bytes) t text = []
+turns_by (Bricks bricks most least) t text = []
+turns_by (Key bytes) t text = []
+turns_by (Begin caller) t text = []
+turns_by (Enter caller name) t text = []
+turns_by (Exit caller) t text = []
+turns_by (Read caller table key) t text = []
+turns_by (ListLine caller table) t text = []
+turns_by (Put caller table key bytes) t text = []
+turns_by (Commit caller) t text = []
+turns_by (Drop caller) t text = []
+turns_by (Down name) t text = []
+turns_by (Up name) t text = []
+turns_by (Reboot name) t text = []
+turns_by Table t text = []
+turns_by Journal t text = []
+turns_by Reopen t text = start_turns t
+turns_by (Session line) t text = Does line text ∷ []
+
+-- the start of the first boot, where a line in this state starts it before it is done to this
+abbrev pub first_start : State → Target → List SessionTurn
+first_start (Heading head) (TheHead h) = []
+first_start (Heading head) (TheBoot r) = Boots r.boot.start.boot ∷ []
+first_start (Heading head) (NoBoot h refusal) = []
+first_start (Running r) target = []
+
+-- the same of a text that spells this line, or none
+abbrev pub turns_to : State → Option Line → Replies → State → List ℕ → List SessionTurn
+turns_to s None replies t text = []
+turns_to s (Some line) replies t text =
+    first_start s (target_of s (is_event line) replies.first) ++ turns_by line t text
+
+-- What a turn does to sessions that was done, left this state and wrote this text.
+unfoldable pub turn_on_sessions : State → Turn → State → List ℕ → List SessionTurn
+turn_on_sessions s turn t text = turns_to s (line_of turn.line) turn.replies t text
+
+-- What turns do to sessions from here on, in order: their lines about sessions that were done, each with what it wrote,
+-- and the starts of boots.
+abbrev pub session_turns : State → List Turn → List SessionTurn
+session_turns s [] = []
+session_turns s (turn ∷ turns) =
+    if nat_lt MAX_LINE_BYTES (length turn.line) then [] else
+    (elim (turn_outcome s turn) [
+      | RefusedIn t ↦ []
+      | DoneTo t text ↦ turn_on_sessions s turn t text ++ session_turns t turns
+      | NotStarted t refusal ↦ []
+    ])
+
+-- The sessions of a scenario stand, of some bricks and under some key.
+pub record HasSessions (turns : List Turn) : Type 0 where
+  pub setup : SetupState
+  pub end : SessionsState
+  pub stand : SessionsStand setup (session_turns first turns) end

@@ -1,0 +1,79 @@
+-- What the words after a first one say together.
+use Rattle.std.specs.Prelude.{ℕ, List, Option, option_and_then}
+use Rattle.std.specs.Option.{option_zip}
+use Rattle.scenario_text.specs.declared.session_line.Freed.{Freed}
+use Rattle.scenario_text.specs.Fields.{name_of, decimal_number, caller_number, key_number, hex_bytes, presented_text, freed_of}
+use Rattle.scenario_text.specs.Words.{one_word, two_words, three_words}
+
+-- the name that is the only word
+abbrev pub one_name : List (List ℕ) → Option (List ℕ)
+one_name words = option_and_then name_of (one_word words)
+
+-- the caller that is the only word
+abbrev pub one_caller : List (List ℕ) → Option ℕ
+one_caller words = option_and_then caller_number (one_word words)
+
+-- two words, a name each
+abbrev pub two_names : List (List ℕ) → Option (List ℕ × List ℕ)
+two_names words =
+    option_and_then (λ w. option_zip (name_of w.0) (name_of w.1)) (two_words words)
+
+-- two words, a number each
+abbrev pub two_numbers : List (List ℕ) → Option (ℕ × ℕ)
+two_numbers words =
+    option_and_then (λ w. option_zip (decimal_number w.0) (decimal_number w.1)) (two_words words)
+
+-- two words, a name and a number
+abbrev pub name_and_number : List (List ℕ) → Option (List ℕ × ℕ)
+name_and_number words =
+    option_and_then (λ w. option_zip (name_of w.0) (decimal_number w.1)) (two_words words)
+
+-- two words, a caller and a name
+abbrev pub caller_and_name : List (List ℕ) → Option (ℕ × List ℕ)
+caller_and_name words =
+    option_and_then (λ w. option_zip (caller_number w.0) (name_of w.1)) (two_words words)
+
+-- two words, a caller and a number
+abbrev pub caller_and_number : List (List ℕ) → Option (ℕ × ℕ)
+caller_and_number words =
+    option_and_then (λ w. option_zip (caller_number w.0) (decimal_number w.1)) (two_words words)
+
+-- three words, a caller and two numbers
+abbrev pub caller_and_two_numbers : List (List ℕ) → Option (ℕ × (ℕ × ℕ))
+caller_and_two_numbers words =
+    option_and_then
+    (λ w. option_zip (caller_number w.0) (option_zip (decimal_number w.1) (decimal_number w.2)))
+    (three_words words)
+
+-- the number that is the only word
+abbrev pub one_number : List (List ℕ) → Option ℕ
+one_number words = option_and_then decimal_number (one_word words)
+
+-- the bytes that the only word gives
+abbrev pub one_bytes : List (List ℕ) → Option (List ℕ)
+one_bytes words = option_and_then hex_bytes (one_word words)
+
+-- the session key that is the only word
+abbrev pub one_key : List (List ℕ) → Option ℕ
+one_key words = option_and_then key_number (one_word words)
+
+-- the text that is the only word
+abbrev pub one_text : List (List ℕ) → Option (List ℕ)
+one_text words = option_and_then presented_text (one_word words)
+
+-- two words, a session key and bytes
+abbrev pub key_and_bytes : List (List ℕ) → Option (ℕ × List ℕ)
+key_and_bytes words =
+    option_and_then (λ w. option_zip (key_number w.0) (hex_bytes w.1)) (two_words words)
+
+-- two words, a number and how a pass is spent
+abbrev pub number_and_freed : List (List ℕ) → Option (ℕ × Freed)
+number_and_freed words =
+    option_and_then (λ w. option_zip (decimal_number w.0) (freed_of w.1)) (two_words words)
+
+-- three words, a number each
+abbrev pub three_numbers : List (List ℕ) → Option (ℕ × (ℕ × ℕ))
+three_numbers words =
+    option_and_then
+    (λ w. option_zip (decimal_number w.0) (option_zip (decimal_number w.1) (decimal_number w.2)))
+    (three_words words)

@@ -1,0 +1,64 @@
+use Rattle.std.proofs.Common.{◌≡◌, ◌≤◌, ◌∙◌, ap, sym, subst, true, ℕ, List, length, map, Option, Some}
+use Rattle.std.specs.Prelude.{slice_get}
+use Rattle.scenario_text.specs.Answer.{KeepsRefused, answer_of}
+use Rattle.send_windows.specs.Facts.{open_count}
+use Rattle.send_windows.specs.Passes.{hushed}
+use Rattle.send_windows.specs.Windows.{KeepLimits, AreTaken, chosen, taken}
+use Rattle.send_windows.specs.declared.pass.Pass.{Pass}
+use Rattle.ssm_stub.specs.Writes.{WriteState}
+use Rattle.ssm_world.specs.declared.call.Call.TheVariants as call
+use Rattle.ssm_world.specs.Worlds.{is_new, IsMade}
+use Rattle.session_steps.specs.Rule.{LanesAreOf}
+use Rattle.session_steps.specs.Kept.{HasSoundStore}
+use Rattle.session_steps.specs.Sessions.{SessionsState, nonce, drawn, with_store, session_key, expiry, heard_passes, store_written, told_write, write_line}
+use Rattle.session_steps.specs.Store.{StoreState, spent_as, written_out}
+use Rattle.session_steps.specs.declared.writing.WriteOrder.{WriteOrder}
+use Rattle.session_steps.proofs.SettledWrites.{WriteEnds, settled_write, never_written}
+use Rattle.session_steps.proofs.parts.Parts.write_line.Goals as goal
+
+-- what the line answers, and that it is not refused
+ends_so : (c : goal.In_ok-answer-in-Ok) → (answer_of c.in_ok-answer-in-Ok.answer c.tell_write.new.self ≡ write_line c.args.self.now c.args.key c.args.value) × KeepsRefused c.in_ok-answer-in-Ok.answer c.args.self.now c.tell_write.new.self
+ends_so c =
+    let s : SessionsState = record { moment = c.self.inside.moment; boot = c.self.inside.boot; serial = c.self.inside.serial; key = c.self.inside.key.items; cookies = c.self.inside.cookies.items; store = c.self.inside.store } in
+    let st : StoreState = record { world = c.store.inside.world; windows = c.store.inside.windows; lanes = c.store.inside.lanes.items } in
+    let whole : s ≡ c.args.self.now = c.self.view_is in
+    let lent : st ≡ c.in-Some.store = c.store.view_is in
+    let store : s.store ≡ Some st = c.in-Some.is ∙ ap (λ (x : StoreState). Some x) (sym lent) in
+    let nonce_is : c.nonce.result ≡ nonce s = c.nonce.ensures ∙ ap nonce (sym whole) in
+    let new : is_new st.world (nonce s) ≡ true = ap (is_new st.world) (sym nonce_is) ∙ (sym c.is_new.ensures ∙ c.if-not-is_new.false) in
+    let limits : KeepLimits st.windows = subst (λ (x : StoreState). KeepLimits x.windows) (sym lent) c.has_limits.ensures in
+    let L : Option StoreState → Type 0 = λ o. HasSoundStore o in
+    let sound : IsMade st.world × LanesAreOf st = subst L store (subst (λ (t : SessionsState). L t.store) (sym whole) c.requires.store) in
+    let passes : List Pass = chosen st.windows s.serial in
+    let passes_are : c.in-Ok.passes ≡ passes = c.in-Ok.ensures.passes ∙ ap (λ (x : StoreState). chosen x.windows s.serial) (sym lent) in
+    let took0 : c.take.new.self ≡ record (c.in-Some.store) { windows = taken c.in-Some.store.windows (chosen c.in-Some.store.windows s.serial) } = c.in-Ok.ensures.after in
+    let took : c.take.new.self ≡ record st { windows = taken st.windows passes } = took0 ∙ ap (λ (x : StoreState). record x { windows = taken x.windows (chosen x.windows s.serial) }) (sym lent) in
+    let enough : st.windows.wq ≤ open_count st.windows.facts = subst (λ (x : StoreState). x.windows.wq ≤ open_count x.windows.facts) (sym lent) c.in-Ok.ensures.enough in
+    let took_ok : AreTaken st.windows.wq st.windows.w passes = subst (λ (ps : List Pass). AreTaken st.windows.wq st.windows.w ps) passes_are (subst (λ (x : StoreState). AreTaken x.windows.wq x.windows.w c.in-Ok.passes) (sym lent) c.in-Ok.ensures.lawful) in
+    let order : WriteOrder = record { nonce = c.nonce.result; key = c.session_key.result; value = c.from_vec.result; expiry = c.expiry.result } in
+    let key_is : c.session_key.result ≡ session_key c.args.key = c.session_key.ensures in
+    let value_is : c.from_vec.result ≡ c.args.value = c.from_vec.ensures ∙ c.into_vec.ensures.value in
+    let expiry_is : c.expiry.result ≡ expiry s = c.expiry.ensures ∙ ap expiry (sym whole) in
+    let wanted : WriteOrder = record { nonce = nonce s; key = session_key c.args.key; value = c.args.value; expiry = expiry s } in
+    let order_is : order ≡ wanted = λ l. record { nonce = nonce_is l; key = key_is l; value = value_is l; expiry = expiry_is l } in
+    let gone : StoreState = store_written s c.args.key c.args.value passes st in
+    let gone_is : written_out c.take.new.self order c.in-Ok.passes ≡ gone = λ l. written_out (took l) (order_is l) (passes_are l) in
+    let calls : length c.take.new.self.world.calls ≡ length st.world.calls = ap (λ (x : StoreState). length x.world.calls) took in
+    let Settles : StoreState → ℕ → List Pass → Type 0 = λ g n ps. (write : WriteState) → slice_get g.world.calls n ≡ Some (call.Write write) → c.settle.new.self ≡ spent_as g (map hushed (heard_passes write ps)) in
+    let settles0 : Settles (written_out c.take.new.self order c.in-Ok.passes) (length c.take.new.self.world.calls) c.in-Ok.passes = c.in_ok-call-in-Ok.ensures.store in
+    let settles : Settles gone (length st.world.calls) passes = subst (Settles gone (length st.world.calls)) passes_are (subst (λ n. Settles gone n c.in-Ok.passes) calls (subst (λ g. Settles g (length c.take.new.self.world.calls) c.in-Ok.passes) gone_is settles0)) in
+    let ends : WriteEnds s c.args.key c.args.value c.settle.new.self (length st.world.calls) = settled_write s c.args.key c.args.value st c.settle.new.self sound.0 limits took_ok sound.1 store new enough settles in
+    let drawn_is : c.draw-in-Ok.new.self ≡ with_store (drawn s) c.settle.new.self = c.draw-in-Ok.ensures in
+    let called : c.in_ok-call-in-Ok.call ≡ length c.take.new.self.world.calls = c.in_ok-call-in-Ok.ensures.call in
+    let answered : answer_of c.in_ok-answer-in-Ok.answer c.tell_write.new.self ≡ told_write c.draw-in-Ok.new.self c.args.key c.in_ok-call-in-Ok.call = c.in_ok-answer-in-Ok.ensures in
+    let told : answer_of c.in_ok-answer-in-Ok.answer c.tell_write.new.self ≡ told_write (with_store (drawn s) c.settle.new.self) c.args.key (length st.world.calls) =
+    answered ∙ (ap (λ (t : SessionsState). told_write t c.args.key c.in_ok-call-in-Ok.call) drawn_is ∙ ap (told_write (with_store (drawn s) c.settle.new.self) c.args.key) (called ∙ calls)) in (
+      told ∙ (ends.told ∙ ap (λ (t : SessionsState). write_line t c.args.key c.args.value) whole),
+      never_written s c.args.key c.args.value c.settle.new.self (length st.world.calls) ends c.in_ok-answer-in-Ok.answer c.args.self.now c.tell_write.new.self (told ∙ ends.told),
+    )
+
+pub returns-clause-answer : goal.returns-clause-answer
+returns-clause-answer c = (ends_so c).0
+
+pub returns-clause-refused : goal.returns-clause-refused
+returns-clause-refused c = (ends_so c).1

@@ -1,0 +1,138 @@
+//! What holds of the sessions of every scenario. Each law is the contract of a function that does nothing: a caller
+//! that needs the law calls the function.
+
+ghost use Rattle.std.specs.Prelude.{◌≡◌, ◌⊎◌, ◌<◌, ◌≤◌, ◌-◌, ◌^◌, ℕ, List, true, false, slice_get, Some};
+ghost use Rattle.scenario_text.specs.Answer.{Refused, Done};
+ghost use Rattle.scenario_text.specs.declared.session_line.SessionLine.TheVariants as lines;
+ghost use Rattle.session_cookie.specs.declared.cookie.Cookie.{Cookie};
+ghost use Rattle.session_cookie.specs.declared.cookie.Holder.{Holder};
+ghost use Rattle.ssm_stub.specs.declared.cause.BrickCause.{BrickCause};
+ghost use Rattle.ssm_world.specs.Worlds.{is_new, may_be_asked, bricks_of, IsMade};
+ghost use Rattle.session_steps.specs.Promise.{SessionTurn, Lead, CanServe, FindsValue, IsLost, IsRight, IsAcknowledged, IsUnacknowledged, ComesFrom, HasCounts, BootsRise, FetchedWrite, IsOfWrite, fetch_of, IsDown, IsWithinLease};
+ghost use Rattle.session_steps.specs.Sessions.{SessionsState, nonce, cookie_of, expiry, session_line};
+ghost use Rattle.session_steps.specs.Setup.{SetupState, no_setup, bricks_step, key_step, set_up};
+ghost use Rattle.session_steps.specs.Standing.{SessionsStand};
+ghost use Rattle.session_steps.specs.Store.{StoreState};
+ghost use Rattle.session_steps.specs.Texts.{version_text, found_text, expired_text, lost_text};
+
+use send_windows::{taken_passes_are_lawful, windows_keep_their_limits};
+use ssm_world::acknowledged_cookies_stay_acknowledged;
+
+/// Over all turns the bricks of a scenario, their packets and calls are a world that events made.
+pub fn sessions_are_worlds()
+    ensures { (setup : SetupState) (boot : ℕ) (turns : List SessionTurn) (t : SessionsState) (st : StoreState)
+        → Lead (set_up setup boot) turns t → t.store ≡ Some st → IsMade st.world }
+{}
+
+/// A write line that is done is acknowledged or not. Where it is, the key's cookie has the nonce that the write drew as
+/// its version and expires a lease later, and the line writes the version. Where it is not, no cookie changes, none has
+/// that version, and the line writes which windows are full, or why too few bricks stored the value.
+pub fn writes_say_whether_they_are_acknowledged()
+    ensures { (setup : SetupState) (boot : ℕ) (before : List SessionTurn) (s t : SessionsState)
+        (key : ℕ) (value text : List ℕ)
+        → Lead (set_up setup boot) before s → session_line s (lines.Write key value) ≡ Done t text
+        → IsAcknowledged s key t text ⊎ IsUnacknowledged s key t text }
+{
+    acknowledged_cookies_stay_acknowledged();
+}
+
+/// A write line is refused only where there are no bricks, or where a call has had the nonce that it would draw: where the
+/// bricks are as many as head lines allow, as those of each setup are that head lines make.
+pub fn writes_with_new_nonces_are_done()
+    ensures refused { (setup : SetupState) (boot : ℕ) (turns : List SessionTurn) (u : SessionsState) (st : StoreState)
+        (key : ℕ) (value : List ℕ)
+        → HasCounts setup → Lead (set_up setup boot) turns u → u.store ≡ Some st
+        → session_line u (lines.Write key value) ≡ Refused → is_new st.world (nonce u) ≡ false }
+    ensures none { HasCounts no_setup }
+    ensures bricks { (setup : SetupState) (bricks most least : ℕ) (t : SetupState) (text : List ℕ)
+        → bricks_step setup bricks most least ≡ Done t text → HasCounts t }
+    ensures key { (setup : SetupState) (key : List ℕ) (t : SetupState) (text : List ℕ)
+        → HasCounts setup → key_step setup key ≡ Done t text → HasCounts t }
+{
+    windows_keep_their_limits();
+    taken_passes_are_lawful();
+}
+
+/// While each boot that starts has a greater number than the one before, and serials are left, no call has had the nonce
+/// that the next write or fetch draws.
+pub fn nonces_stay_new()
+    ensures { (setup : SetupState) (boot : ℕ) (turns : List SessionTurn) (u : SessionsState) (st : StoreState)
+        → BootsRise boot turns → Lead (set_up setup boot) turns u → u.store ≡ Some st → u.serial < 2 ^ 64 - 1
+        → is_new st.world (nonce u) ≡ true }
+{}
+
+/// Each cookie of a key comes from a write line that was acknowledged with it.
+pub fn cookies_come_from_writes()
+    ensures { (setup : SetupState) (boot : ℕ) (turns : List SessionTurn) (u : SessionsState) (key : ℕ) (cookie : Cookie)
+        → Lead (set_up setup boot) turns u → cookie_of u key ≡ Some cookie
+        → ComesFrom (set_up setup boot) turns u key cookie }
+{}
+
+/// A fetch of a key with a cookie is refused only where a call has had the nonce that it would draw.
+pub fn fetches_with_new_nonces_are_done()
+    ensures { (setup : SetupState) (boot : ℕ) (turns : List SessionTurn) (u : SessionsState) (key : ℕ) (cookie : Cookie)
+        → Lead (set_up setup boot) turns u → cookie_of u key ≡ Some cookie
+        → session_line u (lines.Fetch key) ≡ Refused
+        → (st : StoreState) × (u.store ≡ Some st) × (is_new st.world (nonce u) ≡ false) }
+{
+    acknowledged_cookies_stay_acknowledged();
+}
+
+/// Over every list of lines and of boots, each fetch line that is done is of a write line before it, and answers what was
+/// written: the value, in time, where a brick of the cookie can serve it; or that the cookie has expired; or that the value
+/// was lost, with the cause of each brick of the cookie. The cookie names 1 to 16 distinct bricks, and expires a lease after
+/// the write, whose line wrote the version that the cookie names.
+pub fn fetches_answer_what_was_written()
+    ensures each { (setup : SetupState) (boot : ℕ) (turns : List SessionTurn) (u v : SessionsState) (key : ℕ) (text : List ℕ)
+        → Lead (set_up setup boot) turns u → session_line u (lines.Fetch key) ≡ Done v text
+        → IsOfWrite setup boot turns u key text }
+    ensures right { (setup : SetupState) (boot : ℕ) (story : FetchedWrite setup boot) → IsRight (fetch_of story) story.text }
+    ensures bricks { (setup : SetupState) (boot : ℕ) (story : FetchedWrite setup boot)
+        → may_be_asked (bricks_of story.cookie.bricks) ≡ true }
+    ensures lease { (setup : SetupState) (boot : ℕ) (story : FetchedWrite setup boot)
+        → story.cookie.expiry ≡ expiry story.at_write }
+    ensures version { (setup : SetupState) (boot : ℕ) (story : FetchedWrite setup boot)
+        → story.written ≡ version_text story.key story.cookie }
+{
+    acknowledged_cookies_stay_acknowledged();
+}
+
+/// Within its lease a cookie reads back exactly the acknowledged value while one of its bricks has neither crashed nor
+/// been swept late since the write, and was neither silent to the fetch nor strayed. No other value is ever found. Past
+/// its expiry a fetch says that it has expired.
+pub fn fetches_read_back()
+    ensures found { (setup : SetupState) (boot : ℕ) (story : FetchedWrite setup boot)
+        → story.at_fetch.moment.0 ≤ story.cookie.expiry.0 → CanServe (fetch_of story)
+        → story.text ≡ found_text story.key story.value }
+    ensures only { (setup : SetupState) (boot : ℕ) (story : FetchedWrite setup boot) (value : List ℕ)
+        → story.text ≡ found_text story.key value → FindsValue (fetch_of story) story.text }
+    ensures expired { (setup : SetupState) (boot : ℕ) (story : FetchedWrite setup boot)
+        → story.cookie.expiry.0 < story.at_fetch.moment.0
+        → story.text ≡ expired_text story.key story.at_fetch.moment story.cookie.expiry }
+{
+    acknowledged_cookies_stay_acknowledged();
+}
+
+/// Lost is answered only where each brick of the cookie has its cause; and within the lease only where every brick of
+/// the cookie has crashed since the write, or was silent to this fetch, or strayed.
+pub fn fetches_lose_only_where_all_have()
+    ensures lost { (setup : SetupState) (boot : ℕ) (story : FetchedWrite setup boot) (causes : List BrickCause)
+        → story.text ≡ lost_text story.key causes → IsLost (fetch_of story) story.text }
+    ensures down { (setup : SetupState) (boot : ℕ) (story : FetchedWrite setup boot) (causes : List BrickCause)
+        (place : ℕ) (holder : Holder)
+        → story.text ≡ lost_text story.key causes → IsWithinLease (fetch_of story)
+        → slice_get story.cookie.bricks place ≡ Some holder → IsDown (fetch_of story) holder }
+{
+    acknowledged_cookies_stay_acknowledged();
+}
+
+/// Over every list of turns that were done, what a scenario did to its sessions stands.
+pub fn sessions_stand()
+    ensures { (setup : SetupState) (turns : List SessionTurn) (end : SessionsState)
+        → Lead (set_up setup 0) turns end → SessionsStand setup turns end }
+{
+    sessions_are_worlds();
+    fetches_answer_what_was_written();
+    fetches_read_back();
+    fetches_lose_only_where_all_have();
+}

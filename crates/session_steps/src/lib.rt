@@ -1,0 +1,48 @@
+//! What the lines of a scenario do that are about sessions.
+//!
+//! A line is refused, or is done and writes its text. What each line does is defined as a function of the state before
+//! it, whose value is the answer: the state that the line leaves, and the text.
+//!
+//! ```text
+//! let mut setup = Setup::new();
+//! setup.bricks_line(3, 3, 2);                        // 3 bricks: a write asks 3, and 2 are to store its value
+//! setup.key_line(key);                               // the key of the service
+//! let mut sessions = Sessions::new(alloc, setup)?;
+//! sessions.reopen(1);                                // boot 1 has started
+//! sessions.step(alloc, SessionLine::Write(7, value))?;   // k7 version 0 bricks 1 2
+//! sessions.step(alloc, SessionLine::Crash(1))?;
+//! sessions.step(alloc, SessionLine::Fetch(7))?;      // k7 found 00ff
+//! ```
+//!
+//! The bricks are a world of `ssm_world`, beside the windows on what is sent to each. A brick replies at once, and its
+//! replies wait in its lane: they come in that order, and lines say which are lost, dropped or come once more. A write
+//! and a fetch are calls of the world that go on, turn by turn, until they want nothing more.
+//!
+//! Between two lines `IsSessions` holds: the present moment is below 2^62, each cookie names 1 to 16 distinct bricks, and
+//! the packets that wait in a lane are replies of its brick. So a call ends within 66 turns for each brick that it asks,
+//! and has its answer then; no line is refused after it has changed something.
+//!
+//! A line costs what its turns do, of which there is one for each ask and one for each reply that it hears. It does not
+//! cost more after more lines, but that a write or a fetch looks at all calls where its nonce is not after theirs. The
+//! packets and the calls of all lines are kept.
+#![tactic(auto)]
+
+mod fetching;
+mod lane;
+mod laws;
+mod parts;
+mod sessions;
+mod setup;
+mod store;
+mod texts;
+mod turns;
+mod writing;
+
+pub use laws::{
+    cookies_come_from_writes, fetches_answer_what_was_written, fetches_lose_only_where_all_have,
+    fetches_read_back, fetches_with_new_nonces_are_done, nonces_stay_new, sessions_are_worlds,
+    sessions_stand, writes_say_whether_they_are_acknowledged, writes_with_new_nonces_are_done,
+};
+pub use sessions::{LEASE, MAX_MOMENT, NODE, Sessions};
+pub use setup::{BrickCounts, DEFAULT_KEY_BYTES, LEAST_KEY_BYTES, MOST_KEY_BYTES, Setup};
+pub use store::TURNS_PER_BRICK;
