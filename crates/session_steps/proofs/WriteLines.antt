@@ -22,9 +22,9 @@ use Rattle.ssm_stub.specs.Turns.{turn_after_asks}
 use Rattle.ssm_stub.specs.Writes.{WriteState, write_start, write_answer, holder_of, cause_of, missed_unless}
 use Rattle.ssm_world.specs.Worlds.{is_new, same_brick, are_distinct, may_write}
 use Rattle.ssm_world.proofs.Tests.{both, number_other}
-use Rattle.session_steps.specs.Promise.{SessionTurn, Lead, HasCounts}
+use Rattle.session_steps.specs.Promise.{SessionTurn, Lead}
 use Rattle.session_steps.specs.Sessions.{SessionsState, with_store, nonce, drawn, session_key, expiry, write_of, spent_by, written_as, written, answered_write, write_line, session_line}
-use Rattle.session_steps.specs.Setup.{SetupState, no_setup, are_counts, bricks_step, key_step, store_of, set_up}
+use Rattle.session_steps.specs.Setup.{HasCounts, SetupState, no_setup, are_counts, bricks_step, key_step, store_of, set_up}
 use Rattle.session_steps.specs.Store.{StoreState}
 use Rattle.session_steps.specs.Texts.{overload_text}
 use Rattle.session_steps.specs.declared.setup.BrickCounts.{BrickCounts}
@@ -52,10 +52,10 @@ not_less : (a b : ℕ) → nat_lt a b ≡ false → b ≤ a
 not_less a b is = grind (arith, nat_tests)
 
 -- the windows of a setup keep the limits
-counts_keep : NewLaw → (counts : Option BrickCounts) → ((c : BrickCounts) → counts ≡ Some c → are_counts c.bricks c.most c.least ≡ true) → KeepWindows (store_of counts)
+counts_keep : NewLaw → (counts : Option BrickCounts) → HasCounts counts → KeepWindows (store_of counts)
 counts_keep new None allowed = tt
 counts_keep new (Some c) allowed =
-    let outer = both (nat_le 1 c.least && nat_le c.least c.most) (nat_le c.most c.bricks && nat_le c.bricks MAX_BRICKS) (allowed c refl) in
+    let outer = both (nat_le 1 c.least && nat_le c.least c.most) (nat_le c.most c.bricks && nat_le c.bricks MAX_BRICKS) allowed in
     let first = both (nat_le 1 c.least) (nat_le c.least c.most) outer.0 in
     let second = both (nat_le c.most c.bricks) (nat_le c.bricks MAX_BRICKS) outer.1 in
     new c.bricks c.most c.least true (at_least 1 c.least first.0) (at_least c.least c.most first.1) (at_least c.most c.bricks second.0) (at_least c.bricks MAX_BRICKS second.1)
@@ -138,7 +138,7 @@ not_refused_new s key value st taken_law store_is sound keep new is =
     go false at e = answered s key value st sound (may_begin s st keep (taken_law st.windows s.serial keep (not_less (open_count st.windows.facts) st.windows.wq at)) new) e
 
 -- a write line is refused only where there are no bricks, or where a call has had its nonce
-pub write_refused : LimitsLaw → NewLaw → TakenLaw → (setup : SetupState) (boot : ℕ) (turns : List SessionTurn) (u : SessionsState) (st : StoreState) (key : ℕ) (value : List ℕ) → HasCounts setup → Lead (set_up setup boot) turns u → u.store ≡ Some st
+pub write_refused : LimitsLaw → NewLaw → TakenLaw → (setup : SetupState) (boot : ℕ) (turns : List SessionTurn) (u : SessionsState) (st : StoreState) (key : ℕ) (value : List ℕ) → HasCounts setup.counts → Lead (set_up setup boot) turns u → u.store ≡ Some st
     → session_line u (lines.Write key value) ≡ Refused → is_new st.world (nonce u) ≡ false
 write_refused limits new_law taken_law setup boot turns u st key value allowed leads store_is is = go (is_new st.world (nonce u)) refl
   where
@@ -153,26 +153,24 @@ write_refused limits new_law taken_law setup boot turns u st key value allowed l
     go true at = absurd (not_refused_new u key value st taken_law store_is (all_sound setup boot turns u st leads store_is) keep at is)
 
 -- the bricks of a setup that head lines make are as many as they allow
-pub none_counts : HasCounts no_setup
-none_counts counts is = absurd (cc)
+pub none_counts : HasCounts no_setup.counts
+none_counts = tt
 
-pub bricks_counts : (setup : SetupState) (bricks most least : ℕ) (t : SetupState) (text : List ℕ) → bricks_step setup bricks most least ≡ Done t text → HasCounts t
+pub bricks_counts : (setup : SetupState) (bricks most least : ℕ) (t : SetupState) (text : List ℕ) → bricks_step setup bricks most least ≡ Done t text → HasCounts t.counts
 unfolding bricks_step
-bricks_counts setup bricks most least t text is counts has =
+bricks_counts setup bricks most least t text is =
     let later : SetupState = record setup { counts = Some (record { bricks = bricks; most = most; least = least }) } in
     let first = not_refused (is_some setup.counts) (refused_if (not (are_counts bricks most least)) (Done later [])) t text is in
     let second = not_refused (not (are_counts bricks most least)) (Done later []) t text first.1 in
     let state : t ≡ later = (done_state later t [] text second.1).0 in
-    let one : Some (record { bricks = bricks; most = most; least = least }) ≡ Some counts = ap (λ (x : SetupState). x.counts) (sym state) ∙ has in
-    let same : record { bricks = bricks; most = most; least = least } ≡ counts = cc in
-    subst (λ (c : BrickCounts). are_counts c.bricks c.most c.least ≡ true) same (not_false (are_counts bricks most least) second.0)
+    subst (λ (x : SetupState). HasCounts x.counts) (sym state) (not_false (are_counts bricks most least) second.0)
 
-pub key_counts : (setup : SetupState) (key : List ℕ) (t : SetupState) (text : List ℕ) → HasCounts setup → key_step setup key ≡ Done t text → HasCounts t
+pub key_counts : (setup : SetupState) (key : List ℕ) (t : SetupState) (text : List ℕ) → HasCounts setup.counts → key_step setup key ≡ Done t text → HasCounts t.counts
 unfolding key_step
-key_counts setup key t text allowed is counts has =
+key_counts setup key t text allowed is =
     let later : SetupState = record setup { key = Some key } in
-    let first = not_refused (is_some setup.key) (refused_if (nat_lt (length key) LEAST_KEY_BYTES) (refused_if (nat_lt MOST_KEY_BYTES (length key)) (Done later []))) t text is in
-    let second = not_refused (nat_lt (length key) LEAST_KEY_BYTES) (refused_if (nat_lt MOST_KEY_BYTES (length key)) (Done later [])) t text first.1 in
-    let third = not_refused (nat_lt MOST_KEY_BYTES (length key)) (Done later []) t text second.1 in
-    let state : t ≡ later = (done_state later t [] text third.1).0 in
-    allowed counts (ap (λ (x : SetupState). x.counts) (sym state) ∙ has)
+    let first = not_refused (nat_lt (length key) LEAST_KEY_BYTES) (refused_if (nat_lt MOST_KEY_BYTES (length key)) (Done later [])) t text
+      (not_refused (is_some setup.key) (refused_if (nat_lt (length key) LEAST_KEY_BYTES) (refused_if (nat_lt MOST_KEY_BYTES (length key)) (Done later []))) t text is).1 in
+    let second = not_refused (nat_lt MOST_KEY_BYTES (length key)) (Done later []) t text first.1 in
+    let state : t ≡ later = (done_state later t [] text second.1).0 in
+    subst (λ (x : SetupState). HasCounts x.counts) (sym state) allowed

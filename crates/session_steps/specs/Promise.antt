@@ -245,11 +245,6 @@ pub record ComesFrom (s : SessionsState) (turns : List SessionTurn) (u : Session
   pub cookie_is : acknowledged.cookie ≡ cookie
   pub from_write : Lead after_write since u
 
--- the bricks of a setup, if there are some, are as many as head lines allow
-abbrev pub HasCounts : SetupState → Type 0
-HasCounts setup =
-    (counts : BrickCounts) → setup.counts ≡ Some counts → are_counts counts.bricks counts.most counts.least ≡ true
-
 -- each boot that starts has a greater number than the one before it
 abbrev pub BootsRise : ℕ → List SessionTurn → Type 0
 BootsRise boot [] = Unit {0}

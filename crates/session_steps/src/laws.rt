@@ -8,9 +8,9 @@ ghost use Rattle.session_cookie.specs.declared.cookie.Cookie.{Cookie};
 ghost use Rattle.session_cookie.specs.declared.cookie.Holder.{Holder};
 ghost use Rattle.ssm_stub.specs.declared.cause.BrickCause.{BrickCause};
 ghost use Rattle.ssm_world.specs.Worlds.{is_new, may_be_asked, bricks_of, IsMade};
-ghost use Rattle.session_steps.specs.Promise.{SessionTurn, Lead, CanServe, FindsValue, IsLost, IsRight, IsAcknowledged, IsUnacknowledged, ComesFrom, HasCounts, BootsRise, FetchedWrite, IsOfWrite, fetch_of, IsDown, IsWithinLease};
+ghost use Rattle.session_steps.specs.Promise.{SessionTurn, Lead, CanServe, FindsValue, IsLost, IsRight, IsAcknowledged, IsUnacknowledged, ComesFrom, BootsRise, FetchedWrite, IsOfWrite, fetch_of, IsDown, IsWithinLease};
 ghost use Rattle.session_steps.specs.Sessions.{SessionsState, nonce, cookie_of, expiry, session_line};
-ghost use Rattle.session_steps.specs.Setup.{SetupState, no_setup, bricks_step, key_step, set_up};
+ghost use Rattle.session_steps.specs.Setup.{SetupState, HasCounts, no_setup, bricks_step, key_step, set_up};
 ghost use Rattle.session_steps.specs.Standing.{SessionsStand};
 ghost use Rattle.session_steps.specs.Store.{StoreState};
 ghost use Rattle.session_steps.specs.Texts.{version_text, found_text, expired_text, lost_text};
@@ -41,13 +41,13 @@ pub fn writes_say_whether_they_are_acknowledged()
 pub fn writes_with_new_nonces_are_done()
     ensures refused { (setup : SetupState) (boot : ℕ) (turns : List SessionTurn) (u : SessionsState) (st : StoreState)
         (key : ℕ) (value : List ℕ)
-        → HasCounts setup → Lead (set_up setup boot) turns u → u.store ≡ Some st
+        → HasCounts setup.counts → Lead (set_up setup boot) turns u → u.store ≡ Some st
         → session_line u (lines.Write key value) ≡ Refused → is_new st.world (nonce u) ≡ false }
-    ensures none { HasCounts no_setup }
+    ensures none { HasCounts no_setup.counts }
     ensures bricks { (setup : SetupState) (bricks most least : ℕ) (t : SetupState) (text : List ℕ)
-        → bricks_step setup bricks most least ≡ Done t text → HasCounts t }
+        → bricks_step setup bricks most least ≡ Done t text → HasCounts t.counts }
     ensures key { (setup : SetupState) (key : List ℕ) (t : SetupState) (text : List ℕ)
-        → HasCounts setup → key_step setup key ≡ Done t text → HasCounts t }
+        → HasCounts setup.counts → key_step setup key ≡ Done t text → HasCounts t.counts }
 {
     windows_keep_their_limits();
     taken_passes_are_lawful();
