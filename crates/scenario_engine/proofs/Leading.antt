@@ -1,5 +1,5 @@
 -- The turns of a scenario lead its sessions from their setup to their end.
-use Rattle.std.proofs.Common.{◌≡◌, ◌⊎◌, inl, inr, ℕ, Bool, true, false, if◌then◌else◌, List, [], ◌∷◌, ◌++◌, length, Option, Some, None, refl, sym, subst}
+use Rattle.std.proofs.Common.{◌≡◌, ◌⊎◌, inl, inr, ℕ, ◌+◌, append-nil, Bool, true, false, if◌then◌else◌, List, [], ◌∷◌, ◌++◌, length, Option, Some, None, refl, sym, subst}
 use Rattle.std.specs.Prelude.{nat_lt}
 use Rattle.boot_core.specs.Refusals.{reboot_refusal}
 use Rattle.boot_core.specs.declared.boot.Start.{Start}
@@ -13,8 +13,8 @@ use Rattle.line_steps.specs.declared.callers.Caller.{Caller}
 use Rattle.line_steps.specs.declared.callers.Caller.TheVariants.{Absent, Live}
 use Rattle.line_steps.specs.declared.head.Head.{Head}
 use Rattle.line_steps.specs.Callers.{caller_at, begin_step, call_step}
-use Rattle.line_steps.specs.Head.{head_line}
-use Rattle.line_steps.proofs.Leaving.{Leaves, leaves-or_refused}
+use Rattle.line_steps.specs.Head.{head_line, with_parts, with_setup, limit_step}
+use Rattle.line_steps.proofs.Leaving.{Leaves, leaves-refused_if, leaves-or_refused}
 use Rattle.scenario_text.specs.Answer.{Answer, Refused, Done, within}
 use Rattle.scenario_text.specs.Line.{is_event}
 use Rattle.scenario_text.specs.Reading.{line_of}
@@ -23,14 +23,16 @@ use Rattle.scenario_text.specs.declared.line.Line.TheVariants as lines
 use Rattle.scenario_text.specs.declared.line.TheConstants.{MAX_LINE_BYTES}
 use Rattle.session_steps.specs.Promise.{SessionTurn, Boots, Lead}
 use Rattle.session_steps.specs.Sessions.{SessionsState, session_line, reopened}
-use Rattle.session_steps.specs.Setup.{SetupState, set_up}
+use Rattle.deployment.specs.declared.parts.Parts.{Parts}
+use Rattle.journal_model.specs.declared.limits.TheConstants.{MAX_ENTRIES, MAX_JOURNAL_BYTES}
+use Rattle.session_steps.specs.Setup.{SetupState, HasCounts, no_setup, bricks_step, key_step, set_up}
 use Rattle.session_steps.proofs.Leading.{lead_on}
 use Rattle.scenario_engine.specs.Engine.{Replies, target_of, opened_target, kind_of, in_head, in_boot, next_opening, reopens, line_over, line_on, step}
 use Rattle.scenario_engine.specs.Opening.{Opening, Opened, Shut, opening}
 use Rattle.scenario_engine.specs.Running.{started, with_callers, with_sessions, commit_ends, with_keeper, boot_refusal, caller_commits, caller_drops, commit_step, drop_step, scope_of, goes_down, reboots, down_step, up_step, reboot_step, table_step, journal_step}
-use Rattle.scenario_engine.specs.Sessions.{turns_by, first_start, turns_to, turn_on_sessions, session_turns}
+use Rattle.scenario_engine.specs.Sessions.{AreSessionsOf, turns_by, first_start, starts_by, starts_on, turns_to, turn_on_sessions, session_turns}
 use Rattle.scenario_engine.specs.State.{RunningState, State, Heading, Running, Outcome, RefusedIn, DoneTo, NotStarted}
-use Rattle.scenario_engine.specs.Transcript.{Turn, answer_to, turn_outcome}
+use Rattle.scenario_engine.specs.Transcript.{Turn, TooLong, RefusedAt, Unstarted, end_from, last_state, answer_to, turn_outcome}
 
 -- lines that leave the sessions as they were
 
@@ -91,35 +93,35 @@ same_reboot r name =
 
 -- a line over a boot that was done leads the sessions to those of the boot that it leaves
 abbrev LeadsOver : RunningState → Line → Outcome → Type 0
-LeadsOver r line (RefusedIn t) = Unit {0}
+LeadsOver r line (RefusedIn t) = t ≡ Running r
 LeadsOver r line (DoneTo t text) =
     (q : RunningState) × (t ≡ Running q) × Lead r.sessions (turns_by line t text) q.sessions
-LeadsOver r line (NotStarted t refusal) = Unit {0}
+LeadsOver r line (NotStarted t refusal) = t ≡ Running r
 
 leads_same : (r : RunningState) (line : Line) (a : Answer RunningState) → ((t : State) (text : List ℕ) → turns_by line t text ≡ []) → Leaves (SameSessions r) a → LeadsOver r line (in_boot r a)
-leads_same r line Refused none same = tt
+leads_same r line Refused none same = refl
 leads_same r line (Done q text) none same =
     let P : List SessionTurn → Type 0 = λ turns. Lead r.sessions turns q.sessions in
     (q, refl, subst P (sym (none (Running q) text)) same)
 
 leads_session : (r : RunningState) (line : _) (a : Answer SessionsState) → session_line r.sessions line ≡ a → LeadsOver r (lines.Session line) (in_boot r (within (with_sessions r) a))
-leads_session r line Refused is = tt
+leads_session r line Refused is = refl
 leads_session r line (Done sessions text) is = (with_sessions r sessions, refl, (sessions, is, refl))
 
 leads_reopen : (r : RunningState) (how : Opening) → LeadsOver r lines.Reopen (reopens r how)
 leads_reopen r (Opened start) = (started r.sessions start, refl, (reopened r.sessions start.boot, refl, refl))
-leads_reopen r (Shut refusal) = tt
+leads_reopen r (Shut refusal) = refl
 
 leads_over : (r : RunningState) (line : Line) (replies : Replies) → LeadsOver r line (line_over r (kind_of line) line replies)
 unfolding table_step journal_step
 leads_over r lines.Pass replies = (r, refl, refl)
-leads_over r (lines.Component name) replies = tt
-leads_over r (lines.Hard from to) replies = tt
-leads_over r (lines.Soft from to) replies = tt
-leads_over r (lines.Owns name table) replies = tt
-leads_over r (lines.Limit entries bytes) replies = tt
-leads_over r (lines.Bricks bricks most least) replies = tt
-leads_over r (lines.Key bytes) replies = tt
+leads_over r (lines.Component name) replies = refl
+leads_over r (lines.Hard from to) replies = refl
+leads_over r (lines.Soft from to) replies = refl
+leads_over r (lines.Owns name table) replies = refl
+leads_over r (lines.Limit entries bytes) replies = refl
+leads_over r (lines.Bricks bricks most least) replies = refl
+leads_over r (lines.Key bytes) replies = refl
 leads_over r (lines.Begin c) replies = leads_same r (lines.Begin c) _ (λ t text. refl) (same_called r (begin_step r.boot r.callers c))
 leads_over r (lines.Enter c name) replies = leads_same r (lines.Enter c name) _ (λ t text. refl) (same_called r (call_step r.boot r.callers c (calls.Enter name)))
 leads_over r (lines.Exit c) replies = leads_same r (lines.Exit c) _ (λ t text. refl) (same_called r (call_step r.boot r.callers c calls.Exit))
@@ -138,129 +140,180 @@ leads_over r (lines.Session line) replies = leads_session r line (session_line r
 
 -- over the head
 
--- a line of the head that was done leaves a head, and does nothing to sessions
-abbrev StaysHead : Line → Outcome → Type 0
-StaysHead line (RefusedIn t) = Unit {0}
-StaysHead line (DoneTo t text) = (head : Head) × (t ≡ Heading head) × (turns_by line t text ≡ [])
-StaysHead line (NotStarted t refusal) = Unit {0}
+-- What head lines about sessions keep of a setup: as many bricks as they allow.
+pub record CountsLaw : Type 0 where
+  pub none : HasCounts no_setup.counts
+  pub bricks : (setup : SetupState) (bricks most least : ℕ) (t : SetupState) (text : List ℕ) → bricks_step setup bricks most least ≡ Done t text → HasCounts t.counts
+  pub key : (setup : SetupState) (key : List ℕ) (t : SetupState) (text : List ℕ) → HasCounts setup.counts → key_step setup key ≡ Done t text → HasCounts t.counts
 
-stays_in : (line : Line) (head : Head) (a : Answer Head) → ((t : State) (text : List ℕ) → turns_by line t text ≡ []) → StaysHead line (in_head head a)
-stays_in line head Refused none = tt
-stays_in line head (Done next text) none = (next, refl, none (Heading next) text)
+-- the bricks of one head are as many as head lines allow where those of another are
+abbrev KeepsCounts : Head → Head → Type 0
+KeepsCounts old new = HasCounts old.setup.counts → HasCounts new.setup.counts
 
-stays_head : (head : Head) (line : Line) → StaysHead line (in_head head (head_line head line))
-stays_head head lines.Reopen = tt
-stays_head head (lines.Session line) = tt
-stays_head head lines.Pass = (head, refl, refl)
-stays_head head (lines.Component name) = stays_in (lines.Component name) head _ (λ t text. refl)
-stays_head head (lines.Hard from to) = stays_in (lines.Hard from to) head _ (λ t text. refl)
-stays_head head (lines.Soft from to) = stays_in (lines.Soft from to) head _ (λ t text. refl)
-stays_head head (lines.Owns name table) = stays_in (lines.Owns name table) head _ (λ t text. refl)
-stays_head head (lines.Limit entries bytes) = stays_in (lines.Limit entries bytes) head _ (λ t text. refl)
-stays_head head (lines.Bricks bricks most least) = stays_in (lines.Bricks bricks most least) head _ (λ t text. refl)
-stays_head head (lines.Key bytes) = stays_in (lines.Key bytes) head _ (λ t text. refl)
-stays_head head (lines.Begin c) = tt
-stays_head head (lines.Enter c name) = tt
-stays_head head (lines.Exit c) = tt
-stays_head head (lines.Read c table key) = tt
-stays_head head (lines.List c table) = tt
-stays_head head (lines.Put c table key bytes) = tt
-stays_head head (lines.Commit c) = tt
-stays_head head (lines.Drop c) = tt
-stays_head head (lines.Down name) = tt
-stays_head head (lines.Up name) = tt
-stays_head head (lines.Reboot name) = tt
-stays_head head lines.Table = tt
-stays_head head lines.Journal = tt
+counts_setup : (head : Head) (a : Answer SetupState) → ((t : SetupState) (text : List ℕ) → a ≡ Done t text → HasCounts head.setup.counts → HasCounts t.counts) → Leaves (KeepsCounts head) (within (with_setup head) a)
+counts_setup head Refused keeps = tt
+counts_setup head (Done t text) keeps = keeps t text refl
+
+counts_parts : (head : Head) (a : Answer Parts) → Leaves (KeepsCounts head) (within (with_parts head) a)
+counts_parts head Refused = tt
+counts_parts head (Done parts text) = λ has. has
+
+counts_limit : (head : Head) (entries bytes : ℕ) → Leaves (KeepsCounts head) (limit_step head entries bytes)
+unfolding limit_step
+counts_limit head entries bytes =
+    leaves-refused_if (KeepsCounts head) (nat_lt MAX_ENTRIES entries) _ (λ low. leaves-refused_if (KeepsCounts head) (nat_lt MAX_JOURNAL_BYTES bytes) _ (λ small. λ has. has))
+
+-- A line of the head leaves a head, and does nothing to sessions.
+abbrev StaysHead : Head → Line → Outcome → Type 0
+StaysHead old line (RefusedIn t) = t ≡ Heading old
+StaysHead old line (DoneTo t text) = (head : Head) × (t ≡ Heading head) × (turns_by line t text ≡ []) × KeepsCounts old head
+StaysHead old line (NotStarted t refusal) = t ≡ Heading old
+
+stays_in : (line : Line) (head : Head) (a : Answer Head) → ((t : State) (text : List ℕ) → turns_by line t text ≡ []) → Leaves (KeepsCounts head) a → StaysHead head line (in_head head a)
+stays_in line head Refused none keeps = refl
+stays_in line head (Done next text) none keeps = (next, refl, none (Heading next) text, keeps)
+
+stays_head : CountsLaw → (head : Head) (line : Line) → StaysHead head line (in_head head (head_line head line))
+stays_head law head lines.Reopen = refl
+stays_head law head (lines.Session line) = refl
+stays_head law head lines.Pass = (head, refl, refl, λ has. has)
+stays_head law head (lines.Component name) = stays_in (lines.Component name) head _ (λ t text. refl) (counts_parts head _)
+stays_head law head (lines.Hard from to) = stays_in (lines.Hard from to) head _ (λ t text. refl) (counts_parts head _)
+stays_head law head (lines.Soft from to) = stays_in (lines.Soft from to) head _ (λ t text. refl) (counts_parts head _)
+stays_head law head (lines.Owns name table) = stays_in (lines.Owns name table) head _ (λ t text. refl) (counts_parts head _)
+stays_head law head (lines.Limit entries bytes) = stays_in (lines.Limit entries bytes) head _ (λ t text. refl) (counts_limit head entries bytes)
+stays_head law head (lines.Bricks bricks most least) =
+    stays_in (lines.Bricks bricks most least) head _ (λ t text. refl)
+    (counts_setup head (bricks_step head.setup bricks most least) (λ t text is has. law.bricks head.setup bricks most least t text is))
+stays_head law head (lines.Key bytes) =
+    stays_in (lines.Key bytes) head _ (λ t text. refl)
+    (counts_setup head (key_step head.setup bytes) (λ t text is has. law.key head.setup bytes t text has is))
+stays_head law head (lines.Begin c) = refl
+stays_head law head (lines.Enter c name) = refl
+stays_head law head (lines.Exit c) = refl
+stays_head law head (lines.Read c table key) = refl
+stays_head law head (lines.List c table) = refl
+stays_head law head (lines.Put c table key bytes) = refl
+stays_head law head (lines.Commit c) = refl
+stays_head law head (lines.Drop c) = refl
+stays_head law head (lines.Down name) = refl
+stays_head law head (lines.Up name) = refl
+stays_head law head (lines.Reboot name) = refl
+stays_head law head lines.Table = refl
+stays_head law head lines.Journal = refl
 
 -- one turn
 
--- What a turn from a state comes to: from the head it leaves a head and does nothing to sessions, or a boot to whose
--- sessions it leads from those that the head sets up; from a boot it leads to the sessions of a boot.
-abbrev LeadsTo : State → (State → List ℕ → List SessionTurn) → Outcome → Type 0
-LeadsTo s turns (RefusedIn t) = Unit {0}
-LeadsTo (Heading head) turns (DoneTo t text) =
-    ((next : Head) × (t ≡ Heading next) × (turns t text ≡ []))
-    ⊎ ((q : RunningState) × (t ≡ Running q) × Lead (set_up head.setup 0) (turns t text) q.sessions)
-LeadsTo (Running r) turns (DoneTo t text) =
-    (q : RunningState) × (t ≡ Running q) × Lead r.sessions (turns t text) q.sessions
-LeadsTo s turns (NotStarted t refusal) = Unit {0}
+-- What turns of sessions come to between two states: from the head to a head, where nothing is done to sessions, or from
+-- the sessions that the head sets up to those of a boot; or from the sessions of a boot to those of a boot.
+abbrev Reaches : State → List SessionTurn → State → Type 0
+Reaches (Heading head) turns t =
+    ((next : Head) × (t ≡ Heading next) × (turns ≡ []) × KeepsCounts head next)
+    ⊎ ((q : RunningState) × (t ≡ Running q) × Lead (set_up head.setup 0) turns q.sessions)
+Reaches (Running r) turns t = (q : RunningState) × (t ≡ Running q) × Lead r.sessions turns q.sessions
 
-leads_running : (r : RunningState) (line : Line) (o : Outcome) → LeadsOver r line o → LeadsTo (Running r) (turns_by line) o
-leads_running r line (RefusedIn t) leads = tt
+-- what a turn from a state comes to
+abbrev LeadsTo : State → List SessionTurn → (State → List ℕ → List SessionTurn) → Outcome → Type 0
+LeadsTo s starts turns (RefusedIn t) = Reaches s starts t
+LeadsTo s starts turns (DoneTo t text) = Reaches s (turns t text) t
+LeadsTo s starts turns (NotStarted t refusal) = Reaches s starts t
+
+-- a state is itself reached by no turn
+stays : (s : State) → Reaches s [] s
+stays (Heading head) = inl (head, refl, refl, λ has. has)
+stays (Running r) = (r, refl, refl)
+
+leads_running : (r : RunningState) (line : Line) (o : Outcome) → LeadsOver r line o → LeadsTo (Running r) [] (turns_by line) o
+leads_running r line (RefusedIn t) is = (r, is, refl)
 leads_running r line (DoneTo t text) leads = leads
-leads_running r line (NotStarted t refusal) leads = tt
+leads_running r line (NotStarted t refusal) is = (r, is, refl)
 
-leads_heading : (head : Head) (line : Line) (o : Outcome) → StaysHead line o → LeadsTo (Heading head) (turns_by line) o
-leads_heading head line (RefusedIn t) stays = tt
+leads_heading : (head : Head) (line : Line) (o : Outcome) → StaysHead head line o → LeadsTo (Heading head) [] (turns_by line) o
+leads_heading head line (RefusedIn t) is = inl (head, is, refl, λ has. has)
 leads_heading head line (DoneTo t text) stays = inl stays
-leads_heading head line (NotStarted t refusal) stays = tt
+leads_heading head line (NotStarted t refusal) is = inl (head, is, refl, λ has. has)
 
 leads_first : (head : Head) (start : Start) (line : Line) (o : Outcome) → LeadsOver (started (set_up head.setup 0) start) line o
-    → LeadsTo (Heading head) (λ t text. Boots start.boot ∷ turns_by line t text) o
-leads_first head start line (RefusedIn t) leads = tt
+    → LeadsTo (Heading head) (Boots start.boot ∷ []) (λ t text. Boots start.boot ∷ turns_by line t text) o
+leads_first head start line (RefusedIn t) is =
+    inr (started (set_up head.setup 0) start, is, (reopened (set_up head.setup 0) start.boot, refl, refl))
 leads_first head start line (DoneTo t text) (q, is, lead) =
     inr (q, is, (reopened (set_up head.setup 0) start.boot, refl, lead))
-leads_first head start line (NotStarted t refusal) leads = tt
+leads_first head start line (NotStarted t refusal) is =
+    inr (started (set_up head.setup 0) start, is, (reopened (set_up head.setup 0) start.boot, refl, refl))
 
-leads_opened : (head : Head) (how : Opening) (line : Line) (replies : Replies) → LeadsTo (Heading head) (λ t text. first_start (Heading head) (opened_target head how) ++ turns_by line t text) (line_on (opened_target head how) line replies)
+leads_opened : (head : Head) (how : Opening) (line : Line) (replies : Replies)
+    → LeadsTo (Heading head) (first_start (Heading head) (opened_target head how)) (λ t text. first_start (Heading head) (opened_target head how) ++ turns_by line t text) (line_on (opened_target head how) line replies)
 leads_opened head (Opened start) line replies =
     leads_first head start line (line_over (started (set_up head.setup 0) start) (kind_of line) line replies) (leads_over (started (set_up head.setup 0) start) line replies)
-leads_opened head (Shut refusal) line replies = tt
+leads_opened head (Shut refusal) line replies = stays (Heading head)
 
-leads_step : (s : State) (line : Line) (replies : Replies) → LeadsTo s (λ t text. first_start s (target_of s (is_event line) replies.first) ++ turns_by line t text) (step s line replies)
+leads_step : CountsLaw → (s : State) (line : Line) (replies : Replies)
+    → LeadsTo s (first_start s (target_of s (is_event line) replies.first)) (λ t text. first_start s (target_of s (is_event line) replies.first) ++ turns_by line t text) (step s line replies)
 unfolding step
-leads_step (Running r) line replies = leads_running r line (line_over r (kind_of line) line replies) (leads_over r line replies)
-leads_step (Heading head) line replies = go (is_event line)
+leads_step law (Running r) line replies = leads_running r line (line_over r (kind_of line) line replies) (leads_over r line replies)
+leads_step law (Heading head) line replies = go (is_event line)
   where
-    go : (event : Bool) → LeadsTo (Heading head) (λ t text. first_start (Heading head) (target_of (Heading head) event replies.first) ++ turns_by line t text) (line_on (target_of (Heading head) event replies.first) line replies)
-    go false = leads_heading head line (in_head head (head_line head line)) (stays_head head line)
+    go : (event : Bool) → LeadsTo (Heading head) (first_start (Heading head) (target_of (Heading head) event replies.first)) (λ t text. first_start (Heading head) (target_of (Heading head) event replies.first) ++ turns_by line t text) (line_on (target_of (Heading head) event replies.first) line replies)
+    go false = leads_heading head line (in_head head (head_line head line)) (stays_head law head line)
     go true = leads_opened head (opening head.parts head.limits replies.first) line replies
 
-leads_answer : (s : State) (o : Option Line) (replies : Replies) → LeadsTo s (turns_to s o replies) (answer_to s o replies)
-leads_answer s None replies = tt
-leads_answer s (Some line) replies = leads_step s line replies
+leads_answer : CountsLaw → (s : State) (o : Option Line) (replies : Replies) → LeadsTo s (starts_by s o replies) (turns_to s o replies) (answer_to s o replies)
+leads_answer law s None replies = stays s
+leads_answer law s (Some line) replies = leads_step law s line replies
 
-leads_turn : (s : State) (turn : Turn) → LeadsTo s (turn_on_sessions s turn) (turn_outcome s turn)
-unfolding turn_outcome turn_on_sessions
-leads_turn s turn = leads_answer s (line_of turn.line) turn.replies
+leads_turn : CountsLaw → (s : State) (turn : Turn) → LeadsTo s (starts_on s turn) (turn_on_sessions s turn) (turn_outcome s turn)
+unfolding turn_outcome turn_on_sessions starts_on
+leads_turn law s turn = leads_answer law s (line_of turn.line) turn.replies
 
 -- all turns
 
--- turns from a state lead its sessions, or those that some head sets up, to an end
-abbrev AllLead : State → List SessionTurn → Type 0
-AllLead (Heading head) turns = (setup : SetupState) × (end : SessionsState) × Lead (set_up setup 0) turns end
-AllLead (Running r) turns = (end : SessionsState) × Lead r.sessions turns end
+-- Turns of sessions from a state lead to the sessions of the last one; from the head they begin with those that some head
+-- sets up, with as many bricks as head lines allow.
+abbrev AllLead : State → List SessionTurn → State → Type 0
+AllLead (Heading head) turns last =
+    HasCounts head.setup.counts → (setup : SetupState) × (end : SessionsState) × Lead (set_up setup 0) turns end × HasCounts setup.counts × AreSessionsOf last setup end
+AllLead (Running r) turns last = (end : SessionsState) × Lead r.sessions turns end × ((setup : SetupState) → AreSessionsOf last setup end)
 
-no_lead : (s : State) → AllLead s []
-no_lead (Heading head) = (head.setup, set_up head.setup 0, refl)
-no_lead (Running r) = (r.sessions, refl)
+no_lead : (s : State) → AllLead s [] s
+no_lead (Heading head) = λ has. (head.setup, set_up head.setup 0, refl, has, (refl, refl))
+no_lead (Running r) = (r.sessions, refl, λ setup. refl)
 
-lead_more : (s t : State) (text : List ℕ) (turns : State → List ℕ → List SessionTurn) (more : List SessionTurn) → LeadsTo s turns (DoneTo t text) → AllLead t more → AllLead s (turns t text ++ more)
-lead_more (Heading head) t text turns more (inl (next, is, none)) rest =
-    let P : State → Type 0 = λ u. AllLead u more in
-    let Q : List SessionTurn → Type 0 = λ xs. AllLead (Heading head) (xs ++ more) in
-    subst Q (sym none) (subst P is rest)
-lead_more (Heading head) t text turns more (inr (q, is, lead)) rest =
-    let P : State → Type 0 = λ u. AllLead u more in
+lead_more : (s t last : State) (turns more : List SessionTurn) → Reaches s turns t → AllLead t more last → AllLead s (turns ++ more) last
+lead_more (Heading head) t last turns more (inl (next, is, none, keeps)) rest = λ has.
+    let P : State → Type 0 = λ u. AllLead u more last in
+    let Q : List SessionTurn → Type 0 = λ xs. (setup : SetupState) × (end : SessionsState) × Lead (set_up setup 0) (xs ++ more) end × HasCounts setup.counts × AreSessionsOf last setup end in
+    subst Q (sym none) (subst P is rest (keeps has))
+lead_more (Heading head) t last turns more (inr (q, is, lead)) rest = λ has.
+    let P : State → Type 0 = λ u. AllLead u more last in
     let after = subst P is rest in
-    (head.setup, after.0, lead_on (set_up head.setup 0) q.sessions after.0 (turns t text) more lead after.1)
-lead_more (Running r) t text turns more (q, is, lead) rest =
-    let P : State → Type 0 = λ u. AllLead u more in
+    (head.setup, after.0, lead_on (set_up head.setup 0) q.sessions after.0 turns more lead after.1, has, after.2 head.setup)
+lead_more (Running r) t last turns more (q, is, lead) rest =
+    let P : State → Type 0 = λ u. AllLead u more last in
     let after = subst P is rest in
-    (after.0, lead_on r.sessions q.sessions after.0 (turns t text) more lead after.1)
+    (after.0, lead_on r.sessions q.sessions after.0 turns more lead after.1, after.2)
 
-pub all_lead : (s : State) (turns : List Turn) → AllLead s (session_turns s turns)
-all_lead s [] = no_lead s
-all_lead s (turn ∷ turns) =
-    go (nat_lt MAX_LINE_BYTES (length turn.line)) (turn_outcome s turn) (leads_turn s turn) (λ t. all_lead t turns)
+-- where the turns stop
+lead_last : (s t : State) (turns : List SessionTurn) → Reaches s turns t → AllLead s turns t
+lead_last s t turns reaches =
+    let P : List SessionTurn → Type 0 = λ xs. AllLead s xs t in
+    subst P (append-nil turns) (lead_more s t t turns [] reaches (no_lead t))
+
+pub all_lead : CountsLaw → (s : State) (n : ℕ) (turns : List Turn) → AllLead s (session_turns s turns) (last_state (end_from s n turns))
+all_lead law s n [] = no_lead s
+all_lead law s n (turn ∷ turns) =
+    go (nat_lt MAX_LINE_BYTES (length turn.line)) (turn_outcome s turn) (leads_turn law s turn) (λ t. all_lead law t (n + 1) turns)
   where
-    go : (long : Bool) (o : Outcome) → LeadsTo s (turn_on_sessions s turn) o → ((t : State) → AllLead t (session_turns t turns)) → AllLead s (if long then [] else (elim o [
-      | RefusedIn t ↦ []
+    go : (long : Bool) (o : Outcome) → LeadsTo s (starts_on s turn) (turn_on_sessions s turn) o → ((t : State) → AllLead t (session_turns t turns) (last_state (end_from t (n + 1) turns))) → AllLead s (if long then [] else (elim o [
+      | RefusedIn t ↦ starts_on s turn
       | DoneTo t text ↦ turn_on_sessions s turn t text ++ session_turns t turns
-      | NotStarted t refusal ↦ []
-    ]))
+      | NotStarted t refusal ↦ starts_on s turn
+    ])) (last_state (if long then TooLong s n else (elim o [
+      | RefusedIn t ↦ RefusedAt t n
+      | DoneTo t text ↦ end_from t (n + 1) turns
+      | NotStarted t refusal ↦ Unstarted t refusal
+    ])))
     go true o leads later = no_lead s
-    go false (RefusedIn t) leads later = no_lead s
-    go false (DoneTo t text) leads later = lead_more s t text (turn_on_sessions s turn) (session_turns t turns) leads (later t)
-    go false (NotStarted t refusal) leads later = no_lead s
+    go false (RefusedIn t) leads later = lead_last s t (starts_on s turn) leads
+    go false (DoneTo t text) leads later = lead_more s t (last_state (end_from t (n + 1) turns)) (turn_on_sessions s turn t text) (session_turns t turns) leads (later t)
+    go false (NotStarted t refusal) leads later = lead_last s t (starts_on s turn) leads

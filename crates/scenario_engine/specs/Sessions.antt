@@ -1,5 +1,5 @@
 -- The sessions of a scenario: what its turns do to them.
-use Rattle.std.specs.Prelude.{ℕ, nat_lt, if◌then◌else◌, List, [], ◌∷◌, ◌++◌, length, map, Option, Some, None}
+use Rattle.std.specs.Prelude.{◌≡◌, ℕ, nat_lt, if◌then◌else◌, List, [], ◌∷◌, ◌++◌, length, map, Option, Some, None}
 use Rattle.boot_core.specs.Boot.{BootValue}
 use Rattle.scenario_text.specs.declared.line.Line.{Line}
 use Rattle.scenario_text.specs.declared.line.Line.TheVariants.{Pass, Component, Hard, Soft, Owns, Limit, Bricks, Key, Begin, Enter, Exit, Read, List as ListLine, Put, Commit, Drop, Down, Up, Reboot, Table, Journal, Reopen, Session}
@@ -8,11 +8,11 @@ use Rattle.scenario_text.specs.Line.{is_event}
 use Rattle.scenario_text.specs.Reading.{line_of}
 use Rattle.session_steps.specs.Promise.{SessionTurn, Does, Boots}
 use Rattle.session_steps.specs.Sessions.{SessionsState}
-use Rattle.session_steps.specs.Setup.{SetupState}
+use Rattle.session_steps.specs.Setup.{SetupState, HasCounts, set_up}
 use Rattle.session_steps.specs.Standing.{SessionsStand}
 use Rattle.scenario_engine.specs.Engine.{Replies, Target, TheHead, TheBoot, NoBoot, target_of}
 use Rattle.scenario_engine.specs.State.{State, Heading, Running, RefusedIn, DoneTo, NotStarted}
-use Rattle.scenario_engine.specs.Transcript.{Turn, first, turn_outcome, boots_in}
+use Rattle.scenario_engine.specs.Transcript.{Turn, first, end_from, last_state, turn_outcome, boots_in}
 
 -- the starts of the boot of a state, for sessions
 abbrev pub start_turns : State → List SessionTurn
@@ -62,6 +62,15 @@ turns_to s (Some line) replies t text =
 unfoldable pub turn_on_sessions : State → Turn → State → List ℕ → List SessionTurn
 turn_on_sessions s turn t text = turns_to s (line_of turn.line) turn.replies t text
 
+-- the start of the first boot by a text that spells this line, or none, where that starts it
+abbrev pub starts_by : State → Option Line → Replies → List SessionTurn
+starts_by s None replies = []
+starts_by s (Some line) replies = first_start s (target_of s (is_event line) replies.first)
+
+-- What a turn does to sessions that was not done: it may have started the first boot.
+unfoldable pub starts_on : State → Turn → List SessionTurn
+starts_on s turn = starts_by s (line_of turn.line) turn.replies
+
 -- What turns do to sessions from here on, in order: their lines about sessions that were done, each with what it wrote,
 -- and the starts of boots.
 abbrev pub session_turns : State → List Turn → List SessionTurn
@@ -69,13 +78,21 @@ session_turns s [] = []
 session_turns s (turn ∷ turns) =
     if nat_lt MAX_LINE_BYTES (length turn.line) then [] else
     (elim (turn_outcome s turn) [
-      | RefusedIn t ↦ []
+      | RefusedIn t ↦ starts_on s turn
       | DoneTo t text ↦ turn_on_sessions s turn t text ++ session_turns t turns
-      | NotStarted t refusal ↦ []
+      | NotStarted t refusal ↦ starts_on s turn
     ])
 
--- The sessions of a scenario stand, of some bricks and under some key.
+-- the sessions of a state are these, of this setup: those beside its boot, or those that its head sets up
+abbrev pub AreSessionsOf : State → SetupState → SessionsState → Type 0
+AreSessionsOf (Heading head) setup sessions = (setup ≡ head.setup) × (sessions ≡ set_up setup 0)
+AreSessionsOf (Running r) setup sessions = sessions ≡ r.sessions
+
+-- The sessions of the state that turns leave stand: the turns lead to them from a setup with as many bricks as head lines
+-- allow.
 pub record HasSessions (turns : List Turn) : Type 0 where
   pub setup : SetupState
+  pub counts : HasCounts setup.counts
   pub end : SessionsState
+  pub ends : AreSessionsOf (last_state (end_from first 1 turns)) setup end
   pub stand : SessionsStand setup (session_turns first turns) end

@@ -15,7 +15,7 @@ ghost use Rattle.scenario_engine.specs.Transcript.{Turn, lines_in, first, transc
 
 use boot_core::boots_stay_sound;
 use journal_model::{legal_journals_are_serial, no_commit_after_a_reboot};
-use session_steps::sessions_stand;
+use session_steps::{sessions_stand, writes_with_new_nonces_are_done};
 
 /// Whatever the turns, each boot is sound, and so is the one at the end, also where they stop at a line: its journal is
 /// legal and within its limits, and each commit wrote only rows of tables whose owners' groups it entered.
@@ -58,6 +58,7 @@ pub fn scenarios_have_sessions()
     ensures { (turns : List Turn) → HasSessions turns }
 {
     sessions_stand();
+    writes_with_new_nonces_are_done();
 }
 
 /// Whatever the turns, a keeper that was called as they say, and that tells, holds just the rows that the journal of the

@@ -22,7 +22,7 @@ use Rattle.ssm_world.proofs.Holding.{answer_cookie, acknowledged_keeps}
 use Rattle.session_steps.specs.Lanes.{LaneState, lane_at}
 use Rattle.session_steps.specs.Promise.{SessionTurn, Does, Lead, FetchMade, IsRight, lanes_of, FetchedWrite, fetch_of}
 use Rattle.session_steps.specs.Rule.{LanesAreOf, reply_by, heard_on_lane, outcome_by_rule, result_by_rule}
-use Rattle.session_steps.specs.Sessions.{SessionsState, nonce, cookie_of, fetched_text, expiry, write_line}
+use Rattle.session_steps.specs.Sessions.{SessionsState, nonce, cookie_of, fetched_text, expiry, session_line, write_line}
 use Rattle.session_steps.specs.Setup.{SetupState, store_of, set_up}
 use Rattle.session_steps.specs.Store.{StoreState}
 use Rattle.session_steps.specs.Texts.{version_text}
@@ -121,6 +121,20 @@ text_by_rule u key v text d made lanes =
     let answer : Some d.answer ≡ Some (result_by_rule d.store (nonce u) u.moment d.cookie) = sym d.answers ∙ ap read_answer (sym read) ∙ by.2 in
     let same : d.answer ≡ result_by_rule d.store (nonce u) u.moment d.cookie = cc in
     d.text_is ∙ ap (fetched_text key) same
+
+-- what a fetch writes over bricks that turns made, by the rule
+pub fetch_by_rule : (setup : SetupState) (boot : ℕ) (turns : List SessionTurn) (u v : SessionsState) (key : ℕ) (text : List ℕ) (cookie : Cookie) (st : StoreState) → Lead (set_up setup boot) turns u → session_line u (lines.Fetch key) ≡ Done v text
+    → cookie_of u key ≡ Some cookie → u.store ≡ Some st → text ≡ fetched_text key (result_by_rule st (nonce u) u.moment cookie)
+fetch_by_rule setup boot turns u v key text cookie st leads is cookie_is store_is =
+    let d : FetchDone u key v text = fetch_done u key v text is in
+    let one : Some d.store ≡ Some st = sym d.store_is ∙ store_is in
+    let same : d.store ≡ st = cc in
+    let two : Some d.cookie ≡ Some cookie = sym d.cookie_is ∙ cookie_is in
+    let its : d.cookie ≡ cookie = cc in
+    let sound = all_sound setup boot turns u d.store leads d.store_is in
+    text_by_rule u key v text d sound.made sound.lanes
+    ∙ (ap (λ (x : StoreState). fetched_text key (result_by_rule x (nonce u) u.moment d.cookie)) same
+    ∙ ap (λ (c : Cookie). fetched_text key (result_by_rule st (nonce u) u.moment c)) its)
 
 -- the bricks of a write and of a fetch of what it wrote
 record Bricks (setup : SetupState) (boot : ℕ) (story : FetchedWrite setup boot) : Type 0 where

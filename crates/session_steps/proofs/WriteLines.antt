@@ -170,7 +170,7 @@ unfolding key_step
 key_counts setup key t text allowed is =
     let later : SetupState = record setup { key = Some key } in
     let first = not_refused (nat_lt (length key) LEAST_KEY_BYTES) (refused_if (nat_lt MOST_KEY_BYTES (length key)) (Done later [])) t text
-      (not_refused (is_some setup.key) (refused_if (nat_lt (length key) LEAST_KEY_BYTES) (refused_if (nat_lt MOST_KEY_BYTES (length key)) (Done later []))) t text is).1 in
+    (not_refused (is_some setup.key) (refused_if (nat_lt (length key) LEAST_KEY_BYTES) (refused_if (nat_lt MOST_KEY_BYTES (length key)) (Done later []))) t text is).1 in
     let second = not_refused (nat_lt MOST_KEY_BYTES (length key)) (Done later []) t text first.1 in
     let state : t ≡ later = (done_state later t [] text second.1).0 in
     subst (λ (x : SetupState). HasCounts x.counts) (sym state) allowed

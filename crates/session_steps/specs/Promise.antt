@@ -17,8 +17,7 @@ use Rattle.ssm_stub.specs.declared.ear.TheConstants.{MAX_STRAYS}
 use Rattle.ssm_world.specs.Worlds.{bricks_of, may_be_asked}
 use Rattle.session_steps.specs.Lanes.{LaneState, lane_at}
 use Rattle.session_steps.specs.Sessions.{SessionsState, session_line, reopened, nonce, session_key, cookie_of, expiry}
-use Rattle.session_steps.specs.Setup.{SetupState, are_counts, set_up}
-use Rattle.session_steps.specs.declared.setup.BrickCounts.{BrickCounts}
+use Rattle.session_steps.specs.Setup.{SetupState, set_up}
 use Rattle.session_steps.specs.Store.{StoreState}
 use Rattle.session_steps.specs.Texts.{version_text, overload_text, missed_text, found_text, expired_text, lost_text}
 
@@ -300,6 +299,6 @@ abbrev pub IsDown : FetchMade → Holder → Type 0
 IsDown fetch holder = HasCrashed fetch holder ⊎ (WasSilent fetch holder ⊎ WasStrayed fetch holder)
 
 -- no brick of the cookie was swept past the lease and the grace since the value was written
-abbrev pub IsWithinLease : FetchMade → Type 0
-IsWithinLease fetch =
+abbrev pub NoneSweptLate : FetchMade → Type 0
+NoneSweptLate fetch =
     (place : ℕ) (holder : Holder) → slice_get fetch.cookie.bricks place ≡ Some holder → WasSweptLate fetch holder → ⊥

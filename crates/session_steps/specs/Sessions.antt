@@ -138,7 +138,7 @@ answered_write s key passes number st =
     or_refused (write_of (slice_get st.world.calls number)) (λ write.
     written s key passes st write)
 
--- what the write of a number, which has gone on to its end, comes to under a key
+-- what the write of a number, which has gone on to its end, comes to under a key; it serves the code only
 abbrev pub told_write : SessionsState → ℕ → ℕ → Answer SessionsState
 told_write s key number =
     or_refused s.store (λ st.
@@ -176,7 +176,7 @@ answered_read s key number st =
     or_refused (read_answer read) (λ answer.
     Done (with_store s st) (fetched_text key answer)))
 
--- what the read of a number, which has gone on to its answer, comes to under a key
+-- what the read of a number, which has gone on to its answer, comes to under a key; it serves the code only
 abbrev pub told_read : SessionsState → ℕ → ℕ → Answer SessionsState
 told_read s key number =
     or_refused s.store (λ st.
@@ -270,7 +270,7 @@ abbrev pub count_or_0 : Option ℕ → ℕ
 count_or_0 None = 0
 count_or_0 (Some n) = n
 
--- the store after a pass to a brick is held, where the brick's window is open
+-- the store after a pass to a brick is held, where the brick's window is open; it serves the code only
 abbrev pub holds_in : StoreState → ℕ → LaneState → Option Pass → Answer StoreState
 holds_in st brick lane None =
     Done st (closed_text brick (count_or_0 (window_in st.windows (brick_no brick)))

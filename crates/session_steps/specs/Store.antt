@@ -92,11 +92,12 @@ turns (suc n) st call = turns n (turn_of st call (slice_get st.world.calls call)
 unfoldable pub gone_on : StoreState → ℕ → StoreState
 gone_on st call = turns (TURNS_PER_BRICK * MAX_HOLDERS) st call
 
--- the store after passes were spent
+-- the store after passes were spent; it serves the code only
 abbrev pub spent_as : StoreState → List Pass → StoreState
 spent_as st passes = record st { windows = after_spend st.windows passes }
 
--- the store after a write of this value has begun at the bricks of these passes, and has gone on to its end
+-- the store after a write of this value has begun at the bricks of these passes, and has gone on to its end; it serves the
+-- code only
 abbrev pub written_out : StoreState → WriteOrder → List Pass → StoreState
 written_out st order passes =
     gone_on
@@ -104,6 +105,6 @@ written_out st order passes =
     (Write order.nonce order.key order.value order.expiry (map (λ (pass : Pass). pass.brick) passes) st.windows.wq))
     (length st.world.calls)
 
--- the store after a read of a cookie has begun at a moment, and has gone on to its answer
+-- the store after a read of a cookie has begun at a moment, and has gone on to its answer; it serves the code only
 abbrev pub read_out : StoreState → Version → Moment → Cookie → StoreState
 read_out st nonce now cookie = gone_on (after_event st (Read nonce now cookie)) (length st.world.calls)

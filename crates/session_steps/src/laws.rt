@@ -8,8 +8,9 @@ ghost use Rattle.session_cookie.specs.declared.cookie.Cookie.{Cookie};
 ghost use Rattle.session_cookie.specs.declared.cookie.Holder.{Holder};
 ghost use Rattle.ssm_stub.specs.declared.cause.BrickCause.{BrickCause};
 ghost use Rattle.ssm_world.specs.Worlds.{is_new, may_be_asked, bricks_of, IsMade};
-ghost use Rattle.session_steps.specs.Promise.{SessionTurn, Lead, CanServe, FindsValue, IsLost, IsRight, IsAcknowledged, IsUnacknowledged, ComesFrom, BootsRise, FetchedWrite, IsOfWrite, fetch_of, IsDown, IsWithinLease};
-ghost use Rattle.session_steps.specs.Sessions.{SessionsState, nonce, cookie_of, expiry, session_line};
+ghost use Rattle.session_steps.specs.Promise.{SessionTurn, Lead, CanServe, FindsValue, IsLost, IsRight, IsAcknowledged, IsUnacknowledged, ComesFrom, BootsRise, FetchedWrite, IsOfWrite, fetch_of, IsDown, NoneSweptLate};
+ghost use Rattle.session_steps.specs.Rule.{result_by_rule};
+ghost use Rattle.session_steps.specs.Sessions.{SessionsState, nonce, cookie_of, expiry, fetched_text, session_line};
 ghost use Rattle.session_steps.specs.Setup.{SetupState, HasCounts, no_setup, bricks_step, key_step, set_up};
 ghost use Rattle.session_steps.specs.Standing.{SessionsStand};
 ghost use Rattle.session_steps.specs.Store.{StoreState};
@@ -97,6 +98,15 @@ pub fn fetches_answer_what_was_written()
     acknowledged_cookies_stay_acknowledged();
 }
 
+/// What a fetch line that is done writes follows from the lanes and the histories of the bricks before it.
+pub fn fetches_answer_by_the_rule()
+    ensures { (setup : SetupState) (boot : ℕ) (turns : List SessionTurn) (u v : SessionsState) (key : ℕ) (text : List ℕ)
+        (cookie : Cookie) (st : StoreState)
+        → Lead (set_up setup boot) turns u → session_line u (lines.Fetch key) ≡ Done v text
+        → cookie_of u key ≡ Some cookie → u.store ≡ Some st
+        → text ≡ fetched_text key (result_by_rule st (nonce u) u.moment cookie) }
+{}
+
 /// Within its lease a cookie reads back exactly the acknowledged value while one of its bricks has neither crashed nor
 /// been swept late since the write, and was neither silent to the fetch nor strayed. No other value is ever found. Past
 /// its expiry a fetch says that it has expired.
@@ -120,7 +130,7 @@ pub fn fetches_lose_only_where_all_have()
         → story.text ≡ lost_text story.key causes → IsLost (fetch_of story) story.text }
     ensures down { (setup : SetupState) (boot : ℕ) (story : FetchedWrite setup boot) (causes : List BrickCause)
         (place : ℕ) (holder : Holder)
-        → story.text ≡ lost_text story.key causes → IsWithinLease (fetch_of story)
+        → story.text ≡ lost_text story.key causes → NoneSweptLate (fetch_of story)
         → slice_get story.cookie.bricks place ≡ Some holder → IsDown (fetch_of story) holder }
 {
     acknowledged_cookies_stay_acknowledged();

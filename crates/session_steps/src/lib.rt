@@ -39,9 +39,10 @@ mod turns;
 mod writing;
 
 pub use laws::{
-    cookies_come_from_writes, fetches_answer_what_was_written, fetches_lose_only_where_all_have,
-    fetches_read_back, fetches_with_new_nonces_are_done, nonces_stay_new, sessions_are_worlds,
-    sessions_stand, writes_say_whether_they_are_acknowledged, writes_with_new_nonces_are_done,
+    cookies_come_from_writes, fetches_answer_by_the_rule, fetches_answer_what_was_written,
+    fetches_lose_only_where_all_have, fetches_read_back, fetches_with_new_nonces_are_done,
+    nonces_stay_new, sessions_are_worlds, sessions_stand, writes_say_whether_they_are_acknowledged,
+    writes_with_new_nonces_are_done,
 };
 pub use sessions::{LEASE, MAX_MOMENT, NODE, Sessions};
 pub use setup::{BrickCounts, DEFAULT_KEY_BYTES, LEAST_KEY_BYTES, MOST_KEY_BYTES, Setup};
