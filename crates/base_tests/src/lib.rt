@@ -12,6 +12,8 @@ mod lines;
 #[cfg(test)]
 mod outsides;
 #[cfg(test)]
+mod pages;
+#[cfg(test)]
 mod scenario_lines;
 #[cfg(test)]
 mod session_lines;
