@@ -14,7 +14,7 @@ use Rattle.brick_store.specs.declared.event.BrickEvent.TheVariants as happened
 use Rattle.brick_store.specs.Bricks.{reply}
 use Rattle.brick_store.specs.History.{incarnation_after}
 use Rattle.brick_store.specs.Standing.{heard}
-use Rattle.scenario_text.specs.Answer.{Answer, Refused, Done, refused_if, or_refused}
+use Rattle.scenario_text.specs.Answer.{Answer, Refused, Done, refused_if, or_refused, within}
 use Rattle.scenario_text.specs.declared.session_line.Freed.{Freed}
 use Rattle.scenario_text.specs.declared.session_line.SessionLine.{SessionLine}
 use Rattle.scenario_text.specs.declared.session_line.SessionLine.TheVariants as lines
@@ -279,8 +279,8 @@ window_texts_keep s sound = with_item s.store _ (λ st is. sound)
 hold_keeps : (s : SessionsState) (brick : ℕ) → AreSound s → LeavesSound (hold_line s brick)
 unfolding hold_line
 hold_keeps s brick sound = at_lane s brick _ sound (λ st lane its at. go st lane its at (pass_tried st.windows (brick_no brick))) where
-  go : (st : StoreState) (lane : LaneState) → StoreIsSound st → lane_at st.lanes brick ≡ Some lane → (o : Option Pass) → LeavesSound (holds s brick st lane o)
-  go st lane its at None = sound
+  go : (st : StoreState) (lane : LaneState) → StoreIsSound st → lane_at st.lanes brick ≡ Some lane → (o : Option Pass) → LeavesSound (within (with_store s) (holds st brick lane o))
+  go st lane its at None = its
   go st lane its at (Some pass) =
       let windows : WindowsValue = after_try st.windows (brick_no brick) in
       lane_keeps (record st { windows = windows }) brick (record lane { held = raised lane.held 1 }) (windows_keep st windows its) (its.lanes.queue brick lane at) (its.lanes.made brick lane at)

@@ -3,7 +3,7 @@ use Rattle.std.proofs.Common.{◌≡◌, ◌≤◌, not, Bool, true, false, if�
 use Rattle.std.specs.Prelude.{slice_get}
 use Rattle.std.proofs.lemmas.Bool.Decides.{nat_tests}
 use Rattle.std.proofs.lemmas.List.Elements.{All-nil}
-use Rattle.scenario_text.specs.Answer.{Answer, Refused, Done, refused_if, or_refused, KeepsRefused, answer_of}
+use Rattle.scenario_text.specs.Answer.{Answer, Refused, Done, refused_if, or_refused, within, KeepsRefused, answer_of}
 use Rattle.scenario_text.specs.declared.answer.LineAnswer.{LineAnswer}
 use Rattle.scenario_text.specs.declared.answer.LineAnswer.TheVariants as answers
 use Rattle.scenario_text.specs.declared.session_line.Freed.{Freed}
@@ -60,12 +60,12 @@ other s st are = record { in_time = are.in_time; cookies = are.cookies }
 at_lane : (s : SessionsState) (brick : ℕ) (line : StoreState → LaneState → Answer SessionsState) → ((st : StoreState) (lane : LaneState) → Leaves (line st lane)) → Leaves (on_lane s brick line)
 at_lane s brick line leaves = with_item s.store _ (λ st is. with_item (lane_at st.lanes brick) (λ lane. line st lane) (λ lane at. leaves st lane))
 
-within : (a b : ℕ) → nat_lt b a ≡ false → a ≤ b
-within a b is = grind (arith, nat_tests)
+not_past : (a b : ℕ) → nat_lt b a ≡ false → a ≤ b
+not_past a b is = grind (arith, nat_tests)
 
 now_leaves : (s : SessionsState) (moment : ℕ) → AreTimely s → Leaves (now_line s moment)
 unfolding Leaves now_line
-now_leaves s moment are = unless (nat_lt moment s.moment.0) _ (λ later. unless (nat_lt MAX_MOMENT moment) _ (λ in_time. record { in_time = within moment MAX_MOMENT in_time; cookies = are.cookies }))
+now_leaves s moment are = unless (nat_lt moment s.moment.0) _ (λ later. unless (nat_lt MAX_MOMENT moment) _ (λ in_time. record { in_time = not_past moment MAX_MOMENT in_time; cookies = are.cookies }))
 
 is_write : (o : Option Call) (write : WriteState) → write_of o ≡ Some write → o ≡ Some (call.Write write)
 is_write None write is = absurd (cc)
@@ -140,8 +140,8 @@ windows_leave s are = with_item s.store _ (λ st is. are)
 hold_leaves : (s : SessionsState) (brick : ℕ) → AreTimely s → Leaves (hold_line s brick)
 unfolding Leaves hold_line
 hold_leaves s brick are = at_lane s brick _ (λ st lane. go st lane (pass_tried st.windows (brick_no brick))) where
-  go : (st : StoreState) (lane : LaneState) (o : Option Pass) → Leaves (holds s brick st lane o)
-  go st lane None = are
+  go : (st : StoreState) (lane : LaneState) (o : Option Pass) → Leaves (within (with_store s) (holds st brick lane o))
+  go st lane None = other s _ are
   go st lane (Some pass) = other s _ are
 
 free_leaves : (s : SessionsState) (brick : ℕ) (how : Freed) → AreTimely s → Leaves (free_line s brick how)

@@ -16,7 +16,7 @@ use Rattle.ssm_world.specs.declared.call.Call.{Call}
 use Rattle.ssm_world.specs.declared.call.Call.TheVariants as call
 use Rattle.ssm_world.specs.Worlds.{is_new, may_read}
 use Rattle.session_steps.specs.Lanes.{LaneState, lane_at}
-use Rattle.session_steps.specs.Sessions.{SessionsState, with_store, nonce, drawn, cookie_of, with_cookie, write_of, read_of, spent_by, written_as, written, store_written, answered_write, write_line, fetched_text, store_read, answered_read, fetch_line, on_lane}
+use Rattle.session_steps.specs.Sessions.{SessionsState, with_store, nonce, drawn, cookie_of, with_cookie, write_of, read_of, spent_by, written_as, told_write, store_written, answered_write, write_line, fetched_text, store_read, told_read, answered_read, fetch_line, on_lane}
 use Rattle.session_steps.specs.Store.{StoreState}
 use Rattle.session_steps.specs.Texts.{version_text, overload_text, missed_text}
 
@@ -98,7 +98,7 @@ answered_done : (s : SessionsState) (key : ℕ) (value : List ℕ) (st : StoreSt
     → answered_write (drawn s) key (passes_of s st) (length st.world.calls) (store_after_write s key value st) ≡ Done t text → HasAnswered s key value st t text
 answered_done s key value st t text enough is =
     let after : StoreState = store_after_write s key value st in
-    let first = goes_on_with (write_of (slice_get after.world.calls (length st.world.calls))) (λ write. written (drawn s) key (passes_of s st) after write) t text is in
+    let first = goes_on_with (write_of (slice_get after.world.calls (length st.world.calls))) (λ write. told_write (with_store (drawn s) (spent_by write (passes_of s st) after)) key write) t text is in
     let second = goes_on_with (write_answer first.item) (λ answer. written_as (with_store (drawn s) (spent_by first.item (passes_of s st) after)) key answer) t text first.done in
     record {
       enough = enough;
@@ -161,7 +161,7 @@ fetch_done s key t text is =
     let after : StoreState = store_read s cookie st in
     let number : ℕ = length st.world.calls in
     let third = not_refused (not (may_read st.world (nonce s) cookie.bricks)) (answered_read (drawn s) key number after) t text second.done in
-    let fourth = goes_on_with (read_of (slice_get after.world.calls number)) (λ read. or_refused (read_answer read) (λ answer. Done (with_store (drawn s) after) (fetched_text key answer))) t text third.1 in
+    let fourth = goes_on_with (read_of (slice_get after.world.calls number)) (λ read. told_read (with_store (drawn s) after) key read) t text third.1 in
     let fifth = goes_on_with (read_answer fourth.item) (λ answer. Done (with_store (drawn s) after) (fetched_text key answer)) t text fourth.done in
     let same = done_state (with_store (drawn s) after) t (fetched_text key fifth.item) text fifth.done in
     record {

@@ -1,7 +1,7 @@
 -- What a write or a fetch comes to that has gone on to its end.
-use Rattle.std.proofs.Common.{◌≡◌, true, if◌then◌else◌, ℕ, List, length, Some, Result, refl, sym, ap, ◌∙◌}
+use Rattle.std.proofs.Common.{◌≡◌, not, true, if◌then◌else◌, ℕ, List, length, Option, Some, Result, refl, sym, ap, ◌∙◌}
 use Rattle.std.specs.Prelude.{slice_get}
-use Rattle.scenario_text.specs.Answer.{Done, KeepsRefused, answer_of}
+use Rattle.scenario_text.specs.Answer.{Answer, Done, refused_if, or_refused, KeepsRefused, answer_of}
 use Rattle.scenario_text.specs.declared.answer.LineAnswer.{LineAnswer}
 use Rattle.scenario_text.specs.declared.answer.LineAnswer.TheVariants as answers
 use Rattle.session_cookie.specs.Cookie.{AreHolders}
@@ -15,7 +15,7 @@ use Rattle.ssm_world.specs.declared.event.WorldEvent.TheVariants.{Read}
 use Rattle.ssm_world.specs.Sound.{untold}
 use Rattle.ssm_world.specs.Worlds.{is_new, may_read, next_of, step, with_new_call, IsMade}
 use Rattle.session_steps.specs.Rule.{LanesAreOf}
-use Rattle.session_steps.specs.Sessions.{SessionsState, nonce, drawn, with_store, cookie_of, fetched_text, told_read, fetch_line}
+use Rattle.session_steps.specs.Sessions.{SessionsState, nonce, drawn, with_store, cookie_of, read_of, fetched_text, store_read, told_read, answered_read, fetch_line}
 use Rattle.session_steps.specs.Store.{StoreState, after_event, read_out}
 use Rattle.session_steps.proofs.Beginning.{begins, may_begin_read}
 use Rattle.session_steps.proofs.Ending.{Gone, read_ends}
@@ -41,15 +41,27 @@ read_over v n s (call.Read read) there same over =
 
 -- What a fetch comes to that may read.
 pub record FetchEnds (s : SessionsState) (key : ℕ) (v : StoreState) (n : ℕ) : Type 0 where
+  pub read : ReadState
+  pub there : slice_get v.world.calls n ≡ Some (call.Read read)
   pub answer : Result (List ℕ) ReadRefusal
-  pub told : told_read (with_store (drawn s) v) key n ≡ fetch_line s key
+  pub told : told_read (with_store (drawn s) v) key read ≡ fetch_line s key
   pub done : fetch_line s key ≡ Done (with_store (drawn s) v) (fetched_text key answer)
   pub lanes : LanesAreOf v
 
-told_fetch : (s : SessionsState) (key : ℕ) (cookie : Cookie) (st : StoreState) → cookie_of s key ≡ Some cookie → s.store ≡ Some st → may_read st.world (nonce s) cookie.bricks ≡ true
-    → told_read (with_store (drawn s) (read_out st (nonce s) s.moment cookie)) key (length st.world.calls) ≡ fetch_line s key
+told_fetch : (s : SessionsState) (key : ℕ) (cookie : Cookie) (st : StoreState) (read : ReadState) → cookie_of s key ≡ Some cookie → s.store ≡ Some st → may_read st.world (nonce s) cookie.bricks ≡ true
+    → slice_get (read_out st (nonce s) s.moment cookie).world.calls (length st.world.calls) ≡ Some (call.Read read)
+    → told_read (with_store (drawn s) (read_out st (nonce s) s.moment cookie)) key read ≡ fetch_line s key
 unfolding fetch_line
-told_fetch s key cookie st has store may = rw (has, store, may) refl
+told_fetch s key cookie st read has store may there =
+    let n : ℕ = length st.world.calls in
+    let v : StoreState = read_out st (nonce s) s.moment cookie in
+    let rest : Cookie → StoreState → Answer SessionsState = λ c x.
+    refused_if (not (may_read x.world (nonce s) c.bricks)) (answered_read (drawn s) key (length x.world.calls) (store_read s c x)) in
+    sym (
+    ap (λ (o : Option Cookie). or_refused o (λ c. or_refused s.store (rest c))) has
+    ∙ (ap (λ (o : Option StoreState). or_refused o (rest cookie)) store
+    ∙ (ap (λ b. refused_if (not b) (answered_read (drawn s) key n v)) may
+    ∙ ap (λ (o : Option Call). or_refused (read_of o) (told_read (with_store (drawn s) v) key)) there)))
 
 pub fetch_ends : (s : SessionsState) (key : ℕ) (cookie : Cookie) (st : StoreState) → IsMade st.world → LanesAreOf st → cookie_of s key ≡ Some cookie → s.store ≡ Some st → AreHolders cookie.bricks → is_new st.world (nonce s) ≡ true
     → FetchEnds s key (read_out st (nonce s) s.moment cookie) (length st.world.calls)
@@ -61,6 +73,6 @@ fetch_ends s key cookie st made lanes has store holders new =
     let begun : step st.world (Read (nonce s) s.moment cookie) ≡ with_new_call st.world (call.Read start) = ap (λ b. if b then with_new_call st.world (call.Read start) else st.world) may in
     let gone : Gone (after_event st (Read (nonce s) s.moment cookie)) n (call.Read start) v = begins st (Read (nonce s) s.moment cookie) (call.Read start) begun made lanes in
     let over : ReadOver v n = read_over v n start gone.end gone.there gone.same gone.over in
-    let told : told_read (with_store (drawn s) v) key n ≡ fetch_line s key = told_fetch s key cookie st has store may in
-    let done : told_read (with_store (drawn s) v) key n ≡ Done (with_store (drawn s) v) (fetched_text key over.answer) = rw (over.there, over.answers) refl in
-    record { answer = over.answer; told = told; done = sym told ∙ done; lanes = gone.lanes }
+    let told : told_read (with_store (drawn s) v) key over.read ≡ fetch_line s key = told_fetch s key cookie st over.read has store may over.there in
+    let done : told_read (with_store (drawn s) v) key over.read ≡ Done (with_store (drawn s) v) (fetched_text key over.answer) = rw over.answers refl in
+    record { read = over.read; there = over.there; answer = over.answer; told = told; done = sym told ∙ done; lanes = gone.lanes }

@@ -34,7 +34,7 @@ use Rattle.ssm_world.specs.Worlds.{WorldValue, is_new, may_write, next_of, step,
 use Rattle.ssm_world.proofs.Askable.{acknowledged_holders}
 use Rattle.ssm_world.proofs.Growing.{same_bricks}
 use Rattle.session_steps.specs.Rule.{LanesAreOf}
-use Rattle.session_steps.specs.Sessions.{SessionsState, nonce, drawn, with_store, session_key, expiry, heard_passes, spent_by, store_written, write_of, written, written_as, answered_write, told_write, write_line}
+use Rattle.session_steps.specs.Sessions.{SessionsState, nonce, drawn, with_store, session_key, expiry, heard_passes, spent_by, store_written, write_of, written_as, answered_write, told_write, write_line}
 use Rattle.session_steps.specs.Store.{StoreState, after_event, spent_as}
 use Rattle.session_steps.specs.Texts.{overload_text}
 use Rattle.session_steps.proofs.Beginning.{begins, may_begin_write}
@@ -82,8 +82,10 @@ names_holders w n write cookie made there answers =
 
 -- What a write comes to that was given passes: the store after it, and the answer.
 pub record WriteEnds (s : SessionsState) (key : ℕ) (value : List ℕ) (v : StoreState) (n : ℕ) : Type 0 where
+  pub write : WriteState
+  pub there : slice_get v.world.calls n ≡ Some (call.Write write)
   pub answer : Result Cookie WriteRefusal
-  pub told : told_write (with_store (drawn s) v) key n ≡ write_line s key value
+  pub told : told_write (with_store (drawn s) v) key write ≡ write_line s key value
   pub done : write_line s key value ≡ written_as (with_store (drawn s) v) key answer
   pub known : answer ≡ Err missing.OutOfMemory → ⊥
   pub holders : (cookie : Cookie) → answer ≡ Ok cookie → AreHolders cookie.bricks
@@ -113,14 +115,11 @@ line_is s key value st write answer store new enough there answers =
     line_of s key value st store
     ∙ (ap (λ b. refused_if (not b) (if few then full else given)) new
     ∙ (ap (λ b. if b then full else given) enough
-    ∙ (ap (λ (o : Option Call). or_refused (write_of o) (λ (w : WriteState). written (drawn s) key passes gone w)) there
+    ∙ (ap (λ (o : Option Call). or_refused (write_of o) (λ (w : WriteState). told_write (with_store (drawn s) (spent_by w passes gone)) key w)) there
     ∙ ap (λ (o : Option (Result Cookie WriteRefusal)). or_refused o (λ r. written_as (with_store (drawn s) (spent_by write passes gone)) key r)) answers)))
 
-told_is : (s : SessionsState) (key n : ℕ) (v : StoreState) (write : WriteState) (answer : Result Cookie WriteRefusal) → slice_get v.world.calls n ≡ Some (call.Write write) → write_answer write ≡ Some answer
-    → told_write (with_store s v) key n ≡ written_as (with_store s v) key answer
-told_is s key n v write answer there answers =
-    ap (λ (o : Option Call). or_refused (write_of o) (λ w. or_refused (write_answer w) (λ r. written_as (with_store s v) key r))) there
-    ∙ ap (λ (o : Option (Result Cookie WriteRefusal)). or_refused o (λ r. written_as (with_store s v) key r)) answers
+told_is : (s : SessionsState) (key : ℕ) (write : WriteState) (answer : Result Cookie WriteRefusal) → write_answer write ≡ Some answer → told_write s key write ≡ written_as s key answer
+told_is s key write answer answers = ap (λ (o : Option (Result Cookie WriteRefusal)). or_refused o (λ r. written_as s key r)) answers
 
 enough_is : (a b : ℕ) → a ≤ b → nat_lt b a ≡ false
 enough_is a b le = grind (arith, nat_tests)
@@ -150,9 +149,11 @@ settled_write s key value st v made limits took lanes store new enough settles =
     let spent : StoreState = spent_by over.write passes gone in
     let is : v ≡ spent = settles over.write over.there ∙ ap (spent_as gone) heard in
     let done : write_line s key value ≡ written_as (with_store (drawn s) spent) key ended.0 = line_is s key value st over.write ended.0 store new (enough_is st.windows.wq (open_count st.windows.facts) enough) over.there ended.1 in
-    let told : told_write (with_store (drawn s) spent) key n ≡ written_as (with_store (drawn s) spent) key ended.0 = told_is (drawn s) key n spent over.write ended.0 over.there ended.1 in
+    let told : told_write (with_store (drawn s) spent) key over.write ≡ written_as (with_store (drawn s) spent) key ended.0 = told_is (with_store (drawn s) spent) key over.write ended.0 ended.1 in
     let E : StoreState → Type 0 = λ x. WriteEnds s key value x n in
     subst E (sym is) (record {
+      write = over.write;
+      there = over.there;
       answer = ended.0;
       told = told ∙ sym done;
       done = done;

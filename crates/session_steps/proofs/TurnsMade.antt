@@ -3,7 +3,7 @@ use Rattle.std.proofs.Common.{◌≡◌, ◌⊎◌, inl, inr, ℕ, ◌-◌, ◌^
 use Rattle.std.specs.Prelude.{slice_get}
 use Rattle.crash_base.specs.declared.numbers.Moment.{Moment}
 use Rattle.crash_base.specs.declared.numbers.Version.{Version}
-use Rattle.scenario_text.specs.Answer.{Done, or_refused, refused_if}
+use Rattle.scenario_text.specs.Answer.{Done, or_refused, refused_if, within}
 use Rattle.scenario_text.specs.declared.session_line.Freed.{Freed}
 use Rattle.scenario_text.specs.declared.session_line.Freed.TheVariants as freed
 use Rattle.scenario_text.specs.declared.session_line.SessionLine.{SessionLine}
@@ -319,14 +319,14 @@ windows_goes s t text is =
 hold_goes : (s : SessionsState) (brick : ℕ) (t : SessionsState) (text : List ℕ) → hold_line s brick ≡ Done t text → TurnGoes s (Does (lines.Hold brick) text) t
 unfolding hold_line
 hold_goes s brick t text is =
-    let d = on_a_lane s brick (λ st lane. holds s brick st lane (pass_tried st.windows (brick_no brick))) t text is in
+    let d = on_a_lane s brick (λ st lane. within (with_store s) (holds st brick lane (pass_tried st.windows (brick_no brick)))) t text is in
     go d.store d.lane (pass_tried d.store.windows (brick_no brick)) d.store_is d.done
   where
     turn : SessionTurn
     turn = Does (lines.Hold brick) text
 
-    go : (st : StoreState) (lane : LaneState) (o : Option Pass) → s.store ≡ Some st → holds s brick st lane o ≡ Done t text → TurnGoes s turn t
-    go st lane None st_is done = tells s t (lines.Hold brick) text (record { crash = λ b. refl; sweep = λ b. refl }) refl (done_state s t _ text done).0
+    go : (st : StoreState) (lane : LaneState) (o : Option Pass) → s.store ≡ Some st → within (with_store s) (holds st brick lane o) ≡ Done t text → TurnGoes s turn t
+    go st lane None st_is done = tells s t (lines.Hold brick) text (record { crash = λ b. refl; sweep = λ b. refl }) refl ((done_state (with_store s st) t _ text done).0 ∙ ap (λ (o : Option StoreState). record s { store = o }) (sym st_is))
     go st lane (Some pass) st_is done =
         let later : StoreState = with_lane (record st { windows = after_try st.windows (brick_no brick) }) brick (record lane { held = raised lane.held 1 }) in
         shifts s t (lines.Hold brick) text st later (λ law keep. law st.windows (TryPass (brick_no brick)) keep) (record { crash = λ b. refl; sweep = λ b. refl }) refl st_is (done_state (with_store s later) t _ text done).0 refl

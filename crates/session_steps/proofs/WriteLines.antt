@@ -23,7 +23,7 @@ use Rattle.ssm_stub.specs.Writes.{WriteState, write_start, write_answer, holder_
 use Rattle.ssm_world.specs.Worlds.{is_new, same_brick, are_distinct, may_write}
 use Rattle.ssm_world.proofs.Tests.{both, number_other}
 use Rattle.session_steps.specs.Promise.{SessionTurn, Lead}
-use Rattle.session_steps.specs.Sessions.{SessionsState, with_store, nonce, drawn, session_key, expiry, write_of, spent_by, written_as, written, answered_write, write_line, session_line}
+use Rattle.session_steps.specs.Sessions.{SessionsState, with_store, nonce, drawn, session_key, expiry, write_of, spent_by, written_as, told_write, answered_write, write_line, session_line}
 use Rattle.session_steps.specs.Setup.{HasCounts, SetupState, no_setup, are_counts, bricks_step, key_step, store_of, set_up}
 use Rattle.session_steps.specs.Store.{StoreState}
 use Rattle.session_steps.specs.Texts.{overload_text}
@@ -107,10 +107,10 @@ answered s key value st sound may is =
     let v : StoreState = store_after_write s key value st in
     let gone : WriteGone (write_start (bricks_of_write s st) st.windows.wq (nonce s) (session_key key) value (expiry s)) (length st.world.calls) v = write_ended s key value st sound may in
     let write : WriteState = gone.end in
-    let first : answered_write (drawn s) key (passes_of s st) (length st.world.calls) v ≡ written (drawn s) key (passes_of s st) v write =
-    ap (λ c. or_refused (write_of c) (λ w. written (drawn s) key (passes_of s st) v w)) gone.there in
     let later : SessionsState = with_store (drawn s) (spent_by write (passes_of s st) v) in
-    let second : written (drawn s) key (passes_of s st) v write ≡ written_as later key gone.answer = ap (λ o. or_refused o (λ a. written_as later key a)) gone.answers in
+    let first : answered_write (drawn s) key (passes_of s st) (length st.world.calls) v ≡ told_write later key write =
+    ap (λ c. or_refused (write_of c) (λ w. told_write (with_store (drawn s) (spent_by w (passes_of s st) v)) key w)) gone.there in
+    let second : told_write later key write ≡ written_as later key gone.answer = ap (λ o. or_refused o (λ a. written_as later key a)) gone.answers in
     written_done later key write gone.answer gone.answers (sym second ∙ sym first ∙ is)
 
 not_refused_new : (s : SessionsState) (key : ℕ) (value : List ℕ) (st : StoreState) → TakenLaw → s.store ≡ Some st → StoreIsSound st → KeepLimits st.windows → is_new st.world (nonce s) ≡ true → write_line s key value ≡ Refused → ⊥

@@ -9,7 +9,7 @@ use Rattle.crash_base.specs.declared.numbers.SessionKey.{SessionKey}
 use Rattle.crash_base.specs.declared.numbers.Version.{Version}
 use Rattle.base64.specs.Engines.{url_safe_no_pad}
 use Rattle.base64.specs.GeneralPurpose.{encode_of}
-use Rattle.scenario_text.specs.Answer.{Answer, Refused, Done, refused_if, or_refused}
+use Rattle.scenario_text.specs.Answer.{Answer, Refused, Done, refused_if, or_refused, within}
 use Rattle.scenario_text.specs.declared.session_line.Freed.{Freed}
 use Rattle.scenario_text.specs.declared.session_line.Freed.TheVariants as freed
 use Rattle.scenario_text.specs.declared.session_line.SessionLine.{SessionLine}
@@ -20,7 +20,7 @@ use Rattle.session_cookie.specs.declared.cookie.Cookie.{Cookie}
 use Rattle.brick_store.specs.History.{all_held}
 use Rattle.send_windows.specs.Facts.{open_count, full_facts}
 use Rattle.send_windows.specs.Passes.{unheard, with_mark}
-use Rattle.send_windows.specs.Windows.{chosen, taken, refused, after_pass, after_spend, pass_tried, after_try, in_flight_in, window_in}
+use Rattle.send_windows.specs.Windows.{chosen, taken, refused, after_pass, pass_tried, after_try, in_flight_in, window_in}
 use Rattle.send_windows.specs.declared.pass.Pass.{Pass}
 use Rattle.send_windows.specs.declared.pass.PassMark.{PassMark}
 use Rattle.send_windows.specs.declared.pass.PassMark.TheVariants as mark
@@ -32,11 +32,11 @@ use Rattle.ssm_stub.specs.declared.write_call.WriteRefusal.{WriteRefusal}
 use Rattle.ssm_stub.specs.declared.write_call.WriteRefusal.TheVariants as missing
 use Rattle.ssm_world.specs.declared.call.Call.{Call}
 use Rattle.ssm_world.specs.declared.call.Call.TheVariants as call
-use Rattle.ssm_world.specs.declared.event.WorldEvent.TheVariants.{Write, Read, Crash, Sweep}
+use Rattle.ssm_world.specs.declared.event.WorldEvent.TheVariants.{Crash, Sweep}
 use Rattle.ssm_world.specs.Worlds.{history, is_new, may_read, may_happen}
 use Rattle.session_steps.specs.Lanes.{LaneState, raised, losing, dropping, waiting, reply_made, lane_at}
 use Rattle.session_steps.specs.Present.{presented_text}
-use Rattle.session_steps.specs.Store.{StoreState, after_event, with_lane, gone_on}
+use Rattle.session_steps.specs.Store.{StoreState, after_event, with_lane, spent_as, written_out, read_out}
 use Rattle.session_steps.specs.Texts.{version_text, overload_text, missed_text, found_text, expired_text, lost_text, cookie_text, values_text, windows_text, held_text, closed_text}
 use Rattle.session_steps.specs.declared.sessions.TheConstants.{LEASE, MAX_MOMENT, NODE}
 
@@ -110,7 +110,7 @@ heard_passes write passes = map (λ (pass : Pass). with_mark pass (mark_in write
 
 -- the store after a write spent its passes
 abbrev pub spent_by : WriteState → List Pass → StoreState → StoreState
-spent_by write passes st = record st { windows = after_spend st.windows (heard_passes write passes) }
+spent_by write passes st = spent_as st (heard_passes write passes)
 
 -- a write by its answer: its cookie is kept as that of its key, or too few bricks have stored its value
 abbrev pub written_as : SessionsState → ℕ → Result Cookie WriteRefusal → Answer SessionsState
@@ -118,33 +118,20 @@ written_as s key (Ok cookie) = Done (with_cookie s key cookie) (version_text key
 written_as s key (Err (missing.Missed causes)) = Done s (missed_text key causes)
 written_as s key (Err missing.OutOfMemory) = Refused
 
--- sessions after this write has gone on to its end with these passes
-abbrev pub written : SessionsState → ℕ → List Pass → StoreState → WriteState → Answer SessionsState
-written s key passes st write =
-    or_refused (write_answer write) (λ answer.
-    written_as (with_store s (spent_by write passes st)) key answer)
+-- what a write that has gone on to its end comes to under a key
+abbrev pub told_write : SessionsState → ℕ → WriteState → Answer SessionsState
+told_write s key write = or_refused (write_answer write) (λ answer. written_as s key answer)
 
 -- the store after passes were taken, and a write with them has begun and has gone on to its end
 abbrev pub store_written : SessionsState → ℕ → List ℕ → List Pass → StoreState → StoreState
 store_written s key value passes st =
-    gone_on
-    (after_event (record st { windows = taken st.windows passes })
-    (Write (nonce s) (session_key key) value (expiry s) (map (λ (pass : Pass). pass.brick) passes) st.windows.wq))
-    (length st.world.calls)
+    written_out (record st { windows = taken st.windows passes }) (nonce s) (session_key key) value (expiry s) passes
 
--- the answer of the write of a number, which has gone on to its end with these passes
+-- the answer of the write of a number, which has gone on to its end with these passes, and spends them
 abbrev pub answered_write : SessionsState → ℕ → List Pass → ℕ → StoreState → Answer SessionsState
 answered_write s key passes number st =
     or_refused (write_of (slice_get st.world.calls number)) (λ write.
-    written s key passes st write)
-
--- what the write of a number, which has gone on to its end, comes to under a key; it serves the code only
-abbrev pub told_write : SessionsState → ℕ → ℕ → Answer SessionsState
-told_write s key number =
-    or_refused s.store (λ st.
-    or_refused (write_of (slice_get st.world.calls number)) (λ write.
-    or_refused (write_answer write) (λ answer.
-    written_as s key answer)))
+    told_write (with_store s (spent_by write passes st)) key write)
 
 -- A value is written under a key, with passes from the serial that is drawn on, and the passes are spent. Where too few
 -- windows are open, nothing is sent. Refused is a write where there are no bricks, or where a call has had its nonce.
@@ -166,23 +153,17 @@ fetched_text key (Err OutOfMemory) = []
 
 -- the store after a read of a cookie has begun and has gone on to its answer
 abbrev pub store_read : SessionsState → Cookie → StoreState → StoreState
-store_read s cookie st =
-    gone_on (after_event st (Read (nonce s) s.moment cookie)) (length st.world.calls)
+store_read s cookie st = read_out st (nonce s) s.moment cookie
+
+-- what a read that has gone on to its answer comes to under a key
+abbrev pub told_read : SessionsState → ℕ → ReadState → Answer SessionsState
+told_read s key read = or_refused (read_answer read) (λ answer. Done s (fetched_text key answer))
 
 -- the sessions after a fetch, by the answer of the read of a number, which has gone on to its answer
 abbrev pub answered_read : SessionsState → ℕ → ℕ → StoreState → Answer SessionsState
 answered_read s key number st =
     or_refused (read_of (slice_get st.world.calls number)) (λ read.
-    or_refused (read_answer read) (λ answer.
-    Done (with_store s st) (fetched_text key answer)))
-
--- what the read of a number, which has gone on to its answer, comes to under a key; it serves the code only
-abbrev pub told_read : SessionsState → ℕ → ℕ → Answer SessionsState
-told_read s key number =
-    or_refused s.store (λ st.
-    or_refused (read_of (slice_get st.world.calls number)) (λ read.
-    or_refused (read_answer read) (λ answer.
-    Done s (fetched_text key answer))))
+    told_read (with_store s st) key read)
 
 -- The value under a key is read by the key's cookie. Refused is a fetch of a key without a cookie, and one whose nonce a
 -- call has had.
@@ -270,29 +251,20 @@ abbrev pub count_or_0 : Option ℕ → ℕ
 count_or_0 None = 0
 count_or_0 (Some n) = n
 
--- the store after a pass to a brick is held, where the brick's window is open; it serves the code only
-abbrev pub holds_in : StoreState → ℕ → LaneState → Option Pass → Answer StoreState
-holds_in st brick lane None =
+-- a pass to a brick is held, where the brick's window is open
+abbrev pub holds : StoreState → ℕ → LaneState → Option Pass → Answer StoreState
+holds st brick lane None =
     Done st (closed_text brick (count_or_0 (window_in st.windows (brick_no brick)))
     (count_or_0 (in_flight_in st.windows (brick_no brick))))
-holds_in st brick lane (Some pass) =
+holds st brick lane (Some pass) =
     Done (with_lane (record st { windows = after_try st.windows (brick_no brick) }) brick
-    (record lane { held = raised lane.held 1 }))
-    (held_text brick (count_or_0 (in_flight_in (after_try st.windows (brick_no brick)) (brick_no brick))))
-
--- a pass to a brick is held, where the brick's window is open
-abbrev pub holds : SessionsState → ℕ → StoreState → LaneState → Option Pass → Answer SessionsState
-holds s brick st lane None =
-    Done s (closed_text brick (count_or_0 (window_in st.windows (brick_no brick)))
-    (count_or_0 (in_flight_in st.windows (brick_no brick))))
-holds s brick st lane (Some pass) =
-    Done (with_lane_of s brick (record st { windows = after_try st.windows (brick_no brick) })
     (record lane { held = raised lane.held 1 }))
     (held_text brick (count_or_0 (in_flight_in (after_try st.windows (brick_no brick)) (brick_no brick))))
 
 -- A pass to a brick is held. Refused is an unknown brick.
 unfoldable pub hold_line : SessionsState → ℕ → Answer SessionsState
-hold_line s brick = on_lane s brick (λ st lane. holds s brick st lane (pass_tried st.windows (brick_no brick)))
+hold_line s brick =
+    on_lane s brick (λ st lane. within (with_store s) (holds st brick lane (pass_tried st.windows (brick_no brick))))
 
 -- the mark with which a held pass is spent
 abbrev pub mark_of : Freed → PassMark

@@ -5,9 +5,9 @@ use Rattle.crash_base.specs.declared.numbers.BrickNo.{BrickNo}
 use Rattle.session_cookie.specs.declared.cookie.TheConstants.{MAX_HOLDERS}
 use Rattle.send_windows.specs.declared.pass.Pass.{Pass}
 use Rattle.crash_base.specs.declared.numbers.Moment.{Moment}
+use Rattle.crash_base.specs.declared.numbers.SessionKey.{SessionKey}
 use Rattle.crash_base.specs.declared.numbers.Version.{Version}
 use Rattle.session_cookie.specs.declared.cookie.Cookie.{Cookie}
-use Rattle.session_steps.specs.declared.writing.WriteOrder.{WriteOrder}
 use Rattle.send_windows.specs.declared.fact.TheConstants.{MAX_BRICKS}
 use Rattle.send_windows.specs.Windows.{WindowsValue, new_windows, after_spend}
 use Rattle.ssm_stub.specs.declared.event.StubNext.{StubNext}
@@ -92,19 +92,18 @@ turns (suc n) st call = turns n (turn_of st call (slice_get st.world.calls call)
 unfoldable pub gone_on : StoreState → ℕ → StoreState
 gone_on st call = turns (TURNS_PER_BRICK * MAX_HOLDERS) st call
 
--- the store after passes were spent; it serves the code only
+-- the store after passes were spent
 abbrev pub spent_as : StoreState → List Pass → StoreState
 spent_as st passes = record st { windows = after_spend st.windows passes }
 
--- the store after a write of this value has begun at the bricks of these passes, and has gone on to its end; it serves the
--- code only
-abbrev pub written_out : StoreState → WriteOrder → List Pass → StoreState
-written_out st order passes =
+-- The store after a write with this nonce, of a value under a session key until a moment, has begun at the bricks of these
+-- passes, and has gone on to its end.
+abbrev pub written_out : StoreState → Version → SessionKey → List ℕ → Moment → List Pass → StoreState
+written_out st nonce key value expiry passes =
     gone_on
-    (after_event st
-    (Write order.nonce order.key order.value order.expiry (map (λ (pass : Pass). pass.brick) passes) st.windows.wq))
+    (after_event st (Write nonce key value expiry (map (λ (pass : Pass). pass.brick) passes) st.windows.wq))
     (length st.world.calls)
 
--- the store after a read of a cookie has begun at a moment, and has gone on to its answer; it serves the code only
+-- the store after a read with this nonce of a cookie has begun at a moment, and has gone on to its answer
 abbrev pub read_out : StoreState → Version → Moment → Cookie → StoreState
 read_out st nonce now cookie = gone_on (after_event st (Read nonce now cookie)) (length st.world.calls)

@@ -1,10 +1,12 @@
 //! Reading a value.
 
-ghost use Rattle.std.specs.Prelude.{◌≡◌, length, IfOk, OnOk};
+ghost use Rattle.std.specs.Prelude.{◌≡◌, length, slice_get, Some, IfOk, OnOk};
 ghost use Rattle.scenario_text.specs.Answer.{KeepsRefused, answer_of};
+ghost use Rattle.ssm_stub.specs.Reads.{ReadState};
+ghost use Rattle.ssm_world.specs.declared.call.Call.TheVariants as kind;
 ghost use Rattle.session_steps.specs.Kept.{IsSessions};
 ghost use Rattle.session_steps.specs.Sessions.{told_read, fetch_line};
-ghost use Rattle.session_steps.specs.Store.{read_out};
+ghost use Rattle.session_steps.specs.Store.{StoreState, read_out};
 
 use crate::parts::Parts;
 use crate::store::Store;
@@ -49,9 +51,10 @@ impl Store {
 }
 
 impl Parts {
-    /// What the read of a number comes to under a key, once it has gone on to its answer. Refused where there is none.
+    /// What the read of a number comes to under a key, once it has gone on to its answer.
     fn tell_read(&mut self, alloc: Global, key: u64, call: u64) -> Result<LineAnswer, OutOfMemory>
-        ensures { IfOk result (λ a. answer_of a self.new ≡ told_read self.old key call) }
+        ensures { IfOk result (λ a. (st : StoreState) (read : ReadState) → self.old.store ≡ Some st
+            → slice_get st.world.calls call ≡ Some (kind.Read read) → answer_of a self.new ≡ told_read self.old key read) }
     {
         let Some(store) = &self.store else {
             return Ok(LineAnswer::Refused);

@@ -8,7 +8,7 @@ ghost use Rattle.send_windows.specs.Windows.{HasBrick, pass_tried, after_pass};
 ghost use Rattle.ssm_world.specs.declared.event.WorldEvent.TheVariants.{Crash, Sweep};
 ghost use Rattle.ssm_world.specs.Worlds.{history, may_happen};
 ghost use Rattle.session_steps.specs.Lanes.{new_lane, losing, dropping, waiting, reply_made, lane_at};
-ghost use Rattle.session_steps.specs.Sessions.{brick_no, freed_pass, holds_in};
+ghost use Rattle.session_steps.specs.Sessions.{brick_no, freed_pass, holds};
 ghost use Rattle.session_steps.specs.Setup.{are_counts};
 ghost use Rattle.session_steps.specs.Store.{new_store, after_event, with_lane};
 ghost use Rattle.session_steps.specs.Texts.{values_text, windows_text};
@@ -230,7 +230,7 @@ impl Store {
     /// A pass to a brick is held, where the brick's window is open. It visits each brick a few times.
     pub(crate) fn hold(&mut self, alloc: Global, brick: u64) -> Result<LineAnswer, OutOfMemory>
         ensures answer { IfOk result (λ a. answer_of a self.new ≡ or_refused (lane_at self.old.lanes brick) (λ lane.
-            holds_in self.old brick lane (pass_tried self.old.windows (brick_no brick)))) }
+            holds self.old brick lane (pass_tried self.old.windows (brick_no brick)))) }
         ensures refused { IfOk result (λ a. KeepsRefused a self.old self.new) }
     {
         let Some(place) = place_of(&self.lanes, brick) else {

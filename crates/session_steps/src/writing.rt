@@ -10,7 +10,7 @@ ghost use Rattle.ssm_world.specs.declared.call.Call.TheVariants as kind;
 ghost use Rattle.ssm_world.specs.declared.event.WorldEvent.TheVariants.{Write};
 ghost use Rattle.session_steps.specs.Kept.{IsSessions};
 ghost use Rattle.session_steps.specs.Sessions.{session_key, padded, heard_passes, told_write, write_line};
-ghost use Rattle.session_steps.specs.Store.{after_event, spent_as, written_out};
+ghost use Rattle.session_steps.specs.Store.{StoreState, after_event, spent_as, written_out};
 
 use crate::fetching::copied;
 use crate::parts::Parts;
@@ -133,7 +133,7 @@ impl Store {
         passes: &[Pass],
     ) -> Result<u64, OutOfMemory>
         ensures call { IfOk result (λ call. call ≡ length self.old.world.calls) }
-        ensures store { OnOk result (self.new ≡ written_out self.old order passes.now) }
+        ensures store { OnOk result (self.new ≡ written_out self.old order.nonce order.key order.value order.expiry passes.now) }
     {
         let call = self.world.calls();
         self.begin_write(alloc, order, passes)?;
@@ -173,8 +173,8 @@ impl Store {
     ) -> Result<u64, OutOfMemory>
         ensures call { IfOk result (λ call. call ≡ length self.old.world.calls) }
         ensures store { OnOk result ((write : WriteState)
-            → slice_get (written_out self.old order passes).world.calls (length self.old.world.calls) ≡ Some (kind.Write write)
-            → self.new ≡ spent_as (written_out self.old order passes) (map hushed (heard_passes write passes))) }
+            → slice_get (written_out self.old order.nonce order.key order.value order.expiry passes).world.calls (length self.old.world.calls) ≡ Some (kind.Write write)
+            → self.new ≡ spent_as (written_out self.old order.nonce order.key order.value order.expiry passes) (map hushed (heard_passes write passes))) }
     {
         let call = self.world.calls();
         let written = self.write_out(alloc, order, passes.as_slice());
@@ -185,9 +185,10 @@ impl Store {
 }
 
 impl Parts {
-    /// What the write of a number comes to under a key, once it has gone on to its end. Refused where there is none.
+    /// What the write of a number comes to under a key, once it has gone on to its end.
     fn tell_write(&mut self, alloc: Global, key: u64, call: u64) -> Result<LineAnswer, OutOfMemory>
-        ensures { IfOk result (λ a. answer_of a self.new ≡ told_write self.old key call) }
+        ensures { IfOk result (λ a. (st : StoreState) (write : WriteState) → self.old.store ≡ Some st
+            → slice_get st.world.calls call ≡ Some (kind.Write write) → answer_of a self.new ≡ told_write self.old key write) }
     {
         let Some(store) = &self.store else {
             return Ok(LineAnswer::Refused);

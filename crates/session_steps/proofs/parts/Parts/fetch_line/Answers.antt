@@ -1,4 +1,5 @@
 use Rattle.std.proofs.Common.{◌≡◌, ◌∙◌, ap, sym, subst, true, length, All, Option, Some}
+use Rattle.std.specs.Prelude.{slice_get}
 use Rattle.crash_base.specs.declared.numbers.Version.{Version}
 use Rattle.session_cookie.specs.Cookie.{AreHolders}
 use Rattle.session_cookie.specs.declared.cookie.Cookie.{Cookie}
@@ -33,9 +34,10 @@ ends_so c =
     let read_is : c.read_out.new.self ≡ v = read_by ∙ ap (λ (x : StoreState). read_out x c.nonce-nonce.result s.moment cookie) (sym c.store.view_is) ∙ ap (λ (n : Version). read_out st n s.moment cookie) nonce_is in
     let called : c.in_ok-call.call ≡ length c.in-Some-store.store.world.calls = c.in_ok-call.ensures.call in
     let number : c.in_ok-call.call ≡ length st.world.calls = called ∙ ap (λ (x : StoreState). length x.world.calls) (sym c.store.view_is) in
-    let answered : answer_of c.in_ok-answer.answer c.tell_read.new.self ≡ told_read c.draw.new.self c.args.key c.in_ok-call.call = c.in_ok-answer.ensures in
-    let told : answer_of c.in_ok-answer.answer c.tell_read.new.self ≡ told_read (with_store (drawn s) v) c.args.key (length st.world.calls) =
-    answered ∙ (ap (λ (t : SessionsState). told_read t c.args.key c.in_ok-call.call) (drawn_is ∙ ap (with_store (drawn s)) read_is) ∙ ap (told_read (with_store (drawn s) v) c.args.key) number) in (
+    let later_is : c.draw.new.self ≡ with_store (drawn s) v = drawn_is ∙ ap (with_store (drawn s)) read_is in
+    let answered : answer_of c.in_ok-answer.answer c.tell_read.new.self ≡ told_read c.draw.new.self c.args.key ends.read =
+    c.in_ok-answer.ensures v ends.read (ap (λ (t : SessionsState). t.store) later_is) (ap (slice_get v.world.calls) number ∙ ends.there) in
+    let told : answer_of c.in_ok-answer.answer c.tell_read.new.self ≡ told_read (with_store (drawn s) v) c.args.key ends.read = answered ∙ ap (λ (t : SessionsState). told_read t c.args.key ends.read) later_is in (
       told ∙ (ends.told ∙ ap (λ (t : SessionsState). fetch_line t c.args.key) whole),
       never_refused c.in_ok-answer.answer c.args.self.now c.tell_read.new.self _ _ (told ∙ (ends.told ∙ ends.done)),
     )

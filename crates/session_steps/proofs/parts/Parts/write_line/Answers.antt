@@ -12,7 +12,6 @@ use Rattle.session_steps.specs.Rule.{LanesAreOf}
 use Rattle.session_steps.specs.Kept.{HasSoundStore}
 use Rattle.session_steps.specs.Sessions.{SessionsState, nonce, drawn, with_store, session_key, expiry, heard_passes, store_written, told_write, write_line}
 use Rattle.session_steps.specs.Store.{StoreState, spent_as, written_out}
-use Rattle.session_steps.specs.declared.writing.WriteOrder.{WriteOrder}
 use Rattle.session_steps.proofs.SettledWrites.{WriteEnds, settled_write, never_written}
 use Rattle.session_steps.proofs.parts.Parts.write_line.Goals as goal
 
@@ -35,24 +34,23 @@ ends_so c =
     let took : c.take.new.self ≡ record st { windows = taken st.windows passes } = took0 ∙ ap (λ (x : StoreState). record x { windows = taken x.windows (chosen x.windows s.serial) }) (sym lent) in
     let enough : st.windows.wq ≤ open_count st.windows.facts = subst (λ (x : StoreState). x.windows.wq ≤ open_count x.windows.facts) (sym lent) c.in-Ok.ensures.enough in
     let took_ok : AreTaken st.windows.wq st.windows.w passes = subst (λ (ps : List Pass). AreTaken st.windows.wq st.windows.w ps) passes_are (subst (λ (x : StoreState). AreTaken x.windows.wq x.windows.w c.in-Ok.passes) (sym lent) c.in-Ok.ensures.lawful) in
-    let order : WriteOrder = record { nonce = c.nonce.result; key = c.session_key.result; value = c.from_vec.result; expiry = c.expiry.result } in
     let key_is : c.session_key.result ≡ session_key c.args.key = c.session_key.ensures in
     let value_is : c.from_vec.result ≡ c.args.value = c.from_vec.ensures ∙ c.into_vec.ensures.value in
     let expiry_is : c.expiry.result ≡ expiry s = c.expiry.ensures ∙ ap expiry (sym whole) in
-    let wanted : WriteOrder = record { nonce = nonce s; key = session_key c.args.key; value = c.args.value; expiry = expiry s } in
-    let order_is : order ≡ wanted = λ l. record { nonce = nonce_is l; key = key_is l; value = value_is l; expiry = expiry_is l } in
     let gone : StoreState = store_written s c.args.key c.args.value passes st in
-    let gone_is : written_out c.take.new.self order c.in-Ok.passes ≡ gone = λ l. written_out (took l) (order_is l) (passes_are l) in
+    let went : StoreState = written_out c.take.new.self c.nonce.result c.session_key.result c.from_vec.result c.expiry.result c.in-Ok.passes in
+    let gone_is : went ≡ gone = λ l. written_out (took l) (nonce_is l) (key_is l) (value_is l) (expiry_is l) (passes_are l) in
     let calls : length c.take.new.self.world.calls ≡ length st.world.calls = ap (λ (x : StoreState). length x.world.calls) took in
     let Settles : StoreState → ℕ → List Pass → Type 0 = λ g n ps. (write : WriteState) → slice_get g.world.calls n ≡ Some (call.Write write) → c.settle.new.self ≡ spent_as g (map hushed (heard_passes write ps)) in
-    let settles0 : Settles (written_out c.take.new.self order c.in-Ok.passes) (length c.take.new.self.world.calls) c.in-Ok.passes = c.in_ok-call-in-Ok.ensures.store in
+    let settles0 : Settles went (length c.take.new.self.world.calls) c.in-Ok.passes = c.in_ok-call-in-Ok.ensures.store in
     let settles : Settles gone (length st.world.calls) passes = subst (Settles gone (length st.world.calls)) passes_are (subst (λ n. Settles gone n c.in-Ok.passes) calls (subst (λ g. Settles g (length c.take.new.self.world.calls) c.in-Ok.passes) gone_is settles0)) in
     let ends : WriteEnds s c.args.key c.args.value c.settle.new.self (length st.world.calls) = settled_write s c.args.key c.args.value st c.settle.new.self sound.0 limits took_ok sound.1 store new enough settles in
     let drawn_is : c.draw-in-Ok.new.self ≡ with_store (drawn s) c.settle.new.self = c.draw-in-Ok.ensures in
     let called : c.in_ok-call-in-Ok.call ≡ length c.take.new.self.world.calls = c.in_ok-call-in-Ok.ensures.call in
-    let answered : answer_of c.in_ok-answer-in-Ok.answer c.tell_write.new.self ≡ told_write c.draw-in-Ok.new.self c.args.key c.in_ok-call-in-Ok.call = c.in_ok-answer-in-Ok.ensures in
-    let told : answer_of c.in_ok-answer-in-Ok.answer c.tell_write.new.self ≡ told_write (with_store (drawn s) c.settle.new.self) c.args.key (length st.world.calls) =
-    answered ∙ (ap (λ (t : SessionsState). told_write t c.args.key c.in_ok-call-in-Ok.call) drawn_is ∙ ap (told_write (with_store (drawn s) c.settle.new.self) c.args.key) (called ∙ calls)) in (
+    let answered : answer_of c.in_ok-answer-in-Ok.answer c.tell_write.new.self ≡ told_write c.draw-in-Ok.new.self c.args.key ends.write =
+    c.in_ok-answer-in-Ok.ensures c.settle.new.self ends.write (ap (λ (t : SessionsState). t.store) drawn_is) (ap (slice_get c.settle.new.self.world.calls) (called ∙ calls) ∙ ends.there) in
+    let told : answer_of c.in_ok-answer-in-Ok.answer c.tell_write.new.self ≡ told_write (with_store (drawn s) c.settle.new.self) c.args.key ends.write =
+    answered ∙ ap (λ (t : SessionsState). told_write t c.args.key ends.write) drawn_is in (
       told ∙ (ends.told ∙ ap (λ (t : SessionsState). write_line t c.args.key c.args.value) whole),
       never_written s c.args.key c.args.value c.settle.new.self (length st.world.calls) ends c.in_ok-answer-in-Ok.answer c.args.self.now c.tell_write.new.self (told ∙ ends.told),
     )
