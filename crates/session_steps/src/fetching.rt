@@ -11,24 +11,12 @@ ghost use Rattle.session_steps.specs.Store.{StoreState, read_out};
 use crate::parts::Parts;
 use crate::store::Store;
 use crate::texts::{expired_text, found_text, lost_text};
-use crash_base::{Items, Moment, OutOfMemory, Version};
+use crash_base::{Moment, OutOfMemory, Version};
 use scenario_text::LineAnswer;
 use session_cookie::Cookie;
 use ssm_stub::ReadRefusal;
-use ssm_world::WorldEvent;
+use ssm_world::{WorldEvent, copied_cookie};
 use std::alloc::Global;
-
-/// A copy of a cookie.
-pub(crate) fn copied(alloc: Global, cookie: &Cookie) -> Result<Cookie, OutOfMemory>
-    ensures { IfOk result (λ copy. copy ≡ cookie.now) }
-{
-    Ok(Cookie {
-        key: cookie.key,
-        version: cookie.version,
-        expiry: cookie.expiry,
-        bricks: Items::from_vec(Vec::from_slice(alloc, cookie.bricks.as_slice())?),
-    })
-}
 
 impl Store {
     /// A read of a cookie begins at a moment, and goes on to its answer. The answer is its number.
@@ -84,7 +72,7 @@ impl Parts {
         let Some(cookie) = self.cookie_of(key) else {
             return Ok(LineAnswer::Refused);
         };
-        let cookie = copied(alloc, cookie)?;
+        let cookie = copied_cookie(alloc, cookie)?;
         let nonce = self.nonce();
         let Some(store) = &mut self.store else {
             return Ok(LineAnswer::Refused);

@@ -12,7 +12,6 @@ ghost use Rattle.session_steps.specs.Kept.{IsSessions};
 ghost use Rattle.session_steps.specs.Sessions.{session_key, padded, heard_passes, told_write, write_line};
 ghost use Rattle.session_steps.specs.Store.{StoreState, after_event, spent_as, written_out};
 
-use crate::fetching::copied;
 use crate::parts::Parts;
 use crate::store::Store;
 use crate::texts::{missed_text, overload_text, version_text};
@@ -21,7 +20,7 @@ use scenario_text::{HexBytes, LineAnswer};
 use send_windows::{Pass, PassList, TakeRefusal};
 use session_cookie::Cookie;
 use ssm_stub::{BrickList, WriteCall, WriteRefusal};
-use ssm_world::WorldEvent;
+use ssm_world::{WorldEvent, copied_cookie};
 use std::alloc::Global;
 
 /// A value to be written.
@@ -199,7 +198,7 @@ impl Parts {
         let text = match write.answer() {
             None => return Ok(LineAnswer::Refused),
             Some(Ok(cookie)) => {
-                keep(&mut self.cookies, key, copied(alloc, cookie)?)?;
+                keep(&mut self.cookies, key, copied_cookie(alloc, cookie)?)?;
                 version_text(alloc, key, cookie)?
             }
             Some(Err(WriteRefusal::Missed(causes))) => missed_text(alloc, key, causes.as_slice())?,

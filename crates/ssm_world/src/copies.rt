@@ -21,8 +21,11 @@ pub(crate) fn copied_bricks(alloc: Global, bricks: &BrickList) -> Result<BrickLi
     Ok(Items::from_vec(Vec::from_slice(alloc, bricks.as_slice())?))
 }
 
-/// A copy of a cookie.
-pub(crate) fn copied_cookie(alloc: Global, cookie: &Cookie) -> Result<Cookie, OutOfMemory>
+/// A copy of a cookie. It visits each brick of the cookie.
+///
+/// # Errors
+/// Out of memory.
+pub fn copied_cookie(alloc: Global, cookie: &Cookie) -> Result<Cookie, OutOfMemory>
     ensures { IfOk result (λ copy. copy ≡ cookie.now) }
 {
     Ok(Cookie {

@@ -56,6 +56,7 @@ mod world;
 mod world_state;
 
 pub use call::Call;
+pub use copies::copied_cookie;
 pub use event::{Packet, WorldEvent};
 pub use laws::{
     acknowledged_cookies_may_be_read, acknowledged_cookies_name_who_stored,
