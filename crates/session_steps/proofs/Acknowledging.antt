@@ -13,11 +13,11 @@ use Rattle.ssm_world.specs.Worlds.{WorldValue, nonce_of, new_world, is_new, afte
 use Rattle.ssm_world.proofs.Holding.{answer_cookie}
 use Rattle.ssm_world.proofs.Lists.{none_passes}
 use Rattle.ssm_world.proofs.Tests.{same_number, number_same, version_same}
-use Rattle.session_steps.specs.Promise.{SessionTurn, Does, Boots, Leads, Lead}
+use Rattle.session_steps.specs.Promise.{SessionTurn, Does, Boots, Makes, Lead}
 use Rattle.session_steps.specs.Sessions.{SessionsState, session_key, cookie_of}
 use Rattle.session_steps.specs.Store.{StoreState}
 use Rattle.session_steps.proofs.Cookies.{kept_cookie, other_cookie, same_cookie}
-use Rattle.session_steps.proofs.LanesKept.{SoundIfAny, leads_keep}
+use Rattle.session_steps.proofs.LanesKept.{SoundIfAny, one_turn_keeps}
 use Rattle.session_steps.proofs.TurnsMade.{GoOn, is_write, TurnGoes, turn_goes}
 use Rattle.session_steps.proofs.Written.{Acknowledged, Unacknowledged, write_ends}
 use Rattle.session_steps.proofs.Went.{Goes}
@@ -36,7 +36,7 @@ pub record MadeCookie (s : SessionsState) (turn : SessionTurn) (t : SessionsStat
   pub cookie_is : by.cookie ≡ cookie
 
 -- a cookie after a turn was there before, or the turn sound it
-pub cookie_before : (s : SessionsState) (turn : SessionTurn) (t : SessionsState) (key : ℕ) (cookie : Cookie) → SoundIfAny s.store → Leads s turn t → cookie_of t key ≡ Some cookie
+pub cookie_before : (s : SessionsState) (turn : SessionTurn) (t : SessionsState) (key : ℕ) (cookie : Cookie) → SoundIfAny s.store → Makes s turn t → cookie_of t key ≡ Some cookie
     → (cookie_of s key ≡ Some cookie) ⊎ MadeCookie s turn t key cookie
 cookie_before s turn t key cookie sound leads is = by_kind (is_write turn) refl
   where
@@ -56,7 +56,7 @@ cookie_before s turn t key cookie sound leads is = by_kind (is_write turn) refl
     written k value text turn_is (inl by) = acknowledged k value text (k == key) refl turn_is by
     written k value text turn_is (inr none) = inl (sym (same_cookie s t key none.cookies_are) ∙ is)
 
-    writes : (x : SessionTurn) → turn ≡ x → is_write x ≡ true → Leads s x t → (cookie_of s key ≡ Some cookie) ⊎ MadeCookie s turn t key cookie
+    writes : (x : SessionTurn) → turn ≡ x → is_write x ≡ true → Makes s x t → (cookie_of s key ≡ Some cookie) ⊎ MadeCookie s turn t key cookie
     writes (Does (lines.Write k value) text) at so lead = written k value text at (write_ends s k value t text sound lead)
     writes (Does (lines.Now moment) text) at so lead = absurd (cc)
     writes (Does (lines.Fetch k) text) at so lead = absurd (cc)
@@ -115,7 +115,7 @@ kept_later stay now turns s t key cookie sound goes kept = go s.store t.store re
         }
 
 -- each turn keeps the cookies acknowledged
-pub turn_keeps : StayLaw → (s : SessionsState) (turn : SessionTurn) (t : SessionsState) → SoundIfAny s.store → AreKept s → Leads s turn t → AreKept t
+pub turn_keeps : StayLaw → (s : SessionsState) (turn : SessionTurn) (t : SessionsState) → SoundIfAny s.store → AreKept s → Makes s turn t → AreKept t
 turn_keeps stay s turn t sound kept leads key cookie is = elim (cookie_before s turn t key cookie sound leads is) [
   | inl old ↦ kept_later stay s.moment (turn ∷ []) s t key cookie sound (turn_goes s turn t sound leads).store (kept key cookie old)
   | inr new ↦ record {
@@ -131,7 +131,7 @@ pub turns_keep : StayLaw → (turns : List SessionTurn) (s t : SessionsState) �
 turns_keep stay [] s t sound kept is = subst (λ x. AreKept x) (sym is) kept
 turns_keep stay (turn ∷ turns) s t sound kept lead =
     let between : SessionsState = lead.0 in
-    turns_keep stay turns between t (leads_keep s between turn sound lead.1)
+    turns_keep stay turns between t (one_turn_keeps s between turn sound lead.1)
     (turn_keeps stay s turn between sound kept lead.1) lead.2
 
 -- no cookie that was acknowledged has a version which no call has had

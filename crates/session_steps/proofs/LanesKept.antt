@@ -34,7 +34,7 @@ use Rattle.ssm_world.specs.Worlds.{WorldValue, new_world, ask_of, next_of, histo
 use Rattle.ssm_world.proofs.Making.{step_made}
 use Rattle.ssm_world.proofs.Steps.{step_stays}
 use Rattle.session_steps.specs.Lanes.{LaneState, raised, new_lane, losing, dropping, waiting, reply_made, lane_at}
-use Rattle.session_steps.specs.Promise.{SessionTurn, Does, Boots, Leads, Lead}
+use Rattle.session_steps.specs.Promise.{SessionTurn, Does, Boots, Makes, Lead}
 use Rattle.session_steps.specs.Rule.{IsReplyOf, LanesAreOf}
 use Rattle.session_steps.specs.Sessions.{SessionsState, with_store, nonce, drawn, session_key, expiry, cookie_of, write_of, read_of, spent_by, written_as, store_written, answered_write, write_line, store_read, fetch_line, cookie_line, now_line, on_lane, lose_line, mute_line, repeat_line, brick_no, crash_line, sweep_line, values_line, windows_line, holds, hold_line, freed_pass, free_line, session_line}
 use Rattle.session_steps.specs.Setup.{SetupState, set_up, store_of}
@@ -310,13 +310,13 @@ line_keeps s lines.Windows sound = window_texts_keep s sound
 line_keeps s (lines.Hold brick) sound = hold_keeps s brick sound
 line_keeps s (lines.Free brick how) sound = free_keeps s brick how sound
 
-pub leads_keep : (s t : SessionsState) (turn : SessionTurn) → AreSound s → Leads s turn t → AreSound t
-leads_keep s t (Does line text) sound leads = subst LeavesSound leads (line_keeps s line sound)
-leads_keep s t (Boots number) sound leads = subst AreSound (sym leads) sound
+pub one_turn_keeps : (s t : SessionsState) (turn : SessionTurn) → AreSound s → Makes s turn t → AreSound t
+one_turn_keeps s t (Does line text) sound leads = subst LeavesSound leads (line_keeps s line sound)
+one_turn_keeps s t (Boots number) sound leads = subst AreSound (sym leads) sound
 
 pub lead_keeps : (s t : SessionsState) (turns : List SessionTurn) → AreSound s → Lead s turns t → AreSound t
 lead_keeps s t [] sound lead = subst AreSound (sym lead) sound
-lead_keeps s t (turn ∷ turns) sound lead = lead_keeps lead.0 t turns (leads_keep s lead.0 turn sound lead.1) lead.2
+lead_keeps s t (turn ∷ turns) sound lead = lead_keeps lead.0 t turns (one_turn_keeps s lead.0 turn sound lead.1) lead.2
 
 -- sessions that were set up, after turns
 pub set_up_sound : (setup : SetupState) (boot : ℕ) → AreSound (set_up setup boot)

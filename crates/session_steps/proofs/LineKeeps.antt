@@ -31,7 +31,7 @@ use Rattle.session_steps.specs.Store.{StoreState}
 use Rattle.session_steps.specs.Texts.{overload_text}
 use Rattle.session_steps.specs.declared.sessions.TheConstants.{MAX_MOMENT}
 use Rattle.session_steps.proofs.KeptCookies.{holders_kept}
-use Rattle.session_steps.proofs.LanesKept.{StoreIsSound, SoundIfAny, AreSound, event_keeps, windows_keep, gone_keeps, leads_keep, set_up_sound}
+use Rattle.session_steps.proofs.LanesKept.{StoreIsSound, SoundIfAny, AreSound, event_keeps, windows_keep, gone_keeps, one_turn_keeps, set_up_sound}
 use Rattle.session_steps.proofs.SettledWrites.{names_holders}
 
 -- the present moment is one of the clock, and each cookie names holders
@@ -180,7 +180,7 @@ unfolding Leaves
 line_keeps_sessions s t line text are is =
     let sound : AreSound s = to_sound s.store are.store in
     let left : AreTimely t = subst Leaves is (line_leaves s line (record { in_time = are.in_time; cookies = are.cookies }) sound) in
-    record { in_time = left.in_time; cookies = left.cookies; store = from_sound t.store (leads_keep s t (Does line text) sound is) }
+    record { in_time = left.in_time; cookies = left.cookies; store = from_sound t.store (one_turn_keeps s t (Does line text) sound is) }
 
 -- a line leaves sessions so, by its answer
 pub answer_keeps : (s t : SessionsState) (line : SessionLine) (a : LineAnswer) → IsSessions s → answer_of a t ≡ session_line s line → KeepsRefused a s t → IsSessions t

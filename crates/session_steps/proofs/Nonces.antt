@@ -12,7 +12,7 @@ use Rattle.session_steps.specs.Setup.{SetupState, store_of, set_up}
 use Rattle.session_steps.specs.Store.{StoreState}
 use Rattle.session_steps.specs.declared.setup.BrickCounts.{BrickCounts}
 use Rattle.session_steps.proofs.Histories.{PassesAt, any_passes}
-use Rattle.session_steps.proofs.LanesKept.{AreSound, leads_keep, set_up_sound}
+use Rattle.session_steps.proofs.LanesKept.{AreSound, one_turn_keeps, set_up_sound}
 use Rattle.session_steps.proofs.TurnsMade.{HasHad, TurnGoes, turn_goes}
 
 -- a nonce comes before the one that is drawn next, unless no more serials are left
@@ -94,7 +94,7 @@ turns_earlier (turn ∷ turns) s t sound rises lead earlier =
     let between : SessionsState = lead.0 in
     let goes : TurnGoes s turn between = turn_goes s turn between sound lead.1 in
     let now : AreEarlier between × (between.boot ≡ boot_after s.boot turn) = turn_earlier s turn turns between rises goes earlier in
-    turns_earlier turns between t (leads_keep s between turn sound lead.1) (subst (λ b. BootsRise b turns) (sym now.1) (rises_on turn turns s.boot rises)) lead.2 now.0
+    turns_earlier turns between t (one_turn_keeps s between turn sound lead.1) (subst (λ b. BootsRise b turns) (sym now.1) (rises_on turn turns s.boot rises)) lead.2 now.0
 
 none_had : (counts : Option BrickCounts) (version : Version) → HasHad (store_of counts) version → ⊥
 none_had None version had = had

@@ -8,14 +8,14 @@ use Rattle.ssm_stub.specs.declared.read_call.ReadRefusal.{ReadRefusal}
 use Rattle.ssm_world.specs.Worlds.{WorldValue, is_new, may_read, may_be_asked, bricks_of, IsMade}
 use Rattle.ssm_world.specs.Claims.{IsAcknowledged as IsAcknowledgedIn}
 use Rattle.ssm_world.proofs.Askable.{acknowledged_askable}
-use Rattle.session_steps.specs.Promise.{Does, FetchedWrite, SessionTurn, Leads, Lead, IsAcknowledged, IsUnacknowledged, ComesFrom, IsOfWrite}
+use Rattle.session_steps.specs.Promise.{Does, FetchedWrite, SessionTurn, Makes, Lead, IsAcknowledged, IsUnacknowledged, ComesFrom, IsOfWrite}
 use Rattle.session_steps.specs.Rule.{result_by_rule}
 use Rattle.session_steps.specs.Sessions.{SessionsState, with_store, nonce, drawn, cookie_of, read_of, session_line, fetched_text, store_read, answered_read, fetch_line}
 use Rattle.session_steps.specs.Setup.{SetupState, set_up}
 use Rattle.session_steps.specs.Store.{StoreState}
 use Rattle.session_steps.proofs.Acknowledging.{StayLaw, MadeCookie, cookie_before, IsKept, turn_keeps, turns_keep, kept_not_new}
 use Rattle.session_steps.proofs.ByRule.{read_by_rule}
-use Rattle.session_steps.proofs.LanesKept.{StoreIsSound, SoundIfAny, leads_keep, lead_keeps, set_up_sound, all_sound}
+use Rattle.session_steps.proofs.LanesKept.{StoreIsSound, SoundIfAny, one_turn_keeps, lead_keeps, set_up_sound, all_sound}
 use Rattle.session_steps.proofs.Cookies.{kept_cookie, other_cookie, same_cookie}
 use Rattle.session_steps.proofs.Lines.{WriteDone, write_done, FetchDone, fetch_done}
 use Rattle.session_steps.proofs.Promised.{set_up_kept}
@@ -55,7 +55,7 @@ write_told stay setup boot before s t key value text leads is = go (write_ends s
     d = write_done s key value t text is
 
     go : Acknowledged s key value t text ⊎ Unacknowledged s key t text → IsAcknowledged s key t text ⊎ IsUnacknowledged s key t text
-    go (inl a) = inl (acknowledged_line s key value t text (leads_keep s t (Does (lines.Write key value) text) sound is) a)
+    go (inl a) = inl (acknowledged_line s key value t text (one_turn_keeps s t (Does (lines.Write key value) text) sound is) a)
     go (inr none) = inr (record {
       same = λ other. same_cookie s t other none.cookies_are;
       unlike = λ other cookie has version. (
@@ -65,7 +65,7 @@ write_told stay setup boot before s t key value text leads is = go (write_ends s
     })
 
 -- a cookie was there before turns, or comes from them
-made_here : (s between u : SessionsState) (turn : SessionTurn) (turns : List SessionTurn) (key : ℕ) (cookie : Cookie) → SoundIfAny between.store → Leads s turn between → Lead between turns u → MadeCookie s turn between key cookie → ComesFrom s (turn ∷ turns) u key cookie
+made_here : (s between u : SessionsState) (turn : SessionTurn) (turns : List SessionTurn) (key : ℕ) (cookie : Cookie) → SoundIfAny between.store → Makes s turn between → Lead between turns u → MadeCookie s turn between key cookie → ComesFrom s (turn ∷ turns) u key cookie
 unfolding acknowledged_line
 made_here s between u turn turns key cookie sound leads rest made = record {
   value = made.value;
@@ -76,13 +76,13 @@ made_here s between u turn turns key cookie sound leads rest made = record {
   at_write = s;
   to_write = refl;
   after_write = between;
-  writes = subst (λ x. Leads s x between) made.turn_is leads;
+  writes = subst (λ x. Makes s x between) made.turn_is leads;
   acknowledged = acknowledged_line s key made.value between made.text sound made.by;
   cookie_is = made.cookie_is;
   from_write = rest;
 }
 
-made_later : (s between u : SessionsState) (turn : SessionTurn) (turns : List SessionTurn) (key : ℕ) (cookie : Cookie) → Leads s turn between → ComesFrom between turns u key cookie → ComesFrom s (turn ∷ turns) u key cookie
+made_later : (s between u : SessionsState) (turn : SessionTurn) (turns : List SessionTurn) (key : ℕ) (cookie : Cookie) → Makes s turn between → ComesFrom between turns u key cookie → ComesFrom s (turn ∷ turns) u key cookie
 made_later s between u turn turns key cookie leads from = record {
   value = from.value;
   text = from.text;
@@ -102,10 +102,10 @@ before_or_from : (turns : List SessionTurn) (s u : SessionsState) (key : ℕ) (c
 before_or_from [] s u key cookie sound is has = inl (ap (λ (x : SessionsState). cookie_of x key) (sym is) ∙ has)
 before_or_from (turn ∷ turns) s u key cookie sound lead has =
     let between : SessionsState = lead.0 in
-    elim (before_or_from turns between u key cookie (leads_keep s between turn sound lead.1) lead.2 has) [
+    elim (before_or_from turns between u key cookie (one_turn_keeps s between turn sound lead.1) lead.2 has) [
       | inl old ↦ elim (cookie_before s turn between key cookie sound lead.1 old) [
         | inl older ↦ inl older
-        | inr made ↦ inr (made_here s between u turn turns key cookie (leads_keep s between turn sound lead.1) lead.1 lead.2 made)
+        | inr made ↦ inr (made_here s between u turn turns key cookie (one_turn_keeps s between turn sound lead.1) lead.1 lead.2 made)
       ]
       | inr from ↦ inr (made_later s between u turn turns key cookie lead.1 from)
     ]
@@ -205,7 +205,7 @@ fetched_askable stay setup boot story = made_askable kept.store.world story.cook
     turn = Does (lines.Write story.key story.value) story.written
 
     sound_t : SoundIfAny story.after_write.store
-    sound_t = leads_keep story.at_write story.after_write turn (lead_keeps start story.at_write story.before (set_up_sound setup boot) story.to_write) story.writes
+    sound_t = one_turn_keeps story.at_write story.after_write turn (lead_keeps start story.at_write story.before (set_up_sound setup boot) story.to_write) story.writes
 
     kept : IsKept story.after_write story.key story.cookie
     kept =

@@ -35,7 +35,7 @@ use Rattle.session_steps.proofs.Outcomes.{IsHeardRight, outcome_right, result_ri
 use Rattle.session_steps.proofs.Replies.{holder_replies}
 use Rattle.session_steps.proofs.TurnsMade.{sound_of, GoOn, TurnGoes, turn_goes, TurnsGo, turns_go}
 use Rattle.session_steps.proofs.ByRule.{read_by_rule}
-use Rattle.session_steps.proofs.LanesKept.{StoreIsSound, SoundIfAny, set_up_sound, leads_keep, lead_keeps, all_sound}
+use Rattle.session_steps.proofs.LanesKept.{StoreIsSound, SoundIfAny, set_up_sound, one_turn_keeps, lead_keeps, all_sound}
 use Rattle.session_steps.proofs.Ending.{made_is_sound}
 use Rattle.session_steps.proofs.Went.{Goes, made_grows}
 use Rattle.session_steps.proofs.Written.{Acknowledged, Unacknowledged, write_ends}
@@ -200,7 +200,7 @@ bricks_of_story stay setup boot story = record {
     sound_s = lead_keeps start s story.before (set_up_sound setup boot) story.to_write
 
     sound_t : SoundIfAny t.store
-    sound_t = leads_keep s t turn sound_s story.writes
+    sound_t = one_turn_keeps s t turn sound_s story.writes
 
     to_t : TurnGoes s turn t
     to_t = turn_goes s turn t sound_s story.writes

@@ -10,7 +10,7 @@ use Rattle.ssm_stub.specs.declared.cause.BrickCause.{BrickCause}
 use Rattle.ssm_stub.specs.declared.cause.Cause.{Cause}
 use Rattle.ssm_stub.specs.declared.cause.Cause.TheVariants as cause
 use Rattle.session_steps.specs.Lanes.{LaneState}
-use Rattle.session_steps.specs.Promise.{crashes, FetchMade, WasHeard, WasSweptLate, IsCause, AreCauses, CanServe, FindsValue, IsLost, IsRight, IsDown, NoneSweptLate}
+use Rattle.session_steps.specs.Promise.{crashes, FetchMade, WasHeard, WasSweptLate, IsCause, AreCauses, CanServe, FindsValue, IsLost, IsRight, HasCrashedOrWasUnheard, NoneSweptLate}
 use Rattle.session_steps.specs.Texts.{key_text, found_text, expired_text, cause_text, lost_text}
 
 -- a brick that can serve has no cause
@@ -118,14 +118,14 @@ says_lost fetch text causes (inr (inl expired)) is = absurd (expired_not_lost fe
 says_lost fetch text causes (inr (inr lost)) is = lost
 
 -- within the lease what is lost has crashed at each brick, or was silent to the fetch, or strayed
-caused_down : (fetch : FetchMade) (holder : Holder) (c : Cause) → (WasSweptLate fetch holder → ⊥) → IsCause fetch holder c → IsDown fetch holder
-caused_down fetch holder cause.Silent kept by = inr (inl by)
-caused_down fetch holder cause.Strayed kept by = inr (inr by)
-caused_down fetch holder (cause.Full entries bytes) kept by = absurd by
-caused_down fetch holder (cause.Crashed incarnation) kept by = inl by.1
-caused_down fetch holder (cause.Swept moment) kept by = absurd (kept by.2)
+cause_crashed_or_unheard : (fetch : FetchMade) (holder : Holder) (c : Cause) → (WasSweptLate fetch holder → ⊥) → IsCause fetch holder c → HasCrashedOrWasUnheard fetch holder
+cause_crashed_or_unheard fetch holder cause.Silent kept by = inr (inl by)
+cause_crashed_or_unheard fetch holder cause.Strayed kept by = inr (inr by)
+cause_crashed_or_unheard fetch holder (cause.Full entries bytes) kept by = absurd by
+cause_crashed_or_unheard fetch holder (cause.Crashed incarnation) kept by = inl by.1
+cause_crashed_or_unheard fetch holder (cause.Swept moment) kept by = absurd (kept by.2)
 
-pub lost_down : (fetch : FetchMade) (text : List ℕ) (place : ℕ) (holder : Holder) → IsLost fetch text → NoneSweptLate fetch → slice_get fetch.cookie.bricks place ≡ Some holder → IsDown fetch holder
-lost_down fetch text place holder lost within there =
+pub lost_crashed_or_unheard : (fetch : FetchMade) (text : List ℕ) (place : ℕ) (holder : Holder) → IsLost fetch text → NoneSweptLate fetch → slice_get fetch.cookie.bricks place ≡ Some holder → HasCrashedOrWasUnheard fetch holder
+lost_crashed_or_unheard fetch text place holder lost within there =
     let by : (c : Cause) × IsCause fetch holder c = cause_at fetch fetch.cookie.bricks lost.causes place holder lost.each there in
-    caused_down fetch holder by.0 (within place holder there) by.1
+    cause_crashed_or_unheard fetch holder by.0 (within place holder there) by.1

@@ -22,12 +22,12 @@ use Rattle.session_steps.specs.Present.{presented_text}
 use Rattle.session_steps.specs.Texts.{cookie_text, values_text, windows_text}
 use Rattle.session_steps.specs.declared.sessions.TheConstants.{MAX_MOMENT}
 use Rattle.brick_store.specs.History.{all_held, incarnation_after}
-use Rattle.session_steps.specs.Promise.{SessionTurn, Does, Boots, Leads, Lead, moment_after}
+use Rattle.session_steps.specs.Promise.{SessionTurn, Does, Boots, Makes, Lead, moment_after}
 use Rattle.session_steps.specs.Sessions.{SessionsState, with_store, drawn, nonce, brick_no, heard_passes, spent_by, write_line, fetch_line, store_read, lose_line, mute_line, repeat_line, crash_line, sweep_line, values_line, windows_line, hold_line, free_line, cookie_line, now_line, holds, with_lane_of, cookie_of, text_of_cookie, freed_pass}
 use Rattle.session_steps.specs.Store.{StoreState, after_event, with_lane}
 use Rattle.session_steps.proofs.Bricks.{SweepsBrick, goes_crash, goes_sweep}
 use Rattle.session_steps.proofs.Calls.{CallGone, new_write, write_begins, write_may, read_gone}
-use Rattle.session_steps.proofs.LanesKept.{StoreIsSound, SoundIfAny, leads_keep}
+use Rattle.session_steps.proofs.LanesKept.{StoreIsSound, SoundIfAny, one_turn_keeps}
 use Rattle.ssm_stub.specs.Reads.{read_start}
 use Rattle.ssm_world.specs.declared.call.Call.{Call}
 use Rattle.ssm_world.specs.declared.call.Call.TheVariants as call
@@ -346,7 +346,7 @@ free_goes s brick how t text is =
     shifts s t (lines.Free brick how) text d.store (later d.store d.lane) (λ law keep. freed_keeps law d.store.windows brick how keep) (record { crash = λ b. refl; sweep = λ b. refl }) refl d.store_is (done_state (with_store s (later d.store d.lane)) t [] text e.1).0 refl
 
 -- each turn
-pub turn_goes : (s : SessionsState) (turn : SessionTurn) (t : SessionsState) → SoundIfAny s.store → Leads s turn t → TurnGoes s turn t
+pub turn_goes : (s : SessionsState) (turn : SessionTurn) (t : SessionsState) → SoundIfAny s.store → Makes s turn t → TurnGoes s turn t
 turn_goes s (Does (lines.Now moment) text) t sound is = now_goes s moment t text is
 turn_goes s (Does (lines.Write key value) text) t sound is = write_goes s key value t text sound is
 turn_goes s (Does (lines.Fetch key) text) t sound is = fetch_goes s key t text sound is
@@ -391,6 +391,6 @@ turns_go [] s t sound is = record {
 turns_go (turn ∷ turns) s t sound lead =
     let between : SessionsState = lead.0 in
     let first : TurnGoes s turn between = turn_goes s turn between sound lead.1 in
-    let rest : TurnsGo between turns t = turns_go turns between t (leads_keep s between turn sound lead.1) lead.2 in
+    let rest : TurnsGo between turns t = turns_go turns between t (one_turn_keeps s between turn sound lead.1) lead.2 in
     let later : GoOn (moment_after s.moment turn) turns between.store t.store = subst (λ m. GoOn m turns between.store t.store) first.moment_is rest.store in
     record { store = go_on_more s.moment turn turns s.store between.store t.store first.store later; windows = λ law keep. rest.windows law (first.windows law keep) }

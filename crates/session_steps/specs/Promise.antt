@@ -26,15 +26,15 @@ pub data SessionTurn : Type 0 where
   Does : (line : SessionLine) (text : List ℕ) → SessionTurn
   Boots : (number : ℕ) → SessionTurn
 
--- a turn leads from sessions to others
-abbrev pub Leads : SessionsState → SessionTurn → SessionsState → Type 0
-Leads s (Does line text) t = session_line s line ≡ Done t text
-Leads s (Boots number) t = t ≡ reopened s number
+-- a turn makes these sessions of others
+abbrev pub Makes : SessionsState → SessionTurn → SessionsState → Type 0
+Makes s (Does line text) t = session_line s line ≡ Done t text
+Makes s (Boots number) t = t ≡ reopened s number
 
 -- Turns lead from sessions to others, one after the other: each line was done, and wrote its text.
 abbrev pub Lead : SessionsState → List SessionTurn → SessionsState → Type 0
 Lead s [] t = t ≡ s
-Lead s (turn ∷ turns) t = (between : SessionsState) × Leads s turn between × Lead between turns t
+Lead s (turn ∷ turns) t = (between : SessionsState) × Makes s turn between × Lead between turns t
 
 -- whether a turn is a crash of the brick of a number
 abbrev pub is_crash_of : ℕ → SessionTurn → Bool
@@ -294,9 +294,9 @@ fetch_of story =
       now = story.at_fetch.moment;
     }
 
--- a brick of the cookie has crashed since the value was written, or was silent to the fetch, or strayed to it
-abbrev pub IsDown : FetchMade → Holder → Type 0
-IsDown fetch holder = HasCrashed fetch holder ⊎ (WasSilent fetch holder ⊎ WasStrayed fetch holder)
+-- a brick of the cookie has crashed since the value was written, or was not heard by the fetch: it was silent or strayed to it
+abbrev pub HasCrashedOrWasUnheard : FetchMade → Holder → Type 0
+HasCrashedOrWasUnheard fetch holder = HasCrashed fetch holder ⊎ (WasSilent fetch holder ⊎ WasStrayed fetch holder)
 
 -- no brick of the cookie was swept past the lease and the grace since the value was written
 abbrev pub NoneSweptLate : FetchMade → Type 0

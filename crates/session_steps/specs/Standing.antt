@@ -4,7 +4,7 @@ use Rattle.scenario_text.specs.declared.session_line.SessionLine.TheVariants as 
 use Rattle.session_cookie.specs.declared.cookie.Holder.{Holder}
 use Rattle.ssm_stub.specs.declared.cause.BrickCause.{BrickCause}
 use Rattle.ssm_world.specs.Worlds.{IsMade}
-use Rattle.session_steps.specs.Promise.{SessionTurn, Does, Lead, CanServe, FindsValue, IsLost, IsRight, FetchedWrite, IsOfWrite, fetch_of, IsDown, NoneSweptLate}
+use Rattle.session_steps.specs.Promise.{SessionTurn, Does, Lead, CanServe, FindsValue, IsLost, IsRight, FetchedWrite, IsOfWrite, fetch_of, HasCrashedOrWasUnheard, NoneSweptLate}
 use Rattle.session_steps.specs.Sessions.{SessionsState, expiry}
 use Rattle.session_steps.specs.Setup.{SetupState, set_up}
 use Rattle.session_steps.specs.Store.{StoreState}
@@ -23,7 +23,7 @@ pub record FetchStands {setup : SetupState} (story : FetchedWrite setup 0) : Typ
   pub only : (value : List ℕ) → story.text ≡ found_text story.key value → FindsValue (fetch_of story) story.text
   pub expired : story.cookie.expiry.0 < story.at_fetch.moment.0 → story.text ≡ expired_text story.key story.at_fetch.moment story.cookie.expiry
   pub lost : (causes : List BrickCause) → story.text ≡ lost_text story.key causes → IsLost (fetch_of story) story.text
-  pub down : (causes : List BrickCause) (place : ℕ) (holder : Holder) → story.text ≡ lost_text story.key causes → NoneSweptLate (fetch_of story) → slice_get story.cookie.bricks place ≡ Some holder → IsDown (fetch_of story) holder
+  pub crashed_or_unheard : (causes : List BrickCause) (place : ℕ) (holder : Holder) → story.text ≡ lost_text story.key causes → NoneSweptLate (fetch_of story) → slice_get story.cookie.bricks place ≡ Some holder → HasCrashedOrWasUnheard (fetch_of story) holder
 
 -- A fetch of a key after turns, which wrote a text, is of a write among these turns, and what it answered stands.
 pub record IsAnswered (setup : SetupState) (turns : List SessionTurn) (key : ℕ) (text : List ℕ) : Type 0 where

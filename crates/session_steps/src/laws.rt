@@ -8,7 +8,7 @@ ghost use Rattle.session_cookie.specs.declared.cookie.Cookie.{Cookie};
 ghost use Rattle.session_cookie.specs.declared.cookie.Holder.{Holder};
 ghost use Rattle.ssm_stub.specs.declared.cause.BrickCause.{BrickCause};
 ghost use Rattle.ssm_world.specs.Worlds.{is_new, may_be_asked, bricks_of, IsMade};
-ghost use Rattle.session_steps.specs.Promise.{SessionTurn, Lead, CanServe, FindsValue, IsLost, IsRight, IsAcknowledged, IsUnacknowledged, ComesFrom, BootsRise, FetchedWrite, IsOfWrite, fetch_of, IsDown, NoneSweptLate};
+ghost use Rattle.session_steps.specs.Promise.{SessionTurn, Lead, CanServe, FindsValue, IsLost, IsRight, IsAcknowledged, IsUnacknowledged, ComesFrom, BootsRise, FetchedWrite, IsOfWrite, fetch_of, HasCrashedOrWasUnheard, NoneSweptLate};
 ghost use Rattle.session_steps.specs.Rule.{result_by_rule};
 ghost use Rattle.session_steps.specs.Sessions.{SessionsState, nonce, cookie_of, expiry, fetched_text, session_line};
 ghost use Rattle.session_steps.specs.Setup.{SetupState, HasCounts, no_setup, bricks_step, key_step, set_up};
@@ -128,10 +128,10 @@ pub fn fetches_read_back()
 pub fn fetches_lose_only_where_all_have()
     ensures lost { (setup : SetupState) (boot : ℕ) (story : FetchedWrite setup boot) (causes : List BrickCause)
         → story.text ≡ lost_text story.key causes → IsLost (fetch_of story) story.text }
-    ensures down { (setup : SetupState) (boot : ℕ) (story : FetchedWrite setup boot) (causes : List BrickCause)
+    ensures crashed_or_unheard { (setup : SetupState) (boot : ℕ) (story : FetchedWrite setup boot) (causes : List BrickCause)
         (place : ℕ) (holder : Holder)
         → story.text ≡ lost_text story.key causes → NoneSweptLate (fetch_of story)
-        → slice_get story.cookie.bricks place ≡ Some holder → IsDown (fetch_of story) holder }
+        → slice_get story.cookie.bricks place ≡ Some holder → HasCrashedOrWasUnheard (fetch_of story) holder }
 {
     acknowledged_cookies_stay_acknowledged();
 }

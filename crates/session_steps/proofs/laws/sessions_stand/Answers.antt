@@ -16,7 +16,7 @@ stands c setup story = record {
   only = c.fetches_read_back.ensures.only setup 0 story;
   expired = c.fetches_read_back.ensures.expired setup 0 story;
   lost = c.fetches_lose_only_where_all_have.ensures.lost setup 0 story;
-  down = c.fetches_lose_only_where_all_have.ensures.down setup 0 story;
+  crashed_or_unheard = c.fetches_lose_only_where_all_have.ensures.crashed_or_unheard setup 0 story;
 }
 
 pub returns : goal.returns
