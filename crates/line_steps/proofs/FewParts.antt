@@ -15,7 +15,7 @@ use Rattle.session_steps.specs.Setup.{SetupState, bricks_step, key_step}
 use Rattle.scenario_text.specs.Answer.{Answer, Refused, Done, refused_if, within}
 use Rattle.line_steps.specs.Head.{head_line, plain, with_parts, with_setup, with_component, component_step, reference_step, owns_step, limit_step}
 use Rattle.line_steps.specs.Tables.{table_of}
-use Rattle.line_steps.proofs.Leaving.{Leaves, leaves-refused_if, leaves-or_refused, leaves-within}
+use Rattle.scenario_text.proofs.Leaving.{Leaves, leaves-refused_if, leaves-or_refused, leaves-within}
 
 -- there are no more components than groups
 abbrev pub AreFew : Parts → Type 0

@@ -1,7 +1,6 @@
 pub mod FewParts
 pub mod Fitting
 pub mod Heading
-pub mod Leaving
 pub mod Listing
 pub mod Numbering
 pub mod Stepping

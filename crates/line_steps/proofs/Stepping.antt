@@ -36,7 +36,7 @@ use Rattle.line_steps.specs.Tables.{table_of}
 use Rattle.line_steps.specs.Texts.{row_answer_text, list_answer_text}
 use Rattle.line_steps.proofs.FewParts.{AreFew}
 use Rattle.line_steps.proofs.Fitting.{fit_padded, fit_put, fit_set, fit_at}
-use Rattle.line_steps.proofs.Leaving.{Leaves, leaves-refused_if, leaves-or_refused, leaves-within, leaves-weaker}
+use Rattle.scenario_text.proofs.Leaving.{Leaves, leaves-refused_if, leaves-or_refused, leaves-within, leaves-weaker}
 use Rattle.line_steps.proofs.Numbering.{table_of-positive}
 
 -- where there are no more components than groups, the group of a component of a name is one of them

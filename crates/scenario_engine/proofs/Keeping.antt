@@ -15,7 +15,7 @@ use Rattle.scenario_text.proofs.Spelled.{line_in_range}
 use Rattle.line_steps.specs.declared.head.Head.{Head}
 use Rattle.scenario_text.specs.Answer.{Answer, Refused, Done}
 use Rattle.line_steps.specs.Head.{head_line}
-use Rattle.line_steps.proofs.Leaving.{Leaves}
+use Rattle.scenario_text.proofs.Leaving.{Leaves}
 use Rattle.scenario_engine.specs.declared.kind.LineKind.{LineKind}
 use Rattle.scenario_engine.specs.declared.kind.LineKind.TheVariants as kinds
 use Rattle.scenario_engine.specs.Engine.{Replies, Target, TheHead, TheBoot, NoBoot, opened_target, target_of, kind_of, in_head, in_boot, next_opening, reopens, line_over, line_on, step, ended_by, ends_over, ends_on, ended_boots}

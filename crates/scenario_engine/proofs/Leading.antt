@@ -14,7 +14,7 @@ use Rattle.line_steps.specs.declared.callers.Caller.TheVariants.{Absent, Live}
 use Rattle.line_steps.specs.declared.head.Head.{Head}
 use Rattle.line_steps.specs.Callers.{caller_at, begin_step, call_step}
 use Rattle.line_steps.specs.Head.{head_line, with_parts, with_setup, limit_step}
-use Rattle.line_steps.proofs.Leaving.{Leaves, leaves-refused_if, leaves-or_refused}
+use Rattle.scenario_text.proofs.Leaving.{Leaves, leaves-refused_if, leaves-or_refused}
 use Rattle.scenario_text.specs.Answer.{Answer, Refused, Done, within}
 use Rattle.scenario_text.specs.Line.{is_event}
 use Rattle.scenario_text.specs.Reading.{line_of}

@@ -44,7 +44,7 @@ use Rattle.session_steps.specs.Setup.{set_up}
 use Rattle.line_steps.specs.Callers.{caller_at, begin_step, call_step, ended, AllFit, FitsCaller}
 use Rattle.line_steps.proofs.FewParts.{AreFew, few_head}
 use Rattle.line_steps.proofs.Fitting.{fit_set, fit_at, fit_after}
-use Rattle.line_steps.proofs.Leaving.{Leaves, leaves-or_refused, leaves-within, leaves-weaker}
+use Rattle.scenario_text.proofs.Leaving.{Leaves, leaves-or_refused, leaves-within, leaves-weaker}
 use Rattle.line_steps.proofs.Stepping.{IsShortCall, fits_begin_step, fits_call_step, group_known}
 use Rattle.line_steps.specs.Head.{no_head}
 use Rattle.scenario_engine.proofs.Keeping.{IsShortLine, Keeps, kept_boots, kept_at_end}

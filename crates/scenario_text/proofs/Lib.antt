@@ -1,6 +1,7 @@
 pub mod Cuts
 pub mod EndedLines
 pub mod Forms
+pub mod Leaving
 pub mod OneWord
 pub mod Splits
 pub mod Hexadecimal

@@ -14,7 +14,8 @@ use Rattle.brick_store.specs.declared.event.BrickEvent.TheVariants as happened
 use Rattle.brick_store.specs.Bricks.{reply}
 use Rattle.brick_store.specs.History.{incarnation_after}
 use Rattle.brick_store.specs.Standing.{heard}
-use Rattle.scenario_text.specs.Answer.{Answer, Refused, Done, refused_if, or_refused, within}
+use Rattle.scenario_text.specs.Answer.{Answer, Done, within}
+use Rattle.scenario_text.proofs.Leaving.{Leaves, leaves-refused_if, leaves-or_refused}
 use Rattle.scenario_text.specs.declared.session_line.Freed.{Freed}
 use Rattle.scenario_text.specs.declared.session_line.SessionLine.{SessionLine}
 use Rattle.scenario_text.specs.declared.session_line.SessionLine.TheVariants as lines
@@ -171,16 +172,7 @@ new_is_sound bricks most least =
 
 -- What a line leaves is sound, where it is not refused.
 abbrev LeavesSound : Answer SessionsState → Type 0
-LeavesSound Refused = Unit {0}
-LeavesSound (Done s text) = AreSound s
-
-unless : (b : Bool) (a : Answer SessionsState) → LeavesSound a → LeavesSound (refused_if b a)
-unless true a sound = tt
-unless false a sound = sound
-
-with_item : {A : Type 0} (o : Option A) (f : A → Answer SessionsState) → ((x : A) → o ≡ Some x → LeavesSound (f x)) → LeavesSound (or_refused o f)
-with_item None f sound = tt
-with_item (Some x) f sound = sound x refl
+LeavesSound answer = Leaves AreSound answer
 
 -- the store of sound sessions
 store_sound : (s : SessionsState) (st : StoreState) → AreSound s → s.store ≡ Some st → StoreIsSound st
@@ -189,11 +181,11 @@ store_sound s st sound is = (let P : Option StoreState → Type 0 = λ o. SoundI
 -- a line about a brick's lane
 at_lane : (s : SessionsState) (brick : ℕ) (line : StoreState → LaneState → Answer SessionsState) → AreSound s → ((st : StoreState) (lane : LaneState) → StoreIsSound st → lane_at st.lanes brick ≡ Some lane → LeavesSound (line st lane)) → LeavesSound (on_lane s brick line)
 at_lane s brick line sound leaves =
-    with_item s.store _ (λ st is. with_item (lane_at st.lanes brick) (λ lane. line st lane) (λ lane at. leaves st lane (store_sound s st sound is) at))
+    leaves-or_refused AreSound s.store _ (λ st is. leaves-or_refused AreSound (lane_at st.lanes brick) (λ lane. line st lane) (λ lane at. leaves st lane (store_sound s st sound is) at))
 
 now_keeps : (s : SessionsState) (moment : ℕ) → AreSound s → LeavesSound (now_line s moment)
 unfolding now_line
-now_keeps s moment sound = unless (nat_lt moment s.moment.0) _ (unless (nat_lt MAX_MOMENT moment) _ sound)
+now_keeps s moment sound = leaves-refused_if AreSound (nat_lt moment s.moment.0) _ (λ later. leaves-refused_if AreSound (nat_lt MAX_MOMENT moment) _ (λ in_time. sound))
 
 written_keeps : (s : SessionsState) (key : ℕ) (answer : Result Cookie WriteRefusal) → AreSound s → LeavesSound (written_as s key answer)
 written_keeps s key (Ok cookie) sound = sound
@@ -202,8 +194,8 @@ written_keeps s key (Err missing.OutOfMemory) sound = tt
 
 answered_keeps : (s : SessionsState) (key : ℕ) (passes : List Pass) (number : ℕ) (st : StoreState) → StoreIsSound st → LeavesSound (answered_write s key passes number st)
 answered_keeps s key passes number st sound =
-    with_item (write_of (slice_get st.world.calls number)) _ (λ write is.
-    with_item (write_answer write) _ (λ answer answers.
+    leaves-or_refused AreSound (write_of (slice_get st.world.calls number)) _ (λ write is.
+    leaves-or_refused AreSound (write_answer write) _ (λ answer answers.
     written_keeps (with_store s (spent_by write passes st)) key answer (windows_keep st _ sound)))
 
 store_written_sound : (s : SessionsState) (key : ℕ) (value : List ℕ) (passes : List Pass) (st : StoreState) → StoreIsSound st → StoreIsSound (store_written s key value passes st)
@@ -215,8 +207,8 @@ store_written_sound s key value passes st sound =
 write_keeps : (s : SessionsState) (key : ℕ) (value : List ℕ) → AreSound s → LeavesSound (write_line s key value)
 unfolding write_line
 write_keeps s key value sound =
-    with_item s.store _ (λ st is.
-    unless (not (is_new st.world (nonce s))) _ (go st (store_sound s st sound is) (nat_lt (open_count st.windows.facts) st.windows.wq))) where
+    leaves-or_refused AreSound s.store _ (λ st is.
+    leaves-refused_if AreSound (not (is_new st.world (nonce s))) _ (λ new. go st (store_sound s st sound is) (nat_lt (open_count st.windows.facts) st.windows.wq))) where
       go : (st : StoreState) → StoreIsSound st → (b : Bool) → LeavesSound (if b then Done (with_store (drawn s) (record st { windows = refused st.windows })) (overload_text key (full_facts st.windows.facts))
           else answered_write (drawn s) key (chosen st.windows s.serial) (length st.world.calls) (store_written s key value (chosen st.windows s.serial) st))
       go st sound true = windows_keep st (refused st.windows) sound
@@ -227,16 +219,16 @@ write_keeps s key value sound =
 fetch_keeps : (s : SessionsState) (key : ℕ) → AreSound s → LeavesSound (fetch_line s key)
 unfolding fetch_line
 fetch_keeps s key sound =
-    with_item (cookie_of s key) _ (λ cookie has.
-    with_item s.store _ (λ st is.
-    unless (not (may_read st.world (nonce s) cookie.bricks)) _
-    (with_item (read_of (slice_get (store_read s cookie st).world.calls (length st.world.calls))) _ (λ read at.
-    with_item (read_answer read) _ (λ answer answers.
+    leaves-or_refused AreSound (cookie_of s key) _ (λ cookie has.
+    leaves-or_refused AreSound s.store _ (λ st is.
+    leaves-refused_if AreSound (not (may_read st.world (nonce s) cookie.bricks)) _ (λ may.
+    leaves-or_refused AreSound (read_of (slice_get (store_read s cookie st).world.calls (length st.world.calls))) _ (λ read at.
+    leaves-or_refused AreSound (read_answer read) _ (λ answer answers.
     gone_keeps _ (length st.world.calls) (event_keeps st (Read (nonce s) s.moment cookie) (store_sound s st sound is)))))))
 
 cookie_keeps : (s : SessionsState) (key : ℕ) → AreSound s → LeavesSound (cookie_line s key)
 unfolding cookie_line
-cookie_keeps s key sound = with_item (cookie_of s key) _ (λ cookie has. sound)
+cookie_keeps s key sound = leaves-or_refused AreSound (cookie_of s key) _ (λ cookie has. sound)
 
 lose_keeps : (s : SessionsState) (brick more : ℕ) → AreSound s → LeavesSound (lose_line s brick more)
 unfolding lose_line
@@ -255,26 +247,26 @@ made_named w brick (suc place) packet lane all is =
 repeat_keeps : (s : SessionsState) (brick number : ℕ) → AreSound s → LeavesSound (repeat_line s brick number)
 unfolding repeat_line
 repeat_keeps s brick number sound = at_lane s brick _ sound (λ st lane its at.
-    with_item (reply_made lane number) _ (λ packet is.
+    leaves-or_refused AreSound (reply_made lane number) _ (λ packet is.
     lane_keeps st brick (waiting packet lane) its
     (All-push (IsReplyOf st.world brick) lane.queue packet (its.lanes.queue brick lane at) (made_named st.world brick number packet lane (its.lanes.made brick lane at) is))
     (its.lanes.made brick lane at)))
 
 crash_keeps : (s : SessionsState) (brick : ℕ) → AreSound s → LeavesSound (crash_line s brick)
 unfolding crash_line
-crash_keeps s brick sound = at_lane s brick _ sound (λ st lane its at. unless (not (may_happen st.world (Crash (brick_no brick)))) _ (event_keeps st (Crash (brick_no brick)) its))
+crash_keeps s brick sound = at_lane s brick _ sound (λ st lane its at. leaves-refused_if AreSound (not (may_happen st.world (Crash (brick_no brick)))) _ (λ may. event_keeps st (Crash (brick_no brick)) its))
 
 sweep_keeps : (s : SessionsState) (brick moment : ℕ) → AreSound s → LeavesSound (sweep_line s brick moment)
 unfolding sweep_line
-sweep_keeps s brick moment sound = at_lane s brick _ sound (λ st lane its at. unless (nat_lt MAX_MOMENT moment) _ (event_keeps st (Sweep (brick_no brick) (record { 0 = moment })) its))
+sweep_keeps s brick moment sound = at_lane s brick _ sound (λ st lane its at. leaves-refused_if AreSound (nat_lt MAX_MOMENT moment) _ (λ in_time. event_keeps st (Sweep (brick_no brick) (record { 0 = moment })) its))
 
 values_keep : (s : SessionsState) (brick : ℕ) → AreSound s → LeavesSound (values_line s brick)
 unfolding values_line
-values_keep s brick sound = at_lane s brick _ sound (λ st lane its at. with_item (history st.world (brick_no brick)) _ (λ h is. sound))
+values_keep s brick sound = at_lane s brick _ sound (λ st lane its at. leaves-or_refused AreSound (history st.world (brick_no brick)) _ (λ h is. sound))
 
 window_texts_keep : (s : SessionsState) → AreSound s → LeavesSound (windows_line s)
 unfolding windows_line
-window_texts_keep s sound = with_item s.store _ (λ st is. sound)
+window_texts_keep s sound = leaves-or_refused AreSound s.store _ (λ st is. sound)
 
 hold_keeps : (s : SessionsState) (brick : ℕ) → AreSound s → LeavesSound (hold_line s brick)
 unfolding hold_line
@@ -289,8 +281,8 @@ free_keeps : (s : SessionsState) (brick : ℕ) (how : Freed) → AreSound s → 
 unfolding free_line
 free_keeps s brick how sound = at_lane s brick _ sound (λ st lane its at.
     let windows : WindowsValue = after_pass st.windows (freed_pass brick how) in
-    unless (not (nat_lt 0 lane.held)) _
-    (lane_keeps (record st { windows = windows }) brick (record lane { held = lane.held - 1 }) (windows_keep st windows its) (its.lanes.queue brick lane at) (its.lanes.made brick lane at)))
+    leaves-refused_if AreSound (not (nat_lt 0 lane.held)) _ (λ some.
+    lane_keeps (record st { windows = windows }) brick (record lane { held = lane.held - 1 }) (windows_keep st windows its) (its.lanes.queue brick lane at) (its.lanes.made brick lane at)))
 
 -- each line keeps what holds of sessions
 line_keeps : (s : SessionsState) (line : SessionLine) → AreSound s → LeavesSound (session_line s line)

@@ -3,9 +3,10 @@ use Rattle.std.proofs.Common.{◌≡◌, ◌≤◌, not, Bool, true, false, if�
 use Rattle.std.specs.Prelude.{slice_get}
 use Rattle.std.proofs.lemmas.Bool.Decides.{nat_tests}
 use Rattle.std.proofs.lemmas.List.Elements.{All-nil}
-use Rattle.scenario_text.specs.Answer.{Answer, Refused, Done, refused_if, or_refused, within, KeepsRefused, answer_of}
+use Rattle.scenario_text.specs.Answer.{Answer, Done, within, KeepsRefused, answer_of}
 use Rattle.scenario_text.specs.declared.answer.LineAnswer.{LineAnswer}
 use Rattle.scenario_text.specs.declared.answer.LineAnswer.TheVariants as answers
+use Rattle.scenario_text.proofs.Leaving.{Leaves, leaves-refused_if, leaves-or_refused}
 use Rattle.scenario_text.specs.declared.session_line.Freed.{Freed}
 use Rattle.scenario_text.specs.declared.session_line.SessionLine.{SessionLine}
 use Rattle.scenario_text.specs.declared.session_line.SessionLine.TheVariants as lines
@@ -39,50 +40,39 @@ record AreTimely (s : SessionsState) : Type 0 where
   in_time : s.moment.0 ≤ MAX_MOMENT
   cookies : All HasHolders s.cookies
 
-Leaves : Answer SessionsState → Type 0
-Leaves Refused = Unit {0}
-Leaves (Done s text) = AreTimely s
-
-unless : (b : Bool) (a : Answer SessionsState) → (b ≡ false → Leaves a) → Leaves (refused_if b a)
-unfolding Leaves
-unless true a keeps = tt
-unless false a keeps = keeps refl
-
-with_item : {A : Type 0} (o : Option A) (f : A → Answer SessionsState) → ((x : A) → o ≡ Some x → Leaves (f x)) → Leaves (or_refused o f)
-unfolding Leaves
-with_item None f keeps = tt
-with_item (Some x) f keeps = keeps x refl
+abbrev LeavesTimely : Answer SessionsState → Type 0
+LeavesTimely answer = Leaves AreTimely answer
 
 -- another store changes nothing of that
 other : (s : SessionsState) (st : StoreState) → AreTimely s → AreTimely (with_store s st)
 other s st are = record { in_time = are.in_time; cookies = are.cookies }
 
-at_lane : (s : SessionsState) (brick : ℕ) (line : StoreState → LaneState → Answer SessionsState) → ((st : StoreState) (lane : LaneState) → Leaves (line st lane)) → Leaves (on_lane s brick line)
-at_lane s brick line leaves = with_item s.store _ (λ st is. with_item (lane_at st.lanes brick) (λ lane. line st lane) (λ lane at. leaves st lane))
+at_lane : (s : SessionsState) (brick : ℕ) (line : StoreState → LaneState → Answer SessionsState) → ((st : StoreState) (lane : LaneState) → LeavesTimely (line st lane)) → LeavesTimely (on_lane s brick line)
+at_lane s brick line leaves = leaves-or_refused AreTimely s.store _ (λ st is. leaves-or_refused AreTimely (lane_at st.lanes brick) (λ lane. line st lane) (λ lane at. leaves st lane))
 
 not_past : (a b : ℕ) → nat_lt b a ≡ false → a ≤ b
 not_past a b is = grind (arith, nat_tests)
 
-now_leaves : (s : SessionsState) (moment : ℕ) → AreTimely s → Leaves (now_line s moment)
-unfolding Leaves now_line
-now_leaves s moment are = unless (nat_lt moment s.moment.0) _ (λ later. unless (nat_lt MAX_MOMENT moment) _ (λ in_time. record { in_time = not_past moment MAX_MOMENT in_time; cookies = are.cookies }))
+now_leaves : (s : SessionsState) (moment : ℕ) → AreTimely s → LeavesTimely (now_line s moment)
+unfolding now_line
+now_leaves s moment are = leaves-refused_if AreTimely (nat_lt moment s.moment.0) _ (λ later. leaves-refused_if AreTimely (nat_lt MAX_MOMENT moment) _ (λ in_time. record { in_time = not_past moment MAX_MOMENT in_time; cookies = are.cookies }))
 
 is_write : (o : Option Call) (write : WriteState) → write_of o ≡ Some write → o ≡ Some (call.Write write)
 is_write None write is = absurd (cc)
 is_write (Some (call.Write w)) write is = (let same : w ≡ write = cc in ap (λ (x : WriteState). Some (call.Write x)) same)
 is_write (Some (call.Read r)) write is = absurd (cc)
 
-write_leaves : (s : SessionsState) (key : ℕ) (value : List ℕ) → AreTimely s → AreSound s → Leaves (write_line s key value)
-unfolding Leaves write_line
+write_leaves : (s : SessionsState) (key : ℕ) (value : List ℕ) → AreTimely s → AreSound s → LeavesTimely (write_line s key value)
+unfolding write_line
 write_leaves s key value are sound =
-    with_item s.store _ (λ st is.
-    unless (not (is_new st.world (nonce s))) _ (λ new. go st (subst (λ o. SoundIfAny o) is sound) (nat_lt (open_count st.windows.facts) st.windows.wq))) where
-      as_said : (st : StoreState) (write : WriteState) → (answer : Result Cookie WriteRefusal) → ((cookie : Cookie) → answer ≡ Ok cookie → AreHolders cookie.bricks) → Leaves (written_as (with_store (drawn s) st) key answer)
+    leaves-or_refused AreTimely s.store _ (λ st is.
+    leaves-refused_if AreTimely (not (is_new st.world (nonce s))) _ (λ new. go st (subst (λ o. SoundIfAny o) is sound) (nat_lt (open_count st.windows.facts) st.windows.wq))) where
+      as_said : (st : StoreState) (write : WriteState) → (answer : Result Cookie WriteRefusal) → ((cookie : Cookie) → answer ≡ Ok cookie → AreHolders cookie.bricks) → LeavesTimely (written_as (with_store (drawn s) st) key answer)
       as_said st write (Ok cookie) names = record { in_time = are.in_time; cookies = holders_kept s.cookies key cookie are.cookies (names cookie refl) }
       as_said st write (Err (missing.Missed causes)) names = record { in_time = are.in_time; cookies = are.cookies }
       as_said st write (Err missing.OutOfMemory) names = tt
 
-      go : (st : StoreState) → StoreIsSound st → (b : Bool) → Leaves (if b then Done (with_store (drawn s) (record st { windows = refused st.windows })) (overload_text key (full_facts st.windows.facts))
+      go : (st : StoreState) → StoreIsSound st → (b : Bool) → LeavesTimely (if b then Done (with_store (drawn s) (record st { windows = refused st.windows })) (overload_text key (full_facts st.windows.facts))
           else answered_write (drawn s) key (chosen st.windows s.serial) (length st.world.calls) (store_written s key value (chosen st.windows s.serial) st))
       go st its true = record { in_time = are.in_time; cookies = are.cookies }
       go st its false =
@@ -91,65 +81,64 @@ write_leaves s key value are sound =
           let n : ℕ = length st.world.calls in
           let gone : StoreState = store_written s key value passes st in
           let ended : StoreIsSound gone = gone_keeps _ n (event_keeps before (Write (nonce s) (session_key key) value (expiry s) (map (λ (pass : Pass). pass.brick) passes) st.windows.wq) (windows_keep st (taken st.windows passes) its)) in
-          with_item (write_of (slice_get gone.world.calls n)) _ (λ write at.
-          with_item (write_answer write) _ (λ answer answers.
+          leaves-or_refused AreTimely (write_of (slice_get gone.world.calls n)) _ (λ write at.
+          leaves-or_refused AreTimely (write_answer write) _ (λ answer answers.
           as_said (spent_by write passes gone) write answer (λ cookie same.
           names_holders gone.world n write cookie ended.made (is_write (slice_get gone.world.calls n) write at) (answers ∙ ap (λ (r : Result Cookie WriteRefusal). Some r) same))))
 
-fetch_leaves : (s : SessionsState) (key : ℕ) → AreTimely s → Leaves (fetch_line s key)
-unfolding Leaves fetch_line
+fetch_leaves : (s : SessionsState) (key : ℕ) → AreTimely s → LeavesTimely (fetch_line s key)
+unfolding fetch_line
 fetch_leaves s key are =
-    with_item (cookie_of s key) _ (λ cookie has.
-    with_item s.store _ (λ st is.
-    unless (not (may_read st.world (nonce s) cookie.bricks)) _ (λ may.
-    with_item (read_of (slice_get (store_read s cookie st).world.calls (length st.world.calls))) _ (λ read at.
-    with_item (read_answer read) _ (λ answer answers. record { in_time = are.in_time; cookies = are.cookies })))))
+    leaves-or_refused AreTimely (cookie_of s key) _ (λ cookie has.
+    leaves-or_refused AreTimely s.store _ (λ st is.
+    leaves-refused_if AreTimely (not (may_read st.world (nonce s) cookie.bricks)) _ (λ may.
+    leaves-or_refused AreTimely (read_of (slice_get (store_read s cookie st).world.calls (length st.world.calls))) _ (λ read at.
+    leaves-or_refused AreTimely (read_answer read) _ (λ answer answers. record { in_time = are.in_time; cookies = are.cookies })))))
 
-cookie_leaves : (s : SessionsState) (key : ℕ) → AreTimely s → Leaves (cookie_line s key)
-unfolding Leaves cookie_line
-cookie_leaves s key are = with_item (cookie_of s key) _ (λ cookie has. are)
+cookie_leaves : (s : SessionsState) (key : ℕ) → AreTimely s → LeavesTimely (cookie_line s key)
+unfolding cookie_line
+cookie_leaves s key are = leaves-or_refused AreTimely (cookie_of s key) _ (λ cookie has. are)
 
-lose_leaves : (s : SessionsState) (brick more : ℕ) → AreTimely s → Leaves (lose_line s brick more)
-unfolding Leaves lose_line
+lose_leaves : (s : SessionsState) (brick more : ℕ) → AreTimely s → LeavesTimely (lose_line s brick more)
+unfolding lose_line
 lose_leaves s brick more are = at_lane s brick _ (λ st lane. other s _ are)
 
-mute_leaves : (s : SessionsState) (brick more : ℕ) → AreTimely s → Leaves (mute_line s brick more)
-unfolding Leaves mute_line
+mute_leaves : (s : SessionsState) (brick more : ℕ) → AreTimely s → LeavesTimely (mute_line s brick more)
+unfolding mute_line
 mute_leaves s brick more are = at_lane s brick _ (λ st lane. other s _ are)
 
-repeat_leaves : (s : SessionsState) (brick number : ℕ) → AreTimely s → Leaves (repeat_line s brick number)
-unfolding Leaves repeat_line
-repeat_leaves s brick number are = at_lane s brick _ (λ st lane. with_item (reply_made lane number) _ (λ packet is. other s _ are))
+repeat_leaves : (s : SessionsState) (brick number : ℕ) → AreTimely s → LeavesTimely (repeat_line s brick number)
+unfolding repeat_line
+repeat_leaves s brick number are = at_lane s brick _ (λ st lane. leaves-or_refused AreTimely (reply_made lane number) _ (λ packet is. other s _ are))
 
-crash_leaves : (s : SessionsState) (brick : ℕ) → AreTimely s → Leaves (crash_line s brick)
-unfolding Leaves crash_line
-crash_leaves s brick are = at_lane s brick _ (λ st lane. unless (not (may_happen st.world (Crash (brick_no brick)))) _ (λ may. other s _ are))
+crash_leaves : (s : SessionsState) (brick : ℕ) → AreTimely s → LeavesTimely (crash_line s brick)
+unfolding crash_line
+crash_leaves s brick are = at_lane s brick _ (λ st lane. leaves-refused_if AreTimely (not (may_happen st.world (Crash (brick_no brick)))) _ (λ may. other s _ are))
 
-sweep_leaves : (s : SessionsState) (brick moment : ℕ) → AreTimely s → Leaves (sweep_line s brick moment)
-unfolding Leaves sweep_line
-sweep_leaves s brick moment are = at_lane s brick _ (λ st lane. unless (nat_lt MAX_MOMENT moment) _ (λ in_time. other s _ are))
+sweep_leaves : (s : SessionsState) (brick moment : ℕ) → AreTimely s → LeavesTimely (sweep_line s brick moment)
+unfolding sweep_line
+sweep_leaves s brick moment are = at_lane s brick _ (λ st lane. leaves-refused_if AreTimely (nat_lt MAX_MOMENT moment) _ (λ in_time. other s _ are))
 
-values_leave : (s : SessionsState) (brick : ℕ) → AreTimely s → Leaves (values_line s brick)
-unfolding Leaves values_line
-values_leave s brick are = at_lane s brick _ (λ st lane. with_item (history st.world (brick_no brick)) _ (λ h is. are))
+values_leave : (s : SessionsState) (brick : ℕ) → AreTimely s → LeavesTimely (values_line s brick)
+unfolding values_line
+values_leave s brick are = at_lane s brick _ (λ st lane. leaves-or_refused AreTimely (history st.world (brick_no brick)) _ (λ h is. are))
 
-windows_leave : (s : SessionsState) → AreTimely s → Leaves (windows_line s)
-unfolding Leaves windows_line
-windows_leave s are = with_item s.store _ (λ st is. are)
+windows_leave : (s : SessionsState) → AreTimely s → LeavesTimely (windows_line s)
+unfolding windows_line
+windows_leave s are = leaves-or_refused AreTimely s.store _ (λ st is. are)
 
-hold_leaves : (s : SessionsState) (brick : ℕ) → AreTimely s → Leaves (hold_line s brick)
-unfolding Leaves hold_line
+hold_leaves : (s : SessionsState) (brick : ℕ) → AreTimely s → LeavesTimely (hold_line s brick)
+unfolding hold_line
 hold_leaves s brick are = at_lane s brick _ (λ st lane. go st lane (pass_tried st.windows (brick_no brick))) where
-  go : (st : StoreState) (lane : LaneState) (o : Option Pass) → Leaves (within (with_store s) (holds st brick lane o))
+  go : (st : StoreState) (lane : LaneState) (o : Option Pass) → LeavesTimely (within (with_store s) (holds st brick lane o))
   go st lane None = other s _ are
   go st lane (Some pass) = other s _ are
 
-free_leaves : (s : SessionsState) (brick : ℕ) (how : Freed) → AreTimely s → Leaves (free_line s brick how)
-unfolding Leaves free_line
-free_leaves s brick how are = at_lane s brick _ (λ st lane. unless (not (nat_lt 0 lane.held)) _ (λ some. other s _ are))
+free_leaves : (s : SessionsState) (brick : ℕ) (how : Freed) → AreTimely s → LeavesTimely (free_line s brick how)
+unfolding free_line
+free_leaves s brick how are = at_lane s brick _ (λ st lane. leaves-refused_if AreTimely (not (nat_lt 0 lane.held)) _ (λ some. other s _ are))
 
-line_leaves : (s : SessionsState) (line : SessionLine) → AreTimely s → AreSound s → Leaves (session_line s line)
-unfolding Leaves
+line_leaves : (s : SessionsState) (line : SessionLine) → AreTimely s → AreSound s → LeavesTimely (session_line s line)
 line_leaves s (lines.Now moment) are sound = now_leaves s moment are
 line_leaves s (lines.Write key value) are sound = write_leaves s key value are sound
 line_leaves s (lines.Fetch key) are sound = fetch_leaves s key are
@@ -176,10 +165,9 @@ from_sound (Some st) is = (is.made, is.lanes)
 
 -- a line that is done leaves sessions so
 pub line_keeps_sessions : (s t : SessionsState) (line : SessionLine) (text : List ℕ) → IsSessions s → session_line s line ≡ Done t text → IsSessions t
-unfolding Leaves
 line_keeps_sessions s t line text are is =
     let sound : AreSound s = to_sound s.store are.store in
-    let left : AreTimely t = subst Leaves is (line_leaves s line (record { in_time = are.in_time; cookies = are.cookies }) sound) in
+    let left : AreTimely t = subst LeavesTimely is (line_leaves s line (record { in_time = are.in_time; cookies = are.cookies }) sound) in
     record { in_time = left.in_time; cookies = left.cookies; store = from_sound t.store (one_turn_keeps s t (Does line text) sound is) }
 
 -- a line leaves sessions so, by its answer
