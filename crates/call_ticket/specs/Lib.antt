@@ -1,2 +1,5 @@
 pub mod Ticket
 pub mod Within
+pub mod Access
+pub mod Runs
+pub mod Following

@@ -20,13 +20,24 @@
 //!
 //! A ticket ends in one of two ways: `into_parts` gives its vectors away with the room that they have, and
 //! `take_parts` moves the items into vectors that are just large enough, so that the ticket can be renewed.
+//!
+//! A `Program` says which steps a call makes: the next one depends on the answers so far alone. Its run over rows
+//! answers each step from them, with its own puts laid over. So a run over other rows that are the same in all that
+//! it read is equal (`equal_answers`), and what a commit did at the begin of its call is what it would do where it
+//! commits (`serial_order`). A call that follows its program meets each condition of each step (`calls_follow`).
 #![tactic(auto)]
 
 mod limits;
+mod next;
 mod parts;
+mod program;
+mod program_laws;
 mod search;
 mod ticket;
 
 pub use limits::{MAX_FRAMES, MAX_MARKS, MAX_STEPS, MAX_WRITES};
+pub use next::{Answer, AnswerList, Next};
 pub use parts::{InstanceList, TicketParts};
+pub use program::Program;
+pub use program_laws::{calls_follow, equal_answers, serial_order};
 pub use ticket::Ticket;
