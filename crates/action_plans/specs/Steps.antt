@@ -1,10 +1,10 @@
 -- The steps of an action's program.
-use Rattle.std.specs.Prelude.{◌≡◌, ℕ, zero, suc, ◌+◌, ◌-◌, ◌==◌, ◌&&◌, ◌||◌, not, nat_lt, nat_le, Bool, true, false, if◌then◌else◌, List, [], ◌∷◌, length, filter, count_by, slice_get, Option, Some, None}
+use Rattle.std.specs.Prelude.{ℕ, zero, suc, ◌+◌, ◌-◌, ◌==◌, ◌&&◌, ◌||◌, not, nat_lt, nat_le, Bool, true, false, if◌then◌else◌, List, [], ◌∷◌, length, filter, count_by, slice_get, Option, Some, None}
 use Rattle.crash_base.specs.declared.numbers.ComponentNo.{ComponentNo}
 use Rattle.crash_base.specs.declared.rows.RowWrite.{RowWrite}
 use Rattle.deployment.specs.declared.parts.Parts.{Parts}
 use Rattle.deployment.specs.declared.parts.TablePart.{TablePart}
-use Rattle.deployment.specs.Parts.{component_no, may_call, owner_of}
+use Rattle.deployment.specs.Parts.{may_call, owner_of}
 use Rattle.journal_model.specs.declared.entry.DoneText.{DoneText}
 use Rattle.journal_model.specs.declared.entry.ReadMark.{ReadMark}
 use Rattle.journal_model.specs.declared.entry.ReadMark.TheVariants.{Row, Table}

@@ -201,24 +201,12 @@ fn wanting(
     ensures { IfOk result (λ next. next ≡ wanting tables.now through answers.now want) }
 {
     match want {
-        Want::Ask(mark) => Ok(access(
-            tables,
-            through,
-            answers,
-            table_of(mark),
-            reading(mark),
-        )),
+        Want::Ask(mark) => Ok(access(tables, through, answers, table_of(mark), reading(mark))),
         Want::Finish(outcome) => match outcome.writes.as_slice().get(kept(answers)) {
             None => Ok(leaving(answers, outcome.done)),
             Some(write) => {
                 let write = write.copied(alloc)?;
-                Ok(access(
-                    tables,
-                    through,
-                    answers,
-                    write.id.table,
-                    Next::Put(write),
-                ))
+                Ok(access(tables, through, answers, write.id.table, Next::Put(write)))
             }
         },
     }

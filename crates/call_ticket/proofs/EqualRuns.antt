@@ -1,5 +1,5 @@
 -- Rows that are the same in all that a run marked give an equal run.
-use Rattle.std.proofs.Common.{◌≡◌, ℕ, zero, suc, ◌+◌, ◌-◌, ◌||◌, Bool, true, false, cond, List, [], ◌∷◌, ◌++◌, length, take, Option, Some, None, refl, ap, sym, subst, ◌∙◌, arith}
+use Rattle.std.proofs.Common.{◌≡◌, ℕ, zero, suc, ◌+◌, ◌||◌, Bool, true, false, cond, List, [], ◌∷◌, ◌++◌, Option, Some, None, refl, ap, sym, subst, ◌∙◌, arith}
 use Rattle.std.specs.Prelude.{All}
 use Rattle.std.proofs.lemmas.Grind.{common_steps}
 use Rattle.std.proofs.lemmas.List.Elements.{All-nil, All-cons, All-head, All-tail}
@@ -14,7 +14,7 @@ use Rattle.journal_model.specs.declared.entry.Entry.{Entry}
 use Rattle.journal_model.specs.declared.entry.Mark.{Mark}
 use Rattle.journal_model.specs.declared.entry.ReadMark.{ReadMark}
 use Rattle.journal_model.specs.declared.entry.ReadMark.TheVariants.{Row, Table}
-use Rattle.journal_model.specs.Calls.{is_put, same_mark, is_marked, marked_with, with_write, seen, listed}
+use Rattle.journal_model.specs.Calls.{is_put, same_mark, is_marked, marked_with, seen, listed}
 use Rattle.journal_model.specs.Legal.{IsCurrent}
 use Rattle.journal_model.specs.Rows.{rows_after}
 use Rattle.journal_model.specs.Snapshots.{snapshot, table_rows, AgreeOn}

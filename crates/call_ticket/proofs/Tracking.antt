@@ -27,7 +27,7 @@ use Rattle.call_ticket.specs.declared.next.Next.{Next}
 use Rattle.call_ticket.specs.declared.next.Next.TheVariants as next
 use Rattle.call_ticket.specs.Access.{last_frame, may_enter_from, is_inside}
 use Rattle.call_ticket.specs.Following.{MakesStep, MayMake, Follows, Begins, GoesOn}
-use Rattle.call_ticket.specs.Runs.{Running, Ran, is_write, keeps_rules, after_step, resume, run, run_of}
+use Rattle.call_ticket.specs.Runs.{Running, Ran, is_write, keeps_rules, resume, run, run_of}
 use Rattle.call_ticket.proofs.MoreSteps.{run_step}
 
 -- the run between two steps at which a call is

@@ -1,0 +1,6 @@
+pub mod Accessing
+pub mod Counting
+pub mod Driving
+pub mod Entering
+pub mod Leaving
+pub mod Walking
