@@ -29,7 +29,8 @@ use Rattle.call_ticket.specs.Ticket.{top}
 use Rattle.boot_core.specs.Boot.{BootValue, HasGrown}
 use Rattle.boot_core.specs.declared.boot.Start.{Start}
 use Rattle.boot_core.specs.Fits.{FitsIn}
-use Rattle.boot_core.specs.Owners.{IsEntered, IsOwned, is_in_owner, is_same_component}
+use Rattle.call_ticket.specs.Access.{is_in_owner, is_same_component}
+use Rattle.boot_core.specs.Owners.{IsEntered, IsOwned}
 
 -- what was touched is touched still
 touched_still : (es : List Entry) (g h : ℕ) (touched : List Touch) → is_touched touched h ≡ true → is_touched (touched_with es g touched) h ≡ true

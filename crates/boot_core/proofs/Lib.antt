@@ -8,3 +8,4 @@ pub mod Turning
 pub mod Newer
 pub mod Short
 pub mod Found
+pub mod Allowed

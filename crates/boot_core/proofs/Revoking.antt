@@ -118,7 +118,7 @@ commit_up limits es s call action turns may touches =
     rw (commit_of_push es (Up s) call.request refl, stale_in-beside es (Up s) call.touched touches (up_beside s call.touched), conflict_push es (Up s) call.at.0 (rests_on call) refl, places_same, bytes_same) refl
 
 -- what is below a number is not that number
-below_differs : (a b : ℕ) → a < b → (a == b) ≡ false
+pub below_differs : (a b : ℕ) → a < b → (a == b) ≡ false
 below_differs a b below = grind (arith, nat_tests)
 
 pub enter_up : (es : List Entry) (s : Scope) (g : ℕ) (call : Call) → AreInTurn es → MayEnd es s → holds s g ≡ true → All (IsTouch es) call.touched → stale_in es call.touched ≡ None → length call.frames < MAX_FRAMES → call.steps < MAX_STEPS → enter_refusal (es ++ Up s ∷ []) call g ≡ None

@@ -15,7 +15,7 @@ ghost use Rattle.journal_model.specs.Stale.{stale_in};
 ghost use Rattle.naming_table.specs.Binding.{binding_in};
 ghost use Rattle.boot_core.specs.Boot.{new_boot, with_entry, HasGrown};
 ghost use Rattle.boot_core.specs.Fits.{FitsIn};
-ghost use Rattle.boot_core.specs.Owners.{is_in_owner, may_enter};
+ghost use Rattle.call_ticket.specs.Access.{is_in_owner, may_enter};
 ghost use Rattle.boot_core.specs.Keeper.{TellsCommit};
 ghost use Rattle.boot_core.specs.Refusals.{CallAnswer, CommitAnswer, RebootAnswer, enter_refusal, read_refusal, list_refusal, put_refusal, commit_refusal, reboot_refusal, IsTested};
 ghost use Rattle.boot_core.specs.Sound.{IsSound};

@@ -26,7 +26,7 @@ ghost use Rattle.journal_model.specs.Stale.{IsTouch, stale_in};
 ghost use Rattle.boot_core.specs.Boot.{BootValue, new_boot, with_entry, HasGrown};
 ghost use Rattle.boot_core.specs.declared.boot.Start.{Start};
 ghost use Rattle.boot_core.specs.Fits.{FitsIn};
-ghost use Rattle.boot_core.specs.Owners.{is_in_owner};
+ghost use Rattle.call_ticket.specs.Access.{is_in_owner};
 ghost use Rattle.boot_core.specs.Refusals.{busy, enter_refusal, exit_refusal, read_refusal, list_refusal, put_refusal, commit_refusal, reboot_refusal, HasRoomFor, IsLeastDown};
 ghost use Rattle.boot_core.specs.declared.refusals.RebootRefusal.TheVariants.{Busy};
 ghost use Rattle.boot_core.specs.Revoked.{IsRevoked};

@@ -12,6 +12,7 @@ use Rattle.journal_model.specs.declared.entry.Touch.{Touch}
 use Rattle.journal_model.specs.Calls.{Call, begun, left, is_touched, is_put, kept}
 use Rattle.call_ticket.specs.declared.limits.TheConstants.{MAX_WRITES}
 use Rattle.call_ticket.specs.declared.parts.TicketParts.{TicketParts}
+use Rattle.call_ticket.specs.Access.{last_frame}
 
 -- a call, and the instance that serves each of its open frames, the first first
 pub record TicketValue : Type 0 where
@@ -24,7 +25,7 @@ ticket_begun request worker at = record { call = begun request worker at; instan
 
 -- the component of the frame that was opened last, if one is open
 abbrev pub top : Call → Option ComponentNo
-top call = slice_get call.frames (length call.frames - 1)
+top call = last_frame call.frames
 
 -- the instance that serves the frame that was opened last, if one is open
 abbrev pub top_instance : TicketValue → Option ℕ

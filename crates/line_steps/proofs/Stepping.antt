@@ -18,7 +18,7 @@ use Rattle.journal_model.specs.Fits.{IsWrite}
 use Rattle.journal_model.specs.Reboots.{down_of}
 use Rattle.boot_core.specs.Boot.{BootValue}
 use Rattle.boot_core.specs.Fits.{FitsIn}
-use Rattle.boot_core.specs.Owners.{is_in_owner, may_enter}
+use Rattle.call_ticket.specs.Access.{is_in_owner, may_enter}
 use Rattle.boot_core.specs.Refusals.{revoked, enter_refusal, exit_refusal, read_refusal, list_refusal, put_refusal}
 use Rattle.boot_core.specs.Steps.{ticket_entered, ticket_has_read, ticket_has_listed}
 use Rattle.boot_core.specs.declared.refusals.CallRefusal.{CallRefusal}

@@ -6,7 +6,7 @@ use Rattle.call_ticket.specs.Ticket.{TicketValue, ticket_kept, ticket_left}
 use Rattle.deployment.specs.Groups.{group_of}
 use Rattle.deployment.specs.Parts.{named, component_no}
 use Rattle.boot_core.specs.Boot.{BootValue}
-use Rattle.boot_core.specs.Owners.{is_in_owner, may_enter}
+use Rattle.call_ticket.specs.Access.{is_in_owner, may_enter}
 use Rattle.journal_model.specs.Calls.{seen, listed}
 use Rattle.journal_model.specs.Snapshots.{snapshot}
 use Rattle.boot_core.specs.Refusals.{enter_refusal, exit_refusal, read_refusal, list_refusal, put_refusal}

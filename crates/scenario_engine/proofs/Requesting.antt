@@ -14,7 +14,7 @@ use Rattle.journal_model.specs.Calls.{entry_of, seen, listed}
 use Rattle.journal_model.specs.Reboots.{undone_of}
 use Rattle.journal_model.proofs.Places.{all_there}
 use Rattle.boot_core.specs.Boot.{BootValue}
-use Rattle.boot_core.specs.Owners.{may_enter}
+use Rattle.call_ticket.specs.Access.{may_enter}
 use Rattle.boot_core.specs.Refusals.{enter_refusal, exit_refusal, read_refusal, list_refusal, put_refusal, reboot_refusal}
 use Rattle.boot_core.specs.Steps.{ticket_entered, ticket_has_read, ticket_has_listed}
 use Rattle.boot_core.specs.declared.refusals.CallRefusal.{CallRefusal}
