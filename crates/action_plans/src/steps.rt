@@ -1,9 +1,10 @@
 //! The steps of an action's program.
 
-ghost use Rattle.std.specs.Prelude.{◌≡◌, List, IfOk};
+ghost use Rattle.std.specs.Prelude.{◌≡◌, List, Err, IfOk, IfErr};
 ghost use Rattle.deployment.specs.Parts.{owner_of};
 ghost use Rattle.call_ticket.specs.declared.next.Answer.{Answer};
 ghost use Rattle.action_plans.specs.declared.plan.Outcome.{Outcome};
+ghost use Rattle.action_plans.specs.declared.plan.Stop.TheVariants as stop;
 ghost use Rattle.action_plans.specs.Plans.{HasCome, Walked, wanted};
 ghost use Rattle.action_plans.specs.Steps.{entered, left, kept, is_fresh, is_entered, is_left, is_kept, home_depth, home_of, enter_home, is_away, is_home, access, access_in, reading, table_of, leaving, wanting, step_to};
 
@@ -238,8 +239,9 @@ pub fn next_step(
 /// # Errors
 /// `OutOfMemory` exactly where that stopped the action.
 pub fn want_of(alloc: Global, came: Result<Outcome, Stop>) -> Result<Want, OutOfMemory>
-    ensures { IfOk result (λ want. (left : List Answer) (walked : Walked Outcome) →
+    ensures want { IfOk result (λ want. (left : List Answer) (walked : Walked Outcome) →
         HasCome came left walked → want ≡ wanted walked) }
+    ensures memory { IfErr result (λ _. came ≡ Err stop.OutOfMemory) }
 {
     match came {
         Ok(outcome) => Ok(Want::Finish(outcome)),
