@@ -1,7 +1,6 @@
 //! The steps of an action's program.
 
 ghost use Rattle.std.specs.Prelude.{◌≡◌, List, Err, IfOk, IfErr};
-ghost use Rattle.deployment.specs.Parts.{owner_of};
 ghost use Rattle.call_ticket.specs.declared.next.Answer.{Answer};
 ghost use Rattle.action_plans.specs.declared.plan.Outcome.{Outcome};
 ghost use Rattle.action_plans.specs.declared.plan.Stop.TheVariants as stop;
@@ -11,7 +10,7 @@ ghost use Rattle.action_plans.specs.Steps.{entered, left, kept, is_fresh, is_ent
 use crate::plan::{FRONT, Outcome, Stop, Through, Want};
 use call_ticket::{Answer, Next};
 use crash_base::{ComponentNo, OutOfMemory, WriteList};
-use deployment::TablePart;
+use deployment::{TablePart, owner_of};
 use journal_model::{DoneText, ReadMark};
 use std::alloc::Global;
 
@@ -69,13 +68,6 @@ fn is_fresh(answers: &[Answer]) -> bool
         None => false,
         Some(answer) => is_entered(answer),
     }
-}
-
-/// The component that owns a table, as it was declared first.
-fn owner_of(tables: &[TablePart], table: u8) -> Option<ComponentNo>
-    ensures { result ≡ owner_of tables.now table }
-{
-    tables.iter().find(|t| t.table == table).map(|t| t.owner)
 }
 
 /// How many components are open while the action is at home.
@@ -214,7 +206,7 @@ fn wanting(
 }
 
 /// The next step, after these answers, of an action that wants this, in a deployment with these tables. It visits each
-/// answer at most five times and each table up to that of the access, and copies the row that is put.
+/// answer at most six times and each table up to that of the access, and copies the row that is put.
 pub fn next_step(
     alloc: Global,
     tables: &[TablePart],
