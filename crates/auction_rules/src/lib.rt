@@ -1,0 +1,6 @@
+//! The rules of the auction.
+#![tactic(auto)]
+
+mod refusal;
+
+pub use refusal::RuleRefusal;
