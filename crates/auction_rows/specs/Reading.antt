@@ -1,0 +1,218 @@
+-- The rows that bytes spell, read from the first byte to the last.
+use Rattle.std.specs.Prelude.{ℕ, ◌^◌, ◌==◌, nat_lt, if◌then◌else◌, Bool, true, false, List, [], ◌∷◌, length, take, drop, Option, Some, None}
+use Rattle.std.specs.Int.{Width, w16, w32, w64, byte_len, from_be_bytes}
+use Rattle.std.specs.Option.{option_map}
+use Rattle.std.specs.Str.{is_utf8}
+use Rattle.crash_base.specs.declared.rows.TheConstants.{MAX_ROW_BYTES}
+use Rattle.auction_rows.specs.declared.rows.AuctionRow.{AuctionRow}
+use Rattle.auction_rows.specs.declared.rows.AuctionRow.TheVariants as row
+use Rattle.auction_rows.specs.declared.rows.BidRow.{BidRow}
+use Rattle.auction_rows.specs.declared.rows.CategoryRow.{CategoryRow}
+use Rattle.auction_rows.specs.declared.rows.CounterRow.{CounterRow}
+use Rattle.auction_rows.specs.declared.rows.EntryRow.{EntryRow}
+use Rattle.auction_rows.specs.declared.rows.FeedbackRow.{FeedbackRow}
+use Rattle.auction_rows.specs.declared.rows.GivenFeedback.{GivenFeedback}
+use Rattle.auction_rows.specs.declared.rows.ItemRow.{ItemRow}
+use Rattle.auction_rows.specs.declared.rows.ItemState.{ItemState}
+use Rattle.auction_rows.specs.declared.rows.ItemState.TheVariants.{Running, Closed, Sold}
+use Rattle.auction_rows.specs.declared.rows.NameRow.{NameRow}
+use Rattle.auction_rows.specs.declared.rows.OwnItemRow.{OwnItemRow}
+use Rattle.auction_rows.specs.declared.rows.TheConstants.{USER_TABLE, NAME_TABLE, COUNTER_TABLE, ITEM_TABLE, CATEGORY_TABLE, BID_TABLE, ENTRY_TABLE, FEEDBACK_TABLE, OWN_ITEM_TABLE}
+use Rattle.auction_rows.specs.declared.rows.UserRow.{UserRow}
+
+-- what is read of what was read before, if it was
+infixl 10 ◌>>=◌
+abbrev pub ◌>>=◌ : {A B : Type 0} → Option A → (A → Option B) → Option B
+(Some x) >>= f = f x
+None >>= f = None
+
+-- A field answers its value at the front of bytes, and the bytes after it; None where they do not
+-- begin with one.
+abbrev pub Field : Type 0 → Type 0
+Field A = List ℕ → Option (A × List ℕ)
+
+-- this many bytes
+unfoldable pub bytes_at : ℕ → Field (List ℕ)
+bytes_at size bytes =
+    if nat_lt (length bytes) size then None else Some (take size bytes, drop size bytes)
+
+-- a number of this width
+unfoldable pub number_at : Width → Field ℕ
+number_at width bytes = do
+  field ← bytes_at (byte_len width) bytes
+  Some (from_be_bytes width field.0, field.1)
+
+-- a number of one byte
+unfoldable pub u8_at : Field ℕ
+u8_at [] = None
+u8_at (byte ∷ rest) = Some (byte, rest)
+
+-- the number of a user, an item or a category: eight bytes, but below 2^32
+unfoldable pub id_at : Field ℕ
+id_at bytes = do
+  n ← number_at w64 bytes
+  if nat_lt n.0 (2 ^ 32) then Some n else None
+
+-- a text: its length in two bytes, and then its bytes, which are UTF-8
+unfoldable pub text_at : Field (List ℕ)
+text_at bytes = do
+  size ← number_at w16 bytes
+  text ← bytes_at size.0 size.1
+  if is_utf8 text.0 then Some text else None
+
+-- what is so where a number is 1, and not so where it is 0
+abbrev pub flag_of : ℕ → Option Bool
+flag_of n = if n == 0 then Some false else (if n == 1 then Some true else None)
+
+-- the state of this number
+abbrev pub state_of : ℕ → Option ItemState
+state_of n =
+    if n == 0 then Some Running else (
+    if n == 1 then Some Closed else (
+    if n == 2 then Some Sold else None))
+
+-- who has given feedback, by number
+abbrev pub given_of : ℕ → Option GivenFeedback
+given_of n =
+    if n == 0 then Some (record { by_buyer = false; by_seller = false }) else (
+    if n == 1 then Some (record { by_buyer = true; by_seller = false }) else (
+    if n == 2 then Some (record { by_buyer = false; by_seller = true }) else (
+    if n == 3 then Some (record { by_buyer = true; by_seller = true }) else None)))
+
+-- what is found of a number of one byte
+abbrev pub byte_as : {A : Type 0} → (ℕ → Option A) → Field A
+byte_as make bytes = do
+  byte ← u8_at bytes
+  value ← make byte.0
+  Some (value, byte.1)
+
+-- a user at the front of bytes
+unfoldable pub user_at : Field UserRow
+user_at bytes = do
+  name ← text_at bytes
+  salt ← bytes_at 8 name.1
+  digest ← bytes_at 32 salt.1
+  good ← number_at w32 digest.1
+  bad ← number_at w32 good.1
+  items ← number_at w32 bad.1
+  Some (record { name = name.0; salt = salt.0; digest = digest.0; good = good.0; bad = bad.0; items = items.0 }, items.1)
+
+-- a name at the front of bytes
+unfoldable pub name_at : Field NameRow
+name_at bytes = do
+  name ← text_at bytes
+  user ← id_at name.1
+  Some (record { name = name.0; user = user.0 }, user.1)
+
+-- a counter at the front of bytes
+unfoldable pub counter_at : Field CounterRow
+counter_at bytes = do
+  count ← number_at w64 bytes
+  Some (record { count = count.0 }, count.1)
+
+-- an item at the front of bytes
+unfoldable pub item_at : Field ItemRow
+item_at bytes = do
+  state ← byte_as state_of bytes
+  seller ← id_at state.1
+  category ← id_at seller.1
+  start ← number_at w64 category.1
+  buy_now ← number_at w64 start.1
+  best ← number_at w64 buy_now.1
+  best_bidder ← id_at best.1
+  bids ← number_at w32 best_bidder.1
+  ends ← number_at w64 bids.1
+  buyer ← id_at ends.1
+  given ← byte_as given_of buyer.1
+  title ← text_at given.1
+  Some (record { state = state.0; seller = seller.0; category = category.0; start = start.0; buy_now = buy_now.0; best = best.0; best_bidder = best_bidder.0; bids = bids.0; ends = record { 0 = ends.0 }; buyer = buyer.0; given = given.0; title = title.0 }, title.1)
+
+-- a category at the front of bytes
+unfoldable pub category_at : Field CategoryRow
+category_at bytes = do
+  name ← text_at bytes
+  Some (record { name = name.0 }, name.1)
+
+-- a bid at the front of bytes
+unfoldable pub bid_at : Field BidRow
+bid_at bytes = do
+  bidder ← id_at bytes
+  amount ← number_at w64 bidder.1
+  moment ← number_at w64 amount.1
+  Some (record { bidder = bidder.0; amount = amount.0; moment = record { 0 = moment.0 } }, moment.1)
+
+-- an entry at the front of bytes
+unfoldable pub entry_at : Field EntryRow
+entry_at bytes = do
+  item ← id_at bytes
+  Some (record { item = item.0 }, item.1)
+
+-- feedback at the front of bytes
+unfoldable pub feedback_at : Field FeedbackRow
+feedback_at bytes = do
+  from ← id_at bytes
+  item ← id_at from.1
+  good ← byte_as flag_of item.1
+  text ← text_at good.1
+  Some (record { from = from.0; item = item.0; good = good.0; text = text.0 }, text.1)
+
+-- an own item at the front of bytes
+unfoldable pub own_item_at : Field OwnItemRow
+own_item_at bytes = do
+  item ← id_at bytes
+  Some (record { item = item.0 }, item.1)
+
+-- what all of the bytes spell, which are at most 4,096
+abbrev pub whole : {A : Type 0} → Field A → List ℕ → Option A
+whole field bytes = do
+  found ← if nat_lt MAX_ROW_BYTES (length bytes) then None else field bytes
+  if length found.1 == 0 then Some found.0 else None
+
+-- the user that bytes spell
+unfoldable pub user_of : List ℕ → Option UserRow
+user_of bytes = whole user_at bytes
+
+-- the name that bytes spell
+unfoldable pub name_of : List ℕ → Option NameRow
+name_of bytes = whole name_at bytes
+
+-- the counter that bytes spell
+unfoldable pub counter_of : List ℕ → Option CounterRow
+counter_of bytes = whole counter_at bytes
+
+-- the item that bytes spell
+unfoldable pub item_of : List ℕ → Option ItemRow
+item_of bytes = whole item_at bytes
+
+-- the category that bytes spell
+unfoldable pub category_of : List ℕ → Option CategoryRow
+category_of bytes = whole category_at bytes
+
+-- the bid that bytes spell
+unfoldable pub bid_of : List ℕ → Option BidRow
+bid_of bytes = whole bid_at bytes
+
+-- the entry that bytes spell
+unfoldable pub entry_of : List ℕ → Option EntryRow
+entry_of bytes = whole entry_at bytes
+
+-- the feedback that bytes spell
+unfoldable pub feedback_of : List ℕ → Option FeedbackRow
+feedback_of bytes = whole feedback_at bytes
+
+-- the own item that bytes spell
+unfoldable pub own_item_of : List ℕ → Option OwnItemRow
+own_item_of bytes = whole own_item_at bytes
+
+-- The row of a table that bytes spell.
+unfoldable pub row_of : ℕ → List ℕ → Option AuctionRow
+row_of table bytes =
+    if table == USER_TABLE then option_map row.User (user_of bytes) else (
+    if table == NAME_TABLE then option_map row.Name (name_of bytes) else (
+    if table == COUNTER_TABLE then option_map row.Counter (counter_of bytes) else (
+    if table == ITEM_TABLE then option_map row.Item (item_of bytes) else (
+    if table == CATEGORY_TABLE then option_map row.Category (category_of bytes) else (
+    if table == BID_TABLE then option_map row.Bid (bid_of bytes) else (
+    if table == ENTRY_TABLE then option_map row.Entry (entry_of bytes) else (
+    if table == FEEDBACK_TABLE then option_map row.Feedback (feedback_of bytes) else (
+    if table == OWN_ITEM_TABLE then option_map row.OwnItem (own_item_of bytes) else None))))))))
