@@ -4,3 +4,4 @@ pub mod Reading
 pub mod Ids
 pub mod Session
 pub mod Parts
+pub mod Answers

@@ -38,9 +38,9 @@ bytes_at size bytes =
 
 -- a number of this width
 unfoldable pub number_at : Width → Field ℕ
-number_at width bytes = do
-  field ← bytes_at (byte_len width) bytes
-  Some (from_be_bytes width field.0, field.1)
+number_at width bytes =
+    if nat_lt (length bytes) (byte_len width) then None
+    else Some (from_be_bytes width (take (byte_len width) bytes), drop (byte_len width) bytes)
 
 -- a number of one byte
 unfoldable pub u8_at : Field ℕ

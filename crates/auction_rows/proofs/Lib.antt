@@ -1,0 +1,4 @@
+pub mod Exact
+pub mod ExactFields
+pub mod ExactRows
+pub mod Sizes

@@ -1,0 +1,9 @@
+use Rattle.auction_rows.proofs.Exact.{exactly}
+use Rattle.auction_rows.proofs.ExactRows.{own_item_exact}
+use Rattle.auction_rows.proofs.laws.own_items_are_exact.Goals as goal
+
+pub returns-clause-exact : goal.returns-clause-exact
+returns-clause-exact c = exactly own_item_exact
+
+pub returns-clause-back : goal.returns-clause-back
+returns-clause-back c = own_item_exact.again

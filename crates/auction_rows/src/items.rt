@@ -1,0 +1,113 @@
+//! Items, as rows.
+
+ghost use Rattle.std.specs.Prelude.{◌≡◌, ◌++◌, true, length, OnOk};
+ghost use Rattle.auction_rows.specs.Answers.{Answers};
+ghost use Rattle.auction_rows.specs.Bounds.{is_item};
+ghost use Rattle.auction_rows.specs.Reading.{item_at, item_of};
+ghost use Rattle.auction_rows.specs.Spelling.{item_bytes, item_numbers};
+
+use crate::error::{RowError, found};
+use crate::fields::{check_end, check_few, given_at, given_number, id_at, is_text, state_at, state_number, text_at, u32_at, u64_at, write_id, write_text, write_u8, write_u32, write_u64};
+use crate::laws::items_are_exact;
+use crate::ranges::{bytes_are_in_range, item_is_in_range};
+use crate::rows::ItemRow;
+use crate::table_row::TableRow;
+use crash_base::{FieldText, MAX_ROW_BYTES, Moment, OutOfMemory, RowBytes};
+use std::alloc::Global;
+
+/// How many bytes an item has besides those of its title.
+const ITEM_BYTES: usize = 72;
+
+/// Whether an item is within its bounds: its title is UTF-8, and its bytes are at most 4,096. It takes no memory, and visits each byte of its title once.
+#[tactic(auto, using(crate::proofs::Sizes::item_size))]
+pub fn is_item(item: &ItemRow) -> bool
+    ensures { result ≡ is_item item.now }
+{
+    is_text(item.title.as_slice()) && item.title.len() <= MAX_ROW_BYTES - ITEM_BYTES
+}
+
+#[tactic(auto, unfolding(crate::specs::Reading::item_of, crate::specs::Reading::item_at))]
+fn read_item(alloc: Global, bytes: &[u8]) -> Result<ItemRow, RowError>
+    ensures { Answers (λ row. row) result (item_of bytes.now) }
+{
+    check_few(bytes)?;
+    let (state, rest) = state_at(bytes)?;
+    let (seller, rest) = id_at(rest)?;
+    let (category, rest) = id_at(rest)?;
+    let (start, rest) = u64_at(rest)?;
+    let (buy_now, rest) = u64_at(rest)?;
+    let (best, rest) = u64_at(rest)?;
+    let (best_bidder, rest) = id_at(rest)?;
+    let (bids, rest) = u32_at(rest)?;
+    let (ends, rest) = u64_at(rest)?;
+    let (buyer, rest) = id_at(rest)?;
+    let (given, rest) = given_at(rest)?;
+    let (title, rest) = text_at(rest)?;
+    check_end(rest)?;
+    Ok(ItemRow {
+        state,
+        seller,
+        category,
+        start,
+        buy_now,
+        best,
+        best_bidder,
+        bids,
+        ends: Moment(ends),
+        buyer,
+        given,
+        title: FieldText::copied(alloc, title)?,
+    })
+}
+
+#[tactic(auto, unfolding(crate::specs::Spelling::item_numbers))]
+fn write_numbers(out: &mut Vec<u8>, item: &ItemRow) -> Result<(), OutOfMemory>
+    ensures { OnOk result (out.new.items ≡ out.old.items ++ item_numbers item.now) }
+{
+    write_u8(out, state_number(item.state))?;
+    write_id(out, item.seller)?;
+    write_id(out, item.category)?;
+    write_u64(out, item.start)?;
+    write_u64(out, item.buy_now)?;
+    write_u64(out, item.best)?;
+    write_id(out, item.best_bidder)?;
+    write_u32(out, item.bids)?;
+    write_u64(out, item.ends.0)?;
+    write_id(out, item.buyer)?;
+    write_u8(out, given_number(item.given))?;
+    Ok(())
+}
+
+#[tactic(auto, using(crate::proofs::Sizes::item_short), unfolding(crate::specs::Spelling::item_bytes))]
+fn write_item(out: &mut Vec<u8>, item: &ItemRow) -> Result<(), OutOfMemory>
+    requires { is_item item.now ≡ true }
+    ensures { OnOk result (out.new.items ≡ out.old.items ++ item_bytes item.now) }
+{
+    write_numbers(out, item)?;
+    write_text(out, item.title.as_slice())?;
+    Ok(())
+}
+
+impl TableRow for ItemRow {
+    ghost spelled = { item_of };
+
+    ghost spelling = { item_bytes };
+
+    ghost is_within = { is_item };
+
+    #[tactic(auto, using(crate::proofs::ExactRows::item_within))]
+    fn decode(alloc: Global, bytes: &[u8]) -> Result<Option<ItemRow>, OutOfMemory> {
+        bytes_are_in_range(bytes);
+        let found = found(read_item(alloc, bytes))?;
+        Ok(found)
+    }
+
+    #[tactic(auto, using(crate::proofs::Sizes::item_short))]
+    fn encode(&self, alloc: Global) -> Result<RowBytes, OutOfMemory> {
+        let mut out = Vec::with_capacity(alloc, ITEM_BYTES + self.title.len())?;
+        write_item(&mut out, self)?;
+        item_is_in_range(self);
+        items_are_exact();
+        Ok(RowBytes::from_vec(out))
+    }
+}

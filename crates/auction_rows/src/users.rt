@@ -1,0 +1,80 @@
+//! Users, as rows.
+
+ghost use Rattle.std.specs.Prelude.{◌≡◌, ◌++◌, true, length, OnOk};
+ghost use Rattle.auction_rows.specs.Answers.{Answers};
+ghost use Rattle.auction_rows.specs.Bounds.{is_user};
+ghost use Rattle.auction_rows.specs.Reading.{user_at, user_of};
+ghost use Rattle.auction_rows.specs.Spelling.{user_bytes};
+
+use crate::error::{RowError, found};
+use crate::fields::{check_end, check_few, digest_at, is_text, salt_at, text_at, u32_at, write_text, write_u32};
+use crate::laws::users_are_exact;
+use crate::ranges::{bytes_are_in_range, user_is_in_range};
+use crate::rows::UserRow;
+use crate::table_row::TableRow;
+use crash_base::{FieldText, MAX_ROW_BYTES, OutOfMemory, RowBytes};
+use std::alloc::Global;
+
+/// How many bytes a user has besides those of its name.
+const USER_BYTES: usize = 54;
+
+/// Whether a user is within its bounds: its name is UTF-8, and its bytes are at most 4,096. It takes no memory, and visits each byte of its name once.
+#[tactic(auto, using(crate::proofs::Sizes::user_size))]
+pub fn is_user(user: &UserRow) -> bool
+    ensures { result ≡ is_user user.now }
+{
+    is_text(user.name.as_slice()) && user.name.len() <= MAX_ROW_BYTES - USER_BYTES
+}
+
+#[tactic(auto, unfolding(crate::specs::Reading::user_of, crate::specs::Reading::user_at))]
+fn read_user(alloc: Global, bytes: &[u8]) -> Result<UserRow, RowError>
+    ensures { Answers (λ row. row) result (user_of bytes.now) }
+{
+    check_few(bytes)?;
+    let (name, rest) = text_at(bytes)?;
+    let (salt, rest) = salt_at(rest)?;
+    let (digest, rest) = digest_at(rest)?;
+    let (good, rest) = u32_at(rest)?;
+    let (bad, rest) = u32_at(rest)?;
+    let (items, rest) = u32_at(rest)?;
+    check_end(rest)?;
+    Ok(UserRow { name: FieldText::copied(alloc, name)?, salt, digest, good, bad, items })
+}
+
+#[tactic(auto, using(crate::proofs::Sizes::user_short), unfolding(crate::specs::Spelling::user_bytes))]
+fn write_user(out: &mut Vec<u8>, user: &UserRow) -> Result<(), OutOfMemory>
+    requires { is_user user.now ≡ true }
+    ensures { OnOk result (out.new.items ≡ out.old.items ++ user_bytes user.now) }
+{
+    write_text(out, user.name.as_slice())?;
+    out.extend_from_slice(&user.salt)?;
+    out.extend_from_slice(&user.digest)?;
+    write_u32(out, user.good)?;
+    write_u32(out, user.bad)?;
+    write_u32(out, user.items)?;
+    Ok(())
+}
+
+impl TableRow for UserRow {
+    ghost spelled = { user_of };
+
+    ghost spelling = { user_bytes };
+
+    ghost is_within = { is_user };
+
+    #[tactic(auto, using(crate::proofs::ExactRows::user_within))]
+    fn decode(alloc: Global, bytes: &[u8]) -> Result<Option<UserRow>, OutOfMemory> {
+        bytes_are_in_range(bytes);
+        let found = found(read_user(alloc, bytes))?;
+        Ok(found)
+    }
+
+    #[tactic(auto, using(crate::proofs::Sizes::user_short))]
+    fn encode(&self, alloc: Global) -> Result<RowBytes, OutOfMemory> {
+        let mut out = Vec::with_capacity(alloc, USER_BYTES + self.name.len())?;
+        write_user(&mut out, self)?;
+        user_is_in_range(self);
+        users_are_exact();
+        Ok(RowBytes::from_vec(out))
+    }
+}
