@@ -1,6 +1,6 @@
 -- The fields of rows are exact.
-use Rattle.std.proofs.Common.{◌≡◌, ℕ, zero, suc, ◌^◌, ◌<◌, ◌≤◌, ◌==◌, Bool, true, false, cond, nat_lt, List, [], ◌∷◌, ◌++◌, length, get_or, take, drop, Option, Some, None, refl, sym, ap, subst, ◌∙◌, append_assoc, arith, inl, inr}
-use Rattle.std.specs.Int.{Width, w16, w32, w64, byte_at, byte_len, bytes_high_first, from_be_bytes, to_be_bytes}
+use Rattle.std.proofs.Common.{◌≡◌, ℕ, zero, suc, ◌^◌, ◌<◌, ◌≤◌, Bool, true, false, cond, nat_lt, List, [], ◌∷◌, ◌++◌, length, get_or, take, drop, Option, Some, None, refl, sym, ap, subst, ◌∙◌, append_assoc, arith, inl, inr}
+use Rattle.std.specs.Int.{Width, w16, w32, w64, byte_len, from_be_bytes, to_be_bytes}
 use Rattle.std.specs.Str.{is_utf8}
 use Rattle.std.proofs.lemmas.Grind.{common_steps}
 use Rattle.std.proofs.lemmas.Bool.{cases_lt}
@@ -12,7 +12,7 @@ use Rattle.auction_rows.specs.declared.rows.GivenFeedback.{GivenFeedback}
 use Rattle.auction_rows.specs.declared.rows.ItemState.{ItemState}
 use Rattle.auction_rows.specs.declared.rows.ItemState.TheVariants.{Running, Closed, Sold}
 use Rattle.auction_rows.specs.Bounds.{AreBytes}
-use Rattle.auction_rows.specs.Reading.{◌>>=◌, Field, bytes_at, number_at, u8_at, id_at, text_at, byte_as, flag_of, state_of, given_of}
+use Rattle.auction_rows.specs.Reading.{◌>>=◌, bytes_at, number_at, u8_at, id_at, text_at, byte_as, flag_of, state_of, given_of}
 use Rattle.auction_rows.specs.Spelling.{u8_bytes, u32_bytes, u64_bytes, text16, flag, state_number, given_number}
 use Rattle.auction_rows.proofs.Exact.{bound, unless_some, if_some, Takes, Takes-then, IsExact}
 

@@ -1,8 +1,6 @@
 -- Rows are exact: what is read is spelled so, and what is spelled so is read.
-use Rattle.std.proofs.Common.{◌≡◌, ℕ, ◌^◌, ◌<◌, ◌≤◌, ◌&&◌, Bool, true, false, nat_le, List, [], ◌++◌, length, Option, Some, None, IfSome, refl, subst, append_assoc, arith}
+use Rattle.std.proofs.Common.{◌≡◌, ℕ, ◌^◌, ◌<◌, true, List, ◌++◌, Option, Some, IfSome, refl, subst, append_assoc, arith}
 use Rattle.std.specs.Str.{is_utf8}
-use Rattle.std.proofs.lemmas.Bool.Decides.{nat_tests}
-use Rattle.crash_base.specs.declared.rows.TheConstants.{MAX_ROW_BYTES}
 use Rattle.auction_rows.specs.declared.rows.BidRow.{BidRow}
 use Rattle.auction_rows.specs.declared.rows.CategoryRow.{CategoryRow}
 use Rattle.auction_rows.specs.declared.rows.CounterRow.{CounterRow}
@@ -13,9 +11,9 @@ use Rattle.auction_rows.specs.declared.rows.NameRow.{NameRow}
 use Rattle.auction_rows.specs.declared.rows.OwnItemRow.{OwnItemRow}
 use Rattle.auction_rows.specs.declared.rows.UserRow.{UserRow}
 use Rattle.auction_rows.specs.Bounds.{AreBytes, are_few, is_user, is_name, is_counter, is_item, is_category, is_bid, is_entry, is_feedback, is_own_item, IsUser, IsName, IsCounter, IsItem, IsCategory, IsBid, IsEntry, IsFeedback, IsOwnItem}
-use Rattle.auction_rows.specs.Reading.{whole, user_at, name_at, counter_at, item_at, category_at, bid_at, entry_at, feedback_at, own_item_at, user_of, name_of, counter_of, item_of, category_of, bid_of, entry_of, feedback_of, own_item_of}
-use Rattle.auction_rows.specs.Spelling.{u32_bytes, u64_bytes, item_numbers, user_bytes, name_bytes, counter_bytes, item_bytes, category_bytes, bid_bytes, entry_bytes, feedback_bytes, own_item_bytes}
-use Rattle.auction_rows.proofs.Exact.{both_true, split, start, taken, again, Takes, Reads, AreExact, whole_takes, whole_again, IsExactRow, found_within}
+use Rattle.auction_rows.specs.Reading.{user_at, name_at, counter_at, item_at, category_at, bid_at, entry_at, feedback_at, own_item_at, user_of, name_of, counter_of, item_of, category_of, bid_of, entry_of, feedback_of, own_item_of}
+use Rattle.auction_rows.specs.Spelling.{item_numbers, user_bytes, name_bytes, counter_bytes, item_bytes, category_bytes, bid_bytes, entry_bytes, feedback_bytes, own_item_bytes}
+use Rattle.auction_rows.proofs.Exact.{both_true, split, start, taken, again, Reads, AreExact, whole_takes, whole_again, IsExactRow, found_within}
 use Rattle.auction_rows.proofs.ExactFields.{bytes_exact, u32_exact, u64_exact, id_exact, IsText, text_exact, flag_exact, state_exact, given_exact}
 use Rattle.auction_rows.proofs.Sizes.{user_short, name_short, item_short, category_short, feedback_short, counter_few, bid_few, entry_few, own_item_few}
 
@@ -294,6 +292,7 @@ unfolding own_item_of
 own_item_exact =
     let fields : AreExact own_item_at own_item_bytes IsOwnItem = record { takes = own_item_taken; again = own_item_again; few = λ row h. own_item_few row } in
     record { takes = whole_takes fields; again = whole_again fields }
+
 pub user_within : (bytes : List ℕ) (found : Option UserRow) → AreBytes bytes → found ≡ user_of bytes → IfSome found (λ row. is_user row ≡ true)
 user_within bytes found are e = found_within user_exact is_user (λ row h. h.within) bytes found are e
 
@@ -320,4 +319,3 @@ feedback_within bytes found are e = found_within feedback_exact is_feedback (λ 
 
 pub own_item_within : (bytes : List ℕ) (found : Option OwnItemRow) → AreBytes bytes → found ≡ own_item_of bytes → IfSome found (λ row. is_own_item row ≡ true)
 own_item_within bytes found are e = found_within own_item_exact is_own_item (λ row h. own_item_few row) bytes found are e
-

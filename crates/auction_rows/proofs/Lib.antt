@@ -1,4 +1,6 @@
+pub mod AnyRow
 pub mod Exact
 pub mod ExactFields
 pub mod ExactRows
 pub mod Sizes
+pub mod Values

@@ -13,7 +13,7 @@ use Rattle.auction_rows.specs.declared.rows.ItemRow.{ItemRow}
 use Rattle.auction_rows.specs.declared.rows.NameRow.{NameRow}
 use Rattle.auction_rows.specs.declared.rows.OwnItemRow.{OwnItemRow}
 use Rattle.auction_rows.specs.declared.rows.UserRow.{UserRow}
-use Rattle.auction_rows.specs.Spelling.{user_bytes, name_bytes, counter_bytes, item_bytes, category_bytes, bid_bytes, entry_bytes, feedback_bytes, own_item_bytes}
+use Rattle.auction_rows.specs.Spelling.{user_bytes, name_bytes, counter_bytes, item_bytes, category_bytes, bid_bytes, entry_bytes, feedback_bytes, own_item_bytes, row_bytes, table_of}
 
 -- bytes are at most 4,096
 abbrev pub are_few : List ℕ → Bool
@@ -137,3 +137,13 @@ IsRow (row.OwnItem own) = IsOwnItem own
 -- numbers that bytes may be
 abbrev pub AreBytes : List ℕ → Type 0
 AreBytes bytes = All (λ byte. byte < 2 ^ 8) bytes
+
+-- Bytes spell a row of a table: the row is within its bounds, and the bytes are its bytes.
+pub record Spells (table : ℕ) (bytes : List ℕ) (row : AuctionRow) : Type 0 where
+  pub table_is : table ≡ table_of row
+  pub in_range : IsRow row
+  pub bytes_are : bytes ≡ row_bytes row
+
+-- bytes spell no row of a table
+abbrev pub SpellsNoRow : ℕ → List ℕ → Type 0
+SpellsNoRow table bytes = (row : AuctionRow) → ¬ Spells table bytes row

@@ -26,20 +26,30 @@ reference from to hard = record { from = record { 0 = from }; to = record { 0 = 
 abbrev pub table : ℕ → ℕ → TablePart
 table number owner = record { table = number; owner = record { 0 = owner } }
 
--- The parts of the site. The components are Web 0, Users 1, Numbers 2, Items 3, Categories 4, Bids 5,
--- Purchases 6 and Feedback 7. Web may call each other one; Bids and Purchases need Items, and Feedback
--- needs Users, and may call Items.
-unfoldable pub site_parts : Parts
+-- the components of the site, each of which has the number of those before it
+unfoldable pub site_components : List ComponentPart
+site_components =
+    caller (codes "Web") ∷ caller (codes "Users") ∷ caller (codes "Numbers") ∷ caller (codes "Items")
+    ∷ caller (codes "Categories") ∷ caller (codes "Bids") ∷ purchases ∷ caller (codes "Feedback") ∷ []
+
+-- Web may call each other one; Bids and Purchases need Items; Feedback needs Users, and may call Items
+unfoldable pub site_references : List Reference
+site_references =
+    reference 0 1 false ∷ reference 0 2 false ∷ reference 0 3 false ∷ reference 0 4 false
+    ∷ reference 0 5 false ∷ reference 0 6 false ∷ reference 0 7 false
+    ∷ reference 5 3 true ∷ reference 6 3 true ∷ reference 7 1 true ∷ reference 7 3 false ∷ []
+
+-- who owns the tables
+unfoldable pub site_tables : List TablePart
+site_tables =
+    table USER_TABLE 1 ∷ table NAME_TABLE 1 ∷ table COUNTER_TABLE 2
+    ∷ table ITEM_TABLE 3 ∷ table ENTRY_TABLE 3 ∷ table OWN_ITEM_TABLE 3
+    ∷ table CATEGORY_TABLE 4 ∷ table BID_TABLE 5 ∷ table FEEDBACK_TABLE 7 ∷ []
+
+-- The parts of the site.
+abbrev pub site_parts : Parts
 site_parts = record {
-  components =
-      caller (codes "Web") ∷ caller (codes "Users") ∷ caller (codes "Numbers") ∷ caller (codes "Items")
-      ∷ caller (codes "Categories") ∷ caller (codes "Bids") ∷ purchases ∷ caller (codes "Feedback") ∷ [];
-  references =
-      reference 0 1 false ∷ reference 0 2 false ∷ reference 0 3 false ∷ reference 0 4 false
-      ∷ reference 0 5 false ∷ reference 0 6 false ∷ reference 0 7 false
-      ∷ reference 5 3 true ∷ reference 6 3 true ∷ reference 7 1 true ∷ reference 7 3 false ∷ [];
-  tables =
-      table USER_TABLE 1 ∷ table NAME_TABLE 1 ∷ table COUNTER_TABLE 2
-      ∷ table ITEM_TABLE 3 ∷ table ENTRY_TABLE 3 ∷ table OWN_ITEM_TABLE 3
-      ∷ table CATEGORY_TABLE 4 ∷ table BID_TABLE 5 ∷ table FEEDBACK_TABLE 7 ∷ [];
+  components = site_components;
+  references = site_references;
+  tables = site_tables;
 }

@@ -9,7 +9,7 @@ ghost use Rattle.auction_rows.specs.Spelling.{bid_bytes};
 use crate::error::{RowError, found};
 use crate::fields::{check_end, check_few, id_at, u64_at, write_id, write_u64};
 use crate::laws::bids_are_exact;
-use crate::ranges::{bytes_are_in_range, bid_is_in_range};
+use crate::ranges::{bid_is_in_range, bytes_are_in_range};
 use crate::rows::BidRow;
 use crate::table_row::TableRow;
 use crash_base::{Moment, OutOfMemory, RowBytes};
@@ -35,7 +35,11 @@ fn read_bid(bytes: &[u8]) -> Result<BidRow, RowError>
     let (amount, rest) = u64_at(rest)?;
     let (moment, rest) = u64_at(rest)?;
     check_end(rest)?;
-    Ok(BidRow { bidder, amount, moment: Moment(moment) })
+    Ok(BidRow {
+        bidder,
+        amount,
+        moment: Moment(moment),
+    })
 }
 
 #[tactic(auto, unfolding(crate::specs::Spelling::bid_bytes))]
@@ -55,7 +59,6 @@ impl TableRow for BidRow {
 
     ghost is_within = { is_bid };
 
-    #[tactic(auto, using(crate::proofs::ExactRows::bid_within))]
     fn decode(_alloc: Global, bytes: &[u8]) -> Result<Option<BidRow>, OutOfMemory> {
         bytes_are_in_range(bytes);
         let found = found(read_bid(bytes))?;

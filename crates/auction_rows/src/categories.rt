@@ -33,7 +33,9 @@ fn read_category(alloc: Global, bytes: &[u8]) -> Result<CategoryRow, RowError>
     check_few(bytes)?;
     let (name, rest) = text_at(bytes)?;
     check_end(rest)?;
-    Ok(CategoryRow { name: FieldText::copied(alloc, name)? })
+    Ok(CategoryRow {
+        name: FieldText::copied(alloc, name)?,
+    })
 }
 
 #[tactic(auto, using(crate::proofs::Sizes::category_short), unfolding(crate::specs::Spelling::category_bytes))]
@@ -52,7 +54,6 @@ impl TableRow for CategoryRow {
 
     ghost is_within = { is_category };
 
-    #[tactic(auto, using(crate::proofs::ExactRows::category_within))]
     fn decode(alloc: Global, bytes: &[u8]) -> Result<Option<CategoryRow>, OutOfMemory> {
         bytes_are_in_range(bytes);
         let found = found(read_category(alloc, bytes))?;

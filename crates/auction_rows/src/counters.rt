@@ -51,7 +51,6 @@ impl TableRow for CounterRow {
 
     ghost is_within = { is_counter };
 
-    #[tactic(auto, using(crate::proofs::ExactRows::counter_within))]
     fn decode(_alloc: Global, bytes: &[u8]) -> Result<Option<CounterRow>, OutOfMemory> {
         bytes_are_in_range(bytes);
         let found = found(read_counter(bytes))?;

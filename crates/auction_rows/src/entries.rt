@@ -51,7 +51,6 @@ impl TableRow for EntryRow {
 
     ghost is_within = { is_entry };
 
-    #[tactic(auto, using(crate::proofs::ExactRows::entry_within))]
     fn decode(_alloc: Global, bytes: &[u8]) -> Result<Option<EntryRow>, OutOfMemory> {
         bytes_are_in_range(bytes);
         let found = found(read_entry(bytes))?;

@@ -21,7 +21,9 @@ impl From<crash_base::OutOfMemory> for RowError {
 }
 
 /// The row that was read, or None where no row has these bytes.
-pub(crate) fn found<T: Drop>(answer: Result<T, RowError>) -> Result<Option<T>, crash_base::OutOfMemory>
+pub(crate) fn found<T: Drop>(
+    answer: Result<T, RowError>,
+) -> Result<Option<T>, crash_base::OutOfMemory>
     ensures { (read : Option T) → Answers (λ row. row) answer read
         → IfOk result (λ found. found ≡ read) }
 {

@@ -7,7 +7,10 @@ ghost use Rattle.auction_rows.specs.Reading.{item_at, item_of};
 ghost use Rattle.auction_rows.specs.Spelling.{item_bytes, item_numbers};
 
 use crate::error::{RowError, found};
-use crate::fields::{check_end, check_few, given_at, given_number, id_at, is_text, state_at, state_number, text_at, u32_at, u64_at, write_id, write_text, write_u8, write_u32, write_u64};
+use crate::fields::{
+    check_end, check_few, given_at, given_number, id_at, is_text, state_at, state_number, text_at,
+    u32_at, u64_at, write_id, write_text, write_u8, write_u32, write_u64,
+};
 use crate::laws::items_are_exact;
 use crate::ranges::{bytes_are_in_range, item_is_in_range};
 use crate::rows::ItemRow;
@@ -95,7 +98,6 @@ impl TableRow for ItemRow {
 
     ghost is_within = { is_item };
 
-    #[tactic(auto, using(crate::proofs::ExactRows::item_within))]
     fn decode(alloc: Global, bytes: &[u8]) -> Result<Option<ItemRow>, OutOfMemory> {
         bytes_are_in_range(bytes);
         let found = found(read_item(alloc, bytes))?;

@@ -1,7 +1,8 @@
 //! Laws of rows and of session values. Each is the contract of a function that does nothing: a caller
 //! that needs the law calls the function.
 
-ghost use Rattle.std.specs.Prelude.{◌≡◌, ◌↔◌, ℕ, List, Some};
+ghost use Rattle.std.specs.Prelude.{◌≡◌, ◌≢◌, ◌↔◌, ℕ, ◌<◌, ◌^◌, List, Some, None};
+ghost use Rattle.auction_rows.specs.declared.rows.AuctionRow.{AuctionRow};
 ghost use Rattle.auction_rows.specs.declared.rows.BidRow.{BidRow};
 ghost use Rattle.auction_rows.specs.declared.rows.CategoryRow.{CategoryRow};
 ghost use Rattle.auction_rows.specs.declared.rows.CounterRow.{CounterRow};
@@ -11,9 +12,49 @@ ghost use Rattle.auction_rows.specs.declared.rows.ItemRow.{ItemRow};
 ghost use Rattle.auction_rows.specs.declared.rows.NameRow.{NameRow};
 ghost use Rattle.auction_rows.specs.declared.rows.OwnItemRow.{OwnItemRow};
 ghost use Rattle.auction_rows.specs.declared.rows.UserRow.{UserRow};
-ghost use Rattle.auction_rows.specs.Bounds.{AreBytes, IsUser, IsName, IsCounter, IsItem, IsCategory, IsBid, IsEntry, IsFeedback, IsOwnItem};
-ghost use Rattle.auction_rows.specs.Reading.{user_of, name_of, counter_of, item_of, category_of, bid_of, entry_of, feedback_of, own_item_of};
-ghost use Rattle.auction_rows.specs.Spelling.{user_bytes, name_bytes, counter_bytes, item_bytes, category_bytes, bid_bytes, entry_bytes, feedback_bytes, own_item_bytes};
+ghost use Rattle.auction_rows.specs.Bounds.{AreBytes, IsRow, Spells, SpellsNoRow, IsUser, IsName, IsCounter, IsItem, IsCategory, IsBid, IsEntry, IsFeedback, IsOwnItem};
+ghost use Rattle.auction_rows.specs.Reading.{row_of, user_of, name_of, counter_of, item_of, category_of, bid_of, entry_of, feedback_of, own_item_of};
+ghost use Rattle.auction_rows.specs.Spelling.{row_bytes, table_of, user_bytes, name_bytes, counter_bytes, item_bytes, category_bytes, bid_bytes, entry_bytes, feedback_bytes, own_item_bytes};
+ghost use Rattle.auction_rows.specs.Ids.{users_counter, items_counter, categories_counter, category_counter, bid_id, entry_id, feedback_id, own_item_id};
+ghost use Rattle.auction_rows.specs.Session.{session_bytes, session_user};
+
+/// Bytes are read to exactly the row of a table that they spell, and to none exactly where they spell
+/// none.
+pub fn rows_are_exact()
+    ensures some { (table : ℕ) (bytes : List ℕ) (row : AuctionRow) → AreBytes bytes
+        → (row_of table bytes ≡ Some row) ↔ Spells table bytes row }
+    ensures none { (table : ℕ) (bytes : List ℕ) → AreBytes bytes
+        → (row_of table bytes ≡ None) ↔ SpellsNoRow table bytes }
+{}
+
+/// A row within its bounds is read back from its bytes.
+pub fn rows_read_back()
+    ensures { (row : AuctionRow) → IsRow row → row_of (table_of row) (row_bytes row) ≡ Some row }
+{}
+
+/// The user of a session is read back from its value.
+pub fn sessions_read_back()
+    ensures { (user moment : ℕ) → user < 2 ^ 32
+        → session_user (session_bytes user moment) ≡ user }
+{}
+
+/// Rows with numbers have ids of their own where the numbers are below 2^20, or below 2^32, and no
+/// category's counter is one of the three others.
+pub fn ids_differ()
+    ensures bids { (item number other n : ℕ) → number < 2 ^ 20 → n < 2 ^ 20
+        → bid_id item number ≡ bid_id other n → (item ≡ other) × (number ≡ n) }
+    ensures entries { (category number other n : ℕ) → number < 2 ^ 32 → n < 2 ^ 32
+        → entry_id category number ≡ entry_id other n → (category ≡ other) × (number ≡ n) }
+    ensures feedback { (user number other n : ℕ) → number < 2 ^ 20 → n < 2 ^ 20
+        → feedback_id user number ≡ feedback_id other n → (user ≡ other) × (number ≡ n) }
+    ensures own_items { (user number other n : ℕ) → number < 2 ^ 32 → n < 2 ^ 32
+        → own_item_id user number ≡ own_item_id other n → (user ≡ other) × (number ≡ n) }
+    ensures counters { (category : ℕ) → (category_counter category ≢ users_counter)
+        × (category_counter category ≢ items_counter)
+        × (category_counter category ≢ categories_counter) }
+    ensures categories { (category other : ℕ)
+        → category_counter category ≡ category_counter other → category ≡ other }
+{}
 
 /// Bytes are read to exactly the user that they spell, and a user is read back from its bytes.
 pub fn users_are_exact()

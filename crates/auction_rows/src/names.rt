@@ -34,7 +34,10 @@ fn read_name(alloc: Global, bytes: &[u8]) -> Result<NameRow, RowError>
     let (name, rest) = text_at(bytes)?;
     let (user, rest) = id_at(rest)?;
     check_end(rest)?;
-    Ok(NameRow { name: FieldText::copied(alloc, name)?, user })
+    Ok(NameRow {
+        name: FieldText::copied(alloc, name)?,
+        user,
+    })
 }
 
 #[tactic(auto, using(crate::proofs::Sizes::name_short), unfolding(crate::specs::Spelling::name_bytes))]
@@ -54,7 +57,6 @@ impl TableRow for NameRow {
 
     ghost is_within = { is_name };
 
-    #[tactic(auto, using(crate::proofs::ExactRows::name_within))]
     fn decode(alloc: Global, bytes: &[u8]) -> Result<Option<NameRow>, OutOfMemory> {
         bytes_are_in_range(bytes);
         let found = found(read_name(alloc, bytes))?;

@@ -51,7 +51,6 @@ impl TableRow for OwnItemRow {
 
     ghost is_within = { is_own_item };
 
-    #[tactic(auto, using(crate::proofs::ExactRows::own_item_within))]
     fn decode(_alloc: Global, bytes: &[u8]) -> Result<Option<OwnItemRow>, OutOfMemory> {
         bytes_are_in_range(bytes);
         let found = found(read_own_item(bytes))?;

@@ -7,7 +7,9 @@ ghost use Rattle.auction_rows.specs.Reading.{user_at, user_of};
 ghost use Rattle.auction_rows.specs.Spelling.{user_bytes};
 
 use crate::error::{RowError, found};
-use crate::fields::{check_end, check_few, digest_at, is_text, salt_at, text_at, u32_at, write_text, write_u32};
+use crate::fields::{
+    check_end, check_few, digest_at, is_text, salt_at, text_at, u32_at, write_text, write_u32,
+};
 use crate::laws::users_are_exact;
 use crate::ranges::{bytes_are_in_range, user_is_in_range};
 use crate::rows::UserRow;
@@ -38,7 +40,14 @@ fn read_user(alloc: Global, bytes: &[u8]) -> Result<UserRow, RowError>
     let (bad, rest) = u32_at(rest)?;
     let (items, rest) = u32_at(rest)?;
     check_end(rest)?;
-    Ok(UserRow { name: FieldText::copied(alloc, name)?, salt, digest, good, bad, items })
+    Ok(UserRow {
+        name: FieldText::copied(alloc, name)?,
+        salt,
+        digest,
+        good,
+        bad,
+        items,
+    })
 }
 
 #[tactic(auto, using(crate::proofs::Sizes::user_short), unfolding(crate::specs::Spelling::user_bytes))]
@@ -62,7 +71,6 @@ impl TableRow for UserRow {
 
     ghost is_within = { is_user };
 
-    #[tactic(auto, using(crate::proofs::ExactRows::user_within))]
     fn decode(alloc: Global, bytes: &[u8]) -> Result<Option<UserRow>, OutOfMemory> {
         bytes_are_in_range(bytes);
         let found = found(read_user(alloc, bytes))?;

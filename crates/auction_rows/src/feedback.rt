@@ -7,7 +7,10 @@ ghost use Rattle.auction_rows.specs.Reading.{feedback_at, feedback_of};
 ghost use Rattle.auction_rows.specs.Spelling.{feedback_bytes};
 
 use crate::error::{RowError, found};
-use crate::fields::{check_end, check_few, flag_at, flag_number, id_at, is_text, text_at, write_id, write_text, write_u8};
+use crate::fields::{
+    check_end, check_few, flag_at, flag_number, id_at, is_text, text_at, write_id, write_text,
+    write_u8,
+};
 use crate::laws::feedback_is_exact;
 use crate::ranges::{bytes_are_in_range, feedback_is_in_range};
 use crate::rows::FeedbackRow;
@@ -36,7 +39,12 @@ fn read_feedback(alloc: Global, bytes: &[u8]) -> Result<FeedbackRow, RowError>
     let (good, rest) = flag_at(rest)?;
     let (text, rest) = text_at(rest)?;
     check_end(rest)?;
-    Ok(FeedbackRow { from, item, good, text: FieldText::copied(alloc, text)? })
+    Ok(FeedbackRow {
+        from,
+        item,
+        good,
+        text: FieldText::copied(alloc, text)?,
+    })
 }
 
 #[tactic(auto, using(crate::proofs::Sizes::feedback_short), unfolding(crate::specs::Spelling::feedback_bytes))]
@@ -58,7 +66,6 @@ impl TableRow for FeedbackRow {
 
     ghost is_within = { is_feedback };
 
-    #[tactic(auto, using(crate::proofs::ExactRows::feedback_within))]
     fn decode(alloc: Global, bytes: &[u8]) -> Result<Option<FeedbackRow>, OutOfMemory> {
         bytes_are_in_range(bytes);
         let found = found(read_feedback(alloc, bytes))?;

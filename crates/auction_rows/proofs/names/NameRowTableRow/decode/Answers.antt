@@ -1,0 +1,6 @@
+use Rattle.std.proofs.Common.{rules}
+use Rattle.auction_rows.proofs.ExactRows.{name_within}
+use Rattle.auction_rows.proofs.names.NameRowTableRow.decode.Goals as goal
+
+pub returns-clause-within : goal.returns-clause-within
+returns-clause-within c = name_within c.args.bytes.now c.in_ok-found.found c.bytes_are_in_range.ensures (search rules)
