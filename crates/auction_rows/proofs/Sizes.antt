@@ -1,5 +1,5 @@
 -- How many bytes rows have.
-use Rattle.std.proofs.Common.{◌≡◌, ℕ, ◌+◌, ◌^◌, ◌<◌, ◌≤◌, true, List, length, refl, arith}
+use Rattle.std.proofs.Common.{◌≡◌, ℕ, ◌+◌, ◌^◌, ◌<◌, ◌≤◌, Bool, true, ◌&&◌, nat_le, List, length, refl, ap, arith}
 use Rattle.std.specs.Str.{is_utf8}
 use Rattle.std.proofs.lemmas.Bool.Decides.{nat_tests}
 use Rattle.std.proofs.lemmas.List.{length-append}
@@ -71,3 +71,24 @@ category_short category is = omega (arith, category_size category, at_most (cate
 
 pub feedback_short : (feedback : FeedbackRow) → is_feedback feedback ≡ true → length feedback.text < 2 ^ 16
 feedback_short feedback is = omega (arith, feedback_size feedback, at_most (feedback_bytes feedback) ((split (is_utf8 feedback.text) (are_few (feedback_bytes feedback)) is).1))
+
+-- room for a text, beside other fields
+room : (size fixed n left : ℕ) (b : Bool) → size ≡ fixed + n → fixed + left ≡ MAX_ROW_BYTES → (b && nat_le size MAX_ROW_BYTES) ≡ (b && nat_le n left)
+room size fixed n left b e f =
+    let same : nat_le size MAX_ROW_BYTES ≡ nat_le n left = grind (arith, nat_tests) in
+    ap (λ t. b && t) same
+
+pub user_bounds : (user : UserRow) → length user.salt ≡ 8 → length user.digest ≡ 32 → is_user user ≡ (is_utf8 user.name && nat_le (length user.name) 4042)
+user_bounds user salt digest = room (length (user_bytes user)) 54 (length user.name) 4042 (is_utf8 user.name) (omega (arith, user_size user, salt, digest)) refl
+
+pub name_bounds : (name : NameRow) → is_name name ≡ (is_utf8 name.name && nat_le (length name.name) 4086)
+name_bounds name = room (length (name_bytes name)) 10 (length name.name) 4086 (is_utf8 name.name) (name_size name) refl
+
+pub item_bounds : (item : ItemRow) → is_item item ≡ (is_utf8 item.title && nat_le (length item.title) 4024)
+item_bounds item = room (length (item_bytes item)) 72 (length item.title) 4024 (is_utf8 item.title) (item_size item) refl
+
+pub category_bounds : (category : CategoryRow) → is_category category ≡ (is_utf8 category.name && nat_le (length category.name) 4094)
+category_bounds category = room (length (category_bytes category)) 2 (length category.name) 4094 (is_utf8 category.name) (category_size category) refl
+
+pub feedback_bounds : (feedback : FeedbackRow) → is_feedback feedback ≡ (is_utf8 feedback.text && nat_le (length feedback.text) 4077)
+feedback_bounds feedback = room (length (feedback_bytes feedback)) 19 (length feedback.text) 4077 (is_utf8 feedback.text) (feedback_size feedback) refl

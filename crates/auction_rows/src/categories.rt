@@ -18,7 +18,8 @@ use std::alloc::Global;
 /// How many bytes a category has besides those of its name.
 const CATEGORY_BYTES: usize = 2;
 
-/// Whether a category is within its bounds: its name is UTF-8, and its bytes are at most 4,096. It takes no memory, and visits each byte of its name once.
+/// Whether a category is within its bounds: its name is UTF-8, and its bytes are at most 4,096. It takes
+/// no memory, and visits each byte of its name once.
 #[tactic(auto, using(crate::proofs::Sizes::category_size))]
 pub fn is_category(category: &CategoryRow) -> bool
     ensures { result ≡ is_category category.now }

@@ -21,7 +21,8 @@ use std::alloc::Global;
 /// How many bytes feedback has besides those of its text.
 const FEEDBACK_BYTES: usize = 19;
 
-/// Whether feedback is within its bounds: its text is UTF-8, and its bytes are at most 4,096. It takes no memory, and visits each byte of its text once.
+/// Whether feedback is within its bounds: its text is UTF-8, and its bytes are at most 4,096. It takes
+/// no memory, and visits each byte of its text once.
 #[tactic(auto, using(crate::proofs::Sizes::feedback_size))]
 pub fn is_feedback(feedback: &FeedbackRow) -> bool
     ensures { result ≡ is_feedback feedback.now }

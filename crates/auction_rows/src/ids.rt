@@ -26,7 +26,8 @@ pub fn user_id(user: u32) -> RowId
     }
 }
 
-/// A name, by the first 8 bytes of its SHA-256, a big-endian number. It visits each byte of the name once.
+/// A name, by the first 8 bytes of its SHA-256, a big-endian number. It visits each byte of the name
+/// once.
 #[tactic(auto, unfolding(crate::specs::Ids::name_id))]
 pub fn name_id(name: &[u8]) -> RowId
     ensures { result ≡ name_id name.now }

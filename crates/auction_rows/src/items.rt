@@ -21,7 +21,8 @@ use std::alloc::Global;
 /// How many bytes an item has besides those of its title.
 const ITEM_BYTES: usize = 72;
 
-/// Whether an item is within its bounds: its title is UTF-8, and its bytes are at most 4,096. It takes no memory, and visits each byte of its title once.
+/// Whether an item is within its bounds: its title is UTF-8, and its bytes are at most 4,096. It takes
+/// no memory, and visits each byte of its title once.
 #[tactic(auto, using(crate::proofs::Sizes::item_size))]
 pub fn is_item(item: &ItemRow) -> bool
     ensures { result ≡ is_item item.now }

@@ -1,7 +1,8 @@
 //! Laws of rows and of session values. Each is the contract of a function that does nothing: a caller
 //! that needs the law calls the function.
 
-ghost use Rattle.std.specs.Prelude.{◌≡◌, ◌≢◌, ◌↔◌, ℕ, ◌<◌, ◌^◌, List, Some, None};
+ghost use Rattle.std.specs.Prelude.{◌≡◌, ◌≢◌, ◌↔◌, ℕ, ◌<◌, ◌^◌, ◌&&◌, nat_le, true, List, length, Some, None};
+ghost use Rattle.std.specs.Str.{is_utf8};
 ghost use Rattle.auction_rows.specs.declared.rows.AuctionRow.{AuctionRow};
 ghost use Rattle.auction_rows.specs.declared.rows.BidRow.{BidRow};
 ghost use Rattle.auction_rows.specs.declared.rows.CategoryRow.{CategoryRow};
@@ -12,7 +13,7 @@ ghost use Rattle.auction_rows.specs.declared.rows.ItemRow.{ItemRow};
 ghost use Rattle.auction_rows.specs.declared.rows.NameRow.{NameRow};
 ghost use Rattle.auction_rows.specs.declared.rows.OwnItemRow.{OwnItemRow};
 ghost use Rattle.auction_rows.specs.declared.rows.UserRow.{UserRow};
-ghost use Rattle.auction_rows.specs.Bounds.{AreBytes, IsRow, Spells, SpellsNoRow, IsUser, IsName, IsCounter, IsItem, IsCategory, IsBid, IsEntry, IsFeedback, IsOwnItem};
+ghost use Rattle.auction_rows.specs.Bounds.{is_user, is_name, is_counter, is_item, is_category, is_bid, is_entry, is_feedback, is_own_item, AreBytes, IsRow, Spells, SpellsNoRow, IsUser, IsName, IsCounter, IsItem, IsCategory, IsBid, IsEntry, IsFeedback, IsOwnItem};
 ghost use Rattle.auction_rows.specs.Reading.{row_of, user_of, name_of, counter_of, item_of, category_of, bid_of, entry_of, feedback_of, own_item_of};
 ghost use Rattle.auction_rows.specs.Spelling.{row_bytes, table_of, user_bytes, name_bytes, counter_bytes, item_bytes, category_bytes, bid_bytes, entry_bytes, feedback_bytes, own_item_bytes};
 ghost use Rattle.auction_rows.specs.Ids.{users_counter, items_counter, categories_counter, category_counter, bid_id, entry_id, feedback_id, own_item_id};
@@ -36,6 +37,25 @@ pub fn rows_read_back()
 pub fn sessions_read_back()
     ensures { (user moment : ℕ) → user < 2 ^ 32
         → session_user (session_bytes user moment) ≡ user }
+{}
+
+/// A row is within its bounds exactly where its text is UTF-8 and leaves room for its other fields. A
+/// row without a text always is.
+pub fn texts_decide_bounds()
+    ensures user { (user : UserRow) → length user.salt ≡ 8 → length user.digest ≡ 32
+        → is_user user ≡ (is_utf8 user.name && nat_le (length user.name) 4042) }
+    ensures name { (name : NameRow)
+        → is_name name ≡ (is_utf8 name.name && nat_le (length name.name) 4086) }
+    ensures counter { (counter : CounterRow) → is_counter counter ≡ true }
+    ensures item { (item : ItemRow)
+        → is_item item ≡ (is_utf8 item.title && nat_le (length item.title) 4024) }
+    ensures category { (category : CategoryRow)
+        → is_category category ≡ (is_utf8 category.name && nat_le (length category.name) 4094) }
+    ensures bid { (bid : BidRow) → is_bid bid ≡ true }
+    ensures entry { (entry : EntryRow) → is_entry entry ≡ true }
+    ensures feedback { (feedback : FeedbackRow)
+        → is_feedback feedback ≡ (is_utf8 feedback.text && nat_le (length feedback.text) 4077) }
+    ensures own_item { (own : OwnItemRow) → is_own_item own ≡ true }
 {}
 
 /// Rows with numbers have ids of their own where the numbers are below 2^20, or below 2^32, and no

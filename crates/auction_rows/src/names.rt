@@ -18,7 +18,8 @@ use std::alloc::Global;
 /// How many bytes a name has besides those of its name.
 const NAME_BYTES: usize = 10;
 
-/// Whether a name is within its bounds: its name is UTF-8, and its bytes are at most 4,096. It takes no memory, and visits each byte of its name once.
+/// Whether a name is within its bounds: its name is UTF-8, and its bytes are at most 4,096. It takes
+/// no memory, and visits each byte of its name once.
 #[tactic(auto, using(crate::proofs::Sizes::name_size))]
 pub fn is_name(name: &NameRow) -> bool
     ensures { result ≡ is_name name.now }

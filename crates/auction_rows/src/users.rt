@@ -20,7 +20,8 @@ use std::alloc::Global;
 /// How many bytes a user has besides those of its name.
 const USER_BYTES: usize = 54;
 
-/// Whether a user is within its bounds: its name is UTF-8, and its bytes are at most 4,096. It takes no memory, and visits each byte of its name once.
+/// Whether a user is within its bounds: its name is UTF-8, and its bytes are at most 4,096. It takes
+/// no memory, and visits each byte of its name once.
 #[tactic(auto, using(crate::proofs::Sizes::user_size))]
 pub fn is_user(user: &UserRow) -> bool
     ensures { result ≡ is_user user.now }
