@@ -1,5 +1,5 @@
 -- The bytes that spell rows: their fields in order, whose numbers are big-endian.
-use Rattle.std.specs.Prelude.{ℕ, ◌+◌, Bool, true, false, List, [], ◌∷◌, ◌++◌, length}
+use Rattle.std.specs.Prelude.{ℕ, ◌+◌, ◌*◌, Bool, true, false, List, [], ◌∷◌, ◌++◌, length}
 use Rattle.std.specs.Int.{w16, w32, w64, to_be_bytes}
 use Rattle.auction_rows.specs.declared.rows.AuctionRow.{AuctionRow}
 use Rattle.auction_rows.specs.declared.rows.AuctionRow.TheVariants as row
@@ -33,7 +33,7 @@ u64_bytes n = to_be_bytes w64 n
 unfoldable pub text16 : List ℕ → List ℕ
 text16 text = to_be_bytes w16 (length text) ++ text
 
--- one where something is so, and else 0
+-- 1 where something is so, and else 0
 abbrev pub flag : Bool → ℕ
 flag true = 1
 flag false = 0
@@ -46,7 +46,7 @@ state_number Sold = 2
 
 -- the number of who has given feedback: 1 for the buyer, and 2 more for the seller
 abbrev pub given_number : GivenFeedback → ℕ
-given_number given = flag given.by_buyer + (flag given.by_seller + flag given.by_seller)
+given_number given = flag given.by_buyer + 2 * flag given.by_seller
 
 -- the bytes of a user
 unfoldable pub user_bytes : UserRow → List ℕ

@@ -1,7 +1,7 @@
-//! Laws of rows and of session values. Each is the contract of a function that does nothing: a caller
+//! Laws of rows, ids, session values and the site. Each is the contract of a function that does nothing: a caller
 //! that needs the law calls the function.
 
-ghost use Rattle.std.specs.Prelude.{◌≡◌, ◌≢◌, ◌↔◌, ℕ, ◌<◌, ◌^◌, ◌&&◌, nat_le, true, List, length, Some, None};
+ghost use Rattle.std.specs.Prelude.{◌≡◌, ◌≢◌, ◌↔◌, ℕ, ◌<◌, ◌^◌, ◌&&◌, nat_le, true, List, [], ◌∷◌, length, map, Some, None};
 ghost use Rattle.std.specs.Str.{is_utf8};
 ghost use Rattle.auction_rows.specs.declared.rows.AuctionRow.{AuctionRow};
 ghost use Rattle.auction_rows.specs.declared.rows.BidRow.{BidRow};
@@ -17,6 +17,8 @@ ghost use Rattle.auction_rows.specs.Bounds.{is_user, is_name, is_counter, is_ite
 ghost use Rattle.auction_rows.specs.Reading.{row_of, user_of, name_of, counter_of, item_of, category_of, bid_of, entry_of, feedback_of, own_item_of};
 ghost use Rattle.auction_rows.specs.Spelling.{row_bytes, table_of, user_bytes, name_bytes, counter_bytes, item_bytes, category_bytes, bid_bytes, entry_bytes, feedback_bytes, own_item_bytes};
 ghost use Rattle.auction_rows.specs.Ids.{users_counter, items_counter, categories_counter, category_counter, bid_id, entry_id, feedback_id, own_item_id};
+ghost use Rattle.deployment.specs.Groups.{group_of};
+ghost use Rattle.auction_rows.specs.Parts.{site_parts};
 ghost use Rattle.auction_rows.specs.Session.{session_bytes, session_user};
 
 /// Bytes are read to exactly the row of a table that they spell, and to none exactly where they spell
@@ -56,6 +58,13 @@ pub fn texts_decide_bounds()
     ensures feedback { (feedback : FeedbackRow)
         → is_feedback feedback ≡ (is_utf8 feedback.text && nat_le (length feedback.text) 4077) }
     ensures own_item { (own : OwnItemRow) → is_own_item own ≡ true }
+{}
+
+/// The groups of the site's components, in order: Web, Numbers and Categories are alone, Users and
+/// Feedback are rebooted together, and so are Items, Bids and Purchases.
+pub fn site_groups()
+    ensures { map (group_of site_parts) (0 ∷ 1 ∷ 2 ∷ 3 ∷ 4 ∷ 5 ∷ 6 ∷ 7 ∷ [])
+        ≡ 0 ∷ 1 ∷ 2 ∷ 3 ∷ 4 ∷ 3 ∷ 3 ∷ 1 ∷ [] }
 {}
 
 /// Rows with numbers have ids of their own where the numbers are below 2^20, or below 2^32, and no

@@ -25,7 +25,7 @@
 //! The ids say under which key a row stands; those with a number differ where the numbers are in their
 //! ranges (`ids_differ`). A session's value is its user and the moment at which it was set
 //! (`encode_session`, `session_user`). `site_deployment` is the deployment whose components own the
-//! nine tables.
+//! nine tables, in five recovery groups (`site_groups`).
 //!
 //! Each call goes over its bytes a few times at most, and copies a text once.
 #![tactic(auto)]
