@@ -27,7 +27,18 @@ is_user_name name = is_between 1 24 (length name) && list_all is_name_byte name
 abbrev pub are_credentials : List ℕ → List ℕ → Bool
 are_credentials name password = is_user_name name && is_text 1 72 password
 
--- Each field of an action is in its range. Amounts are in cents.
+-- an offer: a title, a category, the start and the price of a sale at once in cents, and hours
+abbrev pub is_offer : List ℕ → ℕ → ℕ → ℕ → ℕ → Bool
+is_offer title category start buy_now hours =
+    is_text 1 80 title
+    && (is_id category
+    && (is_between 1 4000000000 start && (nat_le buy_now 4000000000 && is_between 1 720 hours)))
+
+-- a bid on an item, in cents
+abbrev pub is_bid : ℕ → ℕ → Bool
+is_bid item amount = is_id item && is_between 1 4000000000 amount
+
+-- Each field of an action is in its range.
 abbrev pub is_action : Action → Bool
 is_action Home = true
 is_action (Register name password) = are_credentials name password
@@ -39,11 +50,8 @@ is_action (Browse category page) = is_id category && nat_le page 9999
 is_action (Item item) = is_id item
 is_action (User user) = is_id user
 is_action About = true
-is_action (Sell title category start buy_now hours) =
-    is_text 1 80 title
-    && (is_id category
-    && (is_between 1 4000000000 start && (nat_le buy_now 4000000000 && is_between 1 720 hours)))
-is_action (Bid item amount) = is_id item && is_between 1 4000000000 amount
+is_action (Sell title category start buy_now hours) = is_offer title category start buy_now hours
+is_action (Bid item amount) = is_bid item amount
 is_action (Buy item) = is_id item
 is_action (Close item) = is_id item
 is_action (Feedback item good text) = is_id item && is_text 0 200 text

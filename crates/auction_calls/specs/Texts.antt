@@ -1,5 +1,5 @@
 -- The texts of calls, as the journal has them. Numbers are big-endian.
-use Rattle.std.specs.Prelude.{codes, ◌≡◌, ℕ, Bool, true, if◌then◌else◌, List, [], ◌∷◌, ◌++◌, length}
+use Rattle.std.specs.Prelude.{codes, ◌≡◌, ℕ, ◌^◌, ◌<◌, All, Bool, true, if◌then◌else◌, List, [], ◌∷◌, ◌++◌, length}
 use Rattle.std.specs.Int.{w16, w64, to_be_bytes}
 use Rattle.auction_calls.specs.declared.action.Action.{Action}
 use Rattle.auction_calls.specs.declared.action.Action.TheVariants.{Home, Register, SignIn, SignOut, Categories, AddCategory, Browse, Item, User, About, Sell, Bid, Buy, Close, Feedback, Form}
@@ -72,13 +72,18 @@ field_bytes (Close item) = u64_bytes item
 field_bytes (Feedback item good text) = u64_bytes item ++ (u64_bytes (bit good) ++ text16 text)
 field_bytes (Form kind) = text16 (kind_text kind)
 
--- The text of a call: the number of its action, then who asks, when, and what else the answer
--- depends on, and then the action's fields.
+-- who asks, when, and what else the answer depends on
+unfoldable pub head_bytes : ActionCall → List ℕ
+head_bytes c =
+    u64_bytes c.user ++ (c.key.0 ++ (u64_bytes c.now.0 ++ (u64_bytes c.fresh ++ c.form)))
+
+-- The text of a call: the number of its action, who asks, when and the rest, and the action's fields.
 unfoldable pub call_bytes : ActionCall → List ℕ
-call_bytes c =
-    action_number c.action ∷ u64_bytes c.user
-    ++ (c.key.0
-    ++ (u64_bytes c.now.0 ++ (u64_bytes c.fresh ++ (c.form ++ field_bytes c.action))))
+call_bytes c = action_number c.action ∷ head_bytes c ++ field_bytes c.action
+
+-- numbers that bytes may be
+abbrev pub AreBytes : List ℕ → Type 0
+AreBytes bytes = All (λ b. b < 2 ^ 8) bytes
 
 -- A text spells a call: the call is in its ranges, and the text is that of the call.
 pub record Spells (text : List ℕ) (call : ActionCall) : Type 0 where

@@ -1,0 +1,6 @@
+pub mod Exact
+pub mod ExactActions
+pub mod ExactCalls
+pub mod ExactFields
+pub mod Names
+pub mod Taken
