@@ -3,7 +3,7 @@
 /// Why a rule of the auction refuses an action on an item.
 #[derive(Clone, Copy, PartialEq)]
 pub enum RuleRefusal {
-    /// The item is not running.
+    /// The item is not running; where it is to be closed, its state is not `Running`.
     AuctionOver,
     /// The user sells the item.
     OwnItem,
