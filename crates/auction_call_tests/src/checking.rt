@@ -6,7 +6,7 @@ use crate::words::{
 };
 use auction_calls::{
     Action, ActionCall, CheckedCall, FormKind, action_text, texts_are_exact, texts_read_back,
-    texts_spell_one_call, user_names_are_utf8,
+    texts_spell_one_call, user_names_are_utf8, words_are_of_one_form,
 };
 use auction_rules::{
     bid_refusals_are_exact, buy_refusals_are_exact, close_refusals_are_exact,
@@ -110,6 +110,7 @@ fn laws_are_called(_rt: HostRuntime) {
     texts_read_back();
     texts_spell_one_call();
     user_names_are_utf8();
+    words_are_of_one_form();
     running_is_exact();
     bid_refusals_are_exact();
     buy_refusals_are_exact();

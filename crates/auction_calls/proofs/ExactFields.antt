@@ -101,7 +101,7 @@ word_step word kind k later next e = go (bytes_eq word (kind_text kind)) refl e
     go true is f = let same : kind ≡ k = cc in (bytes_eq-Decides word (kind_text kind)).0 is ∙ ap kind_text same
     go false is f = next f
 
-kind_found : (word : List ℕ) (k : FormKind) → kind_of word ≡ Some k → word ≡ kind_text k
+pub kind_found : (word : List ℕ) (k : FormKind) → kind_of word ≡ Some k → word ≡ kind_text k
 unfolding kind_of
 kind_found word k e =
     word_step word Register k _ (
@@ -114,7 +114,7 @@ kind_found word k e =
     word_step word Close k _ (
     word_step word Feedback k None (λ f. absurd (cc)))))))))) e
 
-kind_again : (k : FormKind) → kind_of (kind_text k) ≡ Some k
+pub kind_again : (k : FormKind) → kind_of (kind_text k) ≡ Some k
 unfolding kind_of
 kind_again Register = refl
 kind_again SignIn = refl

@@ -48,6 +48,9 @@ mod writing;
 
 pub use action::{Action, ActionCall, FormKind};
 pub use checked::CheckedCall;
-pub use laws::{texts_are_exact, texts_read_back, texts_spell_one_call, user_names_are_utf8};
+pub use laws::{
+    texts_are_exact, texts_read_back, texts_spell_one_call, user_names_are_utf8,
+    words_are_of_one_form,
+};
 pub use reading::read_action;
 pub use writing::action_text;
