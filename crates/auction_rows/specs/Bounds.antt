@@ -67,7 +67,7 @@ is_row (row.Entry entry) = is_entry entry
 is_row (row.Feedback feedback) = is_feedback feedback
 is_row (row.OwnItem own) = is_own_item own
 
--- a user within its bounds, whose numbers and bytes are as many as the code's are
+-- a user within its bounds, with a salt of 8 bytes, a digest of 32, and counts below 2^32
 pub record IsUser (user : UserRow) : Type 0 where
   pub within : is_user user ≡ true
   pub salt : length user.salt ≡ 8
@@ -76,16 +76,16 @@ pub record IsUser (user : UserRow) : Type 0 where
   pub bad : user.bad < 2 ^ 32
   pub items : user.items < 2 ^ 32
 
--- a name within its bounds
+-- a name within its bounds, whose numbers are in their ranges
 pub record IsName (name : NameRow) : Type 0 where
   pub within : is_name name ≡ true
   pub user : name.user < 2 ^ 32
 
--- a counter within its bounds
+-- a counter within its bounds, whose numbers are in their ranges
 pub record IsCounter (counter : CounterRow) : Type 0 where
   pub count : counter.count < 2 ^ 64
 
--- an item within its bounds
+-- an item within its bounds, whose numbers are in their ranges
 pub record IsItem (item : ItemRow) : Type 0 where
   pub within : is_item item ≡ true
   pub seller : item.seller < 2 ^ 32
@@ -102,27 +102,27 @@ pub record IsItem (item : ItemRow) : Type 0 where
 pub record IsCategory (category : CategoryRow) : Type 0 where
   pub within : is_category category ≡ true
 
--- a bid within its bounds
+-- a bid within its bounds, whose numbers are in their ranges
 pub record IsBid (bid : BidRow) : Type 0 where
   pub bidder : bid.bidder < 2 ^ 32
   pub amount : bid.amount < 2 ^ 64
   pub moment : bid.moment.0 < 2 ^ 64
 
--- an entry within its bounds
+-- an entry within its bounds, whose numbers are in their ranges
 pub record IsEntry (entry : EntryRow) : Type 0 where
   pub item : entry.item < 2 ^ 32
 
--- feedback within its bounds
+-- feedback within its bounds, whose numbers are in their ranges
 pub record IsFeedback (feedback : FeedbackRow) : Type 0 where
   pub within : is_feedback feedback ≡ true
   pub from : feedback.from < 2 ^ 32
   pub item : feedback.item < 2 ^ 32
 
--- an own item within its bounds
+-- an own item within its bounds, whose numbers are in their ranges
 pub record IsOwnItem (own : OwnItemRow) : Type 0 where
   pub item : own.item < 2 ^ 32
 
--- A row within its bounds, whose numbers are as great as its fields may be.
+-- A row within its bounds, whose numbers are in the ranges of its fields.
 abbrev pub IsRow : AuctionRow → Type 0
 IsRow (row.User user) = IsUser user
 IsRow (row.Name name) = IsName name

@@ -9,7 +9,7 @@ use crate::rows::{
 };
 use crash_base::Moment;
 
-/// Bytes that the code holds are numbers that bytes may be.
+/// Bytes that the code holds are numbers below 256. It does nothing.
 pub fn bytes_are_in_range(bytes: &[u8])
     ensures { AreBytes bytes.now }
 {}
@@ -30,7 +30,7 @@ fn has_size<const N: usize>(bytes: &[u8; N])
     ensures { length bytes.now ≡ N }
 {}
 
-/// A user within its bounds.
+/// A user within its bounds has its numbers in their ranges. It does nothing.
 pub fn user_is_in_range(user: &UserRow)
     requires { is_user user.now ≡ true }
     ensures { IsUser user.now }
@@ -42,7 +42,7 @@ pub fn user_is_in_range(user: &UserRow)
     fits_four_bytes(user.items)
 }
 
-/// A name within its bounds.
+/// A name within its bounds has its number in its range. It does nothing.
 pub fn name_is_in_range(name: &NameRow)
     requires { is_name name.now ≡ true }
     ensures { IsName name.now }
@@ -50,14 +50,14 @@ pub fn name_is_in_range(name: &NameRow)
     fits_four_bytes(name.user)
 }
 
-/// A counter.
+/// A counter has its number in its range. It does nothing.
 pub fn counter_is_in_range(counter: &CounterRow)
     ensures { IsCounter counter.now }
 {
     fits_eight_bytes(counter.count)
 }
 
-/// An item within its bounds.
+/// An item within its bounds has its numbers in their ranges. It does nothing.
 pub fn item_is_in_range(item: &ItemRow)
     requires { is_item item.now ≡ true }
     ensures { IsItem item.now }
@@ -73,13 +73,13 @@ pub fn item_is_in_range(item: &ItemRow)
     fits_four_bytes(item.buyer)
 }
 
-/// A category within its bounds.
+/// A category has no numbers, so its bounds are all. It does nothing.
 pub fn category_is_in_range(category: &CategoryRow)
     requires { is_category category.now ≡ true }
     ensures { IsCategory category.now }
 {}
 
-/// A bid.
+/// A bid has its numbers in their ranges. It does nothing.
 pub fn bid_is_in_range(bid: &BidRow)
     ensures { IsBid bid.now }
 {
@@ -88,14 +88,14 @@ pub fn bid_is_in_range(bid: &BidRow)
     moment_fits(bid.moment)
 }
 
-/// An entry.
+/// An entry has its number in its range. It does nothing.
 pub fn entry_is_in_range(entry: &EntryRow)
     ensures { IsEntry entry.now }
 {
     fits_four_bytes(entry.item)
 }
 
-/// Feedback within its bounds.
+/// Feedback within its bounds has its numbers in their ranges. It does nothing.
 pub fn feedback_is_in_range(feedback: &FeedbackRow)
     requires { is_feedback feedback.now ≡ true }
     ensures { IsFeedback feedback.now }
@@ -104,7 +104,7 @@ pub fn feedback_is_in_range(feedback: &FeedbackRow)
     fits_four_bytes(feedback.item)
 }
 
-/// An own item.
+/// An own item has its number in its range. It does nothing.
 pub fn own_item_is_in_range(own: &OwnItemRow)
     ensures { IsOwnItem own.now }
 {
