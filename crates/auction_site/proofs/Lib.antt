@@ -1,0 +1,14 @@
+pub mod Comes
+pub mod Showing
+pub mod Bounds
+pub mod Within
+pub mod Writing
+pub mod Meaning
+pub mod Finding
+pub mod Coherence
+pub mod Changes
+pub mod Ranges
+pub mod Put
+pub mod Keeping
+pub mod LowBids
+pub mod Beginning

@@ -1,0 +1,9 @@
+pub mod Answers
+pub mod Outcomes
+pub mod Found
+pub mod Numbers
+pub mod Rules
+pub mod Pieces
+pub mod Planned
+pub mod Actions
+pub mod Coherent
