@@ -1,0 +1,125 @@
+//! Sales at once, and auctions that their sellers end.
+
+ghost use Rattle.std.specs.Prelude.{◌≡◌, ◌∷◌, [], ◌++◌, true, codes, IfOk};
+ghost use Rattle.std.specs.Fmt.{decimal};
+ghost use Rattle.action_plans.specs.Plans.{HasCome, walk};
+ghost use Rattle.auction_rows.specs.Bounds.{is_item};
+ghost use Rattle.auction_rows.specs.Ids.{item_id};
+ghost use Rattle.auction_rows.specs.Spelling.{item_bytes};
+ghost use Rattle.auction_site.specs.Answers.{shows};
+ghost use Rattle.auction_site.specs.Outcomes.{row, sold_to, ended, bought, closed};
+ghost use Rattle.auction_site.specs.Planned.{buy_plan, close_plan};
+
+use crate::outcomes::write_row;
+use crate::pieces::{asks_row, says, stops_by, stops_if};
+use action_plans::{Outcome, Reads, Stop};
+use auction_rows::{ItemRow, ItemState, item_id};
+use auction_rules::{buy_refusal, close_refusal};
+use crash_base::{Moment, OutOfMemory, WriteList};
+use journal_model::DoneText;
+use std::alloc::Global;
+use std::fmt::Write;
+
+/// The item sold to a buyer.
+fn sold_to(mut item: ItemRow, buyer: u32) -> ItemRow
+    ensures { result ≡ sold_to item buyer }
+{
+    item.state = ItemState::Sold;
+    item.buyer = buyer;
+    item
+}
+
+/// The item at the end of its auction.
+fn ended(mut item: ItemRow) -> ItemRow
+    ensures { result ≡ ended item }
+{
+    if item.best == 0 {
+        item.state = ItemState::Closed;
+        item
+    } else {
+        let bidder = item.best_bidder;
+        sold_to(item, bidder)
+    }
+}
+
+/// An item written, and nothing else.
+fn item_written(alloc: Global, number: u32, item: &ItemRow) -> Result<WriteList, OutOfMemory>
+    requires { is_item item.now ≡ true }
+    ensures { IfOk result (λ writes. writes ≡ row (item_id number) (item_bytes item.now) ∷ []) }
+{
+    let mut writes = WriteList::new(alloc);
+    write_row(alloc, &mut writes, item_id(number), item)?;
+    Ok(writes)
+}
+
+/// The answer to a sale at once.
+fn buy_done(alloc: Global, number: u32) -> Result<DoneText, OutOfMemory>
+    ensures { IfOk result (λ done. done ≡ shows 200 (codes "Bought item " ++ decimal number) []) }
+{
+    let mut heading = String::new(alloc);
+    write!(heading, "Bought item {number}")?;
+    says(alloc, 200, heading.as_bytes())
+}
+
+/// The answer to the end of an auction.
+fn close_done(alloc: Global, number: u32) -> Result<DoneText, OutOfMemory>
+    ensures { IfOk result (λ done. done ≡ shows 200 (codes "Closed item " ++ decimal number) []) }
+{
+    let mut heading = String::new(alloc);
+    write!(heading, "Closed item {number}")?;
+    says(alloc, 200, heading.as_bytes())
+}
+
+/// The item is sold to the user.
+#[tactic(auto, using(auction_site::proofs::Bounds::sold_to_is), unfolding(auction_site::specs::Outcomes::bought))]
+fn bought(alloc: Global, buyer: u32, number: u32, item: ItemRow) -> Result<Outcome, OutOfMemory>
+    requires { is_item item ≡ true }
+    ensures { IfOk result (λ outcome. outcome ≡ bought buyer number item) }
+{
+    let item = sold_to(item, buyer);
+    let writes = item_written(alloc, number, &item)?;
+    let done = buy_done(alloc, number)?;
+    Ok(Outcome { writes, done })
+}
+
+/// The auction of the item ends.
+#[tactic(auto, using(auction_site::proofs::Bounds::ended_is), unfolding(auction_site::specs::Outcomes::closed))]
+fn closed(alloc: Global, number: u32, item: ItemRow) -> Result<Outcome, OutOfMemory>
+    requires { is_item item ≡ true }
+    ensures { IfOk result (λ outcome. outcome ≡ closed number item) }
+{
+    let item = ended(item);
+    let writes = item_written(alloc, number, &item)?;
+    let done = close_done(alloc, number)?;
+    Ok(Outcome { writes, done })
+}
+
+/// An item bought at once: as far as these reads bring it. It reads one row, and writes one.
+#[tactic(auto, unfolding(auction_site::specs::Planned::buy_plan))]
+pub fn buy(
+    alloc: Global,
+    user: u32,
+    now: Moment,
+    number: u32,
+    reads: &mut Reads<'_>,
+) -> Result<Outcome, Stop>
+    ensures { HasCome result reads.new (walk (buy_plan user now.0 number) reads.old) }
+{
+    stops_if(alloc, user == 0, 403, b"Sign in first")?;
+    let item = asks_row::<ItemRow>(alloc, reads, item_id(number))?;
+    stops_by(alloc, buy_refusal(&item, user, now))?;
+    let outcome = bought(alloc, user, number, item)?;
+    Ok(outcome)
+}
+
+/// The end of an own item's auction: as far as these reads bring it. It reads one row, and writes one.
+#[tactic(auto, unfolding(auction_site::specs::Planned::close_plan))]
+pub fn close(alloc: Global, user: u32, number: u32, reads: &mut Reads<'_>) -> Result<Outcome, Stop>
+    ensures { HasCome result reads.new (walk (close_plan user number) reads.old) }
+{
+    stops_if(alloc, user == 0, 403, b"Sign in first")?;
+    let item = asks_row::<ItemRow>(alloc, reads, item_id(number))?;
+    stops_by(alloc, close_refusal(&item, user))?;
+    let outcome = closed(alloc, number, item)?;
+    Ok(outcome)
+}

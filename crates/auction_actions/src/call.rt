@@ -1,0 +1,216 @@
+//! Calls of actions, as programs.
+
+ghost use Rattle.std.specs.Prelude.{◌≡◌, true, IfOk};
+ghost use Rattle.action_plans.specs.Plans.{HasCome, walk};
+ghost use Rattle.auction_calls.specs.Calls.{is_call};
+ghost use Rattle.auction_rows.specs.Parts.{site_tables, table};
+ghost use Rattle.auction_site.specs.Actions.{plan_of, steps_of, through, through_of};
+
+use crate::bids::bid;
+use crate::browsing::browse;
+use crate::buying::{buy, close};
+use crate::feedback::give_feedback;
+use crate::fronts::{form_shown, home, signed_out};
+use crate::items::show_item;
+use crate::listing::categories;
+use crate::new_categories::add_category;
+use crate::offer::Offer;
+use crate::own_items::show_own_items;
+use crate::selling::sell;
+use crate::users::{register, show_user, sign_in};
+use action_plans::{Outcome, Reads, Stop, Through, next_step, want_of};
+use auction_calls::{Action, ActionCall, CheckedCall};
+use auction_rows::{
+    BID_TABLE, CATEGORY_TABLE, COUNTER_TABLE, ENTRY_TABLE, FEEDBACK_TABLE, ITEM_TABLE, NAME_TABLE,
+    OWN_ITEM_TABLE, USER_TABLE,
+};
+use call_ticket::{AnswerList, Next, Program};
+use crash_base::{ComponentNo, OutOfMemory};
+use deployment::TablePart;
+use std::alloc::Global;
+use std::marker::Model;
+
+/// A call of an action as a program: its next step depends on the call and the answers so far alone.
+#[derive(Drop)]
+pub struct ActionProgram {
+    call: CheckedCall,
+}
+
+impl Model for ActionProgram {
+    ghost use Rattle.auction_calls.specs.declared.action.ActionCall.{ActionCall};
+
+    ghost Value = { ActionCall };
+
+    ghost view = { λ program. program.call };
+}
+
+/// A table of the site, and the component that owns it.
+fn owned(number: u8, owner: u16) -> TablePart
+    ensures { result ≡ table number owner }
+{
+    TablePart {
+        table: number,
+        owner: ComponentNo(owner),
+    }
+}
+
+/// The tables of the site, each with its owner.
+#[tactic(auto, unfolding(auction_rows::specs::Parts::site_tables))]
+fn site_tables() -> [TablePart; 9]
+    ensures { result ≡ site_tables }
+{
+    [
+        owned(USER_TABLE, 1),
+        owned(NAME_TABLE, 1),
+        owned(COUNTER_TABLE, 2),
+        owned(ITEM_TABLE, 3),
+        owned(ENTRY_TABLE, 3),
+        owned(OWN_ITEM_TABLE, 3),
+        owned(CATEGORY_TABLE, 4),
+        owned(BID_TABLE, 5),
+        owned(FEEDBACK_TABLE, 7),
+    ]
+}
+
+/// The component behind Web that an action goes through.
+fn through_of(action: &Action) -> Option<Through>
+    ensures { result ≡ through_of action.now }
+{
+    let (component, method) = match action {
+        Action::Bid { .. } => (5, 0),
+        Action::Buy { .. } => (6, 1),
+        Action::Close { .. } => (6, 0),
+        Action::Feedback { .. } => (7, 0),
+        _ => return None,
+    };
+    Some(Through {
+        component: ComponentNo(component),
+        method,
+    })
+}
+
+/// How far a call comes with these reads.
+#[tactic(auto, using(action_plans::proofs::Walking::walk_gives))]
+fn come(alloc: Global, call: &ActionCall, reads: &mut Reads<'_>) -> Result<Outcome, Stop>
+    requires { is_call call.now ≡ true }
+    ensures { HasCome result reads.new (walk (plan_of call.entry.now) reads.old) }
+{
+    let user = call.user;
+    let now = call.now;
+    match &call.action {
+        Action::Home => {
+            let outcome = home(alloc, user)?;
+            Ok(outcome)
+        }
+        Action::Register { name, password } => {
+            register(
+                alloc,
+                name.as_slice(),
+                password.as_slice(),
+                call.fresh,
+                now,
+                reads,
+            )
+        }
+        Action::SignIn { name, password } => {
+            sign_in(alloc, name.as_slice(), password.as_slice(), now, reads)
+        }
+        Action::SignOut => {
+            let outcome = signed_out(alloc, now)?;
+            Ok(outcome)
+        }
+        Action::Categories => categories(alloc, reads),
+        Action::AddCategory { name } => add_category(alloc, user, name.as_slice(), reads),
+        Action::Browse { category, page } => browse(alloc, *category, *page, reads),
+        Action::Item { item } => show_item(alloc, *item, reads),
+        Action::User { user } => show_user(alloc, *user, reads),
+        Action::About => show_own_items(alloc, user, reads),
+        Action::Sell {
+            title,
+            category,
+            start,
+            buy_now,
+            hours,
+        } => {
+            let offer = Offer {
+                title: title.as_slice(),
+                category: *category,
+                start: *start,
+                buy_now: *buy_now,
+                hours: *hours,
+            };
+            sell(alloc, user, now, &offer, reads)
+        }
+        Action::Bid { item, amount } => bid(alloc, user, now, *item, *amount, reads),
+        Action::Buy { item } => buy(alloc, user, now, *item, reads),
+        Action::Close { item } => close(alloc, user, *item, reads),
+        Action::Feedback { item, good, text } => {
+            give_feedback(alloc, user, *item, *good, text, reads)
+        }
+        Action::Form { kind } => {
+            let outcome = form_shown(alloc, user, now, call.form.as_slice(), *kind)?;
+            Ok(outcome)
+        }
+    }
+}
+
+/// The next step of a call after these answers.
+fn next_of(alloc: Global, call: &ActionCall, answers: &AnswerList) -> Result<Next, OutOfMemory>
+    requires { is_call call.now ≡ true }
+    ensures { IfOk result (λ next. next ≡ steps_of call.entry.now answers.now) }
+{
+    let mut reads = Reads::new(answers.as_slice());
+    let came = come(alloc, call, &mut reads);
+    let want = want_of(alloc, came)?;
+    let next = next_step(
+        alloc,
+        site_tables().as_slice(),
+        through_of(&call.action),
+        answers.as_slice(),
+        want,
+    )?;
+    Ok(next)
+}
+
+impl Program for ActionProgram {
+    ghost use Rattle.std.specs.Prelude.{◌≡◌, true};
+    ghost use Rattle.crash_base.specs.declared.rows.RowWrite.{RowWrite};
+    ghost use Rattle.deployment.specs.declared.parts.Parts.{Parts};
+    ghost use Rattle.auction_calls.specs.Calls.{is_call};
+    ghost use Rattle.auction_rows.specs.Parts.{site_parts};
+    ghost use Rattle.auction_site.specs.Actions.{steps_of};
+    ghost use Rattle.auction_site.proofs.Meaning.{accepted_is_done};
+
+    /// The steps of its call.
+    ghost asks = { steps_of };
+
+    /// The site's deployment, for a call whose fields are in their ranges.
+    ghost accepts = { λ call parts. (parts ≡ site_parts) × (is_call call ≡ true) };
+
+    /// The step after these answers. Each answer is visited at most six times, and each row that was
+    /// read is decoded again.
+    fn next(&self, alloc: Global, answers: &AnswerList) -> Result<Next, OutOfMemory> {
+        next_of(alloc, self.call.call(), answers)
+    }
+
+    ghost is_done = { accepted_is_done };
+}
+
+impl ActionProgram {
+    /// The program of a call. It takes no memory.
+    pub fn new(call: CheckedCall) -> ActionProgram
+        ensures value { result ≡ call }
+        ensures in_ranges { is_call result ≡ true }
+    {
+        call.call();
+        ActionProgram { call }
+    }
+
+    /// The call.
+    pub fn call(&self) -> &ActionCall
+        ensures value { result.now ≡ self.now }
+        ensures in_ranges { is_call self.now ≡ true }
+    {
+        self.call.call()
+    }
+}

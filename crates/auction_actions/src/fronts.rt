@@ -1,0 +1,141 @@
+//! Pages that no row is read for: the first page, the forms, and signing out.
+
+ghost use Rattle.std.specs.Prelude.{◌≡◌, [], ◌∷◌, ◌++◌, codes, IfOk, OnOk};
+ghost use Rattle.std.specs.Fmt.{decimal};
+ghost use Rattle.auction_site.specs.Outcomes.{form_address, form_fields, form_line, form_shown, home, home_text, signed_out};
+
+use crate::outcomes::{answered, signs, text_of};
+use crate::pieces::shows;
+use action_plans::Outcome;
+use auction_calls::FormKind;
+use crash_base::{FieldText, Moment, OutOfMemory};
+use page_text::{FieldNameList, PageLine, PageLineList};
+use std::alloc::Global;
+use std::fmt::Write;
+
+/// Who is signed in.
+fn home_text(alloc: Global, user: u32) -> Result<FieldText, OutOfMemory>
+    ensures { IfOk result (λ text. text ≡ home_text user) }
+{
+    if user == 0 {
+        return FieldText::copied(alloc, b"Signed out");
+    }
+    let mut text = String::new(alloc);
+    write!(text, "User {user}")?;
+    Ok(text_of(text))
+}
+
+/// The first page.
+pub fn home(alloc: Global, user: u32) -> Result<Outcome, OutOfMemory>
+    ensures { IfOk result (λ outcome. outcome ≡ home user) }
+{
+    let mut lines = PageLineList::new(alloc);
+    lines.push(PageLine::Para {
+        text: home_text(alloc, user)?,
+    })?;
+    lines.push(PageLine::Link {
+        address: FieldText::copied(alloc, b"/categories")?,
+        text: FieldText::copied(alloc, b"Categories")?,
+    })?;
+    let done = shows(alloc, 200, b"Auctions", &lines)?;
+    Ok(answered(alloc, done))
+}
+
+/// The session becomes that of no user.
+pub fn signed_out(alloc: Global, now: Moment) -> Result<Outcome, OutOfMemory>
+    ensures { IfOk result (λ outcome. outcome ≡ signed_out now.0) }
+{
+    let done = signs(alloc, 0, now, b"Signed out", &PageLineList::new(alloc))?;
+    Ok(answered(alloc, done))
+}
+
+/// Where a form is sent.
+fn form_address(alloc: Global, kind: FormKind) -> Result<FieldText, OutOfMemory>
+    ensures { IfOk result (λ address. address ≡ form_address kind) }
+{
+    match kind {
+        FormKind::Register => FieldText::copied(alloc, b"/register"),
+        FormKind::SignIn => FieldText::copied(alloc, b"/signin"),
+        FormKind::SignOut => FieldText::copied(alloc, b"/signout"),
+        FormKind::Category => FieldText::copied(alloc, b"/categories"),
+        FormKind::Sell => FieldText::copied(alloc, b"/sell"),
+        FormKind::Bid => FieldText::copied(alloc, b"/bid"),
+        FormKind::Buy => FieldText::copied(alloc, b"/buy"),
+        FormKind::Close => FieldText::copied(alloc, b"/close"),
+        FormKind::Feedback => FieldText::copied(alloc, b"/feedback"),
+    }
+}
+
+/// Adds the name of a field.
+fn add_field(alloc: Global, names: &mut FieldNameList, name: &[u8]) -> Result<(), OutOfMemory>
+    ensures { OnOk result (names.new ≡ names.old ++ name.now ∷ []) }
+{
+    names.push(FieldText::copied(alloc, name)?)
+}
+
+/// The names of the fields of a form.
+fn form_fields(alloc: Global, kind: FormKind) -> Result<FieldNameList, OutOfMemory>
+    ensures { IfOk result (λ names. names ≡ form_fields kind) }
+{
+    let mut names = FieldNameList::new(alloc);
+    match kind {
+        FormKind::Register | FormKind::SignIn => {
+            add_field(alloc, &mut names, b"name")?;
+            add_field(alloc, &mut names, b"password")?;
+        }
+        FormKind::SignOut => {}
+        FormKind::Category => add_field(alloc, &mut names, b"name")?,
+        FormKind::Sell => {
+            add_field(alloc, &mut names, b"title")?;
+            add_field(alloc, &mut names, b"category")?;
+            add_field(alloc, &mut names, b"start")?;
+            add_field(alloc, &mut names, b"buy_now")?;
+            add_field(alloc, &mut names, b"hours")?;
+        }
+        FormKind::Bid => {
+            add_field(alloc, &mut names, b"item")?;
+            add_field(alloc, &mut names, b"amount")?;
+        }
+        FormKind::Buy | FormKind::Close => add_field(alloc, &mut names, b"item")?,
+        FormKind::Feedback => {
+            add_field(alloc, &mut names, b"item")?;
+            add_field(alloc, &mut names, b"good")?;
+            add_field(alloc, &mut names, b"text")?;
+        }
+    }
+    Ok(names)
+}
+
+/// The line of a form, with its token.
+fn form_line(alloc: Global, kind: FormKind, token: &[u8]) -> Result<PageLine, OutOfMemory>
+    ensures { IfOk result (λ line. line ≡ form_line kind token.now) }
+{
+    Ok(PageLine::Form {
+        address: form_address(alloc, kind)?,
+        token: FieldText::copied(alloc, token)?,
+        fields: form_fields(alloc, kind)?,
+    })
+}
+
+/// A form with its token. Who is not signed in gets a session, that of no user.
+pub fn form_shown(
+    alloc: Global,
+    user: u32,
+    now: Moment,
+    token: &[u8],
+    kind: FormKind,
+) -> Result<Outcome, OutOfMemory>
+    ensures { IfOk result (λ outcome. outcome ≡ form_shown user now.0 token.now kind) }
+{
+    let mut heading = Vec::new(alloc);
+    heading.extend_from_slice(b"Form ")?;
+    heading.extend_from_slice(kind.word().as_bytes())?;
+    let mut lines = PageLineList::new(alloc);
+    lines.push(form_line(alloc, kind, token)?)?;
+    let done = if user == 0 {
+        signs(alloc, 0, now, heading.as_slice(), &lines)?
+    } else {
+        shows(alloc, 200, heading.as_slice(), &lines)?
+    };
+    Ok(answered(alloc, done))
+}

@@ -1,0 +1,74 @@
+//! New categories.
+
+ghost use Rattle.std.specs.Prelude.{◌≡◌, [], ◌++◌, true, codes, not, ◌==◌, IfOk};
+ghost use Rattle.std.specs.Fmt.{decimal};
+ghost use Rattle.action_plans.specs.Plans.{HasCome, walk};
+ghost use Rattle.auction_calls.specs.Calls.{is_text};
+ghost use Rattle.auction_site.specs.Answers.{shows};
+ghost use Rattle.auction_site.specs.Outcomes.{category_added};
+ghost use Rattle.auction_site.specs.Planned.{add_category_plan};
+ghost use Rattle.auction_site.specs.declared.limits.TheConstants.{CATEGORY_KEEPER};
+
+use crate::numbers::is_last_number;
+use crate::outcomes::write_row;
+use crate::pieces::{asks_counter, says, stops_if};
+use action_plans::{Outcome, Reads, Stop};
+use auction_rows::{CategoryRow, CounterRow, categories_counter, category_id};
+use auction_site::CATEGORY_KEEPER;
+use crash_base::{FieldText, OutOfMemory, WriteList};
+use journal_model::DoneText;
+use std::alloc::Global;
+use std::fmt::Write;
+
+/// Whether a user is not the one who may add categories.
+fn is_no_keeper(user: u32) -> bool
+    ensures { result ≡ not (user == CATEGORY_KEEPER) }
+{
+    user != CATEGORY_KEEPER
+}
+
+/// The answer to a new category.
+fn category_done(alloc: Global, number: u32) -> Result<DoneText, OutOfMemory>
+    ensures { IfOk result (λ done. done ≡ shows 200 (codes "Category " ++ decimal number) []) }
+{
+    let mut heading = String::new(alloc);
+    write!(heading, "Category {number}")?;
+    says(alloc, 200, heading.as_bytes())
+}
+
+/// A category of this number.
+#[tactic(auto, using(auction_site::proofs::Bounds::counter_is, auction_site::proofs::Bounds::category_is), unfolding(auction_site::specs::Outcomes::category_added))]
+fn category_added(alloc: Global, name: &[u8], number: u32) -> Result<Outcome, OutOfMemory>
+    requires { is_text 1 40 name.now ≡ true }
+    ensures { IfOk result (λ outcome. outcome ≡ category_added name.now number) }
+{
+    let counter = CounterRow {
+        count: u64::from(number),
+    };
+    let category = CategoryRow {
+        name: FieldText::copied(alloc, name)?,
+    };
+    let mut writes = WriteList::new(alloc);
+    write_row(alloc, &mut writes, categories_counter(), &counter)?;
+    write_row(alloc, &mut writes, category_id(number), &category)?;
+    let done = category_done(alloc, number)?;
+    Ok(Outcome { writes, done })
+}
+
+/// A category more: as far as these reads bring it. It reads one row, and writes two.
+pub fn add_category(
+    alloc: Global,
+    user: u32,
+    name: &[u8],
+    reads: &mut Reads<'_>,
+) -> Result<Outcome, Stop>
+    requires { is_text 1 40 name.now ≡ true }
+    ensures { HasCome result reads.new (walk (add_category_plan user name.now) reads.old) }
+{
+    stops_if(alloc, user == 0, 403, b"Sign in first")?;
+    stops_if(alloc, is_no_keeper(user), 403, b"Not allowed")?;
+    let categories = asks_counter(alloc, reads, categories_counter())?;
+    stops_if(alloc, is_last_number(categories), 409, b"No more numbers")?;
+    let outcome = category_added(alloc, name, categories as u32 + 1)?;
+    Ok(outcome)
+}

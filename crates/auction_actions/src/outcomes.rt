@@ -1,0 +1,62 @@
+//! What comes of actions: rows written, and answers.
+
+ghost use Rattle.std.specs.Prelude.{◌≡◌, [], ◌∷◌, ◌++◌, true, length, IfOk, OnOk, string_bytes};
+ghost use Rattle.auction_site.specs.Answers.{answered, signs};
+ghost use Rattle.auction_site.specs.Outcomes.{row};
+
+use action_plans::Outcome;
+use auction_rows::{TableRow, encode_session};
+use crash_base::{FieldText, Moment, OutOfMemory, RowId, RowWrite, WriteList};
+use journal_model::{DoneText, SessionChange};
+use page_text::{PageLineList, page};
+use std::alloc::Global;
+
+/// An answer and nothing written.
+pub fn answered(alloc: Global, done: DoneText) -> Outcome
+    ensures { result ≡ answered done }
+{
+    Outcome {
+        writes: WriteList::new(alloc),
+        done,
+    }
+}
+
+/// An answer after which the session is that of a user.
+pub fn signs(
+    alloc: Global,
+    user: u32,
+    now: Moment,
+    heading: &[u8],
+    lines: &PageLineList,
+) -> Result<DoneText, OutOfMemory>
+    ensures { IfOk result (λ done. done ≡ signs user now.0 heading.now lines.now) }
+{
+    Ok(DoneText {
+        status: 200,
+        page: page(alloc, heading, lines)?,
+        session: SessionChange::Set(encode_session(alloc, user, now)?),
+    })
+}
+
+/// Adds a row to those that are written.
+pub fn write_row<T: TableRow>(
+    alloc: Global,
+    writes: &mut WriteList,
+    id: RowId,
+    value: &T,
+) -> Result<(), OutOfMemory>
+    requires { T.is_within value.now ≡ true }
+    ensures { OnOk result (writes.new ≡ writes.old ++ row id (T.spelling value.now) ∷ []) }
+{
+    writes.push(RowWrite {
+        id,
+        bytes: value.encode(alloc)?,
+    })
+}
+
+/// The bytes of a text.
+pub fn text_of(text: String) -> FieldText
+    ensures { result ≡ string_bytes text }
+{
+    FieldText::from_vec(text.into_bytes())
+}
