@@ -1,0 +1,122 @@
+//! Blocks of lines, each a call and what comes of it.
+//!
+//! `call USER NOW ACTION ..` is followed by lines `with ID ROW ..` and `gone ID`, which say in what the shop differs.
+//! The rest is what is wanted: `is STATUS HEADING`, then `line HTML` for each line of the page after its heading,
+//! `put ID ROW ..` for each row that is put, in order, and `session HEX` where the session is set.
+
+use crate::calls::program_of;
+use crate::driver::{Driven, drive, put_row};
+use crate::row_words::add_row_words;
+use crate::rows_read::{id_of, read_row};
+use crate::words::{add_hex, add_word, cut, end_line, expect_words, first_word, text_of};
+use crash_base::{RowId, RowWrite};
+use journal_model::SessionChange;
+use std::alloc::Global;
+use std::fmt::Write;
+use std::process::Abort;
+
+/// What every page begins with.
+const FIRST_LINES: &str = "<!doctype html>\n<title>";
+
+fn remove_row(rows: &mut Vec<RowWrite>, id: RowId) {
+    rows.retain(|row| !row.id.is_same(id));
+}
+
+/// The rows that lines spell, in order of id.
+pub fn rows_of(rt: &impl Abort, alloc: Global, lines: &str) -> Vec<RowWrite> {
+    let mut rows = Vec::new(alloc);
+    for line in lines.split('\n') {
+        put_row(rt, &mut rows, read_row(rt, alloc, line));
+    }
+    rows
+}
+
+/// Changes the rows as a line says.
+pub fn change(rt: &impl Abort, alloc: Global, rows: &mut Vec<RowWrite>, line: &str) {
+    match first_word(line) {
+        ("with", row) => put_row(rt, rows, read_row(rt, alloc, row)),
+        ("gone", id) => remove_row(rows, id_of(rt, id)),
+        _ => None.expect(rt, line),
+    }
+}
+
+/// The call of a block, and what it does to the rows that lines spell and the block changes.
+pub fn driven_by(rt: &impl Abort, alloc: Global, rows: &str, given: &str) -> Driven {
+    let (call, changes) = given.split_once('\n').unwrap_or((given, ""));
+    let mut rows = rows_of(rt, alloc, rows);
+    for line in changes.split('\n').filter(|line| !line.is_empty()) {
+        change(rt, alloc, &mut rows, line);
+    }
+    let call = call.strip_prefix("call ").expect(rt, call);
+    drive(rt, alloc, &program_of(rt, alloc, call), &mut rows)
+}
+
+fn add_line(rt: &impl Abort, words: &mut String, line: &str) {
+    add_word(rt, words, line);
+    end_line(rt, words);
+}
+
+/// Adds the heading of a page, which is its title too, and its other lines.
+fn add_page(rt: &impl Abort, words: &mut String, page: &str) {
+    let rest = page.strip_prefix(FIRST_LINES).expect(rt, page);
+    let (title, rest) = rest.split_once("</title>\n<h1>").expect(rt, page);
+    let (heading, lines) = rest.split_once("</h1>\n").expect(rt, page);
+    assert!(rt; title == heading, "{page}");
+    assert!(rt; lines.is_empty() || lines.ends_with('\n'), "{page}");
+    add_line(rt, words, heading);
+    for line in lines.split_terminator('\n') {
+        add_word(rt, words, "line");
+        add_line(rt, words, line);
+    }
+}
+
+fn add_put(rt: &impl Abort, alloc: Global, words: &mut String, row: &RowWrite) {
+    let table = row.id.table;
+    let key = row.id.key;
+    write!(words, "put {table}.{key} ").expect(rt, "a put");
+    add_row_words(rt, alloc, words, row);
+    end_line(rt, words);
+}
+
+fn add_session(rt: &impl Abort, words: &mut String, session: &SessionChange) {
+    if let SessionChange::Set(value) = session {
+        add_word(rt, words, "session");
+        add_hex(rt, words, value.as_slice());
+        end_line(rt, words);
+    }
+}
+
+/// What a program did, in lines.
+fn lines_of(rt: &impl Abort, alloc: Global, driven: &Driven) -> String {
+    let mut words = String::new(alloc);
+    let status = driven.done.status;
+    write!(words, "{status} ").expect(rt, "a status");
+    add_page(rt, &mut words, text_of(rt, driven.done.page.as_slice()));
+    for row in &driven.puts {
+        add_put(rt, alloc, &mut words, row);
+    }
+    add_session(rt, &mut words, &driven.done.session);
+    words
+}
+
+fn expect_block(rt: &impl Abort, alloc: Global, rows: &str, block: &str) {
+    let (given, want) = block.split_once("\nis ").expect(rt, block);
+    let driven = driven_by(rt, alloc, rows, given);
+    expect_words(rt, &lines_of(rt, alloc, &driven), want, block);
+}
+
+/// Asserts what comes of the call of each block, over the rows that lines spell.
+pub fn expect_blocks(rt: &impl Abort, alloc: Global, rows: &str, blocks: &str) {
+    for block in blocks.split("\n\n") {
+        expect_block(rt, alloc, rows, block);
+    }
+}
+
+/// Asserts the steps of the call of each block: they come after a bar.
+pub fn expect_steps(rt: &impl Abort, alloc: Global, rows: &str, blocks: &str) {
+    for block in blocks.split("\n\n") {
+        let (given, want) = cut(rt, block, '|');
+        let driven = driven_by(rt, alloc, rows, given);
+        expect_words(rt, &driven.steps, want, block);
+    }
+}

@@ -1,0 +1,46 @@
+//! Tests of the sixteen actions of the auction, each run as a program over rows in memory.
+//!
+//! Most tests go through blocks of lines: a call, the rows in which the shop differs from the one that the test names,
+//! and then what is wanted: the answer, the rows that are put, and the session. What a program did is put into the same
+//! lines, and these are compared. A block that fails is shown whole. The lines that are wanted were worked out by hand
+//! from the formats of rows and pages, and the digests outside.
+#![tactic(auto)]
+
+#[cfg(test)]
+mod bid_cases;
+#[cfg(test)]
+mod blocks;
+#[cfg(test)]
+mod calls;
+#[cfg(test)]
+mod coherence;
+#[cfg(test)]
+mod driver;
+#[cfg(test)]
+mod feedback_cases;
+#[cfg(test)]
+mod form_cases;
+#[cfg(test)]
+mod last_cases;
+#[cfg(test)]
+mod list_cases;
+#[cfg(test)]
+mod many_cases;
+#[cfg(test)]
+mod pages;
+#[cfg(test)]
+mod row_words;
+#[cfg(test)]
+mod rows_read;
+#[cfg(test)]
+mod sell_cases;
+#[cfg(test)]
+mod sequence;
+#[cfg(test)]
+mod shop;
+#[cfg(test)]
+mod steps;
+#[cfg(test)]
+mod user_cases;
+#[cfg(test)]
+mod words;

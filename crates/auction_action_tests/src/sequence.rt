@@ -1,0 +1,149 @@
+//! A shop through 500 actions, from no rows on.
+
+use crate::calls::program_of;
+use crate::coherence::{are_coherent, last_item};
+use crate::driver::drive;
+use crash_base::RowWrite;
+use std::alloc::{AllocError, Global};
+use std::fmt::Write;
+use std::process::Abort;
+
+/// A linear congruential generator.
+#[derive(Drop)]
+struct Chance {
+    state: u64,
+}
+
+impl Chance {
+    /// A number from 1 to the greatest.
+    fn upto(&mut self, greatest: u64) -> u64 {
+        self.state = self
+            .state
+            .wrapping_mul(6_364_136_223_846_793_005)
+            .wrapping_add(1_442_695_040_888_963_407);
+        (self.state >> 32).checked_rem(greatest).unwrap_or(0) + 1
+    }
+}
+
+/// What an action may be about.
+#[derive(Drop)]
+struct Fields {
+    /// One of the last five items, or the next.
+    item: u64,
+    category: u64,
+    one: u64,
+    other: u64,
+    three: u64,
+    /// Amounts that are bid grow by a cent in four seconds.
+    bid: u64,
+}
+
+/// The fields of an action at a moment, where so many items were offered.
+fn make_fields(chance: &mut Chance, now: u64, last: u64) -> Fields {
+    Fields {
+        item: last.saturating_add(2).saturating_sub(chance.upto(6)).max(1),
+        category: chance.upto(2),
+        one: chance.upto(100),
+        other: chance.upto(300),
+        three: chance.upto(3),
+        bid: chance.upto(200).saturating_add(now / 4000),
+    }
+}
+
+/// Adds the words of an action of this kind.
+fn add_action(words: &mut String, kind: u64, fields: &Fields) -> Result<(), AllocError> {
+    let Fields {
+        item,
+        category,
+        one,
+        other,
+        three,
+        bid,
+    } = fields;
+    match kind {
+        1 => write!(words, "register user{one} secret"),
+        2 => write!(words, "addcategory Category {one}"),
+        3 => write!(words, "sell {category} {one} {other} {three} Item {one}"),
+        4 | 5 | 6 | 7 => write!(words, "bid {item} {bid}"),
+        8 => write!(words, "buy {item}"),
+        9 => write!(words, "close {item}"),
+        10 | 11 => write!(words, "feedback {item} good Said {one}"),
+        12 => write!(words, "feedback {item} bad Said {one}"),
+        13 => write!(words, "browse {category} 0"),
+        14 => write!(words, "about"),
+        15 => write!(words, "item {item}"),
+        _ => write!(words, "signin user{one} secret"),
+    }
+}
+
+/// The kinds of actions that write rows.
+const WRITERS: [&str; 7] = [
+    "register",
+    "addcategory",
+    "sell",
+    "bid",
+    "buy",
+    "close",
+    "feedback",
+];
+
+/// How often each of `WRITERS` was done.
+#[derive(Drop)]
+struct Counts {
+    counts: [u64; 7],
+}
+
+impl Counts {
+    /// Counts an action that was done, where it is of such a kind.
+    fn add(&mut self, action: &str) {
+        for (count, word) in self.counts.iter_mut().zip(WRITERS) {
+            if action.starts_with(word) {
+                *count = count.saturating_add(1);
+            }
+        }
+    }
+}
+
+/// Asserts that an action that is refused puts nothing, and counts one that is done.
+fn count(rt: &impl Abort, counts: &mut Counts, action: &str, status: u16, puts: usize) {
+    if status == 200 {
+        counts.add(action);
+    } else {
+        assert!(rt; puts == 0, "{action}");
+    }
+}
+
+/// Does the next action: by one of five users.
+fn act(
+    rt: &impl Abort,
+    alloc: Global,
+    chance: &mut Chance,
+    now: u64,
+    rows: &mut Vec<RowWrite>,
+    counts: &mut Counts,
+) {
+    let mut action = String::new(alloc);
+    let fields = make_fields(chance, now, last_item(rt, alloc, rows));
+    add_action(&mut action, chance.upto(16), &fields).expect(rt, "an action");
+    let user = chance.upto(5);
+    let mut call = String::new(alloc);
+    write!(call, "{user} {now} {action}").expect(rt, "a call");
+    let driven = drive(rt, alloc, &program_of(rt, alloc, &call), rows);
+    count(rt, counts, &action, driven.done.status, driven.puts.len());
+}
+
+#[test]
+fn a_shop_stays_coherent(rt: HostRuntime) {
+    let mut chance = Chance { state: 20_111_128 };
+    let mut rows = Vec::new(rt.alloc());
+    let mut counts = Counts { counts: [0; 7] };
+    let mut now = 0_u64;
+    for number in 1..501 {
+        now = now.saturating_add(chance.upto(60_000));
+        act(&rt, rt.alloc(), &mut chance, now, &mut rows, &mut counts);
+        assert!(rt; are_coherent(&rt, rt.alloc(), &rows), "action {number}");
+    }
+    for (count, word) in counts.counts.into_iter().zip(WRITERS) {
+        assert!(rt; count > 0, "{word} {count}");
+    }
+}
