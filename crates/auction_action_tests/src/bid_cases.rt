@@ -16,6 +16,11 @@ is 200 Bid 3 on item 2
 put 6.2097155 bid 4 251 4999
 put 4.2 item running 2 1 100 500 251 4 3 5000 0 none Novel
 
+call 1 1000 bid 2 300
+is 200 Bid 3 on item 2
+put 6.2097155 bid 1 300 1000
+put 4.2 item running 2 1 100 500 300 1 3 5000 0 none Novel
+
 call 3 0 bid 2 4000000000
 is 200 Bid 3 on item 2
 put 6.2097155 bid 3 4000000000 0

@@ -50,7 +50,7 @@ pub fn hex_bytes(rt: &impl Abort, alloc: Global, word: &str) -> Vec<u8> {
     bytes
 }
 
-/// Adds a word, after a space where it is not the first of its line.
+/// Adds a word, and a space after it.
 pub fn add_word(rt: &impl Abort, words: &mut String, word: &str) {
     write!(words, "{word} ").expect(rt, word);
 }
