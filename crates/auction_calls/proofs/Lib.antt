@@ -3,4 +3,3 @@ pub mod ExactActions
 pub mod ExactCalls
 pub mod ExactFields
 pub mod Names
-pub mod Taken

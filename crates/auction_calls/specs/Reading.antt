@@ -1,7 +1,8 @@
 -- Which call a text spells, read from the first byte to the last.
-use Rattle.std.specs.Prelude.{codes, ℕ, ◌==◌, ◌&&◌, bytes_eq, nat_lt, Bool, true, false, if◌then◌else◌, List, [], ◌∷◌, length, take, drop, Option, Some, None}
+use Rattle.std.specs.Prelude.{codes, ℕ, ◌==◌, ◌&&◌, bytes_eq, Bool, if◌then◌else◌, List, [], ◌∷◌, length, Option, Some, None}
 use Rattle.std.specs.Option.{option_map, option_and_then}
-use Rattle.std.specs.Int.{Width, w16, w64, byte_len, from_be_bytes}
+use Rattle.std.specs.Int.{w64}
+use Rattle.byte_fields.specs.Reading.{Field, bytes_at, number_at, id_at, text_at, flag_of}
 use Rattle.auction_calls.specs.declared.action.Action.{Action}
 use Rattle.auction_calls.specs.declared.action.Action.TheVariants.{Home, Register, SignIn, SignOut, Categories, AddCategory, Browse, Item, User, About, Sell, Bid, Buy, Close, Feedback, Form}
 use Rattle.auction_calls.specs.declared.action.ActionCall.{ActionCall}
@@ -10,11 +11,6 @@ use Rattle.auction_calls.specs.declared.action.FormKind.TheVariants as kinds
 use Rattle.auction_calls.specs.declared.fields.CallHead.{CallHead}
 use Rattle.auction_calls.specs.declared.fields.Credentials.{Credentials}
 use Rattle.auction_calls.specs.Calls.{is_call}
-
--- A field answers its value at the front of bytes, and the bytes after it; None where they do not
--- begin with one.
-abbrev pub Field : Type 0 → Type 0
-Field A = List ℕ → Option (A × List ℕ)
 
 -- a field whose value is made of another's
 abbrev pub made : {A B : Type 0} → (A → B) → Field A → Field B
@@ -33,34 +29,9 @@ both first second bytes =
 abbrev pub empty : {A : Type 0} → A → Field A
 empty x bytes = Some (x, bytes)
 
--- this many bytes
-unfoldable pub bytes_at : ℕ → Field (List ℕ)
-bytes_at size bytes =
-    if nat_lt (length bytes) size then None else Some (take size bytes, drop size bytes)
-
--- a number of this width
-unfoldable pub number_at : Width → Field ℕ
-number_at width bytes = made (from_be_bytes width) (bytes_at (byte_len width)) bytes
-
--- a text: its length in two bytes, and its bytes
-unfoldable pub text_at : Field (List ℕ)
-text_at bytes = option_and_then (λ size. bytes_at size.0 size.1) (number_at w16 bytes)
-
--- a number of 32 bits, if this is one
-unfoldable pub as_u32 : ℕ → Option ℕ
-as_u32 n = if nat_lt 4294967295 n then None else Some n
-
--- the truth of 0 or 1
-unfoldable pub as_truth : ℕ → Option Bool
-as_truth n = if n == 0 then Some false else (if n == 1 then Some true else None)
-
--- a number of 32 bits, in eight bytes
-unfoldable pub u32_at : Field ℕ
-u32_at bytes = found as_u32 (number_at w64) bytes
-
 -- a truth, in eight bytes
 unfoldable pub truth_at : Field Bool
-truth_at bytes = found as_truth (number_at w64) bytes
+truth_at bytes = found flag_of (number_at w64) bytes
 
 -- the form of this word
 unfoldable pub kind_of : List ℕ → Option FormKind
@@ -85,7 +56,7 @@ head_at bytes =
     made
     (λ h.
     record { user = h.0; key = record { 0 = h.1.0 }; now = record { 0 = h.1.1.0 }; fresh = h.1.1.1.0; form = h.1.1.1.1 })
-    (both u32_at (both (bytes_at 16) (both (number_at w64) (both (number_at w64) (bytes_at 56))))) bytes
+    (both id_at (both (bytes_at 16) (both (number_at w64) (both (number_at w64) (bytes_at 56))))) bytes
 
 -- a name and a password
 unfoldable pub credentials_at : Field Credentials
@@ -106,38 +77,38 @@ add_category_at bytes = made (λ name. AddCategory name) text_at bytes
 
 -- the fields of Browse
 unfoldable pub browse_at : Field Action
-browse_at bytes = made (λ f. Browse f.0 f.1) (both u32_at u32_at) bytes
+browse_at bytes = made (λ f. Browse f.0 f.1) (both id_at id_at) bytes
 
 -- the field of Item
 unfoldable pub item_at : Field Action
-item_at bytes = made (λ item. Item item) u32_at bytes
+item_at bytes = made (λ item. Item item) id_at bytes
 
 -- the field of User
 unfoldable pub user_at : Field Action
-user_at bytes = made (λ user. User user) u32_at bytes
+user_at bytes = made (λ user. User user) id_at bytes
 
 -- the fields of Sell
 unfoldable pub sell_at : Field Action
 sell_at bytes =
     made (λ f. Sell f.0 f.1.0 f.1.1.0 f.1.1.1.0 f.1.1.1.1)
-    (both text_at (both u32_at (both (number_at w64) (both (number_at w64) u32_at)))) bytes
+    (both text_at (both id_at (both (number_at w64) (both (number_at w64) id_at)))) bytes
 
 -- the fields of Bid
 unfoldable pub bid_at : Field Action
-bid_at bytes = made (λ f. Bid f.0 f.1) (both u32_at (number_at w64)) bytes
+bid_at bytes = made (λ f. Bid f.0 f.1) (both id_at (number_at w64)) bytes
 
 -- the field of Buy
 unfoldable pub buy_at : Field Action
-buy_at bytes = made (λ item. Buy item) u32_at bytes
+buy_at bytes = made (λ item. Buy item) id_at bytes
 
 -- the field of Close
 unfoldable pub close_at : Field Action
-close_at bytes = made (λ item. Close item) u32_at bytes
+close_at bytes = made (λ item. Close item) id_at bytes
 
 -- the fields of Feedback
 unfoldable pub feedback_at : Field Action
 feedback_at bytes =
-    made (λ f. Feedback f.0 f.1.0 f.1.1) (both u32_at (both truth_at text_at)) bytes
+    made (λ f. Feedback f.0 f.1.0 f.1.1) (both id_at (both truth_at text_at)) bytes
 
 -- the field of Form
 unfoldable pub form_at : Field Action

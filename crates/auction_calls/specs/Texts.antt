@@ -1,24 +1,12 @@
 -- The texts of calls, as the journal has them. Numbers are big-endian.
-use Rattle.std.specs.Prelude.{codes, ◌≡◌, ℕ, ◌^◌, ◌<◌, All, Bool, true, if◌then◌else◌, List, [], ◌∷◌, ◌++◌, length}
-use Rattle.std.specs.Int.{w16, w64, to_be_bytes}
+use Rattle.std.specs.Prelude.{codes, ◌≡◌, ℕ, true, List, [], ◌∷◌, ◌++◌}
+use Rattle.byte_fields.specs.Spelling.{u64_bytes, text16, flag}
 use Rattle.auction_calls.specs.declared.action.Action.{Action}
 use Rattle.auction_calls.specs.declared.action.Action.TheVariants.{Home, Register, SignIn, SignOut, Categories, AddCategory, Browse, Item, User, About, Sell, Bid, Buy, Close, Feedback, Form}
 use Rattle.auction_calls.specs.declared.action.ActionCall.{ActionCall}
 use Rattle.auction_calls.specs.declared.action.FormKind.{FormKind}
 use Rattle.auction_calls.specs.declared.action.FormKind.TheVariants as kinds
 use Rattle.auction_calls.specs.Calls.{is_call}
-
--- a number of eight bytes
-unfoldable pub u64_bytes : ℕ → List ℕ
-u64_bytes n = to_be_bytes w64 n
-
--- a text: its length in two bytes, and its bytes
-unfoldable pub text16 : List ℕ → List ℕ
-text16 text = to_be_bytes w16 (length text) ++ text
-
--- a truth as a number: 1 where it holds, else 0
-abbrev pub bit : Bool → ℕ
-bit holds = if holds then 1 else 0
 
 -- the word of a form
 abbrev pub kind_text : FormKind → List ℕ
@@ -69,7 +57,7 @@ field_bytes (Sell title category start buy_now hours) =
 field_bytes (Bid item amount) = u64_bytes item ++ u64_bytes amount
 field_bytes (Buy item) = u64_bytes item
 field_bytes (Close item) = u64_bytes item
-field_bytes (Feedback item good text) = u64_bytes item ++ (u64_bytes (bit good) ++ text16 text)
+field_bytes (Feedback item good text) = u64_bytes item ++ (u64_bytes (flag good) ++ text16 text)
 field_bytes (Form kind) = text16 (kind_text kind)
 
 -- who asks, when, and what else the answer depends on
@@ -80,10 +68,6 @@ head_bytes c =
 -- The text of a call: the number of its action, who asks, when and the rest, and the action's fields.
 unfoldable pub call_bytes : ActionCall → List ℕ
 call_bytes c = action_number c.action ∷ head_bytes c ++ field_bytes c.action
-
--- numbers that bytes may be
-abbrev pub AreBytes : List ℕ → Type 0
-AreBytes bytes = All (λ b. b < 2 ^ 8) bytes
 
 -- A text spells a call: the call is in its ranges, and the text is that of the call.
 pub record Spells (text : List ℕ) (call : ActionCall) : Type 0 where

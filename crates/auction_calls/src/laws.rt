@@ -7,7 +7,8 @@ ghost use Rattle.auction_calls.specs.declared.action.ActionCall.{ActionCall};
 ghost use Rattle.auction_calls.specs.declared.action.FormKind.{FormKind};
 ghost use Rattle.auction_calls.specs.Calls.{is_call, is_user_name};
 ghost use Rattle.auction_calls.specs.Reading.{call_of, kind_of};
-ghost use Rattle.auction_calls.specs.Texts.{AreBytes, Spells, SpellsNoCall, call_bytes, kind_text};
+ghost use Rattle.byte_fields.specs.Spelling.{AreBytes};
+ghost use Rattle.auction_calls.specs.Texts.{Spells, SpellsNoCall, call_bytes, kind_text};
 
 /// A text is read as exactly the call that it spells, and as none exactly where it spells none.
 pub fn texts_are_exact()

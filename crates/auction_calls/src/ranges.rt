@@ -5,6 +5,7 @@ ghost use Rattle.std.specs.Str.{is_utf8};
 ghost use Rattle.auction_calls.specs.Calls.{is_id, is_text, is_user_name, are_credentials, is_offer, is_bid, is_action, is_sized, is_call};
 
 use crate::action::{Action, ActionCall};
+use byte_fields::is_utf8;
 use crash_base::is_name;
 
 /// The most bytes of a user's name.
@@ -33,15 +34,6 @@ const MAX_HOURS: u32 = 720;
 
 /// Moments are below it.
 const MOMENT_LIMIT: u64 = 1 << 62;
-
-fn is_utf8(bytes: &[u8]) -> bool
-    ensures { result ≡ is_utf8 bytes.now }
-{
-    match std::str::from_utf8(bytes) {
-        Ok(_) => true,
-        Err(_) => false,
-    }
-}
 
 fn is_id(number: u32) -> bool
     ensures { result ≡ is_id number }

@@ -2,14 +2,15 @@
 
 ghost use Rattle.std.specs.Prelude.{◌≡◌, ◌<◌, ◌^◌, ◌++◌, ◌∷◌, length, true, Some, IfOk, OnOk};
 ghost use Rattle.auction_calls.specs.Calls.{are_credentials, is_offer, is_text, is_action, is_call};
-ghost use Rattle.auction_calls.specs.Texts.{bit, u64_bytes, text16, kind_text, action_number, head_bytes, field_bytes, call_bytes};
+ghost use Rattle.byte_fields.specs.Spelling.{u64_bytes, text16, flag};
+ghost use Rattle.auction_calls.specs.Texts.{kind_text, action_number, head_bytes, field_bytes, call_bytes};
 ghost use Rattle.auction_calls.specs.Reading.{call_of};
 ghost use Rattle.auction_calls.specs.declared.action.Action.TheVariants.{Register, Sell, Feedback, Form};
 
 use crate::action::{Action, ActionCall, FormKind};
 use crate::checked::CheckedCall;
-use crate::fields::{write_text, write_u64};
 use crate::laws::texts_read_back;
+use byte_fields::{write_id, write_text, write_u64};
 use crash_base::{ActionText, OutOfMemory};
 use std::alloc::Global;
 
@@ -76,7 +77,7 @@ fn write_offer(
 fn write_feedback(out: &mut Vec<u8>, item: u32, good: bool, text: &[u8]) -> Result<(), OutOfMemory>
     requires { length text.now < 2 ^ 16 }
     ensures { OnOk result (out.new.items ≡ out.old.items
-        ++ (u64_bytes item ++ (u64_bytes (bit good) ++ text16 text.now))) }
+        ++ (u64_bytes item ++ (u64_bytes (flag good) ++ text16 text.now))) }
 {
     write_two(out, u64::from(item), u64::from(good))?;
     write_text(out, text)?;
@@ -105,7 +106,7 @@ fn write_fields(out: &mut Vec<u8>, action: &Action) -> Result<(), OutOfMemory>
         Action::Browse { category, page } => {
             write_two(out, u64::from(*category), u64::from(*page))
         }
-        Action::User { user } => write_u64(out, u64::from(*user)),
+        Action::User { user } => write_id(out, *user),
         Action::Sell {
             title,
             category,
@@ -115,7 +116,7 @@ fn write_fields(out: &mut Vec<u8>, action: &Action) -> Result<(), OutOfMemory>
         } => write_offer(out, title.as_slice(), *category, *start, *buy_now, *hours),
         Action::Bid { item, amount } => write_two(out, u64::from(*item), *amount),
         Action::Item { item } | Action::Buy { item } | Action::Close { item } => {
-            write_u64(out, u64::from(*item))
+            write_id(out, *item)
         }
         Action::Feedback { item, good, text } => {
             write_feedback(out, *item, *good, text.as_slice())
@@ -129,7 +130,7 @@ fn write_fields(out: &mut Vec<u8>, action: &Action) -> Result<(), OutOfMemory>
 fn write_head(out: &mut Vec<u8>, call: &ActionCall) -> Result<(), OutOfMemory>
     ensures { OnOk result (out.new.items ≡ out.old.items ++ head_bytes call.entry.now) }
 {
-    write_u64(out, u64::from(call.user))?;
+    write_id(out, call.user)?;
     out.extend_from_slice(&call.key.0)?;
     write_two(out, call.now.0, call.fresh)?;
     out.extend_from_slice(&call.form)?;

@@ -13,8 +13,10 @@ use Rattle.auction_rows.specs.declared.rows.UserRow.{UserRow}
 use Rattle.auction_rows.specs.Bounds.{AreBytes, are_few, is_user, is_name, is_counter, is_item, is_category, is_bid, is_entry, is_feedback, is_own_item, IsUser, IsName, IsCounter, IsItem, IsCategory, IsBid, IsEntry, IsFeedback, IsOwnItem}
 use Rattle.auction_rows.specs.Reading.{user_at, name_at, counter_at, item_at, category_at, bid_at, entry_at, feedback_at, own_item_at, user_of, name_of, counter_of, item_of, category_of, bid_of, entry_of, feedback_of, own_item_of}
 use Rattle.auction_rows.specs.Spelling.{item_numbers, user_bytes, name_bytes, counter_bytes, item_bytes, category_bytes, bid_bytes, entry_bytes, feedback_bytes, own_item_bytes}
-use Rattle.auction_rows.proofs.Exact.{both_true, split, start, taken, again, Reads, AreExact, whole_takes, whole_again, IsExactRow, found_within}
-use Rattle.auction_rows.proofs.ExactFields.{bytes_exact, u32_exact, u64_exact, id_exact, IsText, text_exact, flag_exact, state_exact, given_exact}
+use Rattle.byte_fields.proofs.Exact.{start, taken, again}
+use Rattle.byte_fields.proofs.ExactFields.{bytes_exact, u32_exact, u64_exact, id_exact, IsText, text_exact, flag_exact}
+use Rattle.auction_rows.proofs.Exact.{both_true, split, Reads, AreExact, whole_takes, whole_again, IsExactRow, found_within}
+use Rattle.auction_rows.proofs.ExactFields.{state_exact, given_exact}
 use Rattle.auction_rows.proofs.Sizes.{user_short, name_short, item_short, category_short, feedback_short, counter_few, bid_few, entry_few, own_item_few}
 
 -- a number below 2^32 is one below 2^64

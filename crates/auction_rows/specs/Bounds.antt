@@ -1,7 +1,8 @@
 -- Which rows there may be.
-use Rattle.std.specs.Prelude.{◌≡◌, ℕ, ◌^◌, ◌<◌, ◌&&◌, nat_le, Bool, true, List, length, All}
+use Rattle.std.specs.Prelude.{◌≡◌, ℕ, ◌^◌, ◌<◌, ◌&&◌, nat_le, Bool, true, List, length}
 use Rattle.std.specs.Str.{is_utf8}
 use Rattle.crash_base.specs.declared.rows.TheConstants.{MAX_ROW_BYTES}
+pub use Rattle.byte_fields.specs.Spelling.{AreBytes}
 use Rattle.auction_rows.specs.declared.rows.AuctionRow.{AuctionRow}
 use Rattle.auction_rows.specs.declared.rows.AuctionRow.TheVariants as row
 use Rattle.auction_rows.specs.declared.rows.BidRow.{BidRow}
@@ -133,10 +134,6 @@ IsRow (row.Bid bid) = IsBid bid
 IsRow (row.Entry entry) = IsEntry entry
 IsRow (row.Feedback feedback) = IsFeedback feedback
 IsRow (row.OwnItem own) = IsOwnItem own
-
--- numbers that bytes may be
-abbrev pub AreBytes : List ℕ → Type 0
-AreBytes bytes = All (λ byte. byte < 2 ^ 8) bytes
 
 -- Bytes spell a row of a table: the row is within its bounds, and the bytes are its bytes.
 pub record Spells (table : ℕ) (bytes : List ℕ) (row : AuctionRow) : Type 0 where

@@ -4,4 +4,3 @@ pub mod Reading
 pub mod Ids
 pub mod Session
 pub mod Parts
-pub mod Answers

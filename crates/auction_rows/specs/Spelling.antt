@@ -1,6 +1,7 @@
 -- The bytes that spell rows: their fields in order, whose numbers are big-endian.
-use Rattle.std.specs.Prelude.{ℕ, ◌+◌, ◌*◌, Bool, true, false, List, [], ◌∷◌, ◌++◌, length}
-use Rattle.std.specs.Int.{w16, w32, w64, to_be_bytes}
+use Rattle.std.specs.Prelude.{ℕ, ◌+◌, ◌*◌, List, ◌++◌}
+unfoldable pub use Rattle.byte_fields.specs.Spelling.{u8_bytes, u32_bytes, u64_bytes, text16}
+pub use Rattle.byte_fields.specs.Spelling.{flag}
 use Rattle.auction_rows.specs.declared.rows.AuctionRow.{AuctionRow}
 use Rattle.auction_rows.specs.declared.rows.AuctionRow.TheVariants as row
 use Rattle.auction_rows.specs.declared.rows.BidRow.{BidRow}
@@ -16,27 +17,6 @@ use Rattle.auction_rows.specs.declared.rows.NameRow.{NameRow}
 use Rattle.auction_rows.specs.declared.rows.OwnItemRow.{OwnItemRow}
 use Rattle.auction_rows.specs.declared.rows.TheConstants.{USER_TABLE, NAME_TABLE, COUNTER_TABLE, ITEM_TABLE, CATEGORY_TABLE, BID_TABLE, ENTRY_TABLE, FEEDBACK_TABLE, OWN_ITEM_TABLE}
 use Rattle.auction_rows.specs.declared.rows.UserRow.{UserRow}
-
--- a number of one byte
-unfoldable pub u8_bytes : ℕ → List ℕ
-u8_bytes n = n ∷ []
-
--- a number of four bytes
-unfoldable pub u32_bytes : ℕ → List ℕ
-u32_bytes n = to_be_bytes w32 n
-
--- a number of eight bytes
-unfoldable pub u64_bytes : ℕ → List ℕ
-u64_bytes n = to_be_bytes w64 n
-
--- a text: its length in two bytes, and then its bytes
-unfoldable pub text16 : List ℕ → List ℕ
-text16 text = to_be_bytes w16 (length text) ++ text
-
--- 1 where something is so, and else 0
-abbrev pub flag : Bool → ℕ
-flag true = 1
-flag false = 0
 
 -- the number of an item's state
 abbrev pub state_number : ItemState → ℕ

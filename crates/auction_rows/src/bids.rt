@@ -1,17 +1,17 @@
 //! Bids, as rows.
 
 ghost use Rattle.std.specs.Prelude.{◌≡◌, ◌++◌, true, length, OnOk};
-ghost use Rattle.auction_rows.specs.Answers.{Answers};
+ghost use Rattle.byte_fields.specs.Answers.{Answers};
 ghost use Rattle.auction_rows.specs.Bounds.{is_bid};
 ghost use Rattle.auction_rows.specs.Reading.{bid_at, bid_of};
 ghost use Rattle.auction_rows.specs.Spelling.{bid_bytes};
 
-use crate::error::{RowError, found};
-use crate::fields::{check_end, check_few, id_at, u64_at, write_id, write_u64};
+use crate::fields::{check_end, check_few};
 use crate::laws::bids_are_exact;
-use crate::ranges::{bid_is_in_range, bytes_are_in_range};
+use crate::ranges::bid_is_in_range;
 use crate::rows::BidRow;
 use crate::table_row::TableRow;
+use byte_fields::{ReadError, bytes_are_in_range, found, id_at, u64_at, write_id, write_u64};
 use crash_base::{Moment, OutOfMemory, RowBytes};
 use std::alloc::Global;
 
@@ -27,7 +27,7 @@ pub fn is_bid(_bid: &BidRow) -> bool
 }
 
 #[tactic(auto, unfolding(crate::specs::Reading::bid_of, crate::specs::Reading::bid_at))]
-fn read_bid(bytes: &[u8]) -> Result<BidRow, RowError>
+fn read_bid(bytes: &[u8]) -> Result<BidRow, ReadError>
     ensures { Answers (λ row. row) result (bid_of bytes.now) }
 {
     check_few(bytes)?;

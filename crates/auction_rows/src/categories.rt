@@ -1,17 +1,17 @@
 //! Categories, as rows.
 
 ghost use Rattle.std.specs.Prelude.{◌≡◌, ◌++◌, true, length, OnOk};
-ghost use Rattle.auction_rows.specs.Answers.{Answers};
+ghost use Rattle.byte_fields.specs.Answers.{Answers};
 ghost use Rattle.auction_rows.specs.Bounds.{is_category};
 ghost use Rattle.auction_rows.specs.Reading.{category_at, category_of};
 ghost use Rattle.auction_rows.specs.Spelling.{category_bytes};
 
-use crate::error::{RowError, found};
-use crate::fields::{check_end, check_few, is_text, text_at, write_text};
+use crate::fields::{check_end, check_few};
 use crate::laws::categories_are_exact;
-use crate::ranges::{bytes_are_in_range, category_is_in_range};
+use crate::ranges::category_is_in_range;
 use crate::rows::CategoryRow;
 use crate::table_row::TableRow;
+use byte_fields::{ReadError, bytes_are_in_range, found, is_utf8, text_at, write_text};
 use crash_base::{FieldText, MAX_ROW_BYTES, OutOfMemory, RowBytes};
 use std::alloc::Global;
 
@@ -24,11 +24,11 @@ const CATEGORY_BYTES: usize = 2;
 pub fn is_category(category: &CategoryRow) -> bool
     ensures { result ≡ is_category category.now }
 {
-    is_text(category.name.as_slice()) && category.name.len() <= MAX_ROW_BYTES - CATEGORY_BYTES
+    is_utf8(category.name.as_slice()) && category.name.len() <= MAX_ROW_BYTES - CATEGORY_BYTES
 }
 
 #[tactic(auto, unfolding(crate::specs::Reading::category_of, crate::specs::Reading::category_at))]
-fn read_category(alloc: Global, bytes: &[u8]) -> Result<CategoryRow, RowError>
+fn read_category(alloc: Global, bytes: &[u8]) -> Result<CategoryRow, ReadError>
     ensures { Answers (λ row. row) result (category_of bytes.now) }
 {
     check_few(bytes)?;

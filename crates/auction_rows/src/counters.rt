@@ -1,17 +1,17 @@
 //! Counters, as rows.
 
 ghost use Rattle.std.specs.Prelude.{◌≡◌, ◌++◌, true, length, OnOk};
-ghost use Rattle.auction_rows.specs.Answers.{Answers};
+ghost use Rattle.byte_fields.specs.Answers.{Answers};
 ghost use Rattle.auction_rows.specs.Bounds.{is_counter};
 ghost use Rattle.auction_rows.specs.Reading.{counter_at, counter_of};
 ghost use Rattle.auction_rows.specs.Spelling.{counter_bytes};
 
-use crate::error::{RowError, found};
-use crate::fields::{check_end, check_few, u64_at, write_u64};
+use crate::fields::{check_end, check_few};
 use crate::laws::counters_are_exact;
-use crate::ranges::{bytes_are_in_range, counter_is_in_range};
+use crate::ranges::counter_is_in_range;
 use crate::rows::CounterRow;
 use crate::table_row::TableRow;
+use byte_fields::{ReadError, bytes_are_in_range, found, u64_at, write_u64};
 use crash_base::{OutOfMemory, RowBytes};
 use std::alloc::Global;
 
@@ -27,7 +27,7 @@ pub fn is_counter(_counter: &CounterRow) -> bool
 }
 
 #[tactic(auto, unfolding(crate::specs::Reading::counter_of, crate::specs::Reading::counter_at))]
-fn read_counter(bytes: &[u8]) -> Result<CounterRow, RowError>
+fn read_counter(bytes: &[u8]) -> Result<CounterRow, ReadError>
     ensures { Answers (λ row. row) result (counter_of bytes.now) }
 {
     check_few(bytes)?;

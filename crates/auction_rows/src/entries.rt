@@ -1,17 +1,17 @@
 //! Entries, as rows.
 
 ghost use Rattle.std.specs.Prelude.{◌≡◌, ◌++◌, true, length, OnOk};
-ghost use Rattle.auction_rows.specs.Answers.{Answers};
+ghost use Rattle.byte_fields.specs.Answers.{Answers};
 ghost use Rattle.auction_rows.specs.Bounds.{is_entry};
 ghost use Rattle.auction_rows.specs.Reading.{entry_at, entry_of};
 ghost use Rattle.auction_rows.specs.Spelling.{entry_bytes};
 
-use crate::error::{RowError, found};
-use crate::fields::{check_end, check_few, id_at, write_id};
+use crate::fields::{check_end, check_few};
 use crate::laws::entries_are_exact;
-use crate::ranges::{bytes_are_in_range, entry_is_in_range};
+use crate::ranges::entry_is_in_range;
 use crate::rows::EntryRow;
 use crate::table_row::TableRow;
+use byte_fields::{ReadError, bytes_are_in_range, found, id_at, write_id};
 use crash_base::{OutOfMemory, RowBytes};
 use std::alloc::Global;
 
@@ -27,7 +27,7 @@ pub fn is_entry(_entry: &EntryRow) -> bool
 }
 
 #[tactic(auto, unfolding(crate::specs::Reading::entry_of, crate::specs::Reading::entry_at))]
-fn read_entry(bytes: &[u8]) -> Result<EntryRow, RowError>
+fn read_entry(bytes: &[u8]) -> Result<EntryRow, ReadError>
     ensures { Answers (λ row. row) result (entry_of bytes.now) }
 {
     check_few(bytes)?;

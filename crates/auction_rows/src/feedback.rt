@@ -1,20 +1,20 @@
 //! Feedback, as rows.
 
 ghost use Rattle.std.specs.Prelude.{◌≡◌, ◌++◌, true, length, OnOk};
-ghost use Rattle.auction_rows.specs.Answers.{Answers};
+ghost use Rattle.byte_fields.specs.Answers.{Answers};
 ghost use Rattle.auction_rows.specs.Bounds.{is_feedback};
 ghost use Rattle.auction_rows.specs.Reading.{feedback_at, feedback_of};
 ghost use Rattle.auction_rows.specs.Spelling.{feedback_bytes};
 
-use crate::error::{RowError, found};
-use crate::fields::{
-    check_end, check_few, flag_at, flag_number, id_at, is_text, text_at, write_id, write_text,
-    write_u8,
-};
+use crate::fields::{check_end, check_few};
 use crate::laws::feedback_is_exact;
-use crate::ranges::{bytes_are_in_range, feedback_is_in_range};
+use crate::ranges::feedback_is_in_range;
 use crate::rows::FeedbackRow;
 use crate::table_row::TableRow;
+use byte_fields::{
+    ReadError, bytes_are_in_range, flag_at, flag_number, found, id_at, is_utf8, text_at, write_id,
+    write_text, write_u8,
+};
 use crash_base::{FieldText, MAX_ROW_BYTES, OutOfMemory, RowBytes};
 use std::alloc::Global;
 
@@ -27,11 +27,11 @@ const FEEDBACK_BYTES: usize = 19;
 pub fn is_feedback(feedback: &FeedbackRow) -> bool
     ensures { result ≡ is_feedback feedback.now }
 {
-    is_text(feedback.text.as_slice()) && feedback.text.len() <= MAX_ROW_BYTES - FEEDBACK_BYTES
+    is_utf8(feedback.text.as_slice()) && feedback.text.len() <= MAX_ROW_BYTES - FEEDBACK_BYTES
 }
 
 #[tactic(auto, unfolding(crate::specs::Reading::feedback_of, crate::specs::Reading::feedback_at))]
-fn read_feedback(alloc: Global, bytes: &[u8]) -> Result<FeedbackRow, RowError>
+fn read_feedback(alloc: Global, bytes: &[u8]) -> Result<FeedbackRow, ReadError>
     ensures { Answers (λ row. row) result (feedback_of bytes.now) }
 {
     check_few(bytes)?;

@@ -1,20 +1,20 @@
 //! Items, as rows.
 
 ghost use Rattle.std.specs.Prelude.{◌≡◌, ◌++◌, true, length, OnOk};
-ghost use Rattle.auction_rows.specs.Answers.{Answers};
+ghost use Rattle.byte_fields.specs.Answers.{Answers};
 ghost use Rattle.auction_rows.specs.Bounds.{is_item};
 ghost use Rattle.auction_rows.specs.Reading.{item_at, item_of};
 ghost use Rattle.auction_rows.specs.Spelling.{item_bytes, item_numbers};
 
-use crate::error::{RowError, found};
-use crate::fields::{
-    check_end, check_few, given_at, given_number, id_at, is_text, state_at, state_number, text_at,
-    u32_at, u64_at, write_id, write_text, write_u8, write_u32, write_u64,
-};
+use crate::fields::{check_end, check_few, given_at, given_number, state_at, state_number};
 use crate::laws::items_are_exact;
-use crate::ranges::{bytes_are_in_range, item_is_in_range};
+use crate::ranges::item_is_in_range;
 use crate::rows::ItemRow;
 use crate::table_row::TableRow;
+use byte_fields::{
+    ReadError, bytes_are_in_range, found, id_at, is_utf8, text_at, u32_at, u64_at, write_id,
+    write_text, write_u8, write_u32, write_u64,
+};
 use crash_base::{FieldText, MAX_ROW_BYTES, Moment, OutOfMemory, RowBytes};
 use std::alloc::Global;
 
@@ -27,11 +27,11 @@ const ITEM_BYTES: usize = 72;
 pub fn is_item(item: &ItemRow) -> bool
     ensures { result ≡ is_item item.now }
 {
-    is_text(item.title.as_slice()) && item.title.len() <= MAX_ROW_BYTES - ITEM_BYTES
+    is_utf8(item.title.as_slice()) && item.title.len() <= MAX_ROW_BYTES - ITEM_BYTES
 }
 
 #[tactic(auto, unfolding(crate::specs::Reading::item_of, crate::specs::Reading::item_at))]
-fn read_item(alloc: Global, bytes: &[u8]) -> Result<ItemRow, RowError>
+fn read_item(alloc: Global, bytes: &[u8]) -> Result<ItemRow, ReadError>
     ensures { Answers (λ row. row) result (item_of bytes.now) }
 {
     check_few(bytes)?;

@@ -35,7 +35,6 @@ mod bids;
 mod categories;
 mod counters;
 mod entries;
-mod error;
 mod feedback;
 mod fields;
 mod ids;
@@ -52,6 +51,7 @@ mod users;
 
 pub use auction_row::{decode_row, encode_row, is_row, row_is_in_range};
 pub use bids::is_bid;
+pub use byte_fields::bytes_are_in_range;
 pub use categories::is_category;
 pub use counters::is_counter;
 pub use entries::is_entry;
@@ -69,9 +69,9 @@ pub use laws::{
 pub use names::is_name;
 pub use own_items::is_own_item;
 pub use ranges::{
-    bid_is_in_range, bytes_are_in_range, category_is_in_range, counter_is_in_range,
-    entry_is_in_range, feedback_is_in_range, item_is_in_range, name_is_in_range,
-    own_item_is_in_range, user_is_in_range,
+    bid_is_in_range, category_is_in_range, counter_is_in_range, entry_is_in_range,
+    feedback_is_in_range, item_is_in_range, name_is_in_range, own_item_is_in_range,
+    user_is_in_range,
 };
 pub use rows::{
     AuctionRow, BID_TABLE, BidRow, CATEGORY_TABLE, COUNTER_TABLE, CategoryRow, CounterRow,

@@ -1,17 +1,19 @@
 //! Names, as rows.
 
 ghost use Rattle.std.specs.Prelude.{◌≡◌, ◌++◌, true, length, OnOk};
-ghost use Rattle.auction_rows.specs.Answers.{Answers};
+ghost use Rattle.byte_fields.specs.Answers.{Answers};
 ghost use Rattle.auction_rows.specs.Bounds.{is_name};
 ghost use Rattle.auction_rows.specs.Reading.{name_at, name_of};
 ghost use Rattle.auction_rows.specs.Spelling.{name_bytes};
 
-use crate::error::{RowError, found};
-use crate::fields::{check_end, check_few, id_at, is_text, text_at, write_id, write_text};
+use crate::fields::{check_end, check_few};
 use crate::laws::names_are_exact;
-use crate::ranges::{bytes_are_in_range, name_is_in_range};
+use crate::ranges::name_is_in_range;
 use crate::rows::NameRow;
 use crate::table_row::TableRow;
+use byte_fields::{
+    ReadError, bytes_are_in_range, found, id_at, is_utf8, text_at, write_id, write_text,
+};
 use crash_base::{FieldText, MAX_ROW_BYTES, OutOfMemory, RowBytes};
 use std::alloc::Global;
 
@@ -24,11 +26,11 @@ const NAME_BYTES: usize = 10;
 pub fn is_name(name: &NameRow) -> bool
     ensures { result ≡ is_name name.now }
 {
-    is_text(name.name.as_slice()) && name.name.len() <= MAX_ROW_BYTES - NAME_BYTES
+    is_utf8(name.name.as_slice()) && name.name.len() <= MAX_ROW_BYTES - NAME_BYTES
 }
 
 #[tactic(auto, unfolding(crate::specs::Reading::name_of, crate::specs::Reading::name_at))]
-fn read_name(alloc: Global, bytes: &[u8]) -> Result<NameRow, RowError>
+fn read_name(alloc: Global, bytes: &[u8]) -> Result<NameRow, ReadError>
     ensures { Answers (λ row. row) result (name_of bytes.now) }
 {
     check_few(bytes)?;

@@ -1,17 +1,17 @@
 //! Own items, as rows.
 
 ghost use Rattle.std.specs.Prelude.{◌≡◌, ◌++◌, true, length, OnOk};
-ghost use Rattle.auction_rows.specs.Answers.{Answers};
+ghost use Rattle.byte_fields.specs.Answers.{Answers};
 ghost use Rattle.auction_rows.specs.Bounds.{is_own_item};
 ghost use Rattle.auction_rows.specs.Reading.{own_item_at, own_item_of};
 ghost use Rattle.auction_rows.specs.Spelling.{own_item_bytes};
 
-use crate::error::{RowError, found};
-use crate::fields::{check_end, check_few, id_at, write_id};
+use crate::fields::{check_end, check_few};
 use crate::laws::own_items_are_exact;
-use crate::ranges::{bytes_are_in_range, own_item_is_in_range};
+use crate::ranges::own_item_is_in_range;
 use crate::rows::OwnItemRow;
 use crate::table_row::TableRow;
+use byte_fields::{ReadError, bytes_are_in_range, found, id_at, write_id};
 use crash_base::{OutOfMemory, RowBytes};
 use std::alloc::Global;
 
@@ -27,7 +27,7 @@ pub fn is_own_item(_own: &OwnItemRow) -> bool
 }
 
 #[tactic(auto, unfolding(crate::specs::Reading::own_item_of, crate::specs::Reading::own_item_at))]
-fn read_own_item(bytes: &[u8]) -> Result<OwnItemRow, RowError>
+fn read_own_item(bytes: &[u8]) -> Result<OwnItemRow, ReadError>
     ensures { Answers (λ row. row) result (own_item_of bytes.now) }
 {
     check_few(bytes)?;

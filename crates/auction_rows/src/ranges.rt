@@ -2,17 +2,12 @@
 //! rows have this as their premise. Each function does nothing: a caller that needs the fact calls it.
 
 ghost use Rattle.std.specs.Prelude.{◌≡◌, ◌^◌, ◌<◌, true, length};
-ghost use Rattle.auction_rows.specs.Bounds.{AreBytes, is_user, is_name, is_item, is_category, is_feedback, IsUser, IsName, IsCounter, IsItem, IsCategory, IsBid, IsEntry, IsFeedback, IsOwnItem};
+ghost use Rattle.auction_rows.specs.Bounds.{is_user, is_name, is_item, is_category, is_feedback, IsUser, IsName, IsCounter, IsItem, IsCategory, IsBid, IsEntry, IsFeedback, IsOwnItem};
 
 use crate::rows::{
     BidRow, CategoryRow, CounterRow, EntryRow, FeedbackRow, ItemRow, NameRow, OwnItemRow, UserRow,
 };
 use crash_base::Moment;
-
-/// Bytes that the code holds are numbers below 256. It does nothing.
-pub fn bytes_are_in_range(bytes: &[u8])
-    ensures { AreBytes bytes.now }
-{}
 
 fn fits_four_bytes(number: u32)
     ensures { number < 2 ^ 32 }

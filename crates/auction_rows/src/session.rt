@@ -4,8 +4,8 @@ ghost use Rattle.std.specs.Prelude.{◌≡◌, length, IfOk};
 ghost use Rattle.auction_rows.specs.declared.session.TheConstants.{SESSION_BYTES};
 ghost use Rattle.auction_rows.specs.Session.{session_bytes, session_user};
 
-use crate::fields::{write_id, write_u64};
 use crate::laws::sessions_read_back;
+use byte_fields::{write_id, write_u64};
 use crash_base::{Moment, OutOfMemory, SessionBytes, take_u64};
 use std::alloc::Global;
 

@@ -1,19 +1,19 @@
 //! Users, as rows.
 
 ghost use Rattle.std.specs.Prelude.{◌≡◌, ◌++◌, true, length, OnOk};
-ghost use Rattle.auction_rows.specs.Answers.{Answers};
+ghost use Rattle.byte_fields.specs.Answers.{Answers};
 ghost use Rattle.auction_rows.specs.Bounds.{is_user};
 ghost use Rattle.auction_rows.specs.Reading.{user_at, user_of};
 ghost use Rattle.auction_rows.specs.Spelling.{user_bytes};
 
-use crate::error::{RowError, found};
-use crate::fields::{
-    check_end, check_few, digest_at, is_text, salt_at, text_at, u32_at, write_text, write_u32,
-};
+use crate::fields::{check_end, check_few};
 use crate::laws::users_are_exact;
-use crate::ranges::{bytes_are_in_range, user_is_in_range};
+use crate::ranges::user_is_in_range;
 use crate::rows::UserRow;
 use crate::table_row::TableRow;
+use byte_fields::{
+    ReadError, array_at, bytes_are_in_range, found, is_utf8, text_at, u32_at, write_text, write_u32,
+};
 use crash_base::{FieldText, MAX_ROW_BYTES, OutOfMemory, RowBytes};
 use std::alloc::Global;
 
@@ -26,17 +26,17 @@ const USER_BYTES: usize = 54;
 pub fn is_user(user: &UserRow) -> bool
     ensures { result ≡ is_user user.now }
 {
-    is_text(user.name.as_slice()) && user.name.len() <= MAX_ROW_BYTES - USER_BYTES
+    is_utf8(user.name.as_slice()) && user.name.len() <= MAX_ROW_BYTES - USER_BYTES
 }
 
 #[tactic(auto, unfolding(crate::specs::Reading::user_of, crate::specs::Reading::user_at))]
-fn read_user(alloc: Global, bytes: &[u8]) -> Result<UserRow, RowError>
+fn read_user(alloc: Global, bytes: &[u8]) -> Result<UserRow, ReadError>
     ensures { Answers (λ row. row) result (user_of bytes.now) }
 {
     check_few(bytes)?;
     let (name, rest) = text_at(bytes)?;
-    let (salt, rest) = salt_at(rest)?;
-    let (digest, rest) = digest_at(rest)?;
+    let (salt, rest) = array_at(rest)?;
+    let (digest, rest) = array_at(rest)?;
     let (good, rest) = u32_at(rest)?;
     let (bad, rest) = u32_at(rest)?;
     let (items, rest) = u32_at(rest)?;
