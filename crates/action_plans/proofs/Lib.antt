@@ -2,5 +2,6 @@ pub mod Accessing
 pub mod Counting
 pub mod Driving
 pub mod Entering
+pub mod Fixing
 pub mod Leaving
 pub mod Walking

@@ -137,6 +137,14 @@ wanting tables through answers (want.Ask m) =
 wanting tables through answers (want.Finish o) =
     putting tables through answers o.done (slice_get o.writes (kept answers))
 
+-- The next step where none but the answers decide it: into the home, and back from an owner where the action has made
+-- its access.
+abbrev pub fixed_step : Option Through → List Answer → Option Next
+fixed_step through answers =
+    if nat_lt (entered answers) (home_depth through) then Some (enter_home through (entered answers))
+    else (if is_away through answers && not (is_fresh answers) then Some next.Exit
+    else None)
+
 -- The next step of an action after these answers: into its home, back from an owner where it has made its access, and
 -- else to what it wants.
 abbrev pub step_to : List TablePart → Option Through → List Answer → Want → Next

@@ -24,4 +24,4 @@ mod steps;
 pub use laws::plans_run;
 pub use plan::{FRONT, MAX_ACCESSES, Outcome, Stop, Through, Want};
 pub use reads::Reads;
-pub use steps::{next_step, want_of};
+pub use steps::{fixed_step, next_step, want_of};

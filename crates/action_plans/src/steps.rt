@@ -5,7 +5,7 @@ ghost use Rattle.call_ticket.specs.declared.next.Answer.{Answer};
 ghost use Rattle.action_plans.specs.declared.plan.Outcome.{Outcome};
 ghost use Rattle.action_plans.specs.declared.plan.Stop.TheVariants as stop;
 ghost use Rattle.action_plans.specs.Plans.{HasCome, Walked, wanted};
-ghost use Rattle.action_plans.specs.Steps.{entered, left, kept, is_fresh, is_entered, is_left, is_kept, home_depth, home_of, enter_home, is_away, is_home, access, access_in, reading, table_of, leaving, wanting, step_to};
+ghost use Rattle.action_plans.specs.Steps.{entered, left, kept, is_fresh, is_entered, is_left, is_kept, home_depth, home_of, enter_home, is_away, is_home, access, access_in, reading, table_of, leaving, wanting, fixed_step, step_to};
 
 use crate::plan::{FRONT, Outcome, Stop, Through, Want};
 use call_ticket::{Answer, Next};
@@ -205,8 +205,24 @@ fn wanting(
     }
 }
 
+/// The next step after these answers, whatever the action wants: into its home, or back from an owner. None where what
+/// it wants decides. It visits each answer at most three times, and takes no memory.
+pub fn fixed_step(through: Option<Through>, answers: &[Answer]) -> Option<Next>
+    ensures { result ≡ fixed_step through answers.now }
+{
+    let entered = entered(answers);
+    if entered < home_depth(through) {
+        return Some(enter_home(through, entered));
+    }
+    if is_away(through, answers) && !is_fresh(answers) {
+        return Some(Next::Exit);
+    }
+    None
+}
+
 /// The next step, after these answers, of an action that wants this, in a deployment with these tables. It visits each
 /// answer at most six times and each table up to that of the access, and copies the row that is put.
+#[tactic(auto, using(crate::proofs::Fixing::fixed_comes))]
 pub fn next_step(
     alloc: Global,
     tables: &[TablePart],
@@ -216,14 +232,10 @@ pub fn next_step(
 ) -> Result<Next, OutOfMemory>
     ensures { IfOk result (λ next. next ≡ step_to tables.now through answers.now want) }
 {
-    let entered = entered(answers);
-    if entered < home_depth(through) {
-        return Ok(enter_home(through, entered));
+    match fixed_step(through, answers) {
+        Some(next) => Ok(next),
+        None => wanting(alloc, tables, through, answers, want),
     }
-    if is_away(through, answers) && !is_fresh(answers) {
-        return Ok(Next::Exit);
-    }
-    wanting(alloc, tables, through, answers, want)
 }
 
 /// What an action wants that has come so far. It takes no memory.

@@ -18,7 +18,7 @@ use crate::offer::Offer;
 use crate::own_items::show_own_items;
 use crate::selling::sell;
 use crate::users::{register, show_user, sign_in};
-use action_plans::{Outcome, Reads, Stop, Through, next_step, want_of};
+use action_plans::{Outcome, Reads, Stop, Through, fixed_step, next_step, want_of};
 use auction_calls::{Action, ActionCall, CheckedCall};
 use auction_rows::{
     BID_TABLE, CATEGORY_TABLE, COUNTER_TABLE, ENTRY_TABLE, FEEDBACK_TABLE, ITEM_TABLE, NAME_TABLE,
@@ -154,8 +154,8 @@ fn come(alloc: Global, call: &ActionCall, reads: &mut Reads<'_>) -> Result<Outco
     }
 }
 
-/// The next step of a call after these answers.
-fn next_of(alloc: Global, call: &ActionCall, answers: &AnswerList) -> Result<Next, OutOfMemory>
+/// The next step of a call after these answers, by how far they bring its plan.
+fn planned_step(alloc: Global, call: &ActionCall, answers: &AnswerList) -> Result<Next, OutOfMemory>
     requires { is_call call.now ≡ true }
     ensures { IfOk result (λ next. next ≡ steps_of call.entry.now answers.now) }
 {
@@ -170,6 +170,18 @@ fn next_of(alloc: Global, call: &ActionCall, answers: &AnswerList) -> Result<Nex
         want,
     )?;
     Ok(next)
+}
+
+/// The next step of a call after these answers. Its plan is followed only where it decides.
+#[tactic(auto, using(action_plans::proofs::Fixing::fixed_runs))]
+fn next_of(alloc: Global, call: &ActionCall, answers: &AnswerList) -> Result<Next, OutOfMemory>
+    requires { is_call call.now ≡ true }
+    ensures { IfOk result (λ next. next ≡ steps_of call.entry.now answers.now) }
+{
+    match fixed_step(through_of(&call.action), answers.as_slice()) {
+        Some(next) => Ok(next),
+        None => planned_step(alloc, call, answers),
+    }
 }
 
 impl Program for ActionProgram {
@@ -187,8 +199,8 @@ impl Program for ActionProgram {
     /// The site's deployment, for a call whose fields are in their ranges.
     ghost accepts = { λ call parts. (parts ≡ site_parts) × (is_call call ≡ true) };
 
-    /// The step after these answers. Each answer is visited at most six times, and each row that was
-    /// read is decoded again.
+    /// The step after these answers. Each answer is visited at most nine times. Where the plan decides, each row that
+    /// was read is decoded again; an enter of the home, or an exit of another owner, costs no more than the visits.
     fn next(&self, alloc: Global, answers: &AnswerList) -> Result<Next, OutOfMemory> {
         next_of(alloc, self.call.call(), answers)
     }
