@@ -20,6 +20,9 @@ use journal_model::DoneText;
 use std::alloc::Global;
 use std::fmt::Write;
 
+/// The most bytes of the answer to a bid, in which two numbers have ten digits each at most.
+const ANSWER_BYTES: usize = 33;
+
 /// The item after a bid.
 fn with_bid(mut item: ItemRow, bidder: u32, amount: u64) -> ItemRow
     requires { item.bids < LAST_SMALL_NUMBER }
@@ -42,7 +45,7 @@ fn has_last_bid(item: &ItemRow) -> bool
 fn bid_done(alloc: Global, n: u32, number: u32) -> Result<DoneText, OutOfMemory>
     ensures { IfOk result (λ done. done ≡ shows 200 (codes "Bid " ++ decimal n ++ codes " on item " ++ decimal number) []) }
 {
-    let mut heading = String::new(alloc);
+    let mut heading = String::with_capacity(alloc, ANSWER_BYTES)?;
     write!(heading, "Bid {n} on item {number}")?;
     says(alloc, 200, heading.as_bytes())
 }

@@ -10,6 +10,9 @@ use crate::page_line::{PageLine, PageLineList};
 use crash_base::{FieldText, OutOfMemory, PageText};
 use std::alloc::Global;
 
+/// How many bytes stand around the heading of a page, as its title and as its first line.
+const TAG_BYTES: usize = 42;
+
 /// Adds what stands before a text, and the text escaped.
 fn write_text(page: &mut Vec<u8>, before: &[u8], text: &[u8]) -> Result<(), OutOfMemory>
     ensures { OnOk result (page.new.items ≡ page.old.items ++ (before.now ++ escaped text.now)) }
@@ -130,13 +133,14 @@ fn write_lines(page: &mut Vec<u8>, lines: &[PageLine]) -> Result<(), OutOfMemory
 /// The page of a heading and of lines, in HTML. In each text and attribute `&`, `<`, `>`, `"` and `'`
 /// are `&amp;`, `&lt;`, `&gt;`, `&quot;` and `&#39;`. The texts may be any bytes.
 ///
-/// It fails only where memory ran out. It visits each byte of the heading and of a field's name twice,
-/// each other byte once, and writes at most 6 bytes at each visit.
+/// It fails only where memory ran out. It begins with room for a page without lines, visits each byte of the heading
+/// and of a field's name twice and each other byte once, and writes at most 6 bytes at each visit.
 #[tactic(auto, unfolding(crate::specs::Pages::page_bytes))]
 pub fn page(alloc: Global, heading: &[u8], lines: &PageLineList) -> Result<PageText, OutOfMemory>
     ensures { IfOk result (λ text. text ≡ page_bytes heading.now lines.now) }
 {
-    let mut page = Vec::new(alloc);
+    let room = heading.len().saturating_mul(2).saturating_add(TAG_BYTES);
+    let mut page = Vec::with_capacity(alloc, room)?;
     write_title(&mut page, heading)?;
     write_heading(&mut page, heading)?;
     write_lines(&mut page, lines.as_slice())?;
