@@ -1,7 +1,9 @@
 -- The run of a plan's program.
 use Rattle.std.proofs.Common.{◌≡◌, ℕ, zero, suc, ◌+◌, ◌≤◌, ◌&&◌, nat_lt, nat_le, true, cond, List, [], ◌∷◌, ◌++◌, length, Option, Some, None, refl, ap, sym, subst, ◌∙◌, arith, append_assoc, append-nil, length-append}
 use Rattle.std.specs.Prelude.{slice_get}
+use Rattle.std.proofs.lemmas.Bool.{and_parts}
 use Rattle.std.proofs.lemmas.Bool.Decides.{nat_tests}
+use Rattle.std.specs.Cmp.Derive.{both_true}
 use Rattle.std.proofs.lemmas.Option.{slice_get_past}
 use Rattle.crash_base.specs.declared.numbers.ComponentNo.{ComponentNo}
 use Rattle.crash_base.specs.declared.rows.RowWrite.{RowWrite}
@@ -25,7 +27,7 @@ use Rattle.action_plans.specs.Plans.{Plan, Asks, Refuses, Gives, walk, wanted, a
 use Rattle.action_plans.specs.Steps.{is_kept, is_read, entered, left, kept, reads_in, reading, table_of, putting, wanting, program_of, may_go, reaches, may_put, may_put_all, has_home, outcome, outcome_of}
 use Rattle.action_plans.proofs.Accessing.{Comes, comes_more, IsAccessOf, access_run}
 use Rattle.action_plans.proofs.Counting.{get_at, IsHome, IsAccess}
-use Rattle.action_plans.proofs.Entering.{state, home_frames, both, and_true, taken}
+use Rattle.action_plans.proofs.Entering.{state, home_frames, taken}
 use Rattle.action_plans.proofs.Leaving.{leave_home}
 
 -- the steps for so many accesses and the end
@@ -50,8 +52,8 @@ put_all_run n parts rows through plan o r q ms ws xs [] had writes few room may 
     leave_budget n parts rows through plan o (length xs) r q ms ws had home none finish
 put_all_run zero parts rows through plan o r q ms ws xs (p ∷ ps) had writes few room may home finish = absurd (omega (arith, few))
 put_all_run (suc n) parts rows through plan o r q ms ws xs (p ∷ ps) had writes few room may home finish =
-    let two = both (may_put parts through p) (may_put_all parts through ps) may in
-    let here = both (reaches parts through p.id.table) (is_write p) two.0 in
+    let two = and_parts (may_put parts through p) (may_put_all parts through ps) may in
+    let here = and_parts (reaches parts through p.id.table) (is_write p) two.0 in
     let free : nat_lt q MAX_WRITES ≡ true = grind (arith, nat_tests) in
     let there : slice_get o.writes (length xs) ≡ Some p = ap (λ l. slice_get l (length xs)) writes ∙ get_at xs p ps in
     let more : length (xs ++ p ∷ []) ≡ length xs + 1 = length-append xs (p ∷ []) in
@@ -60,7 +62,7 @@ put_all_run (suc n) parts rows through plan o r q ms ws xs (p ∷ ps) had writes
       answered = record { not_entered = refl; not_left = refl };
       home = home;
       makes = λ h frames go inside. ap (λ b. cond b (go (state (h ++ answer.Kept ∷ []) frames r (q + 1) ms (with_write ws p))) None)
-          (and_true (is_inside parts frames p.id.table && is_write p) (nat_lt q MAX_WRITES) (and_true (is_inside parts frames p.id.table) (is_write p) inside here.1) free);
+          (both_true (both_true inside here.1) free);
       wants = λ h same rows_are. ap (λ rs. wanting parts.tables through h (wanted (walk plan rs))) same ∙ ap (wanting parts.tables through h) finish
           ∙ ap (putting parts.tables through h o.done) (ap (slice_get o.writes) rows_are ∙ there);
     } in
@@ -81,9 +83,9 @@ read_makes : (parts : Parts) (rows : List RowWrite) (m : ReadMark) (r : ℕ) (ms
     → resume parts rows (state h frames r 0 ms []) (reading m) go ≡ go (state (h ++ answer_to rows m ∷ []) frames (r + 1) 0 (marks_of rows m ms) [])
 unfolding marks_of
 read_makes parts rows (Row id) r ms h frames go few inside =
-    ap (λ b. cond b (go (state (h ++ answer_to rows (Row id) ∷ []) frames (r + 1) 0 (marks_after rows [] id ms) [])) None) (and_true (is_inside parts frames id.table) (nat_lt r MAX_MARKS) inside few)
+    ap (λ b. cond b (go (state (h ++ answer_to rows (Row id) ∷ []) frames (r + 1) 0 (marks_after rows [] id ms) [])) None) (both_true inside few)
 read_makes parts rows (Table t) r ms h frames go few inside =
-    ap (λ b. cond b (go (state (h ++ answer_to rows (Table t) ∷ []) frames (r + 1) 0 (marked_with (Table t) None ms) [])) None) (and_true (is_inside parts frames t) (nat_lt r MAX_MARKS) inside few)
+    ap (λ b. cond b (go (state (h ++ answer_to rows (Table t) ∷ []) frames (r + 1) 0 (marked_with (Table t) None ms) [])) None) (both_true inside few)
 
 is_access : (rows : List RowWrite) (m : ReadMark) → IsAccess (answer_to rows m)
 is_access rows (Row id) = record { not_entered = refl; not_left = refl }
@@ -110,8 +112,8 @@ read_all_run n parts rows through plan (Refuses d) o r ms had room home walked i
 read_all_run n parts rows through plan (Gives g) o r ms had room home walked is =
     let finish : wanted (walk plan (reads_in had)) ≡ want.Finish g = ap (λ rs. wanted (walk plan rs)) (sym (append-nil (reads_in had))) ∙ ap wanted (walked []) in
     let got = taken ((nat_le (length g.writes) n && nat_le (length g.writes) MAX_WRITES) && may_put_all parts through g.writes) (Some (record { writes = put_each [] g.writes; done = g.done })) o is in
-    let two = both (nat_le (length g.writes) n && nat_le (length g.writes) MAX_WRITES) (may_put_all parts through g.writes) got.0 in
-    let sizes = both (nat_le (length g.writes) n) (nat_le (length g.writes) MAX_WRITES) two.0 in
+    let two = and_parts (nat_le (length g.writes) n && nat_le (length g.writes) MAX_WRITES) (may_put_all parts through g.writes) got.0 in
+    let sizes = and_parts (nat_le (length g.writes) n) (nat_le (length g.writes) MAX_WRITES) two.0 in
     let few : length g.writes ≤ n = grind (arith, nat_tests, sizes.0) in
     let fit : 0 + length g.writes ≤ MAX_WRITES = grind (arith, nat_tests, sizes.1) in
     let some = got.1 in
@@ -198,6 +200,6 @@ plan_run parts (Some h) plan rows o is =
     let asks = program_of parts.tables (Some h) plan in
     let s : Running = state in_both (home_frames (Some h)) 0 0 [] [] in
     let got = taken (has_home parts (Some h)) (outcome MAX_ACCESSES parts (Some h) rows plan) o is in
-    let can = both (nat_lt FRONT.0 (length parts.components)) (may_go parts FRONT h.component) got.0 in
+    let can = and_parts (nat_lt FRONT.0 (length parts.components)) (may_go parts FRONT h.component) got.0 in
     let rest = read_all_run MAX_ACCESSES parts rows (Some h) plan plan o 0 [] in_both (omega arith) (both_home h) (λ more. ap (walk plan) (none_read more).1) got.1 in
     subst P (sym (enter_front 128 parts (Some h) plan rows can.0 ∙ enter_through 127 parts h plan rows can.1)) (comes_more 126 parts asks rows s o rest)

@@ -25,13 +25,7 @@ abbrev pub home_frames : Option Through → List ComponentNo
 home_frames None = FRONT ∷ []
 home_frames (Some t) = FRONT ∷ t.component ∷ []
 
-pub both : (a b : Bool) → (a && b) ≡ true → (a ≡ true) × (b ≡ true)
-both true b is = (refl, is)
-both false b is = absurd (cc)
-
-pub and_true : (a b : Bool) → a ≡ true → b ≡ true → (a && b) ≡ true
-and_true a b one two = ap (λ c. c && b) one ∙ two
-
+-- one of two tests holds, and it is not the first
 pub second : (a b : Bool) → a ≡ false → (a || b) ≡ true → b ≡ true
 second true b off is = absurd (cc)
 second false b off is = is

@@ -43,7 +43,8 @@ fn has_last_bid(item: &ItemRow) -> bool
 
 /// The answer to a bid.
 fn bid_done(alloc: Global, n: u32, number: u32) -> Result<DoneText, OutOfMemory>
-    ensures { IfOk result (λ done. done ≡ shows 200 (codes "Bid " ++ decimal n ++ codes " on item " ++ decimal number) []) }
+    ensures { IfOk result (λ done. done
+        ≡ shows 200 (codes "Bid " ++ decimal n ++ codes " on item " ++ decimal number) []) }
 {
     let mut heading = String::with_capacity(alloc, ANSWER_BYTES)?;
     write!(heading, "Bid {n} on item {number}")?;
@@ -51,7 +52,7 @@ fn bid_done(alloc: Global, n: u32, number: u32) -> Result<DoneText, OutOfMemory>
 }
 
 /// The next bid on the item, which is its best one.
-#[tactic(auto, using(auction_site::proofs::Bounds::with_bid_is, auction_site::proofs::Bounds::bid_is), unfolding(auction_site::specs::Outcomes::bid_made))]
+#[tactic(auto, using(auction_site::proofs::Bounds::with_bid_is, auction_rows::proofs::Sizes::bid_few), unfolding(auction_site::specs::Outcomes::bid_made))]
 fn bid_made(
     alloc: Global,
     bidder: u32,

@@ -2,8 +2,9 @@
 
 ghost use Rattle.std.specs.Prelude.{◌≡◌, ◌++◌, codes, IfOk};
 ghost use Rattle.std.specs.Fmt.{decimal};
-ghost use Rattle.auction_site.specs.Outcomes.{category_link, item_link, price, priced_link};
+ghost use Rattle.auction_site.specs.Outcomes.{category_link, item_link, priced_link};
 
+use crate::items::price;
 use crate::outcomes::text_of;
 use auction_rows::{CategoryRow, ItemRow};
 use crash_base::{FieldText, OutOfMemory};
@@ -45,17 +46,6 @@ pub fn item_link(alloc: Global, number: u32, item: ItemRow) -> Result<PageLine, 
         address,
         text: item.title,
     })
-}
-
-/// What was bid most, or the least bid where nothing was bid.
-pub fn price(item: &ItemRow) -> u64
-    ensures { result ≡ price item.now }
-{
-    if item.best == 0 {
-        item.start
-    } else {
-        item.best
-    }
 }
 
 /// A title and a price.

@@ -10,10 +10,10 @@ ghost use Rattle.auction_site.specs.Planned.{add_category_plan};
 ghost use Rattle.auction_site.specs.declared.limits.TheConstants.{CATEGORY_KEEPER};
 
 use crate::numbers::is_last_number;
-use crate::outcomes::write_row;
+use crate::outcomes::{write_counter, write_row};
 use crate::pieces::{asks_counter, says, stops_if};
 use action_plans::{Outcome, Reads, Stop};
-use auction_rows::{CategoryRow, CounterRow, categories_counter, category_id};
+use auction_rows::{CategoryRow, categories_counter, category_id};
 use auction_site::CATEGORY_KEEPER;
 use crash_base::{FieldText, OutOfMemory, WriteList};
 use journal_model::DoneText;
@@ -37,19 +37,16 @@ fn category_done(alloc: Global, number: u32) -> Result<DoneText, OutOfMemory>
 }
 
 /// A category of this number.
-#[tactic(auto, using(auction_site::proofs::Bounds::counter_is, auction_site::proofs::Bounds::category_is), unfolding(auction_site::specs::Outcomes::category_added))]
+#[tactic(auto, using(auction_site::proofs::Bounds::category_is), unfolding(auction_site::specs::Outcomes::category_added))]
 fn category_added(alloc: Global, name: &[u8], number: u32) -> Result<Outcome, OutOfMemory>
     requires { is_text 1 40 name.now ≡ true }
     ensures { IfOk result (λ outcome. outcome ≡ category_added name.now number) }
 {
-    let counter = CounterRow {
-        count: u64::from(number),
-    };
     let category = CategoryRow {
         name: FieldText::copied(alloc, name)?,
     };
     let mut writes = WriteList::new(alloc);
-    write_row(alloc, &mut writes, categories_counter(), &counter)?;
+    write_counter(alloc, &mut writes, categories_counter(), number)?;
     write_row(alloc, &mut writes, category_id(number), &category)?;
     let done = category_done(alloc, number)?;
     Ok(Outcome { writes, done })

@@ -2,10 +2,10 @@
 
 ghost use Rattle.std.specs.Prelude.{◌≡◌, [], ◌∷◌, ◌++◌, true, length, IfOk, OnOk, string_bytes};
 ghost use Rattle.auction_site.specs.Answers.{answered, signs};
-ghost use Rattle.auction_site.specs.Outcomes.{row};
+ghost use Rattle.auction_site.specs.Outcomes.{row, counter_row};
 
 use action_plans::Outcome;
-use auction_rows::{TableRow, encode_session};
+use auction_rows::{CounterRow, TableRow, encode_session};
 use crash_base::{FieldText, Moment, OutOfMemory, RowId, RowWrite, WriteList};
 use journal_model::{DoneText, SessionChange};
 use page_text::{PageLineList, page};
@@ -38,7 +38,7 @@ pub fn signs(
     })
 }
 
-/// Adds a row to those that are written.
+/// Adds a row to those that are written. It encodes the row once.
 pub fn write_row<T: TableRow>(
     alloc: Global,
     writes: &mut WriteList,
@@ -52,6 +52,22 @@ pub fn write_row<T: TableRow>(
         id,
         bytes: value.encode(alloc)?,
     })
+}
+
+/// Adds a counter's row to those that are written.
+#[tactic(auto, using(auction_rows::proofs::Sizes::counter_few))]
+pub fn write_counter(
+    alloc: Global,
+    writes: &mut WriteList,
+    id: RowId,
+    count: u32,
+) -> Result<(), OutOfMemory>
+    ensures { OnOk result (writes.new ≡ writes.old ++ counter_row id count ∷ []) }
+{
+    let counter = CounterRow {
+        count: u64::from(count),
+    };
+    write_row(alloc, writes, id, &counter)
 }
 
 /// The bytes of a text.

@@ -15,11 +15,11 @@ ghost use Rattle.auction_site.specs.declared.limits.TheConstants.{LAST_NUMBER};
 
 use crate::numbers::{is_last_number, next_number};
 use crate::offer::Offer;
-use crate::outcomes::write_row;
+use crate::outcomes::{write_counter, write_row};
 use crate::pieces::{asks_counter, asks_row, asks_row_or, says, stops_if};
 use action_plans::{Outcome, Reads, Stop};
 use auction_rows::{
-    CategoryRow, CounterRow, EntryRow, GivenFeedback, ItemRow, ItemState, OwnItemRow, UserRow,
+    CategoryRow, EntryRow, GivenFeedback, ItemRow, ItemState, OwnItemRow, UserRow,
     category_counter, category_id, entry_id, item_id, items_counter, own_item_id, user_id,
 };
 use auction_site::{HOUR, LAST_NUMBER};
@@ -95,22 +95,6 @@ fn with_items(mut user: UserRow, items: u32) -> UserRow
     user
 }
 
-/// Adds a counter's row to those that are written.
-#[tactic(auto, using(auction_site::proofs::Bounds::counter_is))]
-fn write_counter(
-    alloc: Global,
-    writes: &mut WriteList,
-    id: RowId,
-    count: u32,
-) -> Result<(), OutOfMemory>
-    ensures { OnOk result (writes.new ≡ writes.old ++ counter_row id count ∷ []) }
-{
-    let counter = CounterRow {
-        count: u64::from(count),
-    };
-    write_row(alloc, writes, id, &counter)
-}
-
 /// Adds the counters of items, and of those of a category, to the rows that are written.
 fn write_counters(
     alloc: Global,
@@ -127,7 +111,7 @@ fn write_counters(
 }
 
 /// Adds an item, and its entry in its category, to the rows that are written.
-#[tactic(auto, using(auction_site::proofs::Bounds::new_item_is, auction_site::proofs::Bounds::entry_is))]
+#[tactic(auto, using(auction_site::proofs::Bounds::new_item_is, auction_rows::proofs::Sizes::entry_few))]
 fn write_item(
     alloc: Global,
     writes: &mut WriteList,
@@ -151,7 +135,7 @@ fn write_item(
 }
 
 /// Adds a user with one more own item, and this item, to the rows that are written.
-#[tactic(auto, using(auction_site::proofs::Bounds::with_items_is, auction_site::proofs::Bounds::own_item_is))]
+#[tactic(auto, using(auction_site::proofs::Bounds::with_items_is, auction_rows::proofs::Sizes::own_item_few))]
 fn write_own_item(
     alloc: Global,
     writes: &mut WriteList,

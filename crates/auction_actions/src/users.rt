@@ -10,10 +10,10 @@ ghost use Rattle.auction_site.specs.Outcomes.{digest_of, new_user, registered, s
 ghost use Rattle.auction_site.specs.Planned.{register_plan, show_user_plan, sign_in_plan};
 
 use crate::numbers::is_last_number;
-use crate::outcomes::{answered, signs, text_of, write_row};
+use crate::outcomes::{answered, signs, text_of, write_counter, write_row};
 use crate::pieces::{asks_counter, asks_no_row, asks_row, asks_row_or, shows, stops_if};
 use action_plans::{Outcome, Reads, Stop};
-use auction_rows::{CounterRow, NameRow, UserRow, name_id, user_id, users_counter};
+use auction_rows::{NameRow, UserRow, name_id, user_id, users_counter};
 use crash_base::{FieldText, Moment, OutOfMemory, WriteList};
 use journal_model::DoneText;
 use page_text::{PageLine, PageLineList};
@@ -79,7 +79,7 @@ fn new_user(alloc: Global, name: &[u8], password: &[u8], fresh: u64) -> Result<U
 }
 
 /// A user of this number, and the name of the user.
-#[tactic(auto, using(auction_site::proofs::Bounds::counter_is, auction_site::proofs::Bounds::name_is, auction_site::proofs::Bounds::new_user_is), unfolding(auction_site::specs::Outcomes::registered))]
+#[tactic(auto, using(auction_site::proofs::Bounds::name_is, auction_site::proofs::Bounds::new_user_is), unfolding(auction_site::specs::Outcomes::registered))]
 fn registered(
     alloc: Global,
     name: &[u8],
@@ -92,22 +92,20 @@ fn registered(
     ensures { IfOk result (λ outcome. outcome ≡ registered name.now password.now fresh now.0 number) }
 {
     let user = new_user(alloc, name, password, fresh)?;
-    let counter = CounterRow {
-        count: u64::from(number),
-    };
     let named = NameRow {
         name: FieldText::copied(alloc, name)?,
         user: number,
     };
     let mut writes = WriteList::new(alloc);
-    write_row(alloc, &mut writes, users_counter(), &counter)?;
+    write_counter(alloc, &mut writes, users_counter(), number)?;
     write_row(alloc, &mut writes, user_id(number), &user)?;
     write_row(alloc, &mut writes, name_id(name), &named)?;
     let done = welcomes(alloc, name, now, number)?;
     Ok(Outcome { writes, done })
 }
 
-/// A new user: as far as these reads bring it. It reads two rows, and writes three.
+/// A new user: as far as these reads bring it. It reads two rows, and writes three. The name is hashed, and
+/// after the last read the password with its salt.
 pub fn register(
     alloc: Global,
     name: &[u8],
@@ -135,7 +133,7 @@ fn signed_in(alloc: Global, name: &[u8], now: Moment, user: u32) -> Result<Outco
 }
 
 /// The session of the user who has the name and the password: as far as these reads bring it. It reads
-/// two rows, and writes none.
+/// two rows, and writes none. The name is hashed, and after the last read the password with its salt.
 pub fn sign_in(
     alloc: Global,
     name: &[u8],

@@ -1,6 +1,7 @@
 -- Each call comes to what the site means by it.
 use Rattle.std.specs.Prelude.{IsSome}
-use Rattle.std.proofs.Common.{◌≡◌, ◌&&◌, Bool, true, false, List, Option, Some, refl, ap, sym, subst}
+use Rattle.std.proofs.Common.{◌≡◌, true, List, Option, Some, refl, ap, sym, subst}
+use Rattle.std.proofs.lemmas.Bool.{and_parts}
 use Rattle.crash_base.specs.declared.rows.RowWrite.{RowWrite}
 use Rattle.deployment.specs.declared.parts.Parts.{Parts}
 use Rattle.journal_model.specs.declared.entry.CommitEntry.{CommitEntry}
@@ -24,21 +25,13 @@ use Rattle.auction_site.specs.Found.{finished}
 use Rattle.auction_site.proofs.Showing.{sign_in_comes, categories_comes, browse_comes, show_item_comes, show_user_comes, show_own_items_comes}
 use Rattle.auction_site.proofs.Writing.{register_comes, add_category_comes, sell_comes, bid_comes, buy_comes, close_comes, give_feedback_comes}
 
-first : (a b : Bool) → (a && b) ≡ true → a ≡ true
-first true b is = refl
-first false b is = absurd (cc)
-
-second : (a b : Bool) → (a && b) ≡ true → b ≡ true
-second true b is = is
-second false b is = absurd (cc)
-
 -- the plan of an action in its ranges comes to what the site means
 action_comes : (call : ActionCall) (a : Action) (rows : List RowWrite) → is_action a ≡ true
     → outcome_of site_parts (through_of a) rows (planned call a) ≡ Some (finished (meaning call a rows))
 unfolding outcome_of site_components site_references site_tables
 action_comes call action.Home rows is = refl
 action_comes call (action.Register name password) rows is =
-    register_comes name password call.fresh call.now.0 rows (first (is_user_name name) (is_text 1 72 password) is)
+    register_comes name password call.fresh call.now.0 rows (and_parts (is_user_name name) (is_text 1 72 password) is).0
 action_comes call (action.SignIn name password) rows is = sign_in_comes name password call.now.0 rows
 action_comes call action.SignOut rows is = refl
 action_comes call action.Categories rows is = categories_comes rows
@@ -48,17 +41,17 @@ action_comes call (action.Item item) rows is = show_item_comes item rows
 action_comes call (action.User user) rows is = show_user_comes user rows
 action_comes call action.About rows is = show_own_items_comes call.user rows
 action_comes call (action.Sell title category start buy_now hours) rows is =
-    sell_comes call.user call.now.0 (offer_of title category start buy_now hours) rows (first (is_text 1 80 title) _ is)
+    sell_comes call.user call.now.0 (offer_of title category start buy_now hours) rows (and_parts (is_text 1 80 title) _ is).0
 action_comes call (action.Bid item amount) rows is = bid_comes call.user call.now.0 item amount rows
 action_comes call (action.Buy item) rows is = buy_comes call.user call.now.0 item rows
 action_comes call (action.Close item) rows is = close_comes call.user item rows
 action_comes call (action.Feedback item good text) rows is =
-    give_feedback_comes call.user item good text rows (second (is_id item) (is_text 0 200 text) is)
+    give_feedback_comes call.user item good text rows (and_parts (is_id item) (is_text 0 200 text) is).1
 action_comes call (action.Form kind) rows is = refl
 
 pub call_comes : (call : ActionCall) (rows : List RowWrite) → is_call call ≡ true
     → outcome_of site_parts (through_of call.action) rows (plan_of call) ≡ Some (site call rows)
-call_comes call rows is = action_comes call call.action rows (first (is_action call.action) _ is)
+call_comes call rows is = action_comes call call.action rows (and_parts (is_action call.action) _ is).0
 
 -- and its run writes and answers just this
 pub call_runs : (call : ActionCall) (rows : List RowWrite) → is_call call ≡ true

@@ -2,14 +2,16 @@
 use Rattle.std.proofs.Common.{◌≡◌, ℕ, ◌+◌, ◌^◌, ◌==◌, ◌≤◌, nat_lt, Bool, true, false, cond, List, [], ◌∷◌, length, take, drop, Option, Some, None, refl, ap, subst, ◌∙◌, arith}
 use Rattle.std.proofs.lemmas.Bool.Decides.{nat_tests}
 use Rattle.std.proofs.lemmas.List.{length-take-le, length-drop}
+use Rattle.std.specs.Cmp.Derive.{both_true}
 use Rattle.std.specs.Int.{Width, w16, w32, w64, byte_len, from_be_bytes}
 use Rattle.std.specs.Str.{is_utf8}
-use Rattle.auction_rows.specs.Bounds.{are_few, is_item, is_user}
+use Rattle.auction_rows.specs.Bounds.{is_item, is_user}
 use Rattle.auction_rows.specs.Reading.{◌>>=◌, bytes_at, number_at, u8_at, id_at, text_at, byte_as, state_of, given_of, user_at, item_at, whole, user_of, item_of}
 use Rattle.auction_rows.specs.Spelling.{item_bytes, user_bytes}
 use Rattle.auction_rows.specs.declared.rows.ItemRow.{ItemRow}
 use Rattle.auction_rows.specs.declared.rows.UserRow.{UserRow}
-use Rattle.auction_site.proofs.Bounds.{are_few_of, item_length, user_length, and_true}
+use Rattle.auction_rows.proofs.Sizes.{user_size, item_size}
+use Rattle.auction_site.proofs.Bounds.{are_few_of}
 
 -- what was read was read of what was found before
 step : {A B : Type 0} (o : Option A) (f : A → Option B) (y : B) (G : Type 0) → (o >>= f) ≡ Some y → ((x : A) → o ≡ Some x → f x ≡ Some y → G) → G
@@ -190,8 +192,8 @@ item_within bytes item is =
     whole_sized item_at bytes item (is_item item ≡ true) is (λ rest at none few.
     let read = item_sized bytes (item, rest) at in
     let size = read.size in
-    and_true (is_utf8 item.title) (are_few (item_bytes item)) read.utf8
-    (are_few_of (item_bytes item) (72 + length item.title) (item_length item) (omega (arith, size, none, few))))
+    both_true read.utf8
+    (are_few_of (item_bytes item) (72 + length item.title) (item_size item) (omega (arith, size, none, few))))
 
 pub user_within : (bytes : List ℕ) (user : UserRow) → user_of bytes ≡ Some user → is_user user ≡ true
 unfolding user_of
@@ -199,5 +201,5 @@ user_within bytes user is =
     whole_sized user_at bytes user (is_user user ≡ true) is (λ rest at none few.
     let read = user_sized bytes (user, rest) at in
     let size = read.size in
-    and_true (is_utf8 user.name) (are_few (user_bytes user)) read.utf8
-    (are_few_of (user_bytes user) (14 + length user.name + length user.salt + length user.digest) (user_length user) (omega (arith, size, none, few))))
+    both_true read.utf8
+    (are_few_of (user_bytes user) (14 + (length user.name + (length user.salt + length user.digest))) (user_size user) (omega (arith, size, none, few))))
