@@ -51,7 +51,7 @@ fn entry_link(
     Ok(link)
 }
 
-/// The links of so many entries of a category, from the first up.
+/// The links of so many entries of a category, from the first up. It reads two rows for each.
 fn entry_links(
     alloc: Global,
     category: u32,
@@ -60,7 +60,8 @@ fn entry_links(
     reads: &mut Reads<'_>,
 ) -> Result<PageLineList, Stop>
     requires { first + count ≤ LAST_NUMBER }
-    ensures { HasCome result reads.new (walk (asks_each (entry_link_plan category) (count_up first count)) reads.old) }
+    ensures { HasCome result reads.new
+        (walk (asks_each (entry_link_plan category) (count_up first count)) reads.old) }
 {
     let mut links = PageLineList::new(alloc);
     for number in first..first + count {
@@ -82,7 +83,8 @@ fn category_shown(
     Ok(answered(alloc, done))
 }
 
-/// The items of a category that are on a page: as far as these reads bring it. It reads at most 34 rows.
+/// The items of a category that are on a page: as far as these reads bring it. It reads at most 34 rows: the
+/// category, its counter, and two for each of 16 entries. It writes none.
 pub fn browse(
     alloc: Global,
     category: u32,

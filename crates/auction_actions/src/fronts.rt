@@ -25,7 +25,7 @@ fn home_text(alloc: Global, user: u32) -> Result<FieldText, OutOfMemory>
     Ok(text_of(text))
 }
 
-/// The first page.
+/// The first page. It reads no row, and writes none.
 pub fn home(alloc: Global, user: u32) -> Result<Outcome, OutOfMemory>
     ensures { IfOk result (λ outcome. outcome ≡ home user) }
 {
@@ -41,7 +41,7 @@ pub fn home(alloc: Global, user: u32) -> Result<Outcome, OutOfMemory>
     Ok(answered(alloc, done))
 }
 
-/// The session becomes that of no user.
+/// The session becomes that of no user. It reads no row, and writes none.
 pub fn signed_out(alloc: Global, now: Moment) -> Result<Outcome, OutOfMemory>
     ensures { IfOk result (λ outcome. outcome ≡ signed_out now.0) }
 {
@@ -117,7 +117,7 @@ fn form_line(alloc: Global, kind: FormKind, token: &[u8]) -> Result<PageLine, Ou
     })
 }
 
-/// A form with its token. Who is not signed in gets a session, that of no user.
+/// A form with its token. Whoever is not signed in gets a session of no user. It reads no row, and writes none.
 pub fn form_shown(
     alloc: Global,
     user: u32,

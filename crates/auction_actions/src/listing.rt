@@ -45,8 +45,8 @@ fn categories_shown(alloc: Global, links: &PageLineList) -> Result<Outcome, OutO
     Ok(answered(alloc, done))
 }
 
-/// A link to each category: as far as these reads bring it. It reads one table, and visits each of its
-/// rows.
+/// A link to each category: as far as these reads bring it. It lists one table, decodes each of its rows, and
+/// writes none.
 pub fn categories(alloc: Global, reads: &mut Reads<'_>) -> Result<Outcome, Stop>
     ensures { HasCome result reads.new (walk categories_plan reads.old) }
 {

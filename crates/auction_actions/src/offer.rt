@@ -5,13 +5,15 @@ use std::marker::Model;
 /// An item as its seller offers it. Amounts are in cents.
 #[derive(Drop)]
 pub struct Offer<'a> {
+    /// In UTF-8.
     pub title: &'a [u8],
+    /// The number of its category.
     pub category: u32,
     /// The least amount that may be bid.
     pub start: u64,
     /// For what it is sold at once, or 0 where it is not.
     pub buy_now: u64,
-    /// How long its auction runs.
+    /// How many hours its auction runs.
     pub hours: u32,
 }
 

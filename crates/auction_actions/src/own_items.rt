@@ -40,7 +40,7 @@ fn own_item_link(
     Ok(link)
 }
 
-/// The links of so many own items of a user, from the last down.
+/// The links of so many own items of a user, from the last down. It reads two rows for each.
 fn own_item_links(
     alloc: Global,
     user: u32,
@@ -49,7 +49,8 @@ fn own_item_links(
     reads: &mut Reads<'_>,
 ) -> Result<PageLineList, Stop>
     requires { count ≤ last }
-    ensures { HasCome result reads.new (walk (asks_each (own_item_link_plan user) (count_down last count)) reads.old) }
+    ensures { HasCome result reads.new
+        (walk (asks_each (own_item_link_plan user) (count_down last count)) reads.old) }
 {
     let mut links = PageLineList::new(alloc);
     for before in 0..count {
@@ -72,7 +73,7 @@ fn user_items_shown(
 }
 
 /// The last 16 items that the user offered, the newest first: as far as these reads bring it. It reads at
-/// most 33 rows.
+/// most 33 rows: the user, and two for each of 16 items. It writes none.
 pub fn show_own_items(alloc: Global, number: u32, reads: &mut Reads<'_>) -> Result<Outcome, Stop>
     ensures { HasCome result reads.new (walk (show_own_items_plan number) reads.old) }
 {

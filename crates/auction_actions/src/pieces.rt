@@ -127,7 +127,8 @@ fn reads_or<T: TableRow>(
     status: u16,
     heading: &[u8],
 ) -> Result<T, Stop>
-    ensures has { Has result (reads_or T.spelled id (shows status heading.now []) (option_map (λ bytes. bytes.now) bytes.entry)) }
+    ensures has { Has result
+        (reads_or T.spelled id (shows status heading.now []) (option_map (λ bytes. bytes.now) bytes.entry)) }
     ensures within { IfOk result (λ row. T.is_within row ≡ true) }
 {
     match bytes {
@@ -142,7 +143,7 @@ fn reads_or<T: TableRow>(
     }
 }
 
-/// The row of an id; refused with this answer where it is missing.
+/// The row of an id; refused with this answer where it is missing. It takes one answer, and decodes its bytes.
 #[tactic(auto, unfolding(auction_site::specs::Pieces::asks_row_or, action_plans::specs::Plans::walk))]
 pub fn asks_row_or<T: TableRow>(
     alloc: Global,
@@ -151,7 +152,8 @@ pub fn asks_row_or<T: TableRow>(
     status: u16,
     heading: &[u8],
 ) -> Result<T, Stop>
-    ensures come { HasCome result reads.new (walk (asks_row_or T.spelled id (shows status heading.now [])) reads.old) }
+    ensures come { HasCome result reads.new
+        (walk (asks_row_or T.spelled id (shows status heading.now [])) reads.old) }
     ensures within { IfOk result (λ row. T.is_within row ≡ true) }
 {
     match reads.take() {
@@ -160,7 +162,7 @@ pub fn asks_row_or<T: TableRow>(
     }
 }
 
-/// The row of an id; refused where it is missing.
+/// The row of an id; refused where it is missing. It takes one answer, and decodes its bytes.
 pub fn asks_row<T: TableRow>(alloc: Global, reads: &mut Reads<'_>, id: RowId) -> Result<T, Stop>
     ensures come { HasCome result reads.new (walk (asks_row T.spelled id) reads.old) }
     ensures within { IfOk result (λ row. T.is_within row ≡ true) }
@@ -168,7 +170,7 @@ pub fn asks_row<T: TableRow>(alloc: Global, reads: &mut Reads<'_>, id: RowId) ->
     asks_row_or(alloc, reads, id, 404, b"Not there")
 }
 
-/// Refused with this answer where there are bytes that spell a row.
+/// No bytes; refused with this answer where they spell a row, and else as a bad row.
 #[tactic(auto, using(crate::proofs::Found::none_refuses, crate::proofs::Found::none_stops), unfolding(auction_site::specs::Pieces::reads_none))]
 fn reads_none<T: TableRow>(
     alloc: Global,
@@ -177,7 +179,8 @@ fn reads_none<T: TableRow>(
     status: u16,
     heading: &[u8],
 ) -> Result<(), Stop>
-    ensures { Has result (reads_none T.spelled id (shows status heading.now []) (option_map (λ bytes. bytes.now) bytes.entry)) }
+    ensures { Has result
+        (reads_none T.spelled id (shows status heading.now []) (option_map (λ bytes. bytes.now) bytes.entry)) }
 {
     match bytes {
         None => Ok(()),
@@ -190,7 +193,7 @@ fn reads_none<T: TableRow>(
     }
 }
 
-/// No row of an id; refused with this answer where it is there.
+/// No row of an id; refused with this answer where it is there. It takes one answer, and decodes its bytes.
 #[tactic(auto, unfolding(auction_site::specs::Pieces::asks_no_row, action_plans::specs::Plans::walk))]
 pub fn asks_no_row<T: TableRow>(
     alloc: Global,
@@ -199,7 +202,8 @@ pub fn asks_no_row<T: TableRow>(
     status: u16,
     heading: &[u8],
 ) -> Result<(), Stop>
-    ensures { HasCome result reads.new (walk (asks_no_row T.spelled id (shows status heading.now [])) reads.old) }
+    ensures { HasCome result reads.new
+        (walk (asks_no_row T.spelled id (shows status heading.now [])) reads.old) }
 {
     match reads.take() {
         None => Err(Stop::Ask(ReadMark::Row(id))),
@@ -222,7 +226,7 @@ fn reads_count(alloc: Global, id: RowId, bytes: Option<&RowBytes>) -> Result<u64
     }
 }
 
-/// A counter, which is 0 where its row is missing.
+/// A counter, which is 0 where its row is missing. It takes one answer, and decodes its bytes.
 #[tactic(auto, unfolding(auction_site::specs::Pieces::asks_counter, action_plans::specs::Plans::walk))]
 pub fn asks_counter(alloc: Global, reads: &mut Reads<'_>, id: RowId) -> Result<u64, Stop>
     ensures { HasCome result reads.new (walk (asks_counter id) reads.old) }
@@ -243,10 +247,11 @@ fn table_answer(answer: &Answer) -> &[RowWrite]
     }
 }
 
-/// The rows of a table.
+/// The rows of a table. It takes one answer, and copies nothing.
 #[tactic(auto, unfolding(auction_site::specs::Pieces::asks_table, action_plans::specs::Plans::walk))]
 pub fn asks_table<'a>(reads: &mut Reads<'a>, table: u8) -> Result<&'a [RowWrite], Stop>
-    ensures { HasCome (result_map_both (λ rows. rows.now) (λ e. e) result) reads.new (walk (asks_table table) reads.old) }
+    ensures { HasCome (result_map_both (λ rows. rows.now) (λ e. e) result) reads.new
+        (walk (asks_table table) reads.old) }
 {
     match reads.take() {
         None => Err(Stop::Ask(ReadMark::Table(table))),

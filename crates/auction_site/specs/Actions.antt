@@ -44,7 +44,7 @@ meaning call (action.Close item) rows = close call.user item rows
 meaning call (action.Feedback item good text) rows = give_feedback call.user item good text rows
 meaning call (action.Form kind) rows = Ok (form_shown call.user call.now.0 call.form kind)
 
--- What the site writes and answers where a call is made over all these rows.
+-- What the site writes and answers when a call is made over these rows.
 abbrev pub site : ActionCall → List RowWrite → Outcome
 site call rows = finished (meaning call call.action rows)
 
@@ -76,8 +76,8 @@ plan_of call = planned call call.action
 abbrev pub through : ℕ → ℕ → Option Through
 through component method = Some (record { component = record { 0 = component }; method = method })
 
--- The component behind Web that an action goes through: Bids, Purchases or Feedback. Only a purchase
--- is made by a method that may not be called again.
+-- The component behind Web that an action goes through: Bids, Purchases or Feedback. Of their methods
+-- only that of a purchase may not be called again.
 abbrev pub through_of : Action → Option Through
 through_of action.Home = None
 through_of (action.Register name password) = None
@@ -105,6 +105,7 @@ abbrev pub IsMade : ActionCall → List RowWrite → CommitEntry → DoneText �
 IsMade call rows entry done = Makes site_parts (steps_of call) rows entry done
 
 -- A commit and its answer are what the site means by a call over these rows.
-pub record IsMeant (call : ActionCall) (rows : List RowWrite) (entry : CommitEntry) (done : DoneText) : Type 0 where
+pub record IsMeant (call : ActionCall) (rows : List RowWrite) (entry : CommitEntry)
+    (done : DoneText) : Type 0 where
   pub writes : entry.writes ≡ (site call rows).writes
   pub answers : done ≡ (site call rows).done

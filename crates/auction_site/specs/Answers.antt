@@ -36,11 +36,11 @@ not_there = shows 404 (codes "Not there") []
 abbrev pub no_more_numbers : DoneText
 no_more_numbers = shows 409 (codes "No more numbers") []
 
--- no row of its table is spelled so
+-- the bytes of a row spell no row of its table
 abbrev pub bad_row : RowId → DoneText
 bad_row id = shows 500 (codes "Bad row " ++ decimal id.table ++ codes " " ++ decimal id.key) []
 
--- the name is another user's, or one that begins with the same number when it is hashed is
+-- a user has this name, or another name whose row has the same id
 abbrev pub name_taken : DoneText
 name_taken = shows 409 (codes "Name taken") []
 
@@ -52,7 +52,7 @@ wrong_password = shows 403 (codes "Wrong name or password") []
 abbrev pub not_allowed : DoneText
 not_allowed = shows 403 (codes "Not allowed") []
 
--- the price for which an item is sold at once is less than the least bid
+-- the price for a sale at once is below the least bid
 abbrev pub bad_buy_now : DoneText
 bad_buy_now = shows 400 (codes "Bad field buy_now") []
 

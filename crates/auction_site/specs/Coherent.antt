@@ -44,32 +44,38 @@ pub record HasBest (rows : List RowWrite) (number : ℕ) (item : ItemRow) : Type
   pub amount : item.best ≡ bid.amount
   pub bidder : item.best_bidder ≡ bid.bidder
 
--- The bids on an item are numbered from 1 to the number of its bids. No two are of one amount, none is
--- of more than the best, and the best is one of them where there is one.
+-- The bids on an item have the numbers from 1 to its count of bids. Each is of an amount of its own, and none
+-- is of more than the item's best. The best is one of them, or there is no bid.
 pub record AreBidsOn (rows : List RowWrite) (number : ℕ) (item : ItemRow) : Type 0 where
   pub few : item.bids ≤ LAST_SMALL_NUMBER
-  pub numbered : (n : ℕ) → n ≤ LAST_SMALL_NUMBER → IsSome (row_in rows (bid_id number n)) ↔ ((1 ≤ n) × (n ≤ item.bids))
-  pub spelled : (n : ℕ) → 1 ≤ n → n ≤ item.bids → (bid : BidRow) × (bid_at rows number n ≡ Some bid) × (bid.amount ≤ item.best)
+  pub numbered : (n : ℕ) → n ≤ LAST_SMALL_NUMBER
+      → IsSome (row_in rows (bid_id number n)) ↔ ((1 ≤ n) × (n ≤ item.bids))
+  pub spelled : (n : ℕ) → 1 ≤ n → n ≤ item.bids
+      → (bid : BidRow) × (bid_at rows number n ≡ Some bid) × (bid.amount ≤ item.best)
   pub differ : (n m : ℕ) (bid other : BidRow) → 1 ≤ n → n ≤ item.bids → 1 ≤ m → m ≤ item.bids
-      → bid_at rows number n ≡ Some bid → bid_at rows number m ≡ Some other → bid.amount ≡ other.amount → n ≡ m
+      → bid_at rows number n ≡ Some bid → bid_at rows number m ≡ Some other
+      → bid.amount ≡ other.amount → n ≡ m
   pub best : HasNoBid item ⊎ HasBest rows number item
 
--- an item among rows is spelled, is counted, and has just its bids
+-- an item is among rows: its row spells it, its number is counted, and it has just its bids
 pub record IsCoherentItem (rows : List RowWrite) (number : ℕ) (item : ItemRow) : Type 0 where
   pub there : row_at rows item_of (item_id number) ≡ Some item
   pub in_range : IsItem item
   pub counted : number ≤ item_count rows
   pub bids : AreBidsOn rows number item
 
--- Rows are coherent: each item is, no bid is on an item that was not offered, and the counter of items is
--- spelled.
+-- Rows are coherent: each item is, each bid is on a number that the counter of items counts, and that counter
+-- is spelled.
 pub record IsCoherent (rows : List RowWrite) : Type 0 where
-  pub items : (number : ℕ) → IsSome (row_in rows (item_id number)) → (item : ItemRow) × IsCoherentItem rows number item
-  pub bids : (key : ℕ) → IsSome (row_in rows (record { table = BID_TABLE; key = key })) → key / 2 ^ 20 ≤ item_count rows
+  pub items : (number : ℕ) → IsSome (row_in rows (item_id number))
+      → (item : ItemRow) × IsCoherentItem rows number item
+  pub bids : (key : ℕ) → IsSome (row_in rows (record { table = BID_TABLE; key = key }))
+      → key / 2 ^ 20 ≤ item_count rows
   pub counter : IsSome (row_in rows items_counter)
       → (counter : CounterRow) × (row_at rows counter_of items_counter ≡ Some counter) × IsCounter counter
 
 -- An amount is too low for the bids on an item: it is below the start, or some bid is of no less.
 abbrev pub IsTooLowFor : List RowWrite → ℕ → ItemRow → ℕ → Type 0
 IsTooLowFor rows number item amount =
-    (amount < item.start) ⊎ ((n : ℕ) × (bid : BidRow) × (1 ≤ n) × (n ≤ item.bids) × (bid_at rows number n ≡ Some bid) × (amount ≤ bid.amount))
+    (amount < item.start) ⊎ ((n : ℕ) × (bid : BidRow) × (1 ≤ n) × (n ≤ item.bids)
+    × (bid_at rows number n ≡ Some bid) × (amount ≤ bid.amount))

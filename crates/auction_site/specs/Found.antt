@@ -1,4 +1,4 @@
--- What a rule of the site finds in all its rows, or the answer by which it refuses.
+-- What an action finds in all rows of the site, or the answer that refuses it.
 use Rattle.std.specs.Prelude.{ℕ, Bool, if◌then◌else◌, List, [], ◌∷◌, Option, Some, None, Result, Ok, Err}
 use Rattle.crash_base.specs.declared.row_id.RowId.{RowId}
 use Rattle.crash_base.specs.declared.rows.RowWrite.{RowWrite}
@@ -13,7 +13,7 @@ use Rattle.auction_site.specs.Answers.{answered, bad_row, not_there, rule_answer
 abbrev pub Found : Type 0 → Type 0
 Found A = Result A DoneText
 
--- what is found by a value that was found
+-- the second finding, by the value of the first; a refusal stays
 abbrev pub and_then : {A B : Type 0} → Found A → (A → Found B) → Found B
 and_then (Err done) f = Err done
 and_then (Ok x) f = f x
@@ -50,13 +50,15 @@ row_or rows spells id missing = spelled_or spells id missing (row_in rows id)
 abbrev pub the_row : {T : Type 0} → List RowWrite → (List ℕ → Option T) → RowId → Found T
 the_row rows spells id = row_or rows spells id not_there
 
--- refused with this answer where there are bytes that spell a row
-abbrev pub unspelled : {T : Type 0} → (List ℕ → Option T) → RowId → DoneText → Option (List ℕ) → Found (Unit {0})
+-- no bytes; refused with this answer where they spell a row, and else as a bad row
+abbrev pub unspelled : {T : Type 0} → (List ℕ → Option T) → RowId → DoneText
+    → Option (List ℕ) → Found (Unit {0})
 unspelled spells id there None = Ok tt
 unspelled spells id there (Some bytes) = spelled id (spells bytes) >>= λ row. Err there
 
 -- no row of an id is among rows; refused with this answer where it is there
-abbrev pub no_row : {T : Type 0} → List RowWrite → (List ℕ → Option T) → RowId → DoneText → Found (Unit {0})
+abbrev pub no_row : {T : Type 0} → List RowWrite → (List ℕ → Option T) → RowId → DoneText
+    → Found (Unit {0})
 no_row rows spells id there = unspelled spells id there (row_in rows id)
 
 -- the count that these bytes spell, if there are any, and else 0

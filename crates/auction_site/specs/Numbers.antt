@@ -1,4 +1,4 @@
--- Lists of numbers, of rows that are numbered from 1.
+-- The numbers of the rows that a page lists.
 use Rattle.std.specs.Prelude.{ℕ, zero, suc, ◌+◌, ◌-◌, List, [], ◌∷◌}
 
 -- so many numbers from the first up

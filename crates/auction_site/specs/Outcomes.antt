@@ -1,4 +1,4 @@
--- What comes of each action where nothing refuses it: the rows that it writes, in order, and its answer.
+-- What each action writes and answers where nothing refuses it. The rows stand in the order of the writes.
 use Rattle.std.specs.Prelude.{ℕ, ◌+◌, ◌*◌, ◌==◌, Bool, true, false, if◌then◌else◌, List, [], ◌∷◌, ◌++◌, codes}
 use Rattle.std.specs.Fmt.{decimal}
 use Rattle.sha2.specs.Sha256.{sha256}
@@ -139,7 +139,7 @@ pub record Offer : Type 0 where
   pub buy_now : ℕ
   pub hours : ℕ
 
--- an item without a bid, from now on for the hours of the offer
+-- a new item: it has no bid, and its auction ends the hours of the offer from now
 abbrev pub new_item : ℕ → ℕ → Offer → ItemRow
 new_item seller now offer = record {
   state = state.Running;
@@ -156,11 +156,11 @@ new_item seller now offer = record {
   title = offer.title;
 }
 
--- the user has offered so many items
+-- the user, who has offered so many items
 abbrev pub with_items : UserRow → ℕ → UserRow
 with_items user items = record user { items = items }
 
--- Sell: an item of this number, which is this entry of its category, and the next own item of its seller.
+-- Sell: an item of this number, as this entry of its category, and as the next own item of its seller.
 unfoldable pub offered : ℕ → ℕ → Offer → ℕ → ℕ → UserRow → Outcome
 offered seller now offer item entry user = record {
   writes =
@@ -178,7 +178,7 @@ abbrev pub with_bid : ItemRow → ℕ → ℕ → ItemRow
 with_bid item bidder amount =
     record item { best = amount; best_bidder = bidder; bids = item.bids + 1 }
 
--- Bid: the next bid on the item, which is its best one.
+-- Bid: the next bid on the item, and its best.
 unfoldable pub bid_made : ℕ → ℕ → ℕ → ℕ → ItemRow → Outcome
 bid_made bidder now number amount item = record {
   writes =
@@ -216,7 +216,7 @@ abbrev pub with_feedback : UserRow → Bool → UserRow
 with_feedback user true = record user { good = user.good + 1 }
 with_feedback user false = record user { bad = user.bad + 1 }
 
--- the item after feedback of a user: its buyer's where the user is both buyer and seller
+-- the item with the mark of a user who gave feedback: the buyer's mark, or else the seller's
 abbrev pub with_given : ItemRow → ℕ → ItemRow
 with_given item user = record item {
   given =
@@ -224,7 +224,7 @@ with_given item user = record item {
       else record (item.given) { by_seller = true };
 }
 
--- Feedback: about the other side of the sale, of this number there.
+-- Feedback: the next one about the other side of the sale, and the item with the user's mark.
 unfoldable pub feedback_given : ℕ → ℕ → Bool → List ℕ → ItemRow → UserRow → Outcome
 feedback_given from number good text item about = record {
   writes =
@@ -257,7 +257,7 @@ form_fields kind.Feedback = codes "item" ∷ codes "good" ∷ codes "text" ∷ [
 abbrev pub form_line : FormKind → List ℕ → PageLine
 form_line kind token = Form (form_address kind) token (form_fields kind)
 
--- Form: a form with its token. Who is not signed in gets a session, that of no user.
+-- Form: a form with its token. Whoever is not signed in gets a session of no user.
 abbrev pub form_shown : ℕ → ℕ → List ℕ → FormKind → Outcome
 form_shown user now token kind = answered (
     if user == 0 then signs 0 now (codes "Form " ++ kind_text kind) (form_line kind token ∷ [])

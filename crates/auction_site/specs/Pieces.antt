@@ -1,4 +1,4 @@
--- Pieces of plans: what is asked of the rows, and what refuses.
+-- Pieces of plans: reads of rows, and refusals.
 use Rattle.std.specs.Prelude.{ℕ, Bool, if◌then◌else◌, List, [], ◌∷◌, Option, Some, None}
 use Rattle.crash_base.specs.declared.row_id.RowId.{RowId}
 use Rattle.crash_base.specs.declared.rows.RowWrite.{RowWrite}
@@ -54,8 +54,9 @@ asks_row_or spells id missing = Asks (Row id) (λ a. reads_or spells id missing 
 abbrev pub asks_row : {T : Type 0} → (List ℕ → Option T) → RowId → Plan T
 asks_row spells id = asks_row_or spells id not_there
 
--- refused with this answer where there are bytes that spell a row
-unfoldable pub reads_none : {T : Type 0} → (List ℕ → Option T) → RowId → DoneText → Option (List ℕ) → Plan (Unit {0})
+-- no bytes; refused with this answer where they spell a row, and else as a bad row
+unfoldable pub reads_none : {T : Type 0} → (List ℕ → Option T) → RowId → DoneText
+    → Option (List ℕ) → Plan (Unit {0})
 reads_none spells id there None = Gives tt
 reads_none spells id there (Some bytes) = reads id (spells bytes) >>= λ row. Refuses there
 

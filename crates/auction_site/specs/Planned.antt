@@ -1,4 +1,4 @@
--- The plan of each action: what it reads, one row or table after the other, and what comes of it.
+-- The plan of each action: it reads one row or table after the other, is refused or goes on, and gives its outcome.
 use Rattle.std.specs.Prelude.{ℕ, ◌+◌, ◌-◌, ◌*◌, ◌==◌, not, nat_le, min, Bool, List, bytes_eq}
 use Rattle.crash_base.specs.declared.rows.RowWrite.{RowWrite}
 use Rattle.action_plans.specs.declared.plan.Outcome.{Outcome}
@@ -15,7 +15,7 @@ use Rattle.auction_site.specs.Pieces.{stops_if, stops_by, reads, asks_row_or, as
 use Rattle.auction_site.specs.Rules.{sells_too_low}
 use Rattle.page_text.specs.declared.page_line.PageLine.{PageLine}
 
--- Register: where no row has the name's id, and a user may still be numbered.
+-- Register: where no row has the name's id, and a number is left for a user.
 unfoldable pub register_plan : List ℕ → List ℕ → ℕ → ℕ → Plan Outcome
 register_plan name password fresh now = do
   free ← asks_no_row name_of (name_id name) name_taken
@@ -38,7 +38,7 @@ category_link_plan row = do
   category ← reads row.id (category_of row.bytes)
   Gives (category_link row.id.key category)
 
--- Categories: each of them, in order of its number.
+-- Categories: all, in the order of their numbers.
 unfoldable pub categories_plan : Plan Outcome
 categories_plan = do
   rows ← asks_table CATEGORY_TABLE
@@ -98,7 +98,7 @@ show_own_items_plan number = do
   links ← asks_each (own_item_link_plan number) (count_down user.items (min PAGE_ITEMS user.items))
   Gives (user_items_shown user links)
 
--- Sell: in a category that is there, where the item, its entry and the own item may still be numbered.
+-- Sell: in a category that is there, where numbers are left for the item, its entry and the own item.
 unfoldable pub sell_plan : ℕ → ℕ → Offer → Plan Outcome
 sell_plan seller now offer = do
   signed ← stops_if (seller == 0) sign_in_first

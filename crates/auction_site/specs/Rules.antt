@@ -1,4 +1,4 @@
--- What each action does, by all rows of the site: the first refusal that holds, in order, or what comes of it.
+-- What each action does, by all rows of the site: the first refusal that holds, or else its outcome.
 use Rattle.std.specs.Prelude.{ℕ, ◌+◌, ◌-◌, ◌*◌, ◌==◌, ◌&&◌, not, nat_le, nat_lt, min, Bool, List, map, bytes_eq, Ok}
 use Rattle.crash_base.specs.declared.rows.RowWrite.{RowWrite}
 use Rattle.journal_model.specs.Snapshots.{table_rows}
@@ -14,7 +14,7 @@ use Rattle.auction_site.specs.Numbers.{count_up, count_down}
 use Rattle.auction_site.specs.Outcomes.{registered, digest_of, signed_in, category_link, categories_shown, category_added, priced_link, category_shown, item_shown, user_shown, item_link, user_items_shown, Offer, offered, bid_made, bought, closed, feedback_given}
 use Rattle.page_text.specs.declared.page_line.PageLine.{PageLine}
 
--- Register: where no row has the name's id, and a user may still be numbered.
+-- Register: where no row has the name's id, and a number is left for a user.
 unfoldable pub register : List ℕ → List ℕ → ℕ → ℕ → List RowWrite → Found Outcome
 register name password fresh now rows = do
   free ← no_row rows name_of (name_id name) name_taken
@@ -37,7 +37,7 @@ category_line row = do
   category ← spelled row.id (category_of row.bytes)
   Ok (category_link row.id.key category)
 
--- Categories: each of them, in order of its number.
+-- Categories: all, in the order of their numbers.
 unfoldable pub categories : List RowWrite → Found Outcome
 categories rows = do
   links ← collected (map category_line (table_rows CATEGORY_TABLE rows))
@@ -100,7 +100,7 @@ show_own_items number rows = do
 abbrev pub sells_too_low : Offer → Bool
 sells_too_low offer = not (offer.buy_now == 0) && nat_lt offer.buy_now offer.start
 
--- Sell: in a category that is there, where the item, its entry and the own item may still be numbered.
+-- Sell: in a category that is there, where numbers are left for the item, its entry and the own item.
 unfoldable pub sell : ℕ → ℕ → Offer → List RowWrite → Found Outcome
 sell seller now offer rows = do
   signed ← refused_if (seller == 0) sign_in_first

@@ -21,8 +21,8 @@ ghost use Rattle.auction_rules.specs.Rules.{bid_refusal, is_running};
 ghost use Rattle.auction_site.specs.Actions.{site, IsMade};
 ghost use Rattle.auction_site.specs.Coherent.{row_at, IsCoherent, IsTooLowFor};
 
-/// A shop begins with coherent rows, which are none, and each call leaves coherent rows coherent: over any
-/// such rows, and where its commit stands in a journal.
+/// No rows are coherent, and each call leaves coherent rows coherent: whatever they are, and where its commit
+/// is appended to a journal.
 pub fn actions_keep_rows_coherent()
     ensures empty { IsCoherent [] }
     ensures action { (call : ActionCall) (rows : List RowWrite) → is_call call ≡ true →
@@ -33,8 +33,8 @@ pub fn actions_keep_rows_coherent()
         IsCoherent (rows_after base (es ++ Commit entry ∷ [])) }
 {}
 
-/// Over coherent rows, a bid of at least 1 on another's running item is refused as too low exactly where it
-/// is below the start, or where some bid on the item is of no less.
+/// Over coherent rows, a bid of at least 1 on a running item of another user is refused as too low exactly where
+/// it is below the start, or where some bid on the item is of no less.
 pub fn low_bids_are_exact()
     ensures { (rows : List RowWrite) (number user amount now : ℕ) (item : ItemRow) →
         IsCoherent rows → row_at rows item_of (item_id number) ≡ Some item →

@@ -17,8 +17,8 @@ ghost use Rattle.auction_calls.specs.Calls.{is_call};
 ghost use Rattle.auction_rows.specs.Parts.{site_parts};
 ghost use Rattle.auction_site.specs.Actions.{site, plan_of, through_of, steps_of, IsMade, IsMeant};
 
-/// The plan of each call comes to what the site means by the call, over any rows: also over such as no
-/// action wrote.
+/// The plan of each call comes to what the site means by the call. This holds over any rows, also over such
+/// as no action writes.
 pub fn plans_come_to_the_site()
     ensures { (call : ActionCall) (rows : List RowWrite) → is_call call ≡ true →
         outcome_of site_parts (through_of call.action) rows (plan_of call) ≡ Some (site call rows) }
@@ -32,8 +32,8 @@ pub fn calls_run_as_the_site()
         ≡ Some (record { marks = marks; writes = (site call rows).writes; done = (site call rows).done })) }
 {}
 
-/// What a call wrote and answered over the rows at its begin is what the site means by it over the rows
-/// before its own entry. So each commit is as if all of it had been done at its own place.
+/// A call read the rows as they were at its begin. What it wrote and answered is what the site means by it
+/// over the rows just before its own entry: as if it had been done all at once, there.
 pub fn commits_are_meant()
     ensures { (call : ActionCall) (base : List RowWrite) (es : List Entry)
         (entry : CommitEntry) (done : DoneText) → is_call call ≡ true → IsCurrent base es entry →

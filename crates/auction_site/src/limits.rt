@@ -1,4 +1,4 @@
-//! The limits of the auction's numbers, and the size of its lists.
+//! The limits of the auction's numbers and lists.
 
 /// The last number of a user, of an item, of a category, of an entry of a category, and of an own item.
 pub const LAST_NUMBER: u64 = 4_294_967_295;
