@@ -12,3 +12,4 @@ pub mod Put
 pub mod Keeping
 pub mod LowBids
 pub mod Beginning
+pub mod AfterDone

@@ -7,3 +7,4 @@ pub mod Pieces
 pub mod Planned
 pub mod Actions
 pub mod Coherent
+pub mod Done
