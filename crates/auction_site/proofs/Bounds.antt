@@ -20,7 +20,7 @@ use Rattle.auction_calls.proofs.Names.{user_name_utf8}
 use Rattle.auction_rows.proofs.Sizes.{user_size, user_bounds, name_bounds, item_bounds, category_bounds, feedback_bounds}
 use Rattle.auction_site.specs.Outcomes.{Offer, new_user, digest_of, new_item, with_items, with_bid, sold_to, ended, with_feedback, with_given}
 
-number_length : (n : ℕ) → length (u64_bytes n) ≡ 8
+pub number_length : (n : ℕ) → length (u64_bytes n) ≡ 8
 unfolding u64_bytes
 number_length n = refl
 

@@ -13,3 +13,5 @@ pub mod Keeping
 pub mod LowBids
 pub mod Beginning
 pub mod AfterDone
+pub mod Taking
+pub mod Signing

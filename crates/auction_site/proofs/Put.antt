@@ -14,7 +14,7 @@ use Rattle.auction_site.proofs.Coherence.{bid_key, AreSame}
 use Rattle.auction_site.proofs.Changes.{Replaces, AddsBid, AddsItem}
 
 -- a row that was put at this number
-at_here : (n : ℕ) (new old : Option (List ℕ)) → cond (n == n) new old ≡ new
+pub at_here : (n : ℕ) (new old : Option (List ℕ)) → cond (n == n) new old ≡ new
 at_here n new old = let same : (n == n) ≡ true = grind (arith, nat_tests) in rw same refl
 
 -- and at another one

@@ -8,3 +8,4 @@ pub mod Planned
 pub mod Actions
 pub mod Coherent
 pub mod Done
+pub mod Taken

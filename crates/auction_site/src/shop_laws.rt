@@ -1,13 +1,32 @@
 //! Laws of the shop in its users' words: what an action leaves behind, and when it is taken. Each is the
 //! contract of a function that does nothing: a caller that needs the law calls the function.
 
-ghost use Rattle.std.specs.Prelude.{◌≡◌, ◌≢◌, ℕ, ◌≤◌, Some};
+ghost use Rattle.std.specs.Prelude.{◌≡◌, ◌≢◌, ◌↔◌, ℕ, ◌+◌, ◌-◌, ◌^◌, ◌≤◌, Bool, true, List, ◌++◌, Some, Ok, Err};
+ghost use Rattle.sha2.specs.Sha256.{sha256};
+ghost use Rattle.crash_base.specs.declared.rows.RowWrite.{RowWrite};
+ghost use Rattle.crash_base.specs.Rows.{put_all};
+ghost use Rattle.action_plans.specs.declared.plan.Outcome.{Outcome};
+ghost use Rattle.auction_calls.specs.Calls.{is_user_name};
 ghost use Rattle.auction_rows.specs.declared.rows.ItemRow.{ItemRow};
 ghost use Rattle.auction_rows.specs.declared.rows.ItemState.TheVariants.{Sold};
+ghost use Rattle.auction_rows.specs.declared.rows.UserRow.{UserRow};
+ghost use Rattle.auction_rows.specs.Ids.{user_id, users_counter};
+ghost use Rattle.auction_rows.specs.Reading.{user_of};
+ghost use Rattle.auction_rows.specs.Spelling.{u64_bytes};
 ghost use Rattle.auction_rules.specs.declared.refusal.RuleRefusal.TheVariants.{AlreadyGiven, BidTooLow};
 ghost use Rattle.auction_rules.specs.Rules.{bid_refusal, feedback_refusal, IsOnASide, IsRunning};
+ghost use Rattle.auction_site.specs.declared.limits.TheConstants.{LAST_NUMBER, LAST_SMALL_NUMBER, HOUR, CATEGORY_KEEPER, PAGE_ITEMS};
+ghost use Rattle.auction_site.specs.Answers.{wrong_password};
+ghost use Rattle.auction_site.specs.Coherent.{row_at};
 ghost use Rattle.auction_site.specs.Done.{IsOver};
-ghost use Rattle.auction_site.specs.Outcomes.{ended, sold_to, with_bid, with_given};
+ghost use Rattle.auction_site.specs.Outcomes.{Offer, registered, category_added, offered, bid_made, bought, closed, ended, feedback_given, signed_in, sold_to, with_bid, with_given};
+ghost use Rattle.auction_site.specs.Rules.{register, sign_in, add_category, sell, bid, buy, close, give_feedback};
+ghost use Rattle.auction_site.specs.Taken.{Counts, MayRegister, MayAddCategory, MaySell, MayBid, MayBuy, MayClose, MayGiveFeedback};
+
+use auction_rules::{
+    bid_refusals_are_exact, buy_refusals_are_exact, close_refusals_are_exact,
+    feedback_refusals_are_exact,
+};
 
 /// What was done is refused where it is tried again: a second feedback of one side, whose other side may
 /// do what it might before, each action on an item that was bought or closed, and a bid of no more than the
@@ -22,4 +41,24 @@ pub fn what_was_done_is_refused()
     ensures low { (item : ItemRow) (bidder amount user next now : ℕ) → IsRunning item now →
         item.seller ≢ user → next ≤ amount →
         bid_refusal (with_bid item bidder amount) user next now ≡ Some BidTooLow }
+{}
+
+/// Who registers signs in with the name and the password, from then on, as the user of the next number,
+/// and with no password of another digest. The digest is that of the salt and the password, and the salt
+/// is the call's random number.
+pub fn who_registers_signs_in()
+    ensures kept { (name password : List ℕ) (fresh now users : ℕ) (rows : List RowWrite) (outcome : Outcome) →
+        is_user_name name ≡ true → register name password fresh now rows ≡ Ok outcome →
+        Counts rows users_counter users →
+        (user : UserRow) × (row_at (put_all outcome.writes rows) user_of (user_id (users + 1)) ≡ Some user)
+        × (user.name ≡ name) × (user.salt ≡ u64_bytes fresh)
+        × (user.digest ≡ sha256 (u64_bytes fresh ++ password)) }
+    ensures right { (name password : List ℕ) (fresh now users later : ℕ) (rows : List RowWrite) (outcome : Outcome) →
+        is_user_name name ≡ true → register name password fresh now rows ≡ Ok outcome →
+        Counts rows users_counter users →
+        sign_in name password later (put_all outcome.writes rows) ≡ Ok (signed_in name later (users + 1)) }
+    ensures wrong { (name password other : List ℕ) (fresh now later : ℕ) (rows : List RowWrite) (outcome : Outcome) →
+        is_user_name name ≡ true → register name password fresh now rows ≡ Ok outcome →
+        sha256 (u64_bytes fresh ++ other) ≢ sha256 (u64_bytes fresh ++ password) →
+        sign_in name other later (put_all outcome.writes rows) ≡ Err wrong_password }
 {}
