@@ -15,3 +15,4 @@ pub mod Beginning
 pub mod AfterDone
 pub mod Taking
 pub mod Signing
+pub mod Exactly

@@ -62,3 +62,44 @@ pub fn who_registers_signs_in()
         sha256 (u64_bytes fresh ++ other) ≢ sha256 (u64_bytes fresh ++ password) →
         sign_in name other later (put_all outcome.writes rows) ≡ Err wrong_password }
 {}
+
+/// Each action that writes is taken exactly where it may be, and then what comes of it is done.
+pub fn actions_are_taken()
+    ensures register { (name password : List ℕ) (fresh now : ℕ) (rows : List RowWrite) (outcome : Outcome) →
+        (register name password fresh now rows ≡ Ok outcome) ↔ ((users : ℕ) × MayRegister rows name users
+        × (outcome ≡ registered name password fresh now (users + 1))) }
+    ensures add_category { (user : ℕ) (name : List ℕ) (rows : List RowWrite) (outcome : Outcome) →
+        (add_category user name rows ≡ Ok outcome) ↔ ((categories : ℕ)
+        × MayAddCategory rows user categories × (outcome ≡ category_added name (categories + 1))) }
+    ensures sell { (seller now : ℕ) (offer : Offer) (rows : List RowWrite) (outcome : Outcome) →
+        (sell seller now offer rows ≡ Ok outcome) ↔ ((items : ℕ) × (entries : ℕ) × (user : UserRow)
+        × MaySell rows seller offer items entries user
+        × (outcome ≡ offered seller now offer (items + 1) (entries + 1) user)) }
+    ensures bid { (user now number amount : ℕ) (rows : List RowWrite) (outcome : Outcome) →
+        (bid user now number amount rows ≡ Ok outcome) ↔ ((item : ItemRow)
+        × MayBid rows user now number amount item × (outcome ≡ bid_made user now number amount item)) }
+    ensures buy { (user now number : ℕ) (rows : List RowWrite) (outcome : Outcome) →
+        (buy user now number rows ≡ Ok outcome) ↔ ((item : ItemRow) × MayBuy rows user now number item
+        × (outcome ≡ bought user number item)) }
+    ensures close { (user number : ℕ) (rows : List RowWrite) (outcome : Outcome) →
+        (close user number rows ≡ Ok outcome) ↔ ((item : ItemRow) × MayClose rows user number item
+        × (outcome ≡ closed number item)) }
+    ensures feedback { (user number : ℕ) (good : Bool) (text : List ℕ) (rows : List RowWrite) (outcome : Outcome) →
+        (give_feedback user number good text rows ≡ Ok outcome) ↔ ((item : ItemRow) × (about : UserRow)
+        × MayGiveFeedback rows user number item about
+        × (outcome ≡ feedback_given user number good text item about)) }
+{
+    bid_refusals_are_exact();
+    buy_refusals_are_exact();
+    close_refusals_are_exact();
+    feedback_refusals_are_exact();
+}
+
+/// The limits of the shop, and what an hour is in milliseconds.
+pub fn limits_are()
+    ensures numbers { LAST_NUMBER ≡ 2 ^ 32 - 1 }
+    ensures small_numbers { LAST_SMALL_NUMBER ≡ 2 ^ 20 - 1 }
+    ensures hour { HOUR ≡ 3600000 }
+    ensures keeper { CATEGORY_KEEPER ≡ 1 }
+    ensures page { PAGE_ITEMS ≡ 16 }
+{}
