@@ -16,3 +16,4 @@ pub mod AfterDone
 pub mod Taking
 pub mod Signing
 pub mod Exactly
+pub mod Repeating

@@ -9,3 +9,4 @@ pub mod Actions
 pub mod Coherent
 pub mod Done
 pub mod Taken
+pub mod Repeated

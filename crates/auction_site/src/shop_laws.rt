@@ -1,25 +1,32 @@
 //! Laws of the shop in its users' words: what an action leaves behind, and when it is taken. Each is the
 //! contract of a function that does nothing: a caller that needs the law calls the function.
 
-ghost use Rattle.std.specs.Prelude.{◌≡◌, ◌≢◌, ◌↔◌, ℕ, ◌+◌, ◌-◌, ◌^◌, ◌≤◌, Bool, true, List, ◌++◌, Some, Ok, Err};
+ghost use Rattle.std.specs.Prelude.{◌≡◌, ◌≢◌, ◌↔◌, ℕ, ◌+◌, ◌-◌, ◌^◌, ◌≤◌, Bool, true, false, List, [], ◌∷◌, ◌++◌, Some, Ok, Err};
 ghost use Rattle.sha2.specs.Sha256.{sha256};
 ghost use Rattle.crash_base.specs.declared.rows.RowWrite.{RowWrite};
 ghost use Rattle.crash_base.specs.Rows.{put_all};
 ghost use Rattle.action_plans.specs.declared.plan.Outcome.{Outcome};
+ghost use Rattle.call_ticket.specs.declared.next.Answer.{Answer};
+ghost use Rattle.call_ticket.specs.declared.next.Answer.TheVariants.{Entered};
+ghost use Rattle.auction_calls.specs.declared.action.Action.TheVariants.{Buy};
+ghost use Rattle.auction_calls.specs.declared.action.ActionCall.{ActionCall};
 ghost use Rattle.auction_calls.specs.Calls.{is_user_name};
 ghost use Rattle.auction_rows.specs.declared.rows.ItemRow.{ItemRow};
 ghost use Rattle.auction_rows.specs.declared.rows.ItemState.TheVariants.{Sold};
 ghost use Rattle.auction_rows.specs.declared.rows.UserRow.{UserRow};
 ghost use Rattle.auction_rows.specs.Ids.{user_id, users_counter};
+ghost use Rattle.auction_rows.specs.Parts.{site_parts};
 ghost use Rattle.auction_rows.specs.Reading.{user_of};
 ghost use Rattle.auction_rows.specs.Spelling.{u64_bytes};
 ghost use Rattle.auction_rules.specs.declared.refusal.RuleRefusal.TheVariants.{AlreadyGiven, BidTooLow};
 ghost use Rattle.auction_rules.specs.Rules.{bid_refusal, feedback_refusal, IsOnASide, IsRunning};
 ghost use Rattle.auction_site.specs.declared.limits.TheConstants.{LAST_NUMBER, LAST_SMALL_NUMBER, HOUR, CATEGORY_KEEPER, PAGE_ITEMS};
+ghost use Rattle.auction_site.specs.Actions.{steps_of};
 ghost use Rattle.auction_site.specs.Answers.{wrong_password};
 ghost use Rattle.auction_site.specs.Coherent.{row_at};
 ghost use Rattle.auction_site.specs.Done.{IsOver};
 ghost use Rattle.auction_site.specs.Outcomes.{Offer, registered, category_added, offered, bid_made, bought, closed, ended, feedback_given, signed_in, sold_to, with_bid, with_given};
+ghost use Rattle.auction_site.specs.Repeated.{may_repeat};
 ghost use Rattle.auction_site.specs.Rules.{register, sign_in, add_category, sell, bid, buy, close, give_feedback};
 ghost use Rattle.auction_site.specs.Taken.{Counts, MayRegister, MayAddCategory, MaySell, MayBid, MayBuy, MayClose, MayGiveFeedback};
 
@@ -102,4 +109,13 @@ pub fn limits_are()
     ensures hour { HOUR ≡ 3600000 }
     ensures keeper { CATEGORY_KEEPER ≡ 1 }
     ensures page { PAGE_ITEMS ≡ 16 }
+{}
+
+/// A purchase enters a component by a method that may not be called again, right after the front, and no
+/// other action enters one so.
+pub fn only_buying_is_not_repeated()
+    ensures buy { (call : ActionCall) (item : ℕ) → call.action ≡ Buy item →
+        may_repeat site_parts (steps_of call (Entered ∷ [])) ≡ false }
+    ensures others { (call : ActionCall) (answers : List Answer) → ((item : ℕ) → call.action ≢ Buy item) →
+        may_repeat site_parts (steps_of call answers) ≡ true }
 {}
