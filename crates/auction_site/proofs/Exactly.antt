@@ -26,10 +26,10 @@ gives x = Ok x
 given : {A : Type 0} (x y : A) → gives x ≡ gives y → y ≡ x
 given x y is = cc
 
-is_zero_not : (n : ℕ) → n ≢ 0 → (n == 0) ≡ false
+pub is_zero_not : (n : ℕ) → n ≢ 0 → (n == 0) ≡ false
 is_zero_not n apart = grind (arith, nat_tests)
 
-is_not_zero : (n : ℕ) → (n == 0) ≡ false → n ≢ 0
+pub is_not_zero : (n : ℕ) → (n == 0) ≡ false → n ≢ 0
 is_not_zero n test = λ is. absurd (grind (arith, nat_tests))
 
 -- a number that another one follows

@@ -17,3 +17,4 @@ pub mod Taking
 pub mod Signing
 pub mod Exactly
 pub mod Repeating
+pub mod TooLow

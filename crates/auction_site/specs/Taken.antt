@@ -11,7 +11,7 @@ use Rattle.auction_rows.specs.declared.rows.UserRow.{UserRow}
 use Rattle.auction_rows.specs.Ids.{user_id, name_id, users_counter, items_counter, categories_counter, category_counter, item_id, category_id}
 use Rattle.auction_rows.specs.Reading.{user_of, counter_of, item_of, category_of}
 use Rattle.auction_rules.specs.Rules.{other_side, IsRunning, IsTooLow, IsNotForSale, IsOnASide, HasGiven}
-use Rattle.auction_site.specs.Coherent.{row_at}
+use Rattle.auction_site.specs.Coherent.{row_at, IsTooLowFor}
 use Rattle.auction_site.specs.Outcomes.{Offer}
 
 -- A counter tells a count: that of its row, or 0 where it has none.
@@ -55,6 +55,15 @@ pub record MayBid (rows : List RowWrite) (user now number amount : ℕ) (item : 
   pub other : item.seller ≢ user
   pub enough : ¬ IsTooLow item amount
   pub few : item.bids < 2 ^ 20 - 1
+
+-- A user bids too low on an item at a moment: it is running and another's, and the amount is below its start
+-- or some bid on it is of no less.
+pub record BidsTooLow (rows : List RowWrite) (user now number amount : ℕ) (item : ItemRow) : Type 0 where
+  pub signed : user ≢ 0
+  pub there : row_at rows item_of (item_id number) ≡ Some item
+  pub running : IsRunning item now
+  pub other : item.seller ≢ user
+  pub low : IsTooLowFor rows number item amount
 
 -- A user may buy an item at a moment: it is running, another's, and still sold at once.
 pub record MayBuy (rows : List RowWrite) (user now number : ℕ) (item : ItemRow) : Type 0 where

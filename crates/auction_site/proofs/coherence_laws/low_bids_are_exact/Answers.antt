@@ -1,5 +1,9 @@
 use Rattle.auction_site.proofs.LowBids.{low_bids}
+use Rattle.auction_site.proofs.TooLow.{answers_too_low}
 use Rattle.auction_site.proofs.coherence_laws.low_bids_are_exact.Goals as goal
 
-pub returns : goal.returns
-returns c = low_bids
+pub returns-clause-answer : goal.returns-clause-answer
+returns-clause-answer c = answers_too_low c.bid_refusals_are_exact.ensures.low c.running_is_exact.ensures
+
+pub returns-clause-rule : goal.returns-clause-rule
+returns-clause-rule c = low_bids
