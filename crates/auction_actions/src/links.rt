@@ -12,6 +12,9 @@ use page_text::PageLine;
 use std::alloc::Global;
 use std::fmt::Write;
 
+/// The most bytes of an item's address, in which a number has ten digits at most.
+const ADDRESS_BYTES: usize = 16;
+
 /// A link to a category.
 pub fn category_link(
     alloc: Global,
@@ -32,7 +35,7 @@ pub fn category_link(
 fn item_address(alloc: Global, number: u32) -> Result<FieldText, OutOfMemory>
     ensures { IfOk result (λ address. address ≡ codes "/item/" ++ decimal number) }
 {
-    let mut address = String::new(alloc);
+    let mut address = String::with_capacity(alloc, ADDRESS_BYTES)?;
     write!(address, "/item/{number}")?;
     Ok(text_of(address))
 }
