@@ -26,8 +26,8 @@ ghost use Rattle.auction_site.specs.Taken.{BidsTooLow};
 
 use auction_rules::{bid_refusals_are_exact, running_is_exact};
 
-/// No rows are coherent, and each call leaves coherent rows coherent: whatever they are, and where its commit
-/// is appended to a journal.
+/// The empty list of rows is coherent, and each call leaves coherent rows coherent: whatever they are, and where
+/// its commit is appended to a journal.
 pub fn actions_keep_rows_coherent()
     ensures empty { IsCoherent [] }
     ensures action { (call : ActionCall) (rows : List RowWrite) → is_call call ≡ true →

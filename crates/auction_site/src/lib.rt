@@ -1,8 +1,8 @@
 //! What the auction means by each of its sixteen actions, and the plan by which each is done.
 //!
 //! The meaning of a call is said over all rows of the site: the first refusal that holds, or else the rows that
-//! are written and the answer. The plan of a call says the same by reads, one after the other. That both agree
-//! over any rows is proved here. The code that follows the plans stands in `auction_actions`.
+//! are written and the answer. The plan of a call reads one row or table after the other. That plan and meaning
+//! come to the same, over any rows, is proved here. The code that follows the plans stands in `auction_actions`.
 //!
 //! ```text
 //! the call      user 3 bids 500 on item 7, at the moment 1,000
@@ -28,11 +28,11 @@
 //! | `plans_come_to_the_site` | the plan of a call comes to what the site means by it, over any rows |
 //! | `calls_run_as_the_site` | the run of a call keeps the rules and limits of calls, and writes and answers just that |
 //! | `commits_are_meant` | a commit is what the site means by its call over the rows just before it |
-//! | `actions_keep_rows_coherent` | no rows are coherent, and each call leaves coherent rows coherent |
+//! | `actions_keep_rows_coherent` | the empty list of rows is coherent, and each call leaves coherent rows coherent |
 //! | `low_bids_are_exact` | over coherent rows, a bid is too low exactly where it is below the start or some bid is of no less |
 //!
-//! A row of bytes that spell no row of its table is a refusal too, with the status 500: the meaning is defined
-//! over any rows, also over such as no action writes.
+//! Where the bytes of a row that is needed spell no row of its table, the answer is 500: a call has a meaning over
+//! any rows, also over such as no action writes.
 #![tactic(auto)]
 
 mod coherence_laws;
