@@ -1,24 +1,20 @@
 //! Sales at once, and auctions that their sellers end.
 
-ghost use Rattle.std.specs.Prelude.{◌≡◌, ◌∷◌, [], ◌++◌, true, codes, IfOk};
-ghost use Rattle.std.specs.Fmt.{decimal};
+ghost use Rattle.std.specs.Prelude.{◌≡◌, ◌∷◌, [], true, IfOk};
 ghost use Rattle.action_plans.specs.Plans.{HasCome, walk};
 ghost use Rattle.auction_rows.specs.Bounds.{is_item};
 ghost use Rattle.auction_rows.specs.Ids.{item_id};
 ghost use Rattle.auction_rows.specs.Spelling.{item_bytes};
-ghost use Rattle.auction_site.specs.Answers.{shows};
 ghost use Rattle.auction_site.specs.Outcomes.{row, sold_to, ended, bought, closed};
 ghost use Rattle.auction_site.specs.Planned.{buy_plan, close_plan};
 
-use crate::outcomes::write_row;
-use crate::pieces::{asks_row, says, stops_by, stops_if};
+use crate::outcomes::{says_number, write_row};
+use crate::pieces::{asks_row, stops_by, stops_if};
 use action_plans::{Outcome, Reads, Stop};
 use auction_rows::{ItemRow, ItemState, item_id};
 use auction_rules::{buy_refusal, close_refusal};
 use crash_base::{Moment, OutOfMemory, WriteList};
-use journal_model::DoneText;
 use std::alloc::Global;
-use std::fmt::Write;
 
 /// The item sold to a buyer.
 fn sold_to(mut item: ItemRow, buyer: u32) -> ItemRow
@@ -52,24 +48,6 @@ fn item_written(alloc: Global, number: u32, item: &ItemRow) -> Result<WriteList,
     Ok(writes)
 }
 
-/// The answer to a sale at once.
-fn buy_done(alloc: Global, number: u32) -> Result<DoneText, OutOfMemory>
-    ensures { IfOk result (λ done. done ≡ shows 200 (codes "Bought item " ++ decimal number) []) }
-{
-    let mut heading = String::new(alloc);
-    write!(heading, "Bought item {number}")?;
-    says(alloc, 200, heading.as_bytes())
-}
-
-/// The answer to the end of an auction.
-fn close_done(alloc: Global, number: u32) -> Result<DoneText, OutOfMemory>
-    ensures { IfOk result (λ done. done ≡ shows 200 (codes "Closed item " ++ decimal number) []) }
-{
-    let mut heading = String::new(alloc);
-    write!(heading, "Closed item {number}")?;
-    says(alloc, 200, heading.as_bytes())
-}
-
 /// The item is sold to the user.
 #[tactic(auto, using(auction_site::proofs::Bounds::sold_to_is), unfolding(auction_site::specs::Outcomes::bought))]
 fn bought(alloc: Global, buyer: u32, number: u32, item: ItemRow) -> Result<Outcome, OutOfMemory>
@@ -78,19 +56,19 @@ fn bought(alloc: Global, buyer: u32, number: u32, item: ItemRow) -> Result<Outco
 {
     let item = sold_to(item, buyer);
     let writes = item_written(alloc, number, &item)?;
-    let done = buy_done(alloc, number)?;
+    let done = says_number(alloc, "Bought item ", number)?;
     Ok(Outcome { writes, done })
 }
 
 /// The auction of the item ends.
-#[tactic(auto, using(auction_site::proofs::Bounds::ended_is), unfolding(auction_site::specs::Outcomes::closed))]
+#[tactic(auto, using(auction_site::proofs::Bounds::ended_is))]
 fn closed(alloc: Global, number: u32, item: ItemRow) -> Result<Outcome, OutOfMemory>
     requires { is_item item ≡ true }
     ensures { IfOk result (λ outcome. outcome ≡ closed number item) }
 {
     let item = ended(item);
     let writes = item_written(alloc, number, &item)?;
-    let done = close_done(alloc, number)?;
+    let done = says_number(alloc, "Closed item ", number)?;
     Ok(Outcome { writes, done })
 }
 

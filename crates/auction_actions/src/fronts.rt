@@ -1,17 +1,15 @@
 //! Pages that no row is read for: the first page, the forms, and signing out.
 
 ghost use Rattle.std.specs.Prelude.{◌≡◌, [], ◌∷◌, ◌++◌, codes, IfOk, OnOk};
-ghost use Rattle.std.specs.Fmt.{decimal};
 ghost use Rattle.auction_site.specs.Outcomes.{form_address, form_fields, form_line, form_shown, home, home_text, signed_out};
 
-use crate::outcomes::{answered, signs, text_of};
+use crate::outcomes::{answered, numbered_text, signs};
 use crate::pieces::shows;
 use action_plans::Outcome;
 use auction_calls::FormKind;
 use crash_base::{FieldText, Moment, OutOfMemory};
 use page_text::{FieldNameList, PageLine, PageLineList};
 use std::alloc::Global;
-use std::fmt::Write;
 
 /// Who is signed in.
 fn home_text(alloc: Global, user: u32) -> Result<FieldText, OutOfMemory>
@@ -20,9 +18,7 @@ fn home_text(alloc: Global, user: u32) -> Result<FieldText, OutOfMemory>
     if user == 0 {
         return FieldText::copied(alloc, b"Signed out");
     }
-    let mut text = String::new(alloc);
-    write!(text, "User {user}")?;
-    Ok(text_of(text))
+    numbered_text(alloc, "User ", u64::from(user))
 }
 
 /// The first page. It reads no row, and writes none.

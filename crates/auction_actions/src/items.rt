@@ -6,14 +6,13 @@ ghost use Rattle.action_plans.specs.Plans.{HasCome, walk};
 ghost use Rattle.auction_site.specs.Outcomes.{item_shown, price, state_text};
 ghost use Rattle.auction_site.specs.Planned.{show_item_plan};
 
-use crate::outcomes::{answered, text_of};
+use crate::outcomes::{answered, numbered_text};
 use crate::pieces::{asks_row, shows};
 use action_plans::{Outcome, Reads, Stop};
 use auction_rows::{ItemRow, ItemState, UserRow, item_id, user_id};
 use crash_base::{FieldText, OutOfMemory};
 use page_text::{PageLine, PageLineList};
 use std::alloc::Global;
-use std::fmt::Write;
 
 /// What was bid most, or the least bid where nothing was bid.
 pub fn price(item: &ItemRow) -> u64
@@ -30,29 +29,18 @@ pub fn price(item: &ItemRow) -> u64
 fn price_text(alloc: Global, item: &ItemRow) -> Result<FieldText, OutOfMemory>
     ensures { IfOk result (λ text. text ≡ codes "Price " ++ decimal (price item.now)) }
 {
-    let price = price(item);
-    let mut text = String::new(alloc);
-    write!(text, "Price {price}")?;
-    Ok(text_of(text))
+    numbered_text(alloc, "Price ", price(item))
 }
 
 /// What has become of an item.
 fn state_text(alloc: Global, item: &ItemRow) -> Result<FieldText, OutOfMemory>
     ensures { IfOk result (λ text. text ≡ state_text item.now) }
 {
-    let mut text = String::new(alloc);
     match item.state {
-        ItemState::Running => {
-            let ends = item.ends.0;
-            write!(text, "Running until {ends}")?;
-        }
-        ItemState::Closed => write!(text, "Closed")?,
-        ItemState::Sold => {
-            let buyer = item.buyer;
-            write!(text, "Sold to user {buyer}")?;
-        }
+        ItemState::Running => numbered_text(alloc, "Running until ", item.ends.0),
+        ItemState::Closed => FieldText::copied(alloc, b"Closed"),
+        ItemState::Sold => numbered_text(alloc, "Sold to user ", u64::from(item.buyer)),
     }
-    Ok(text_of(text))
 }
 
 /// The name of a seller, behind its word.

@@ -5,15 +5,11 @@ ghost use Rattle.std.specs.Fmt.{decimal};
 ghost use Rattle.auction_site.specs.Outcomes.{category_link, item_link, priced_link};
 
 use crate::items::price;
-use crate::outcomes::text_of;
+use crate::outcomes::numbered_text;
 use auction_rows::{CategoryRow, ItemRow};
 use crash_base::{FieldText, OutOfMemory};
 use page_text::PageLine;
 use std::alloc::Global;
-use std::fmt::Write;
-
-/// The most bytes of an item's address, in which a number has ten digits at most.
-const ADDRESS_BYTES: usize = 16;
 
 /// A link to a category.
 pub fn category_link(
@@ -23,10 +19,8 @@ pub fn category_link(
 ) -> Result<PageLine, OutOfMemory>
     ensures { IfOk result (λ link. link ≡ category_link category found) }
 {
-    let mut address = String::new(alloc);
-    write!(address, "/category/{category}")?;
     Ok(PageLine::Link {
-        address: text_of(address),
+        address: numbered_text(alloc, "/category/", category)?,
         text: found.name,
     })
 }
@@ -35,9 +29,7 @@ pub fn category_link(
 fn item_address(alloc: Global, number: u32) -> Result<FieldText, OutOfMemory>
     ensures { IfOk result (λ address. address ≡ codes "/item/" ++ decimal number) }
 {
-    let mut address = String::with_capacity(alloc, ADDRESS_BYTES)?;
-    write!(address, "/item/{number}")?;
-    Ok(text_of(address))
+    numbered_text(alloc, "/item/", u64::from(number))
 }
 
 /// A link to an item.
@@ -55,10 +47,9 @@ pub fn item_link(alloc: Global, number: u32, item: ItemRow) -> Result<PageLine, 
 fn priced_title(alloc: Global, title: FieldText, price: u64) -> Result<FieldText, OutOfMemory>
     ensures { IfOk result (λ text. text ≡ title ++ codes ", " ++ decimal price) }
 {
-    let mut after = String::new(alloc);
-    write!(after, ", {price}")?;
+    let after = numbered_text(alloc, ", ", price)?;
     let mut text = title.into_vec();
-    text.extend_from_slice(after.as_bytes())?;
+    text.extend_from_slice(after.as_slice())?;
     Ok(FieldText::from_vec(text))
 }
 

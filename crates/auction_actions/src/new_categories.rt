@@ -1,39 +1,26 @@
 //! New categories.
 
-ghost use Rattle.std.specs.Prelude.{◌≡◌, [], ◌++◌, true, codes, not, ◌==◌, IfOk};
-ghost use Rattle.std.specs.Fmt.{decimal};
+ghost use Rattle.std.specs.Prelude.{◌≡◌, true, not, ◌==◌, IfOk};
 ghost use Rattle.action_plans.specs.Plans.{HasCome, walk};
 ghost use Rattle.auction_calls.specs.Calls.{is_text};
-ghost use Rattle.auction_site.specs.Answers.{shows};
 ghost use Rattle.auction_site.specs.Outcomes.{category_added};
 ghost use Rattle.auction_site.specs.Planned.{add_category_plan};
 ghost use Rattle.auction_site.specs.declared.limits.TheConstants.{CATEGORY_KEEPER};
 
 use crate::numbers::is_last_number;
-use crate::outcomes::{write_counter, write_row};
-use crate::pieces::{asks_counter, says, stops_if};
+use crate::outcomes::{says_number, write_counter, write_row};
+use crate::pieces::{asks_counter, stops_if};
 use action_plans::{Outcome, Reads, Stop};
 use auction_rows::{CategoryRow, categories_counter, category_id};
 use auction_site::CATEGORY_KEEPER;
 use crash_base::{FieldText, OutOfMemory, WriteList};
-use journal_model::DoneText;
 use std::alloc::Global;
-use std::fmt::Write;
 
 /// Whether a user is not the one who may add categories.
 fn is_no_keeper(user: u32) -> bool
     ensures { result ≡ not (user == CATEGORY_KEEPER) }
 {
     user != CATEGORY_KEEPER
-}
-
-/// The answer to a new category.
-fn category_done(alloc: Global, number: u32) -> Result<DoneText, OutOfMemory>
-    ensures { IfOk result (λ done. done ≡ shows 200 (codes "Category " ++ decimal number) []) }
-{
-    let mut heading = String::new(alloc);
-    write!(heading, "Category {number}")?;
-    says(alloc, 200, heading.as_bytes())
 }
 
 /// A category of this number.
@@ -48,7 +35,7 @@ fn category_added(alloc: Global, name: &[u8], number: u32) -> Result<Outcome, Ou
     let mut writes = WriteList::new(alloc);
     write_counter(alloc, &mut writes, categories_counter(), number)?;
     write_row(alloc, &mut writes, category_id(number), &category)?;
-    let done = category_done(alloc, number)?;
+    let done = says_number(alloc, "Category ", number)?;
     Ok(Outcome { writes, done })
 }
 

@@ -1,15 +1,18 @@
 //! What comes of actions: rows written, and answers.
 
-ghost use Rattle.std.specs.Prelude.{◌≡◌, [], ◌∷◌, ◌++◌, true, length, IfOk, OnOk, string_bytes};
-ghost use Rattle.auction_site.specs.Answers.{answered, signs};
+ghost use Rattle.std.specs.Prelude.{◌≡◌, [], ◌∷◌, ◌++◌, true, length, IfOk, OnOk};
+ghost use Rattle.std.specs.Fmt.{decimal};
+ghost use Rattle.auction_site.specs.Answers.{answered, shows, signs};
 ghost use Rattle.auction_site.specs.Outcomes.{row, counter_row};
 
+use crate::pieces::says;
 use action_plans::Outcome;
 use auction_rows::{CounterRow, TableRow, encode_session};
 use crash_base::{FieldText, Moment, OutOfMemory, RowId, RowWrite, WriteList};
 use journal_model::{DoneText, SessionChange};
 use page_text::{PageLineList, page};
 use std::alloc::Global;
+use std::fmt::Write;
 
 /// An answer and nothing written.
 pub fn answered(alloc: Global, done: DoneText) -> Outcome
@@ -70,9 +73,19 @@ pub fn write_counter(
     write_row(alloc, writes, id, &counter)
 }
 
-/// The bytes of a text.
-pub fn text_of(text: String) -> FieldText
-    ensures { result ≡ string_bytes text }
+/// A number behind a word.
+pub fn numbered_text(alloc: Global, word: &str, number: u64) -> Result<FieldText, OutOfMemory>
+    ensures { IfOk result (λ text. text ≡ word.now ++ decimal number) }
 {
-    FieldText::from_vec(text.into_bytes())
+    let mut text = String::new(alloc);
+    write!(text, "{word}{number}")?;
+    Ok(FieldText::from_vec(text.into_bytes()))
+}
+
+/// An answer that tells a number behind a word, and leaves the session as it is.
+pub fn says_number(alloc: Global, word: &str, number: u32) -> Result<DoneText, OutOfMemory>
+    ensures { IfOk result (λ done. done ≡ shows 200 (word.now ++ decimal number) []) }
+{
+    let heading = numbered_text(alloc, word, u64::from(number))?;
+    says(alloc, 200, heading.as_slice())
 }

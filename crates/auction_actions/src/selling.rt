@@ -1,13 +1,11 @@
 //! Items that sellers offer.
 
-ghost use Rattle.std.specs.Prelude.{◌≡◌, ◌<◌, ◌≤◌, ◌+◌, ◌^◌, nat_le, [], ◌∷◌, ◌++◌, true, codes, IfOk, OnOk};
-ghost use Rattle.std.specs.Fmt.{decimal};
+ghost use Rattle.std.specs.Prelude.{◌≡◌, ◌<◌, ◌≤◌, ◌+◌, ◌^◌, nat_le, [], ◌∷◌, ◌++◌, true, IfOk, OnOk};
 ghost use Rattle.action_plans.specs.Plans.{HasCome, walk};
 ghost use Rattle.auction_calls.specs.Calls.{is_text};
 ghost use Rattle.auction_rows.specs.Bounds.{is_user};
 ghost use Rattle.auction_rows.specs.Ids.{items_counter, category_counter, category_id, item_id, entry_id, user_id, own_item_id};
 ghost use Rattle.auction_rows.specs.Spelling.{item_bytes, entry_bytes, user_bytes, own_item_bytes};
-ghost use Rattle.auction_site.specs.Answers.{shows};
 ghost use Rattle.auction_site.specs.Outcomes.{row, counter_row, new_item, with_items, offered};
 ghost use Rattle.auction_site.specs.Planned.{sell_plan};
 ghost use Rattle.auction_site.specs.Rules.{sells_too_low};
@@ -15,8 +13,8 @@ ghost use Rattle.auction_site.specs.declared.limits.TheConstants.{LAST_NUMBER};
 
 use crate::numbers::{is_last_number, next_number};
 use crate::offer::Offer;
-use crate::outcomes::{write_counter, write_row};
-use crate::pieces::{asks_counter, asks_row, asks_row_or, says, stops_if};
+use crate::outcomes::{says_number, write_counter, write_row};
+use crate::pieces::{asks_counter, asks_row, asks_row_or, stops_if};
 use action_plans::{Outcome, Reads, Stop};
 use auction_rows::{
     CategoryRow, EntryRow, GivenFeedback, ItemRow, ItemState, OwnItemRow, UserRow,
@@ -24,9 +22,7 @@ use auction_rows::{
 };
 use auction_site::{HOUR, LAST_NUMBER};
 use crash_base::{FieldText, Moment, OutOfMemory, RowId, WriteList};
-use journal_model::DoneText;
 use std::alloc::Global;
-use std::fmt::Write;
 
 /// Whether an offer is sold at once for less than its least bid.
 fn sells_too_low(offer: &Offer<'_>) -> bool
@@ -156,15 +152,6 @@ fn write_own_item(
     write_row(alloc, writes, own_item_id(seller, n), &own)
 }
 
-/// The answer to an offer.
-fn sell_done(alloc: Global, item: u32) -> Result<DoneText, OutOfMemory>
-    ensures { IfOk result (λ done. done ≡ shows 200 (codes "Item " ++ decimal item) []) }
-{
-    let mut heading = String::new(alloc);
-    write!(heading, "Item {item}")?;
-    says(alloc, 200, heading.as_bytes())
-}
-
 /// An item of this number, which is this entry of its category, and the next own item of its seller.
 #[tactic(auto, unfolding(auction_site::specs::Outcomes::offered))]
 fn offered(
@@ -187,7 +174,7 @@ fn offered(
     write_counters(alloc, &mut writes, offer.category, item, entry)?;
     write_item(alloc, &mut writes, seller, now, offer, item, entry)?;
     write_own_item(alloc, &mut writes, seller, item, user)?;
-    let done = sell_done(alloc, item)?;
+    let done = says_number(alloc, "Item ", item)?;
     Ok(Outcome { writes, done })
 }
 

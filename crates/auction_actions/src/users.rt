@@ -1,7 +1,6 @@
 //! Users: registering, signing in, and the page of a user.
 
 ghost use Rattle.std.specs.Prelude.{◌≡◌, [], ◌∷◌, ◌++◌, true, codes, bytes_eq, not, nat_le, IfOk};
-ghost use Rattle.std.specs.Fmt.{decimal};
 ghost use Rattle.action_plans.specs.Plans.{HasCome, walk};
 ghost use Rattle.auction_calls.specs.Calls.{is_user_name};
 ghost use Rattle.auction_rows.specs.Spelling.{u64_bytes};
@@ -10,7 +9,7 @@ ghost use Rattle.auction_site.specs.Outcomes.{digest_of, new_user, registered, s
 ghost use Rattle.auction_site.specs.Planned.{register_plan, show_user_plan, sign_in_plan};
 
 use crate::numbers::is_last_number;
-use crate::outcomes::{answered, signs, text_of, write_counter, write_row};
+use crate::outcomes::{answered, numbered_text, signs, write_counter, write_row};
 use crate::pieces::{asks_counter, asks_no_row, asks_row, asks_row_or, shows, stops_if};
 use action_plans::{Outcome, Reads, Stop};
 use auction_rows::{NameRow, UserRow, name_id, user_id, users_counter};
@@ -19,7 +18,6 @@ use journal_model::DoneText;
 use page_text::{PageLine, PageLineList};
 use sha2::{Digest, Sha256};
 use std::alloc::Global;
-use std::fmt::Write;
 
 /// The SHA-256 of a salt and a password.
 fn digest_of(salt: &[u8], password: &[u8]) -> [u8; 32]
@@ -152,25 +150,16 @@ pub fn sign_in(
     Ok(outcome)
 }
 
-/// A count behind its word.
-fn counted_text(alloc: Global, word: &str, count: u32) -> Result<FieldText, OutOfMemory>
-    ensures { IfOk result (λ text. text ≡ word.now ++ decimal count) }
-{
-    let mut text = String::new(alloc);
-    write!(text, "{word}{count}")?;
-    Ok(text_of(text))
-}
-
 /// The page of a user.
 fn user_shown(alloc: Global, user: UserRow) -> Result<Outcome, OutOfMemory>
     ensures { IfOk result (λ outcome. outcome ≡ user_shown user) }
 {
     let mut lines = PageLineList::new(alloc);
     lines.push(PageLine::Para {
-        text: counted_text(alloc, "Good ", user.good)?,
+        text: numbered_text(alloc, "Good ", u64::from(user.good))?,
     })?;
     lines.push(PageLine::Para {
-        text: counted_text(alloc, "Bad ", user.bad)?,
+        text: numbered_text(alloc, "Bad ", u64::from(user.bad))?,
     })?;
     let done = shows(alloc, 200, user.name.as_slice(), &lines)?;
     Ok(answered(alloc, done))
