@@ -5,7 +5,7 @@ use Rattle.std.proofs.lemmas.Bool.{and_parts}
 use Rattle.crash_base.specs.declared.rows.RowWrite.{RowWrite}
 use Rattle.deployment.specs.declared.parts.Parts.{Parts}
 use Rattle.journal_model.specs.declared.entry.CommitEntry.{CommitEntry}
-use Rattle.journal_model.specs.declared.entry.DoneText.{DoneText}
+use Rattle.journal_model.specs.declared.entry.ActionEntry.{ActionEntry}
 use Rattle.journal_model.specs.declared.entry.Entry.{Entry}
 use Rattle.journal_model.specs.declared.entry.Mark.{Mark}
 use Rattle.journal_model.specs.Legal.{IsCurrent}
@@ -19,9 +19,11 @@ use Rattle.auction_calls.specs.Calls.{is_text, is_user_name, is_id, is_action, i
 use Rattle.auction_calls.specs.declared.action.Action.{Action}
 use Rattle.auction_calls.specs.declared.action.Action.TheVariants as action
 use Rattle.auction_calls.specs.declared.action.ActionCall.{ActionCall}
+use Rattle.auction_calls.specs.Texts.{Spells}
 use Rattle.auction_rows.specs.Parts.{site_parts, site_components, site_references, site_tables}
-use Rattle.auction_site.specs.Actions.{offer_of, meaning, site, planned, plan_of, through_of, steps_of, IsMade, IsMeant}
+use Rattle.auction_site.specs.Actions.{offer_of, meaning, site, planned, plan_of, through_of, steps_of}
 use Rattle.auction_site.specs.Found.{finished}
+use Rattle.auction_site.specs.Meant.{IsMade, Means, IsMeant}
 use Rattle.auction_site.proofs.Showing.{sign_in_comes, categories_comes, browse_comes, show_item_comes, show_user_comes, show_own_items_comes}
 use Rattle.auction_site.proofs.Writing.{register_comes, add_category_comes, sell_comes, bid_comes, buy_comes, close_comes, give_feedback_comes}
 
@@ -71,22 +73,32 @@ same_run : (o : Option Ran) (a b : Ran) → o ≡ Some a → o ≡ Some b → a 
 same_run o a b x y = cc
 
 -- what a call did over rows is what the site means by it there
-pub made_is_meant : (call : ActionCall) (rows : List RowWrite) (entry : CommitEntry) (done : DoneText) → is_call call ≡ true
-    → IsMade call rows entry done → IsMeant call rows entry done
+made_means : (call : ActionCall) (rows : List RowWrite) (entry : CommitEntry) (action : ActionEntry) → Spells action.text call
+    → Makes site_parts (steps_of call) rows entry action.done → Means rows entry action
 unfolding Makes
-made_is_meant call rows entry done is made =
-    let means = call_runs call rows is in
-    let here : Ran = record { marks = entry.reads; writes = entry.writes; done = done } in
-    let its : Ran = record { marks = means.0; writes = (site call rows).writes; done = (site call rows).done } in
-    let one : here ≡ its = same_run (run_of site_parts (steps_of call) rows) here its made means.1 in
-    record { writes = ap (λ (r : Ran). r.writes) one; answers = ap (λ (r : Ran). r.done) one }
+made_means call rows entry action spelled made =
+    let runs = call_runs call rows spelled.in_ranges in
+    let here : Ran = record { marks = entry.reads; writes = entry.writes; done = action.done } in
+    let its : Ran = record { marks = runs.0; writes = (site call rows).writes; done = (site call rows).done } in
+    let one : here ≡ its = same_run (run_of site_parts (steps_of call) rows) here its made runs.1 in
+    record { call = call; spelled = spelled; writes = ap (λ (r : Ran). r.writes) one; answers = ap (λ (r : Ran). r.done) one }
+
+-- so what is made means what its own action does, at its own place
+pub made_at_its_place : (base : List RowWrite) (es : List Entry) (entry : CommitEntry) → IsCurrent base es entry
+    → (made : IsMade (snapshot base es entry.at.0) entry) → Means (rows_after base es) entry made.action
+made_at_its_place base es entry current made =
+    made_means made.call (rows_after base es) entry made.action made.spelled
+    (serial site_parts (steps_of made.call) base es entry made.action.done current made.made)
+
+same_action : (o : Option ActionEntry) (a b : ActionEntry) → o ≡ Some a → o ≡ Some b → a ≡ b
+same_action o a b x y = cc
 
 -- and a commit is meant at its own place
-pub commit_is_meant : (call : ActionCall) (base : List RowWrite) (es : List Entry) (entry : CommitEntry) (done : DoneText)
-    → is_call call ≡ true → IsCurrent base es entry → IsMade call (snapshot base es entry.at.0) entry done
-    → IsMeant call (rows_after base es) entry done
-commit_is_meant call base es entry done is current made =
-    made_is_meant call (rows_after base es) entry done is (serial site_parts (steps_of call) base es entry done current made)
+pub commit_is_meant : (base : List RowWrite) (es : List Entry) (entry : CommitEntry) → IsCurrent base es entry
+    → IsMade (snapshot base es entry.at.0) entry → IsMeant (rows_after base es) entry
+commit_is_meant base es entry current made = λ action is.
+    subst (λ (a : ActionEntry). Means (rows_after base es) entry a) (same_action entry.action made.action action made.is_there is)
+    (made_at_its_place base es entry current made)
 
 -- so it is in the site's deployment, for a call in its ranges
 pub accepted_is_done : (call : ActionCall) (parts : Parts) (rows : List RowWrite) → (parts ≡ site_parts) × (is_call call ≡ true)

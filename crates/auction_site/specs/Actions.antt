@@ -1,15 +1,12 @@
 -- The sixteen actions: what the site means by a call, and its plan.
-use Rattle.std.specs.Prelude.{◌≡◌, ℕ, List, Option, Some, None, Ok}
+use Rattle.std.specs.Prelude.{ℕ, List, Option, Some, None, Ok}
 use Rattle.crash_base.specs.declared.rows.RowWrite.{RowWrite}
 use Rattle.action_plans.specs.declared.plan.Outcome.{Outcome}
 use Rattle.action_plans.specs.declared.plan.Through.{Through}
 use Rattle.action_plans.specs.Plans.{Plan, Gives}
 use Rattle.action_plans.specs.Steps.{program_of}
-use Rattle.journal_model.specs.declared.entry.CommitEntry.{CommitEntry}
-use Rattle.journal_model.specs.declared.entry.DoneText.{DoneText}
 use Rattle.call_ticket.specs.declared.next.Answer.{Answer}
 use Rattle.call_ticket.specs.declared.next.Next.{Next}
-use Rattle.call_ticket.specs.Runs.{Makes}
 use Rattle.auction_calls.specs.declared.action.Action.{Action}
 use Rattle.auction_calls.specs.declared.action.Action.TheVariants as action
 use Rattle.auction_calls.specs.declared.action.ActionCall.{ActionCall}
@@ -99,13 +96,3 @@ through_of (action.Form kind) = None
 -- The steps of a call: the program of its plan over the site's tables.
 abbrev pub steps_of : ActionCall → List Answer → Next
 steps_of call = program_of site_parts.tables (through_of call.action) (plan_of call)
-
--- A commit is what a call does over these rows, and this is its answer.
-abbrev pub IsMade : ActionCall → List RowWrite → CommitEntry → DoneText → Type 0
-IsMade call rows entry done = Makes site_parts (steps_of call) rows entry done
-
--- A commit and its answer are what the site means by a call over these rows.
-pub record IsMeant (call : ActionCall) (rows : List RowWrite) (entry : CommitEntry)
-    (done : DoneText) : Type 0 where
-  pub writes : entry.writes ≡ (site call rows).writes
-  pub answers : done ≡ (site call rows).done

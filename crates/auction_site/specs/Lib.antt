@@ -10,3 +10,4 @@ pub mod Coherent
 pub mod Done
 pub mod Taken
 pub mod Repeated
+pub mod Meant

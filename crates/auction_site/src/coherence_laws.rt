@@ -5,7 +5,6 @@ ghost use Rattle.std.specs.Prelude.{◌≡◌, ◌≢◌, ◌↔◌, ◌≤◌, 
 ghost use Rattle.crash_base.specs.declared.rows.RowWrite.{RowWrite};
 ghost use Rattle.crash_base.specs.Rows.{put_all};
 ghost use Rattle.journal_model.specs.declared.entry.CommitEntry.{CommitEntry};
-ghost use Rattle.journal_model.specs.declared.entry.DoneText.{DoneText};
 ghost use Rattle.journal_model.specs.declared.entry.Entry.{Entry};
 ghost use Rattle.journal_model.specs.declared.entry.Entry.TheVariants.{Commit};
 ghost use Rattle.journal_model.specs.Legal.{IsCurrent};
@@ -18,9 +17,10 @@ ghost use Rattle.auction_rows.specs.Ids.{item_id};
 ghost use Rattle.auction_rows.specs.Reading.{item_of};
 ghost use Rattle.auction_rules.specs.declared.refusal.RuleRefusal.TheVariants.{BidTooLow};
 ghost use Rattle.auction_rules.specs.Rules.{bid_refusal, is_running};
-ghost use Rattle.auction_site.specs.Actions.{site, IsMade};
+ghost use Rattle.auction_site.specs.Actions.{site};
 ghost use Rattle.auction_site.specs.Answers.{rule_answer};
 ghost use Rattle.auction_site.specs.Coherent.{row_at, IsCoherent, IsTooLowFor};
+ghost use Rattle.auction_site.specs.Meant.{IsMade};
 ghost use Rattle.auction_site.specs.Rules.{bid};
 ghost use Rattle.auction_site.specs.Taken.{BidsTooLow};
 
@@ -32,10 +32,9 @@ pub fn actions_keep_rows_coherent()
     ensures empty { IsCoherent [] }
     ensures action { (call : ActionCall) (rows : List RowWrite) → is_call call ≡ true →
         IsCoherent rows → IsCoherent (put_all (site call rows).writes rows) }
-    ensures entry { (call : ActionCall) (base : List RowWrite) (es : List Entry)
-        (entry : CommitEntry) (done : DoneText) → is_call call ≡ true → IsCurrent base es entry →
-        IsMade call (snapshot base es entry.at.0) entry done → IsCoherent (rows_after base es) →
-        IsCoherent (rows_after base (es ++ Commit entry ∷ [])) }
+    ensures entry { (base : List RowWrite) (es : List Entry) (entry : CommitEntry) →
+        IsCurrent base es entry → IsMade (snapshot base es entry.at.0) entry →
+        IsCoherent (rows_after base es) → IsCoherent (rows_after base (es ++ Commit entry ∷ [])) }
 {}
 
 /// Over coherent rows a bid of at least 1 is answered as too low exactly where it is on another's running

@@ -4,7 +4,6 @@
 ghost use Rattle.std.specs.Prelude.{◌≡◌, List, Some, true};
 ghost use Rattle.crash_base.specs.declared.rows.RowWrite.{RowWrite};
 ghost use Rattle.journal_model.specs.declared.entry.CommitEntry.{CommitEntry};
-ghost use Rattle.journal_model.specs.declared.entry.DoneText.{DoneText};
 ghost use Rattle.journal_model.specs.declared.entry.Entry.{Entry};
 ghost use Rattle.journal_model.specs.declared.entry.Mark.{Mark};
 ghost use Rattle.journal_model.specs.Legal.{IsCurrent};
@@ -15,7 +14,8 @@ ghost use Rattle.action_plans.specs.Steps.{outcome_of};
 ghost use Rattle.auction_calls.specs.declared.action.ActionCall.{ActionCall};
 ghost use Rattle.auction_calls.specs.Calls.{is_call};
 ghost use Rattle.auction_rows.specs.Parts.{site_parts};
-ghost use Rattle.auction_site.specs.Actions.{site, plan_of, through_of, steps_of, IsMade, IsMeant};
+ghost use Rattle.auction_site.specs.Actions.{site, plan_of, through_of, steps_of};
+ghost use Rattle.auction_site.specs.Meant.{IsMade, IsMeant};
 
 /// The plan of each call comes to what the site means by the call. This holds over any rows, also over such
 /// as no action writes.
@@ -32,11 +32,10 @@ pub fn calls_run_as_the_site()
         ≡ Some (record { marks = marks; writes = (site call rows).writes; done = (site call rows).done })) }
 {}
 
-/// A call read the rows as they were at its begin. What it wrote and answered is what the site means by it
-/// over the rows just before its own entry: as if it had been done all at once, there.
+/// A call read the rows as they were at its begin. What the call that an action's text spells wrote and
+/// answered is what the site means by it over the rows just before its own entry: as if it had been done
+/// all at once, there.
 pub fn commits_are_meant()
-    ensures { (call : ActionCall) (base : List RowWrite) (es : List Entry)
-        (entry : CommitEntry) (done : DoneText) → is_call call ≡ true → IsCurrent base es entry →
-        IsMade call (snapshot base es entry.at.0) entry done →
-        IsMeant call (rows_after base es) entry done }
+    ensures { (base : List RowWrite) (es : List Entry) (entry : CommitEntry) → IsCurrent base es entry →
+        IsMade (snapshot base es entry.at.0) entry → IsMeant (rows_after base es) entry }
 {}
