@@ -33,14 +33,14 @@ pub is_not_zero : (n : ℕ) → (n == 0) ≡ false → n ≢ 0
 is_not_zero n test = λ is. absurd (grind (arith, nat_tests))
 
 -- a number that another one follows
-has_next : (n : ℕ) → nat_le LAST_NUMBER n ≡ false → n < 2 ^ 32 - 1
+pub has_next : (n : ℕ) → nat_le LAST_NUMBER n ≡ false → n < 2 ^ 32 - 1
 has_next n test = grind (arith, nat_tests)
 
 next_is : (n : ℕ) → n < 2 ^ 32 - 1 → nat_le LAST_NUMBER n ≡ false
 next_is n few = grind (arith, nat_tests)
 
 -- a small one
-has_small_next : (n : ℕ) → nat_le LAST_SMALL_NUMBER n ≡ false → n < 2 ^ 20 - 1
+pub has_small_next : (n : ℕ) → nat_le LAST_SMALL_NUMBER n ≡ false → n < 2 ^ 20 - 1
 has_small_next n test = grind (arith, nat_tests)
 
 small_next_is : (n : ℕ) → n < 2 ^ 20 - 1 → nat_le LAST_SMALL_NUMBER n ≡ false

@@ -18,3 +18,5 @@ pub mod Signing
 pub mod Exactly
 pub mod Repeating
 pub mod TooLow
+pub mod RowWrites
+pub mod Written

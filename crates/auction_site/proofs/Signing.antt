@@ -12,6 +12,7 @@ use Rattle.action_plans.specs.declared.plan.Outcome.{Outcome}
 use Rattle.auction_calls.specs.Calls.{is_user_name}
 use Rattle.auction_rows.specs.declared.rows.NameRow.{NameRow}
 use Rattle.auction_rows.specs.declared.rows.UserRow.{UserRow}
+use Rattle.auction_rows.specs.Bounds.{IsUser}
 use Rattle.auction_rows.specs.Ids.{user_id, name_id, users_counter}
 use Rattle.auction_rows.specs.Reading.{user_of, name_of}
 use Rattle.auction_rows.specs.Spelling.{u64_bytes, user_bytes, name_bytes}
@@ -42,6 +43,17 @@ name_there name password fresh now user rows is low =
     ap (option_and_then name_of) (row_in-put_all ws rows (name_id name) ∙ at_here (name_id name).key new (row_in rows (name_id name)))
     ∙ name_exact.again named (record { within = name_is named is; user = low })
 
+-- a new user is within its bounds
+pub new_user_range : (name password : List ℕ) (fresh : ℕ) → is_user_name name ≡ true → IsUser (new_user name password (u64_bytes fresh))
+new_user_range name password fresh is = record {
+  within = new_user_is name password fresh is;
+  salt = number_length fresh;
+  digest = length-sha256 (u64_bytes fresh ++ password);
+  good = omega arith;
+  bad = omega arith;
+  items = omega arith;
+}
+
 pub user_there : (name password : List ℕ) (fresh now user : ℕ) (rows : List RowWrite) → is_user_name name ≡ true
     → row_at (after name password fresh now user rows) user_of (user_id user) ≡ Some (new_user name password (u64_bytes fresh))
 unfolding registered name_id
@@ -50,14 +62,7 @@ user_there name password fresh now user rows is =
     let known : UserRow = new_user name password (u64_bytes fresh) in
     let new : Option (List ℕ) = Some (user_bytes known) in
     ap (option_and_then user_of) (row_in-put_all ws rows (user_id user) ∙ at_here user new (row_in rows (user_id user)))
-    ∙ user_exact.again known (record {
-      within = new_user_is name password fresh is;
-      salt = number_length fresh;
-      digest = length-sha256 (u64_bytes fresh ++ password);
-      good = omega arith;
-      bad = omega arith;
-      items = omega arith;
-    })
+    ∙ user_exact.again known (new_user_range name password fresh is)
 
 -- equal bytes are not found to differ
 equal_bytes : (a b : List ℕ) → a ≡ b → not (bytes_eq a b) ≡ false

@@ -11,3 +11,4 @@ pub mod Done
 pub mod Taken
 pub mod Repeated
 pub mod Meant
+pub mod Written

@@ -1,7 +1,7 @@
 //! Laws of the shop in its users' words: what an action leaves behind, and when it is taken. Each is the
 //! contract of a function that does nothing: a caller that needs the law calls the function.
 
-ghost use Rattle.std.specs.Prelude.{◌≡◌, ◌≢◌, ◌↔◌, ℕ, ◌+◌, ◌-◌, ◌^◌, ◌≤◌, Bool, true, false, List, [], ◌∷◌, ◌++◌, Some, Ok, Err};
+ghost use Rattle.std.specs.Prelude.{◌≡◌, ◌≢◌, ◌↔◌, ℕ, ◌+◌, ◌-◌, ◌^◌, ◌≤◌, Bool, true, false, List, [], ◌∷◌, ◌++◌, All, Some, Ok, Err};
 ghost use Rattle.sha2.specs.Sha256.{sha256};
 ghost use Rattle.crash_base.specs.declared.rows.RowWrite.{RowWrite};
 ghost use Rattle.crash_base.specs.Rows.{put_all};
@@ -10,7 +10,7 @@ ghost use Rattle.call_ticket.specs.declared.next.Answer.{Answer};
 ghost use Rattle.call_ticket.specs.declared.next.Answer.TheVariants.{Entered};
 ghost use Rattle.auction_calls.specs.declared.action.Action.TheVariants.{Buy};
 ghost use Rattle.auction_calls.specs.declared.action.ActionCall.{ActionCall};
-ghost use Rattle.auction_calls.specs.Calls.{is_user_name};
+ghost use Rattle.auction_calls.specs.Calls.{is_call, is_user_name};
 ghost use Rattle.auction_rows.specs.declared.rows.ItemRow.{ItemRow};
 ghost use Rattle.auction_rows.specs.declared.rows.ItemState.TheVariants.{Sold};
 ghost use Rattle.auction_rows.specs.declared.rows.UserRow.{UserRow};
@@ -21,7 +21,7 @@ ghost use Rattle.auction_rows.specs.Spelling.{u64_bytes};
 ghost use Rattle.auction_rules.specs.declared.refusal.RuleRefusal.TheVariants.{AlreadyGiven, BidTooLow};
 ghost use Rattle.auction_rules.specs.Rules.{bid_refusal, feedback_refusal, IsOnASide, IsRunning};
 ghost use Rattle.auction_site.specs.declared.limits.TheConstants.{LAST_NUMBER, LAST_SMALL_NUMBER, HOUR, CATEGORY_KEEPER, PAGE_ITEMS};
-ghost use Rattle.auction_site.specs.Actions.{steps_of};
+ghost use Rattle.auction_site.specs.Actions.{site, steps_of};
 ghost use Rattle.auction_site.specs.Answers.{wrong_password};
 ghost use Rattle.auction_site.specs.Coherent.{row_at};
 ghost use Rattle.auction_site.specs.Done.{IsOver};
@@ -29,6 +29,7 @@ ghost use Rattle.auction_site.specs.Outcomes.{Offer, registered, category_added,
 ghost use Rattle.auction_site.specs.Repeated.{may_repeat};
 ghost use Rattle.auction_site.specs.Rules.{register, sign_in, add_category, sell, bid, buy, close, give_feedback};
 ghost use Rattle.auction_site.specs.Taken.{Counts, MayRegister, MayAddCategory, MaySell, MayBid, MayBuy, MayClose, MayGiveFeedback};
+ghost use Rattle.auction_site.specs.Written.{HaveBytes, SpellsARow};
 
 use auction_rules::{
     bid_refusals_are_exact, buy_refusals_are_exact, close_refusals_are_exact,
@@ -118,4 +119,10 @@ pub fn only_buying_is_not_repeated()
         may_repeat site_parts (steps_of call (Entered ∷ [])) ≡ false }
     ensures others { (call : ActionCall) (answers : List Answer) → ((item : ℕ) → call.action ≢ Buy item) →
         may_repeat site_parts (steps_of call answers) ≡ true }
+{}
+
+/// Each write of a call spells a row of its table, over any rows of bytes.
+pub fn writes_are_rows()
+    ensures { (call : ActionCall) (rows : List RowWrite) → is_call call ≡ true → HaveBytes rows →
+        All SpellsARow (site call rows).writes }
 {}
