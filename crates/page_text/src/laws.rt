@@ -1,8 +1,11 @@
-//! Laws of escaped texts. Each is the contract of a function that does nothing: a caller that needs
+//! Laws of escaped texts and of pages. Each is the contract of a function that does nothing: a caller that needs
 //! the law calls the function.
 
-ghost use Rattle.std.specs.Prelude.{◌≡◌, ℕ, List, Some, All, false};
+ghost use Rattle.std.specs.Prelude.{◌≡◌, ℕ, List, [], filter, map, Some, All, false};
+ghost use Rattle.page_text.specs.declared.page_line.PageLine.{PageLine};
+ghost use Rattle.page_text.specs.Bare.{bare};
 ghost use Rattle.page_text.specs.Escapes.{escaped, is_markup, unescaped};
+ghost use Rattle.page_text.specs.Pages.{page_bytes};
 
 /// An escaped text has no `<`, `>`, `"` or `'`. So it begins no tag and ends no attribute.
 pub fn escapes_hide_markup()
@@ -18,4 +21,11 @@ pub fn escapes_read_back()
 /// Texts that are escaped to the same bytes are the same.
 pub fn escapes_differ()
     ensures { (text other : List ℕ) → escaped text ≡ escaped other → text ≡ other }
+{}
+
+/// A page has the markup of its lines alone: each `<`, `>`, `"` and `'` that it has with no heading and
+/// with empty texts and addresses, in order, and no other.
+pub fn pages_have_own_markup_alone()
+    ensures { (heading : List ℕ) (lines : List PageLine) →
+        filter is_markup (page_bytes heading lines) ≡ filter is_markup (page_bytes [] (map bare lines)) }
 {}

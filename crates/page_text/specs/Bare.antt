@@ -1,0 +1,10 @@
+-- Pages without the texts that stand on them.
+use Rattle.std.specs.Prelude.{[], map}
+use Rattle.page_text.specs.declared.page_line.PageLine.{PageLine}
+use Rattle.page_text.specs.declared.page_line.PageLine.TheVariants.{Para, Link, Form}
+
+-- a line whose texts and addresses are empty, with as many fields
+abbrev pub bare : PageLine → PageLine
+bare (Para text) = Para []
+bare (Link address text) = Link [] []
+bare (Form address token fields) = Form [] [] (map (λ name. []) fields)
