@@ -64,7 +64,7 @@ pub use items::is_item;
 pub use laws::{
     bids_are_exact, categories_are_exact, counters_are_exact, entries_are_exact, feedback_is_exact,
     ids_differ, items_are_exact, names_are_exact, own_items_are_exact, rows_are_exact,
-    rows_read_back, sessions_read_back, users_are_exact,
+    rows_read_back, sessions_read_back, site_groups, texts_decide_bounds, users_are_exact,
 };
 pub use names::is_name;
 pub use own_items::is_own_item;

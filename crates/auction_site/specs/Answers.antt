@@ -32,7 +32,7 @@ sign_in_first = shows 403 (codes "Sign in first") []
 abbrev pub not_there : DoneText
 not_there = shows 404 (codes "Not there") []
 
--- a number is the last
+-- a counter is at its limit
 abbrev pub no_more_numbers : DoneText
 no_more_numbers = shows 409 (codes "No more numbers") []
 

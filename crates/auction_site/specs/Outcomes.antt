@@ -54,7 +54,7 @@ new_user name password salt = record {
   items = 0;
 }
 
--- Register: a user of this number, and the name of the user.
+-- Register: the counter, the user and the name; the session is the new user's.
 unfoldable pub registered : List ℕ → List ℕ → ℕ → ℕ → ℕ → Outcome
 registered name password fresh now user = record {
   writes =
@@ -89,7 +89,7 @@ category_added name category = record {
   done = shows 200 (codes "Category " ++ decimal category) [];
 }
 
--- what was bid most, or the least bid where nothing was bid
+-- the best bid, or the start where that is 0
 abbrev pub price : ItemRow → ℕ
 price item = if item.best == 0 then item.start else item.best
 

@@ -38,7 +38,7 @@ category_link_plan row = do
   category ← reads row.id (category_of row.bytes)
   Gives (category_link row.id.key category)
 
--- Categories: all, in the order of their numbers.
+-- Categories: all, in the order of the rows.
 unfoldable pub categories_plan : Plan Outcome
 categories_plan = do
   rows ← asks_table CATEGORY_TABLE

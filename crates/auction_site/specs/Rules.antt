@@ -37,7 +37,7 @@ category_line row = do
   category ← spelled row.id (category_of row.bytes)
   Ok (category_link row.id.key category)
 
--- Categories: all, in the order of their numbers.
+-- Categories: all, in the order of the rows.
 unfoldable pub categories : List RowWrite → Found Outcome
 categories rows = do
   links ← collected (map category_line (table_rows CATEGORY_TABLE rows))
