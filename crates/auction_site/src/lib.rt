@@ -45,5 +45,5 @@ pub use laws::{calls_run_as_the_site, commits_are_meant, plans_come_to_the_site}
 pub use limits::{CATEGORY_KEEPER, HOUR, LAST_NUMBER, LAST_SMALL_NUMBER, PAGE_ITEMS};
 pub use shop_laws::{
     actions_are_taken, limits_are, only_buying_is_not_repeated, what_was_done_is_refused,
-    who_registers_signs_in,
+    who_registers_signs_in, writes_are_rows,
 };

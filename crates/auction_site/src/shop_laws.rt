@@ -51,9 +51,9 @@ pub fn what_was_done_is_refused()
         bid_refusal (with_bid item bidder amount) user next now ≡ Some BidTooLow }
 {}
 
-/// Who registers signs in with the name and the password, from then on, as the user of the next number,
-/// and with no password of another digest. The digest is that of the salt and the password, and the salt
-/// is the call's random number.
+/// Over the rows that registering leaves, the user of the next number is there, and signs in with the name
+/// and the password, at any later moment, and with no password of another digest. The digest is that of
+/// the salt and the password, and the salt is the call's random number.
 pub fn who_registers_signs_in()
     ensures kept { (name password : List ℕ) (fresh now users : ℕ) (rows : List RowWrite) (outcome : Outcome) →
         is_user_name name ≡ true → register name password fresh now rows ≡ Ok outcome →
