@@ -4,16 +4,16 @@ use Rattle.std.specs.Option.{option_map}
 use Rattle.std.specs.Str.{is_utf8}
 use Rattle.std.proofs.lemmas.Bool.{and_parts}
 use Rattle.std.proofs.lemmas.Bool.Decides.{nat_tests}
-use Rattle.byte_fields.specs.Reading.{Field}
+use Rattle.byte_fields.specs.Reading.{Field, made}
 use Rattle.byte_fields.specs.Spelling.{AreBytes}
 use Rattle.byte_fields.proofs.Exact.{IsExact}
 use Rattle.byte_fields.proofs.ExactFields.{u64_exact, id_exact, IsText, text_exact}
+use Rattle.byte_fields.proofs.MadeFields.{map_some, both_exact}
 use Rattle.auction_calls.specs.declared.action.Action.{Action}
 use Rattle.auction_calls.specs.declared.action.Action.TheVariants.{Home, Register, SignIn, SignOut, Categories, AddCategory, Browse, Item, User, About, Sell, Bid, Buy, Close, Feedback, Form}
 use Rattle.auction_calls.specs.Calls.{is_between, is_id, is_text, is_user_name, are_credentials, is_action}
-use Rattle.auction_calls.specs.Reading.{made, empty, register_at, sign_in_at, add_category_at, browse_at, item_at, user_at, sell_at, bid_at, buy_at, close_at, feedback_at, form_at, action_at}
+use Rattle.auction_calls.specs.Reading.{empty, register_at, sign_in_at, add_category_at, browse_at, item_at, user_at, sell_at, bid_at, buy_at, close_at, feedback_at, form_at, action_at}
 use Rattle.auction_calls.specs.Texts.{action_number, field_bytes}
-use Rattle.auction_calls.proofs.Exact.{map_some, both_exact}
 use Rattle.auction_calls.proofs.ExactFields.{truth_exact, kind_exact, credentials_exact}
 use Rattle.auction_calls.proofs.Names.{user_name_text}
 

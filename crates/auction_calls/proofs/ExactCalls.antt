@@ -6,14 +6,15 @@ use Rattle.std.proofs.lemmas.Bool.Decides.{nat_tests}
 use Rattle.std.proofs.lemmas.List.{append-nil, nil_from_length}
 use Rattle.std.proofs.lemmas.List.Elements.{All-tail}
 use Rattle.std.proofs.lemmas.Option.{cond_some, same_Some}
+use Rattle.byte_fields.specs.Reading.{made, both}
 use Rattle.byte_fields.specs.Spelling.{AreBytes}
+use Rattle.byte_fields.proofs.MadeFields.{then_some, map_some}
 use Rattle.auction_calls.specs.declared.action.Action.{Action}
 use Rattle.auction_calls.specs.declared.action.ActionCall.{ActionCall}
 use Rattle.auction_calls.specs.declared.fields.CallHead.{CallHead}
 use Rattle.auction_calls.specs.Calls.{is_action, is_sized, is_call}
-use Rattle.auction_calls.specs.Reading.{made, both, head_at, action_at, call_at, call_of}
+use Rattle.auction_calls.specs.Reading.{head_at, action_at, call_at, call_of}
 use Rattle.auction_calls.specs.Texts.{action_number, field_bytes, head_bytes, call_bytes, Spells, SpellsNoCall}
-use Rattle.auction_calls.proofs.Exact.{then_some, map_some}
 use Rattle.auction_calls.proofs.ExactActions.{action_takes, action_again}
 use Rattle.auction_calls.proofs.ExactFields.{IsHead, spell_head, head_exact}
 

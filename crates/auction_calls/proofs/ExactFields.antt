@@ -6,13 +6,14 @@ use Rattle.byte_fields.specs.Reading.{flag_of}
 use Rattle.byte_fields.specs.Spelling.{u64_bytes, text16, flag}
 use Rattle.byte_fields.proofs.Exact.{IsExact}
 use Rattle.byte_fields.proofs.ExactFields.{bytes_exact, u64_exact, id_exact, IsText, text_exact, flag_from, flag_back}
+use Rattle.byte_fields.proofs.MadeFields.{made_exact, both_exact}
 use Rattle.auction_calls.specs.declared.action.FormKind.{FormKind}
 use Rattle.auction_calls.specs.declared.action.FormKind.TheVariants.{Register, SignIn, SignOut, Category, Sell, Bid, Buy, Close, Feedback}
 use Rattle.auction_calls.specs.declared.fields.CallHead.{CallHead}
 use Rattle.auction_calls.specs.declared.fields.Credentials.{Credentials}
 use Rattle.auction_calls.specs.Reading.{truth_at, kind_of, kind_at, head_at, credentials_at}
 use Rattle.auction_calls.specs.Texts.{kind_text}
-use Rattle.auction_calls.proofs.Exact.{made_exact, found_exact, both_exact}
+use Rattle.auction_calls.proofs.Exact.{found_exact}
 use Rattle.auction_calls.proofs.Names.{user_name_text}
 
 flag_few : (b : Bool) → flag b < 2 ^ 64

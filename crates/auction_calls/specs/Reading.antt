@@ -2,7 +2,7 @@
 use Rattle.std.specs.Prelude.{codes, ℕ, ◌==◌, ◌&&◌, bytes_eq, Bool, if◌then◌else◌, List, [], ◌∷◌, length, Option, Some, None}
 use Rattle.std.specs.Option.{option_map, option_and_then}
 use Rattle.std.specs.Int.{w64}
-use Rattle.byte_fields.specs.Reading.{Field, bytes_at, number_at, id_at, text_at, flag_of}
+use Rattle.byte_fields.specs.Reading.{Field, made, both, bytes_at, number_at, id_at, text_at, flag_of}
 use Rattle.auction_calls.specs.declared.action.Action.{Action}
 use Rattle.auction_calls.specs.declared.action.Action.TheVariants.{Home, Register, SignIn, SignOut, Categories, AddCategory, Browse, Item, User, About, Sell, Bid, Buy, Close, Feedback, Form}
 use Rattle.auction_calls.specs.declared.action.ActionCall.{ActionCall}
@@ -12,18 +12,9 @@ use Rattle.auction_calls.specs.declared.fields.CallHead.{CallHead}
 use Rattle.auction_calls.specs.declared.fields.Credentials.{Credentials}
 use Rattle.auction_calls.specs.Calls.{is_call}
 
--- a field whose value is made of another's
-abbrev pub made : {A B : Type 0} → (A → B) → Field A → Field B
-made make field bytes = option_map (λ x. (make x.0, x.1)) (field bytes)
-
 -- a field whose value is found from another's, where there is one
 abbrev pub found : {A B : Type 0} → (A → Option B) → Field A → Field B
 found find field bytes = option_and_then (λ x. option_map (λ y. (y, x.1)) (find x.0)) (field bytes)
-
--- a field, and then another
-abbrev pub both : {A B : Type 0} → Field A → Field B → Field (A × B)
-both first second bytes =
-    option_and_then (λ x. option_map (λ y. ((x.0, y.0), y.1)) (second x.1)) (first bytes)
 
 -- a field of no bytes
 abbrev pub empty : {A : Type 0} → A → Field A

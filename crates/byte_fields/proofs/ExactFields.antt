@@ -9,7 +9,7 @@ use Rattle.std.proofs.lemmas.List.{take_at, drop_at, take-append-drop, length-ap
 use Rattle.std.proofs.lemmas.List.Elements.{All-get_or, All-take, All-drop, All-tail}
 use Rattle.std.proofs.lemmas.Nat.{be_bytes_2, be_bytes_4, be_bytes_8, from_be_bytes-to_be_bytes_2, from_be_bytes-to_be_bytes_4, from_be_bytes-to_be_bytes_8}
 use Rattle.byte_fields.specs.Reading.{◌>>=◌, bytes_at, number_at, u8_at, id_at, text_at, byte_as, flag_of}
-use Rattle.byte_fields.specs.Spelling.{AreBytes, u8_bytes, u32_bytes, u64_bytes, text16, flag}
+use Rattle.byte_fields.specs.Spelling.{AreBytes, u8_bytes, u16_bytes, u32_bytes, u64_bytes, text16, flag}
 use Rattle.byte_fields.proofs.Exact.{bound, unless_some, if_some, Takes, Takes-then, IsExact}
 
 -- bytes, so many of them
@@ -88,8 +88,9 @@ number_exact width limit wide = record {
       rw (long, take_at (to_be_bytes width n) rest size k, drop_at (to_be_bytes width n) rest size k, wide.again n h) refl;
 }
 
-number16 : IsExact (number_at w16) (to_be_bytes w16) (λ n. n < 2 ^ 16)
-number16 = number_exact w16 (2 ^ 16) wide16
+pub u16_exact : IsExact (number_at w16) u16_bytes (λ n. n < 2 ^ 16)
+unfolding u16_bytes
+u16_exact = number_exact w16 (2 ^ 16) wide16
 
 pub u32_exact : IsExact (number_at w32) u32_bytes (λ n. n < 2 ^ 32)
 unfolding u32_bytes
@@ -142,18 +143,18 @@ text_exact = record {
       let b = bound (bytes_at n.value.0 n.value.1) last (x, rest) n.next in
       let g = if_some (is_utf8 b.value.0) (Some b.value) (x, rest) b.next in
       let same : b.value ≡ (x, rest) = cc in
-      let t = number16.takes bytes n.value.0 n.value.1 are n.is in
+      let t = u16_exact.takes bytes n.value.0 n.value.1 are n.is in
       let u = (bytes_exact n.value.0).takes n.value.1 b.value.0 b.value.1 t.0.rest_are b.is in
-      let both = Takes-then bytes (to_be_bytes w16 n.value.0) n.value.1 b.value.0 b.value.1 t.0 u.0 in
-      let Q : ℕ → Type 0 = λ k. Takes bytes (to_be_bytes w16 k ++ b.value.0) b.value.1 × (k < 2 ^ 16) in
+      let both = Takes-then bytes (u16_bytes n.value.0) n.value.1 b.value.0 b.value.1 t.0 u.0 in
+      let Q : ℕ → Type 0 = λ k. Takes bytes (u16_bytes k ++ b.value.0) b.value.1 × (k < 2 ^ 16) in
       let q = subst Q (sym u.1) (both, t.1) in
-      let P : List ℕ × List ℕ → Type 0 = λ z. Takes bytes (to_be_bytes w16 (length z.0) ++ z.0) z.1 × IsText z.0 in
+      let P : List ℕ × List ℕ → Type 0 = λ z. Takes bytes (u16_bytes (length z.0) ++ z.0) z.1 × IsText z.0 in
       subst P same (q.0, record { utf8 = g.0; few = q.1 });
   again = λ x rest h.
-      let n = number16.again (length x) (x ++ rest) h.few in
+      let n = u16_exact.again (length x) (x ++ rest) h.few in
       let v = (bytes_exact (length x)).again x rest refl in
       let utf8 = h.utf8 in
-      ap text_at (append_assoc (to_be_bytes w16 (length x)) x rest) ∙ rw (n, v, utf8) refl;
+      ap text_at (append_assoc (u16_bytes (length x)) x rest) ∙ rw (n, v, utf8) refl;
 }
 
 -- a value that a number of one byte stands for

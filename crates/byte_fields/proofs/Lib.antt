@@ -1,2 +1,4 @@
 pub mod Exact
 pub mod ExactFields
+pub mod FieldBytes
+pub mod MadeFields

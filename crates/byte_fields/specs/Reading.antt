@@ -1,5 +1,6 @@
 -- The fields that bytes begin with.
 use Rattle.std.specs.Prelude.{ℕ, ◌^◌, ◌==◌, nat_lt, if◌then◌else◌, Bool, true, false, List, [], ◌∷◌, length, take, drop, Option, Some, None}
+use Rattle.std.specs.Option.{option_map, option_and_then}
 use Rattle.std.specs.Int.{Width, w16, w64, byte_len, from_be_bytes}
 use Rattle.std.specs.Str.{is_utf8}
 
@@ -13,6 +14,15 @@ None >>= f = None
 -- begin with one.
 abbrev pub Field : Type 0 → Type 0
 Field A = List ℕ → Option (A × List ℕ)
+
+-- a field whose value is made of another's
+abbrev pub made : {A B : Type 0} → (A → B) → Field A → Field B
+made make field bytes = option_map (λ x. (make x.0, x.1)) (field bytes)
+
+-- a field, and then another
+abbrev pub both : {A B : Type 0} → Field A → Field B → Field (A × B)
+both first second bytes =
+    option_and_then (λ x. option_map (λ y. ((x.0, y.0), y.1)) (second x.1)) (first bytes)
 
 -- this many bytes
 unfoldable pub bytes_at : ℕ → Field (List ℕ)

@@ -10,6 +10,10 @@ AreBytes bytes = All (λ byte. byte < 2 ^ 8) bytes
 unfoldable pub u8_bytes : ℕ → List ℕ
 u8_bytes n = n ∷ []
 
+-- a number of two bytes
+unfoldable pub u16_bytes : ℕ → List ℕ
+u16_bytes n = to_be_bytes w16 n
+
 -- a number of four bytes
 unfoldable pub u32_bytes : ℕ → List ℕ
 u32_bytes n = to_be_bytes w32 n
@@ -20,7 +24,7 @@ u64_bytes n = to_be_bytes w64 n
 
 -- a text: its length in two bytes, and then its bytes
 unfoldable pub text16 : List ℕ → List ℕ
-text16 text = to_be_bytes w16 (length text) ++ text
+text16 text = u16_bytes (length text) ++ text
 
 -- 1 where something is so, and else 0
 abbrev pub flag : Bool → ℕ

@@ -2,7 +2,7 @@
 //! others.
 //!
 //! What is kept or sent as bytes is spelled by its fields, one after the other. This crate has the fields
-//! of which the rows and the calls of the auction are made.
+//! of which frames are made, and the rows and the calls of the auction.
 //!
 //! ```text
 //! let (user, rest) = id_at(bytes)?;         // eight bytes, of which the first four are 0
@@ -16,7 +16,7 @@
 //! | a number of one, two, four or eight bytes | the bytes of the number, big end first |
 //! | an id | a number of eight bytes that is at most 4,294,967,295 |
 //! | a truth value | 1 or 0, in one byte |
-//! | an array | its bytes |
+//! | an array, or as many bytes as are asked for | the bytes |
 //! | a text | its length in two bytes, big end first, and then its bytes, which are UTF-8 |
 //!
 //! A reader answers the value at the front of bytes and the bytes after it, and `NoField` exactly where
@@ -29,7 +29,7 @@
 //!
 //! The fields are exact, which `proofs/ExactFields.antt` has for each of them: what is read is spelled so,
 //! and what is spelled so is read, whatever follows it. A crate above cites these lemmas for the values that
-//! it spells (`taken`, `again`).
+//! it spells (`taken`, `again`), and those of `proofs/MadeFields.antt` for a field that is made of others.
 #![tactic(auto)]
 
 mod bytes;
@@ -39,5 +39,5 @@ mod writing;
 
 pub use bytes::{bytes_are_in_range, is_utf8};
 pub use error::{NoField, ReadError, found};
-pub use reading::{array_at, flag_at, id_at, text_at, u8_at, u32_at, u64_at};
-pub use writing::{flag_number, write_id, write_text, write_u8, write_u32, write_u64};
+pub use reading::{array_at, bytes_at, flag_at, id_at, text_at, u8_at, u16_at, u32_at, u64_at};
+pub use writing::{flag_number, write_id, write_text, write_u8, write_u16, write_u32, write_u64};

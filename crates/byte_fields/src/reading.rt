@@ -1,5 +1,6 @@
 //! Fields that are read off the front of bytes.
 
+ghost use Rattle.std.specs.Prelude.{◌≡◌, length, IfOk};
 ghost use Rattle.std.specs.Int.{w16, w32, w64};
 ghost use Rattle.byte_fields.specs.Answers.{Reads};
 ghost use Rattle.byte_fields.specs.Reading.{bytes_at, number_at, u8_at, id_at, text_at, flag_of, byte_as};
@@ -8,10 +9,14 @@ use crate::bytes::is_utf8;
 use crate::error::NoField;
 use crash_base::{take_u16, take_u32, take_u64};
 
-/// This many bytes.
+/// This many bytes, which are not copied, and the bytes after them.
+///
+/// # Errors
+/// `NoField` where there are fewer.
 #[tactic(auto, unfolding(crate::specs::Reading::bytes_at))]
-fn bytes_at(size: usize, bytes: &[u8]) -> Result<(&[u8], &[u8]), NoField>
-    ensures { Reads (λ f. (f.0.now, f.1.now)) result (bytes_at size bytes.now) }
+pub fn bytes_at(size: usize, bytes: &[u8]) -> Result<(&[u8], &[u8]), NoField>
+    ensures value { Reads (λ f. (f.0.now, f.1.now)) result (bytes_at size bytes.now) }
+    ensures size { IfOk result (λ f. length f.0.now ≡ size) }
 {
     if bytes.len() < size {
         return Err(NoField);
@@ -47,9 +52,12 @@ pub fn u8_at(bytes: &[u8]) -> Result<(u8, &[u8]), NoField>
     }
 }
 
-/// A number of two bytes.
+/// A number of two bytes, and the bytes after it.
+///
+/// # Errors
+/// `NoField` where there are fewer.
 #[tactic(auto, unfolding(crate::specs::Reading::number_at))]
-fn u16_at(bytes: &[u8]) -> Result<(u16, &[u8]), NoField>
+pub fn u16_at(bytes: &[u8]) -> Result<(u16, &[u8]), NoField>
     ensures { Reads (λ f. (f.0, f.1.now)) result (number_at w16 bytes.now) }
 {
     match take_u16(bytes) {

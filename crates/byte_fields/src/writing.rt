@@ -1,7 +1,7 @@
 //! Fields that are written at the end of bytes.
 
 ghost use Rattle.std.specs.Prelude.{◌≡◌, ◌++◌, ◌<◌, ◌^◌, length, OnOk};
-ghost use Rattle.byte_fields.specs.Spelling.{u8_bytes, u32_bytes, u64_bytes, text16, flag};
+ghost use Rattle.byte_fields.specs.Spelling.{u8_bytes, u16_bytes, u32_bytes, u64_bytes, text16, flag};
 
 use crash_base::OutOfMemory;
 
@@ -14,6 +14,17 @@ pub fn write_u8(out: &mut Vec<u8>, number: u8) -> Result<(), OutOfMemory>
     ensures { OnOk result (out.new.items ≡ out.old.items ++ u8_bytes number) }
 {
     Ok(out.push(number)?)
+}
+
+/// Writes a number of two bytes.
+///
+/// # Errors
+/// `OutOfMemory` where there was no memory for them.
+#[tactic(auto, unfolding(crate::specs::Spelling::u16_bytes))]
+pub fn write_u16(out: &mut Vec<u8>, number: u16) -> Result<(), OutOfMemory>
+    ensures { OnOk result (out.new.items ≡ out.old.items ++ u16_bytes number) }
+{
+    Ok(out.extend_from_slice(&u16::to_be_bytes(number))?)
 }
 
 /// Writes a number of four bytes.
@@ -57,7 +68,7 @@ pub fn write_text(out: &mut Vec<u8>, text: &[u8]) -> Result<(), OutOfMemory>
     requires { length text.now < 2 ^ 16 }
     ensures { OnOk result (out.new.items ≡ out.old.items ++ text16 text.now) }
 {
-    out.extend_from_slice(&u16::to_be_bytes(text.len() as u16))?;
+    write_u16(out, text.len() as u16)?;
     out.extend_from_slice(text)?;
     Ok(())
 }

@@ -5,12 +5,16 @@ use Rattle.std.proofs.lemmas.Bool.Decides.{nat_tests}
 use Rattle.std.proofs.lemmas.List.{append-nil, nil_from_length}
 use Rattle.std.proofs.lemmas.List.Elements.{All-tail}
 use Rattle.std.proofs.lemmas.Option.{cond_some}
+use Rattle.byte_fields.specs.Reading.{Field, made}
+use Rattle.byte_fields.specs.Spelling.{AreBytes}
+use Rattle.byte_fields.proofs.Exact.{IsExact, Takes}
+use Rattle.byte_fields.proofs.ExactFields.{u32_exact, u64_exact}
+use Rattle.byte_fields.proofs.MadeFields.{then_some, map_some, both_exact}
 use Rattle.ssm_frames.specs.declared.frame.Frame.{Frame}
 use Rattle.ssm_frames.specs.declared.frame.Frame.TheVariants.{Put, Get, Sweep, Stored, Found, Absent, BrickFull, Swept}
-use Rattle.ssm_frames.specs.Reading.{Field, made, whole, put_at, get_at, sweep_at, stored_at, found_at, absent_at, brick_full_at, swept_at, frame_behind, frame_at, decode_of}
-use Rattle.ssm_frames.specs.Spelling.{AreBytes, encode_of, IsInRange, Spells}
-use Rattle.ssm_frames.proofs.Exact.{IsExact, Takes, then_some, map_some, both_exact}
-use Rattle.ssm_frames.proofs.ExactFields.{number32, number64, version_exact, subject_exact, sender_exact, moment_exact, value_exact}
+use Rattle.ssm_frames.specs.Reading.{whole, put_at, get_at, sweep_at, stored_at, found_at, absent_at, brick_full_at, swept_at, frame_behind, frame_at, decode_of}
+use Rattle.ssm_frames.specs.Spelling.{encode_of, IsInRange, Spells}
+use Rattle.ssm_frames.proofs.ExactFields.{version_exact, subject_exact, sender_exact, moment_exact, value_exact}
 
 -- a first byte and bytes behind it spell a frame in its ranges, before a rest
 abbrev Begins : ℕ → List ℕ → Frame → List ℕ → Type 0
@@ -63,7 +67,7 @@ absent_takes = made_takes 0x83 (λ f. Absent f.0.nonce f.0.key f.0.version f.1.0
 
 brick_full_takes : (bytes : List ℕ) (frame : Frame) (rest : List ℕ) → AreBytes bytes → brick_full_at bytes ≡ Some (frame, rest) → Begins 0x84 bytes frame rest
 unfolding brick_full_at encode_of
-brick_full_takes = made_takes 0x84 (λ f. BrickFull f.0.nonce f.0.key f.0.version f.1.0.brick f.1.0.incarnation f.1.1.0 f.1.1.1) (both_exact subject_exact (both_exact sender_exact (both_exact number32 number64))) (λ x. refl) (λ x h. (h.0, h.1.0, h.1.1.0, h.1.1.1))
+brick_full_takes = made_takes 0x84 (λ f. BrickFull f.0.nonce f.0.key f.0.version f.1.0.brick f.1.0.incarnation f.1.1.0 f.1.1.1) (both_exact subject_exact (both_exact sender_exact (both_exact u32_exact u64_exact))) (λ x. refl) (λ x h. (h.0, h.1.0, h.1.1.0, h.1.1.1))
 
 swept_takes : (bytes : List ℕ) (frame : Frame) (rest : List ℕ) → AreBytes bytes → swept_at bytes ≡ Some (frame, rest) → Begins 0x85 bytes frame rest
 unfolding swept_at encode_of
@@ -99,7 +103,7 @@ frame_again (Sweep nonce moment) rest h = made_again (λ f. Sweep f.0 f.1) (both
 frame_again (Stored nonce key version brick incarnation) rest h = made_again (λ f. Stored f.0.nonce f.0.key f.0.version f.1.brick f.1.incarnation) (both_exact subject_exact sender_exact) (record { nonce = nonce; key = key; version = version }, record { brick = brick; incarnation = incarnation }) rest h
 frame_again (Found nonce key version brick incarnation expiry value) rest h = made_again (λ f. Found f.0.nonce f.0.key f.0.version f.1.0.brick f.1.0.incarnation f.1.1.0 f.1.1.1) (both_exact subject_exact (both_exact sender_exact (both_exact moment_exact value_exact))) (record { nonce = nonce; key = key; version = version }, (record { brick = brick; incarnation = incarnation }, (expiry, value))) rest (h.0, (h.1, (h.2, h.3)))
 frame_again (Absent nonce key version brick incarnation swept) rest h = made_again (λ f. Absent f.0.nonce f.0.key f.0.version f.1.0.brick f.1.0.incarnation f.1.1) (both_exact subject_exact (both_exact sender_exact moment_exact)) (record { nonce = nonce; key = key; version = version }, (record { brick = brick; incarnation = incarnation }, swept)) rest (h.0, (h.1, h.2))
-frame_again (BrickFull nonce key version brick incarnation entries bytes) rest h = made_again (λ f. BrickFull f.0.nonce f.0.key f.0.version f.1.0.brick f.1.0.incarnation f.1.1.0 f.1.1.1) (both_exact subject_exact (both_exact sender_exact (both_exact number32 number64))) (record { nonce = nonce; key = key; version = version }, (record { brick = brick; incarnation = incarnation }, (entries, bytes))) rest (h.0, (h.1, (h.2, h.3)))
+frame_again (BrickFull nonce key version brick incarnation entries bytes) rest h = made_again (λ f. BrickFull f.0.nonce f.0.key f.0.version f.1.0.brick f.1.0.incarnation f.1.1.0 f.1.1.1) (both_exact subject_exact (both_exact sender_exact (both_exact u32_exact u64_exact))) (record { nonce = nonce; key = key; version = version }, (record { brick = brick; incarnation = incarnation }, (entries, bytes))) rest (h.0, (h.1, (h.2, h.3)))
 frame_again (Swept nonce brick incarnation moment) rest h = made_again (λ f. Swept f.0 f.1.0.brick f.1.0.incarnation f.1.1) (both_exact version_exact (both_exact sender_exact moment_exact)) (nonce, (record { brick = brick; incarnation = incarnation }, moment)) rest (h.0, (h.1, h.2))
 
 -- what bytes are decoded to, they spell

@@ -1,5 +1,3 @@
-pub mod Exact
 pub mod ExactFields
 pub mod ExactFrames
 pub mod Short
-pub mod Taken

@@ -1,7 +1,6 @@
 -- How many bytes spell a frame.
 use Rattle.std.proofs.Common.{◌≡◌, ℕ, ◌+◌, ◌^◌, ◌<◌, ◌≤◌, List, ◌++◌, length, refl, ap, ◌∙◌, arith}
 use Rattle.std.proofs.Math.ListN.{replicate}
-use Rattle.std.specs.Int.{w16, w32, w64}
 use Rattle.std.proofs.lemmas.List.{length-append, length-replicate}
 use Rattle.std.proofs.lemmas.List.Elements.{All-replicate}
 use Rattle.crash_base.specs.declared.bounded.TheConstants.{MAX_SESSION_BYTES}
@@ -10,23 +9,26 @@ use Rattle.crash_base.specs.declared.numbers.Moment.{Moment}
 use Rattle.crash_base.specs.declared.numbers.SessionKey.{SessionKey}
 use Rattle.crash_base.specs.declared.numbers.Version.{Version}
 use Rattle.crash_base.specs.declared.items.TheConstants.{MAX_FRAME_BYTES}
+use Rattle.byte_fields.specs.Spelling.{u16_bytes, u32_bytes, u64_bytes}
 use Rattle.ssm_frames.specs.declared.frame.Frame.{Frame}
 use Rattle.ssm_frames.specs.declared.frame.Frame.TheVariants.{Put, Get, Sweep, Stored, Found, Absent, BrickFull, Swept}
-use Rattle.ssm_frames.specs.Spelling.{number_bytes, version_bytes, subject_bytes, sender_bytes, moment_bytes, value_bytes, encode_of, IsVersion, IsKey, IsValue, IsSender, IsInRange, Spells}
-use Rattle.ssm_frames.proofs.Exact.{number_size, wide16, wide32, wide64}
+use Rattle.ssm_frames.specs.Spelling.{version_bytes, subject_bytes, sender_bytes, moment_bytes, value_bytes, encode_of, IsVersion, IsKey, IsValue, IsSender, IsInRange, Spells}
 
-size16 : (n : ℕ) → length (number_bytes w16 n) ≡ 2
-size16 = number_size w16 (2 ^ 16) wide16
+size16 : (n : ℕ) → length (u16_bytes n) ≡ 2
+unfolding u16_bytes
+size16 n = refl
 
-size32 : (n : ℕ) → length (number_bytes w32 n) ≡ 4
-size32 = number_size w32 (2 ^ 32) wide32
+size32 : (n : ℕ) → length (u32_bytes n) ≡ 4
+unfolding u32_bytes
+size32 n = refl
 
-size64 : (n : ℕ) → length (number_bytes w64 n) ≡ 8
-size64 = number_size w64 (2 ^ 64) wide64
+size64 : (n : ℕ) → length (u64_bytes n) ≡ 8
+unfolding u64_bytes
+size64 n = refl
 
 version_size : (v : Version) → length (version_bytes v) ≡ 14
 unfolding version_bytes
-version_size v = omega (arith, length-append (number_bytes w16 v.node) (number_bytes w32 v.boot ++ number_bytes w64 v.serial), length-append (number_bytes w32 v.boot) (number_bytes w64 v.serial), size16 v.node, size32 v.boot, size64 v.serial)
+version_size v = omega (arith, length-append (u16_bytes v.node) (u32_bytes v.boot ++ u64_bytes v.serial), length-append (u32_bytes v.boot) (u64_bytes v.serial), size16 v.node, size32 v.boot, size64 v.serial)
 
 subject_size : (nonce : Version) (key : SessionKey) (version : Version) → IsKey key → length (subject_bytes nonce key version) ≡ 44
 unfolding subject_bytes
@@ -34,7 +36,7 @@ subject_size nonce key version h = omega (arith, length-append (version_bytes no
 
 sender_size : (brick : BrickNo) (incarnation : ℕ) → length (sender_bytes brick incarnation) ≡ 10
 unfolding sender_bytes
-sender_size brick incarnation = omega (arith, length-append (number_bytes w16 brick.0) (number_bytes w64 incarnation), size16 brick.0, size64 incarnation)
+sender_size brick incarnation = omega (arith, length-append (u16_bytes brick.0) (u64_bytes incarnation), size16 brick.0, size64 incarnation)
 
 moment_size : (moment : Moment) → length (moment_bytes moment) ≡ 8
 unfolding moment_bytes
@@ -42,7 +44,7 @@ moment_size moment = size64 moment.0
 
 value_size : (value : List ℕ) → length (value_bytes value) ≡ 2 + length value
 unfolding value_bytes
-value_size value = omega (arith, length-append (number_bytes w16 (length value)) value, size16 (length value))
+value_size value = omega (arith, length-append (u16_bytes (length value)) value, size16 (length value))
 
 -- a Found, by its value's length
 found_size : (nonce : Version) (key : SessionKey) (version : Version) (brick : BrickNo) (incarnation : ℕ) (expiry : Moment) (value : List ℕ) → IsKey key → length (encode_of (Found nonce key version brick incarnation expiry value)) ≡ 65 + length value
@@ -71,9 +73,9 @@ frame_size (Absent nonce key version brick incarnation swept) h =
     let m = moment_size swept in
     (omega arith, omega arith)
 frame_size (BrickFull nonce key version brick incarnation entries bytes) h =
-    let e = length-append (subject_bytes nonce key version) (sender_bytes brick incarnation ++ (number_bytes w32 entries ++ number_bytes w64 bytes)) in
-    let f = length-append (sender_bytes brick incarnation) (number_bytes w32 entries ++ number_bytes w64 bytes) in
-    let g = length-append (number_bytes w32 entries) (number_bytes w64 bytes) in
+    let e = length-append (subject_bytes nonce key version) (sender_bytes brick incarnation ++ (u32_bytes entries ++ u64_bytes bytes)) in
+    let f = length-append (sender_bytes brick incarnation) (u32_bytes entries ++ u64_bytes bytes) in
+    let g = length-append (u32_bytes entries) (u64_bytes bytes) in
     let s = subject_size nonce key version h.0.1 in
     let b = sender_size brick incarnation in
     let n = size32 entries in

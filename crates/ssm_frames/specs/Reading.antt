@@ -1,42 +1,22 @@
 -- Which frame bytes spell, read from the first byte to the last.
-use Rattle.std.specs.Prelude.{ℕ, ◌==◌, ◌||◌, nat_lt, Bool, false, if◌then◌else◌, List, [], ◌∷◌, length, take, drop, Option, Some, None}
-use Rattle.std.specs.Option.{option_map, option_and_then}
-use Rattle.std.specs.Int.{Width, w16, w32, w64, byte_len, from_be_bytes}
+use Rattle.std.specs.Prelude.{ℕ, ◌==◌, ◌||◌, nat_lt, Bool, false, if◌then◌else◌, List, [], ◌∷◌, length, Option, Some, None, IsTrue}
+use Rattle.std.specs.Option.{option_and_then}
+use Rattle.std.specs.Int.{w16, w32, w64}
 use Rattle.crash_base.specs.declared.bounded.TheConstants.{MAX_SESSION_BYTES}
 use Rattle.crash_base.specs.declared.numbers.Moment.{Moment}
 use Rattle.crash_base.specs.declared.numbers.SessionKey.{SessionKey}
 use Rattle.crash_base.specs.declared.numbers.Version.{Version}
+use Rattle.byte_fields.specs.Reading.{◌>>=◌, Field, made, both, bytes_at, number_at}
+use Rattle.byte_fields.specs.declared.error.ReadError.{ReadError}
+use Rattle.byte_fields.specs.declared.error.ReadError.TheVariants.{Bad, OutOfMemory}
 use Rattle.ssm_frames.specs.declared.fields.Subject.{Subject}
 use Rattle.ssm_frames.specs.declared.fields.Sender.{Sender}
 use Rattle.ssm_frames.specs.declared.frame.Frame.{Frame}
 use Rattle.ssm_frames.specs.declared.frame.Frame.TheVariants.{Put, Get, Sweep, Stored, Found, Absent, BrickFull, Swept}
 
--- A field answers its value at the front of bytes, and the bytes after it; None where they do not
--- begin with one.
-abbrev pub Field : Type 0 → Type 0
-Field A = List ℕ → Option (A × List ℕ)
-
--- a field whose value is made of another's
-abbrev pub made : {A B : Type 0} → (A → B) → Field A → Field B
-made make field bytes = option_map (λ x. (make x.0, x.1)) (field bytes)
-
--- a field, and then another
-abbrev pub both : {A B : Type 0} → Field A → Field B → Field (A × B)
-both first second bytes =
-    option_and_then (λ x. option_map (λ y. ((x.0, y.0), y.1)) (second x.1)) (first bytes)
-
 -- the value of a field after which nothing follows
 abbrev pub whole : {A : Type 0} → Option (A × List ℕ) → Option A
 whole found = option_and_then (λ x. if length x.1 == 0 then Some x.0 else None) found
-
--- this many bytes
-unfoldable pub bytes_at : ℕ → Field (List ℕ)
-bytes_at size bytes =
-    if nat_lt (length bytes) size then None else Some (take size bytes, drop size bytes)
-
--- a number of this width
-unfoldable pub number_at : Width → Field ℕ
-number_at width bytes = made (from_be_bytes width) (bytes_at (byte_len width)) bytes
 
 -- a version: its node, boot and serial
 unfoldable pub version_at : Field Version
@@ -66,10 +46,9 @@ moment_at bytes = made (λ n. record { 0 = n }) (number_at w64) bytes
 
 -- a value: its length, if it is at most 4,096, and then its bytes
 unfoldable pub value_at : Field (List ℕ)
-value_at bytes =
-    option_and_then
-    (λ size. if nat_lt MAX_SESSION_BYTES size.0 then None else bytes_at size.0 size.1)
-    (number_at w16 bytes)
+value_at bytes = do
+  size ← number_at w16 bytes
+  if nat_lt MAX_SESSION_BYTES size.0 then None else bytes_at size.0 size.1
 
 -- a Put behind its first byte
 unfoldable pub put_at : Field Frame
@@ -147,3 +126,8 @@ has_value first = first == 0x01 || first == 0x82
 abbrev pub takes_memory : List ℕ → Bool
 takes_memory [] = false
 takes_memory (first ∷ rest) = has_value first
+
+-- an error is want of memory only where this is so
+abbrev pub LacksMemoryOnlyIf : Bool → ReadError → Type 0
+LacksMemoryOnlyIf needed Bad = Unit {0}
+LacksMemoryOnlyIf needed OutOfMemory = IsTrue needed

@@ -1,22 +1,18 @@
 -- What spells a frame: a first byte, and then its fields, whose numbers are big-endian.
-use Rattle.std.specs.Prelude.{◌≡◌, ℕ, ◌^◌, ◌<◌, ◌≤◌, List, ◌∷◌, ◌++◌, length, All}
-use Rattle.std.specs.Int.{Width, w16, w32, w64, to_be_bytes}
+use Rattle.std.specs.Prelude.{◌≡◌, ℕ, ◌^◌, ◌<◌, ◌≤◌, List, ◌∷◌, ◌++◌, length}
 use Rattle.crash_base.specs.declared.bounded.TheConstants.{MAX_SESSION_BYTES}
 use Rattle.crash_base.specs.declared.numbers.BrickNo.{BrickNo}
 use Rattle.crash_base.specs.declared.numbers.Moment.{Moment}
 use Rattle.crash_base.specs.declared.numbers.SessionKey.{SessionKey}
 use Rattle.crash_base.specs.declared.numbers.Version.{Version}
+use Rattle.byte_fields.specs.Spelling.{AreBytes, u16_bytes, u32_bytes, u64_bytes}
 use Rattle.ssm_frames.specs.declared.frame.Frame.{Frame}
 use Rattle.ssm_frames.specs.declared.frame.Frame.TheVariants.{Put, Get, Sweep, Stored, Found, Absent, BrickFull, Swept}
-
--- a number of this width
-unfoldable pub number_bytes : Width → ℕ → List ℕ
-number_bytes width n = to_be_bytes width n
 
 -- a version: its node, boot and serial
 unfoldable pub version_bytes : Version → List ℕ
 version_bytes v =
-    number_bytes w16 v.node ++ (number_bytes w32 v.boot ++ number_bytes w64 v.serial)
+    u16_bytes v.node ++ (u32_bytes v.boot ++ u64_bytes v.serial)
 
 -- which value a frame is about, and of which call it is
 unfoldable pub subject_bytes : Version → SessionKey → Version → List ℕ
@@ -24,15 +20,15 @@ subject_bytes nonce key version = version_bytes nonce ++ (key.0 ++ version_bytes
 
 -- which brick replies
 unfoldable pub sender_bytes : BrickNo → ℕ → List ℕ
-sender_bytes brick incarnation = number_bytes w16 brick.0 ++ number_bytes w64 incarnation
+sender_bytes brick incarnation = u16_bytes brick.0 ++ u64_bytes incarnation
 
 -- a moment
 unfoldable pub moment_bytes : Moment → List ℕ
-moment_bytes moment = number_bytes w64 moment.0
+moment_bytes moment = u64_bytes moment.0
 
--- a value: its length, and then its bytes
+-- a value: its length in two bytes, and then its bytes
 unfoldable pub value_bytes : List ℕ → List ℕ
-value_bytes value = number_bytes w16 (length value) ++ value
+value_bytes value = u16_bytes (length value) ++ value
 
 -- The bytes that spell a frame.
 unfoldable pub encode_of : Frame → List ℕ
@@ -50,13 +46,9 @@ encode_of (Absent nonce key version brick incarnation swept) =
     ++ (sender_bytes brick incarnation ++ moment_bytes swept)
 encode_of (BrickFull nonce key version brick incarnation entries bytes) =
     0x84 ∷ subject_bytes nonce key version
-    ++ (sender_bytes brick incarnation ++ (number_bytes w32 entries ++ number_bytes w64 bytes))
+    ++ (sender_bytes brick incarnation ++ (u32_bytes entries ++ u64_bytes bytes))
 encode_of (Swept nonce brick incarnation moment) =
     0x85 ∷ version_bytes nonce ++ (sender_bytes brick incarnation ++ moment_bytes moment)
-
--- numbers that bytes may be
-abbrev pub AreBytes : List ℕ → Type 0
-AreBytes bytes = All (λ b. b < 2 ^ 8) bytes
 
 -- a version's numbers are in their ranges
 pub record IsVersion (v : Version) : Type 0 where

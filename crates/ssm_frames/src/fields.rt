@@ -1,15 +1,16 @@
-//! The fields of frames, read off the front of bytes and written at the end of others.
+//! The fields that frames alone have, read off the front of bytes and written at the end of others.
 
-ghost use Rattle.std.specs.Prelude.{◌≡◌, ◌++◌, ◌≤◌, length, IfSome, OnOk};
-ghost use Rattle.std.specs.Option.{option_map};
-ghost use Rattle.std.specs.Int.{w16, w32, w64};
+ghost use Rattle.std.specs.Prelude.{◌≡◌, ◌++◌, ◌≤◌, length, IfOk, OnOk};
+ghost use Rattle.byte_fields.specs.Answers.{Reads};
 ghost use Rattle.crash_base.specs.declared.bounded.TheConstants.{MAX_SESSION_BYTES};
-ghost use Rattle.ssm_frames.specs.Reading.{bytes_at, number_at, version_at, key_at, subject_at, sender_at, moment_at, value_at};
-ghost use Rattle.ssm_frames.specs.Spelling.{number_bytes, version_bytes, subject_bytes, sender_bytes, moment_bytes, value_bytes};
+ghost use Rattle.ssm_frames.specs.Reading.{version_at, key_at, subject_at, sender_at, moment_at, value_at};
+ghost use Rattle.ssm_frames.specs.Spelling.{version_bytes, subject_bytes, sender_bytes, moment_bytes, value_bytes};
 
+use byte_fields::{
+    NoField, array_at, bytes_at, u16_at, u32_at, u64_at, write_u16, write_u32, write_u64,
+};
 use crash_base::{
-    BrickNo, MAX_SESSION_BYTES, Moment, OutOfMemory, SessionBytes, SessionKey, Version, take_u16,
-    take_u32, take_u64,
+    BrickNo, MAX_SESSION_BYTES, Moment, OutOfMemory, SessionBytes, SessionKey, Version,
 };
 
 /// Which value a frame is about, and of which call the frame is.
@@ -27,60 +28,29 @@ pub struct Sender {
     pub incarnation: u64,
 }
 
-/// This many bytes.
-#[tactic(auto, unfolding(crate::specs::Reading::bytes_at))]
-fn bytes_at(size: usize, bytes: &[u8]) -> Option<(&[u8], &[u8])>
-    ensures value { option_map (λ f. (f.0.now, f.1.now)) result ≡ bytes_at size bytes.now }
-    ensures size { IfSome result (λ f. length f.0.now ≡ size) }
-{
-    if bytes.len() < size {
-        return None;
-    }
-    Some(bytes.split_at(size))
-}
-
-fn u16_at(bytes: &[u8]) -> Option<(u16, &[u8])>
-    ensures { option_map (λ f. (f.0, f.1.now)) result ≡ number_at w16 bytes.now }
-{
-    take_u16(bytes)
-}
-
-/// A number of 4 bytes.
-pub fn u32_at(bytes: &[u8]) -> Option<(u32, &[u8])>
-    ensures { option_map (λ f. (f.0, f.1.now)) result ≡ number_at w32 bytes.now }
-{
-    take_u32(bytes)
-}
-
-/// A number of 8 bytes.
-pub fn u64_at(bytes: &[u8]) -> Option<(u64, &[u8])>
-    ensures { option_map (λ f. (f.0, f.1.now)) result ≡ number_at w64 bytes.now }
-{
-    take_u64(bytes)
-}
-
 /// A version.
 #[tactic(auto, unfolding(crate::specs::Reading::version_at))]
-pub fn version_at(bytes: &[u8]) -> Option<(Version, &[u8])>
-    ensures { option_map (λ f. (f.0, f.1.now)) result ≡ version_at bytes.now }
+pub fn version_at(bytes: &[u8]) -> Result<(Version, &[u8]), NoField>
+    ensures { Reads (λ f. (f.0, f.1.now)) result (version_at bytes.now) }
 {
     let (node, rest) = u16_at(bytes)?;
     let (boot, rest) = u32_at(rest)?;
     let (serial, rest) = u64_at(rest)?;
-    Some((Version { node, boot, serial }, rest))
+    Ok((Version { node, boot, serial }, rest))
 }
 
-fn key_at(bytes: &[u8]) -> Option<(SessionKey, &[u8])>
-    ensures { option_map (λ f. (f.0, f.1.now)) result ≡ key_at bytes.now }
+#[tactic(auto, unfolding(crate::specs::Reading::key_at))]
+fn key_at(bytes: &[u8]) -> Result<(SessionKey, &[u8]), NoField>
+    ensures { Reads (λ f. (f.0, f.1.now)) result (key_at bytes.now) }
 {
-    let (key, rest) = bytes.split_first_chunk::<16>()?;
-    Some((SessionKey(*key), rest))
+    let (key, rest) = array_at(bytes)?;
+    Ok((SessionKey(key), rest))
 }
 
 /// Which value, and of which call.
 #[tactic(auto, unfolding(crate::specs::Reading::subject_at))]
-pub fn subject_at(bytes: &[u8]) -> Option<(Subject, &[u8])>
-    ensures { option_map (λ f. (f.0, f.1.now)) result ≡ subject_at bytes.now }
+pub fn subject_at(bytes: &[u8]) -> Result<(Subject, &[u8]), NoField>
+    ensures { Reads (λ f. (f.0, f.1.now)) result (subject_at bytes.now) }
 {
     let (nonce, rest) = version_at(bytes)?;
     let (key, rest) = key_at(rest)?;
@@ -90,13 +60,13 @@ pub fn subject_at(bytes: &[u8]) -> Option<(Subject, &[u8])>
         key,
         version,
     };
-    Some((subject, rest))
+    Ok((subject, rest))
 }
 
 /// Which brick.
 #[tactic(auto, unfolding(crate::specs::Reading::sender_at))]
-pub fn sender_at(bytes: &[u8]) -> Option<(Sender, &[u8])>
-    ensures { option_map (λ f. (f.0, f.1.now)) result ≡ sender_at bytes.now }
+pub fn sender_at(bytes: &[u8]) -> Result<(Sender, &[u8]), NoField>
+    ensures { Reads (λ f. (f.0, f.1.now)) result (sender_at bytes.now) }
 {
     let (brick, rest) = u16_at(bytes)?;
     let (incarnation, rest) = u64_at(rest)?;
@@ -104,53 +74,30 @@ pub fn sender_at(bytes: &[u8]) -> Option<(Sender, &[u8])>
         brick: BrickNo(brick),
         incarnation,
     };
-    Some((sender, rest))
+    Ok((sender, rest))
 }
 
 /// A moment.
 #[tactic(auto, unfolding(crate::specs::Reading::moment_at))]
-pub fn moment_at(bytes: &[u8]) -> Option<(Moment, &[u8])>
-    ensures { option_map (λ f. (f.0, f.1.now)) result ≡ moment_at bytes.now }
+pub fn moment_at(bytes: &[u8]) -> Result<(Moment, &[u8]), NoField>
+    ensures { Reads (λ f. (f.0, f.1.now)) result (moment_at bytes.now) }
 {
     let (moment, rest) = u64_at(bytes)?;
-    Some((Moment(moment), rest))
+    Ok((Moment(moment), rest))
 }
 
 /// A value, which is not copied.
 #[tactic(auto, unfolding(crate::specs::Reading::value_at))]
-pub fn value_at(bytes: &[u8]) -> Option<(&[u8], &[u8])>
-    ensures value { option_map (λ f. (f.0.now, f.1.now)) result ≡ value_at bytes.now }
-    ensures few { IfSome result (λ f. length f.0.now ≤ MAX_SESSION_BYTES) }
+pub fn value_at(bytes: &[u8]) -> Result<(&[u8], &[u8]), NoField>
+    ensures value { Reads (λ f. (f.0.now, f.1.now)) result (value_at bytes.now) }
+    ensures few { IfOk result (λ f. length f.0.now ≤ MAX_SESSION_BYTES) }
 {
     let (size, rest) = u16_at(bytes)?;
     let size = usize::from(size);
     if size > MAX_SESSION_BYTES {
-        return None;
+        return Err(NoField);
     }
     bytes_at(size, rest)
-}
-
-#[tactic(auto, unfolding(crate::specs::Spelling::number_bytes))]
-fn write_u16(out: &mut Vec<u8>, number: u16) -> Result<(), OutOfMemory>
-    ensures { OnOk result (out.new.items ≡ out.old.items ++ number_bytes w16 number) }
-{
-    Ok(out.extend_from_slice(&u16::to_be_bytes(number))?)
-}
-
-/// Writes a number of 4 bytes.
-#[tactic(auto, unfolding(crate::specs::Spelling::number_bytes))]
-pub fn write_u32(out: &mut Vec<u8>, number: u32) -> Result<(), OutOfMemory>
-    ensures { OnOk result (out.new.items ≡ out.old.items ++ number_bytes w32 number) }
-{
-    Ok(out.extend_from_slice(&u32::to_be_bytes(number))?)
-}
-
-/// Writes a number of 8 bytes.
-#[tactic(auto, unfolding(crate::specs::Spelling::number_bytes))]
-pub fn write_u64(out: &mut Vec<u8>, number: u64) -> Result<(), OutOfMemory>
-    ensures { OnOk result (out.new.items ≡ out.old.items ++ number_bytes w64 number) }
-{
-    Ok(out.extend_from_slice(&u64::to_be_bytes(number))?)
 }
 
 /// Writes a version.

@@ -3,7 +3,8 @@
 
 ghost use Rattle.std.specs.Prelude.{◌≡◌, ◌↔◌, ◌≤◌, ℕ, List, [], ◌++◌, length, Some, None};
 ghost use Rattle.ssm_frames.specs.Reading.{decode_of};
-ghost use Rattle.ssm_frames.specs.Spelling.{AreBytes, IsInRange, Spells, SpellsNoFrame, encode_of};
+ghost use Rattle.byte_fields.specs.Spelling.{AreBytes};
+ghost use Rattle.ssm_frames.specs.Spelling.{IsInRange, Spells, SpellsNoFrame, encode_of};
 ghost use Rattle.ssm_frames.specs.declared.frame.Frame.{Frame};
 ghost use Rattle.crash_base.specs.declared.items.TheConstants.{MAX_FRAME_BYTES};
 

@@ -1,15 +1,11 @@
 //! That the numbers and bytes of a frame are in their ranges, since the types of its fields keep them.
 
 ghost use Rattle.std.specs.Prelude.{◌^◌, ◌<◌};
-ghost use Rattle.ssm_frames.specs.Spelling.{AreBytes, IsVersion, IsSubject, IsSender, IsMoment, IsValue, IsInRange};
+ghost use Rattle.ssm_frames.specs.Spelling.{IsVersion, IsSubject, IsSender, IsMoment, IsValue, IsInRange};
 
 use crate::frame::Frame;
+use byte_fields::bytes_are_in_range;
 use crash_base::{BrickNo, Moment, SessionBytes, SessionKey, Version};
-
-/// Bytes that the code holds are numbers that bytes may be.
-pub fn bytes_are_in_range(bytes: &[u8])
-    ensures { AreBytes bytes.now }
-{}
 
 fn version_is_in_range(version: Version)
     ensures { IsVersion version }

@@ -1,43 +1,46 @@
 //! Frames from bytes.
 
-ghost use Rattle.std.specs.Prelude.{◌≡◌, IfOk, OnErr, IsTrue, MatchOption};
-ghost use Rattle.std.specs.Option.{option_map};
-ghost use Rattle.ssm_frames.specs.Reading.{put_at, get_at, sweep_at, stored_at, found_at, absent_at, brick_full_at, swept_at, frame_behind, frame_at, decode_of, has_value, takes_memory};
+ghost use Rattle.std.specs.Prelude.{◌≡◌, ◌≤◌, length, IfOk, IfErr, OnErr, IsTrue, MatchOption};
+ghost use Rattle.crash_base.specs.declared.bounded.TheConstants.{MAX_SESSION_BYTES};
+ghost use Rattle.byte_fields.specs.Answers.{Answers, Reads};
+ghost use Rattle.ssm_frames.specs.Reading.{put_at, get_at, sweep_at, stored_at, found_at, absent_at, brick_full_at, swept_at, frame_behind, frame_at, decode_of, has_value, takes_memory, LacksMemoryOnlyIf};
 ghost use Rattle.ssm_frames.specs.Spelling.{Spells, SpellsNoFrame};
 
-use crate::fields::{moment_at, sender_at, subject_at, u32_at, u64_at, value_at, version_at};
+use crate::fields::{moment_at, sender_at, subject_at, value_at, version_at};
 use crate::frame::Frame;
 use crate::laws::frames_are_exact;
-use crate::ranges::bytes_are_in_range;
+use byte_fields::{NoField, ReadError, bytes_are_in_range, u32_at, u64_at};
 use crash_base::{OutOfMemory, SessionBytes};
 use std::alloc::Global;
 
-#[tactic(auto, unfolding(crate::specs::Reading::put_at))]
-fn put_at<'a>(alloc: Global, bytes: &'a [u8]) -> Result<Option<(Frame, &'a [u8])>, OutOfMemory>
-    ensures { IfOk result (λ found. option_map (λ f. (f.0, f.1.now)) found ≡ put_at bytes.now) }
+/// A copy of a value.
+fn copied(alloc: Global, value: &[u8]) -> Result<SessionBytes, OutOfMemory>
+    requires { length value.now ≤ MAX_SESSION_BYTES }
+    ensures { IfOk result (λ copy. copy ≡ value.now) }
 {
-    let Some((subject, rest)) = subject_at(bytes) else {
-        return Ok(None);
-    };
-    let Some((expiry, rest)) = moment_at(rest) else {
-        return Ok(None);
-    };
-    let Some((value, rest)) = value_at(rest) else {
-        return Ok(None);
-    };
+    Ok(SessionBytes::from_vec(Vec::from_slice(alloc, value)?))
+}
+
+#[tactic(auto, unfolding(crate::specs::Reading::put_at))]
+fn put_at<'a>(alloc: Global, bytes: &'a [u8]) -> Result<(Frame, &'a [u8]), ReadError>
+    ensures { Answers (λ f. (f.0, f.1.now)) result (put_at bytes.now) }
+{
+    let (subject, rest) = subject_at(bytes)?;
+    let (expiry, rest) = moment_at(rest)?;
+    let (value, rest) = value_at(rest)?;
     let frame = Frame::Put {
         nonce: subject.nonce,
         key: subject.key,
         version: subject.version,
         expiry,
-        value: SessionBytes::from_vec(Vec::from_slice(alloc, value)?),
+        value: copied(alloc, value)?,
     };
-    Ok(Some((frame, rest)))
+    Ok((frame, rest))
 }
 
 #[tactic(auto, unfolding(crate::specs::Reading::get_at))]
-fn get_at(bytes: &[u8]) -> Option<(Frame, &[u8])>
-    ensures { option_map (λ f. (f.0, f.1.now)) result ≡ get_at bytes.now }
+fn get_at(bytes: &[u8]) -> Result<(Frame, &[u8]), NoField>
+    ensures { Reads (λ f. (f.0, f.1.now)) result (get_at bytes.now) }
 {
     let (subject, rest) = subject_at(bytes)?;
     let frame = Frame::Get {
@@ -45,21 +48,21 @@ fn get_at(bytes: &[u8]) -> Option<(Frame, &[u8])>
         key: subject.key,
         version: subject.version,
     };
-    Some((frame, rest))
+    Ok((frame, rest))
 }
 
 #[tactic(auto, unfolding(crate::specs::Reading::sweep_at))]
-fn sweep_at(bytes: &[u8]) -> Option<(Frame, &[u8])>
-    ensures { option_map (λ f. (f.0, f.1.now)) result ≡ sweep_at bytes.now }
+fn sweep_at(bytes: &[u8]) -> Result<(Frame, &[u8]), NoField>
+    ensures { Reads (λ f. (f.0, f.1.now)) result (sweep_at bytes.now) }
 {
     let (nonce, rest) = version_at(bytes)?;
     let (moment, rest) = moment_at(rest)?;
-    Some((Frame::Sweep { nonce, moment }, rest))
+    Ok((Frame::Sweep { nonce, moment }, rest))
 }
 
 #[tactic(auto, unfolding(crate::specs::Reading::stored_at))]
-fn stored_at(bytes: &[u8]) -> Option<(Frame, &[u8])>
-    ensures { option_map (λ f. (f.0, f.1.now)) result ≡ stored_at bytes.now }
+fn stored_at(bytes: &[u8]) -> Result<(Frame, &[u8]), NoField>
+    ensures { Reads (λ f. (f.0, f.1.now)) result (stored_at bytes.now) }
 {
     let (subject, rest) = subject_at(bytes)?;
     let (sender, rest) = sender_at(rest)?;
@@ -70,25 +73,17 @@ fn stored_at(bytes: &[u8]) -> Option<(Frame, &[u8])>
         brick: sender.brick,
         incarnation: sender.incarnation,
     };
-    Some((frame, rest))
+    Ok((frame, rest))
 }
 
 #[tactic(auto, unfolding(crate::specs::Reading::found_at))]
-fn found_at<'a>(alloc: Global, bytes: &'a [u8]) -> Result<Option<(Frame, &'a [u8])>, OutOfMemory>
-    ensures { IfOk result (λ found. option_map (λ f. (f.0, f.1.now)) found ≡ found_at bytes.now) }
+fn found_at<'a>(alloc: Global, bytes: &'a [u8]) -> Result<(Frame, &'a [u8]), ReadError>
+    ensures { Answers (λ f. (f.0, f.1.now)) result (found_at bytes.now) }
 {
-    let Some((subject, rest)) = subject_at(bytes) else {
-        return Ok(None);
-    };
-    let Some((sender, rest)) = sender_at(rest) else {
-        return Ok(None);
-    };
-    let Some((expiry, rest)) = moment_at(rest) else {
-        return Ok(None);
-    };
-    let Some((value, rest)) = value_at(rest) else {
-        return Ok(None);
-    };
+    let (subject, rest) = subject_at(bytes)?;
+    let (sender, rest) = sender_at(rest)?;
+    let (expiry, rest) = moment_at(rest)?;
+    let (value, rest) = value_at(rest)?;
     let frame = Frame::Found {
         nonce: subject.nonce,
         key: subject.key,
@@ -96,14 +91,14 @@ fn found_at<'a>(alloc: Global, bytes: &'a [u8]) -> Result<Option<(Frame, &'a [u8
         brick: sender.brick,
         incarnation: sender.incarnation,
         expiry,
-        value: SessionBytes::from_vec(Vec::from_slice(alloc, value)?),
+        value: copied(alloc, value)?,
     };
-    Ok(Some((frame, rest)))
+    Ok((frame, rest))
 }
 
 #[tactic(auto, unfolding(crate::specs::Reading::absent_at))]
-fn absent_at(bytes: &[u8]) -> Option<(Frame, &[u8])>
-    ensures { option_map (λ f. (f.0, f.1.now)) result ≡ absent_at bytes.now }
+fn absent_at(bytes: &[u8]) -> Result<(Frame, &[u8]), NoField>
+    ensures { Reads (λ f. (f.0, f.1.now)) result (absent_at bytes.now) }
 {
     let (subject, rest) = subject_at(bytes)?;
     let (sender, rest) = sender_at(rest)?;
@@ -116,12 +111,12 @@ fn absent_at(bytes: &[u8]) -> Option<(Frame, &[u8])>
         incarnation: sender.incarnation,
         swept,
     };
-    Some((frame, rest))
+    Ok((frame, rest))
 }
 
 #[tactic(auto, unfolding(crate::specs::Reading::brick_full_at))]
-fn brick_full_at(bytes: &[u8]) -> Option<(Frame, &[u8])>
-    ensures { option_map (λ f. (f.0, f.1.now)) result ≡ brick_full_at bytes.now }
+fn brick_full_at(bytes: &[u8]) -> Result<(Frame, &[u8]), NoField>
+    ensures { Reads (λ f. (f.0, f.1.now)) result (brick_full_at bytes.now) }
 {
     let (subject, rest) = subject_at(bytes)?;
     let (sender, rest) = sender_at(rest)?;
@@ -136,12 +131,12 @@ fn brick_full_at(bytes: &[u8]) -> Option<(Frame, &[u8])>
         entries,
         bytes: size,
     };
-    Some((frame, rest))
+    Ok((frame, rest))
 }
 
 #[tactic(auto, unfolding(crate::specs::Reading::swept_at))]
-fn swept_at(bytes: &[u8]) -> Option<(Frame, &[u8])>
-    ensures { option_map (λ f. (f.0, f.1.now)) result ≡ swept_at bytes.now }
+fn swept_at(bytes: &[u8]) -> Result<(Frame, &[u8]), NoField>
+    ensures { Reads (λ f. (f.0, f.1.now)) result (swept_at bytes.now) }
 {
     let (nonce, rest) = version_at(bytes)?;
     let (sender, rest) = sender_at(rest)?;
@@ -152,38 +147,37 @@ fn swept_at(bytes: &[u8]) -> Option<(Frame, &[u8])>
         incarnation: sender.incarnation,
         moment,
     };
-    Some((frame, rest))
+    Ok((frame, rest))
 }
 
 fn frame_behind<'a>(
     alloc: Global,
     first: u8,
     rest: &'a [u8],
-) -> Result<Option<(Frame, &'a [u8])>, OutOfMemory>
-    ensures value { IfOk result (λ found.
-        option_map (λ f. (f.0, f.1.now)) found ≡ frame_behind first rest.now) }
-    ensures memory { OnErr result (IsTrue (has_value first)) }
+) -> Result<(Frame, &'a [u8]), ReadError>
+    ensures value { Answers (λ f. (f.0, f.1.now)) result (frame_behind first rest.now) }
+    ensures memory { IfErr result (LacksMemoryOnlyIf (has_value first)) }
 {
     match first {
         0x01 => put_at(alloc, rest),
-        0x02 => Ok(get_at(rest)),
-        0x03 => Ok(sweep_at(rest)),
-        0x81 => Ok(stored_at(rest)),
+        0x02 => Ok(get_at(rest)?),
+        0x03 => Ok(sweep_at(rest)?),
+        0x81 => Ok(stored_at(rest)?),
         0x82 => found_at(alloc, rest),
-        0x83 => Ok(absent_at(rest)),
-        0x84 => Ok(brick_full_at(rest)),
-        0x85 => Ok(swept_at(rest)),
-        _ => Ok(None),
+        0x83 => Ok(absent_at(rest)?),
+        0x84 => Ok(brick_full_at(rest)?),
+        0x85 => Ok(swept_at(rest)?),
+        _ => Err(ReadError::Bad),
     }
 }
 
 #[tactic(auto, unfolding(crate::specs::Reading::frame_at))]
-fn frame_at<'a>(alloc: Global, bytes: &'a [u8]) -> Result<Option<(Frame, &'a [u8])>, OutOfMemory>
-    ensures value { IfOk result (λ found. option_map (λ f. (f.0, f.1.now)) found ≡ frame_at bytes.now) }
-    ensures memory { OnErr result (IsTrue (takes_memory bytes.now)) }
+fn frame_at<'a>(alloc: Global, bytes: &'a [u8]) -> Result<(Frame, &'a [u8]), ReadError>
+    ensures value { Answers (λ f. (f.0, f.1.now)) result (frame_at bytes.now) }
+    ensures memory { IfErr result (LacksMemoryOnlyIf (takes_memory bytes.now)) }
 {
     match bytes {
-        [] => Ok(None),
+        [] => Err(ReadError::Bad),
         [first, rest @ ..] => frame_behind(alloc, *first, rest),
     }
 }
@@ -200,8 +194,10 @@ pub fn decode(alloc: Global, bytes: &[u8]) -> Result<Option<Frame>, OutOfMemory>
 {
     bytes_are_in_range(bytes);
     frames_are_exact();
-    let Some((frame, rest)) = frame_at(alloc, bytes)? else {
-        return Ok(None);
+    let (frame, rest) = match frame_at(alloc, bytes) {
+        Ok(read) => read,
+        Err(ReadError::Bad) => return Ok(None),
+        Err(ReadError::OutOfMemory) => return Err(OutOfMemory),
     };
     if !rest.is_empty() {
         return Ok(None);

@@ -7,11 +7,11 @@ ghost use Rattle.crash_base.specs.declared.items.TheConstants.{MAX_FRAME_BYTES};
 ghost use Rattle.ssm_frames.specs.declared.frame.Frame.TheVariants.{Put, Get, Sweep, Stored, Found, Absent, BrickFull, Swept};
 
 use crate::fields::{
-    Sender, Subject, write_moment, write_sender, write_subject, write_u32, write_u64, write_value,
-    write_version,
+    Sender, Subject, write_moment, write_sender, write_subject, write_value, write_version,
 };
 use crate::frame::Frame;
 use crate::ranges::frame_is_in_range;
+use byte_fields::{write_u32, write_u64};
 use crash_base::{
     BrickNo, FrameBytes, MAX_FRAME_BYTES, MAX_SESSION_BYTES, Moment, OutOfMemory, SessionBytes,
     SessionKey, Version,
