@@ -1,3 +1,4 @@
 mod Joining
 mod Reading
 mod Markup
+mod References

@@ -4,7 +4,7 @@ use Rattle.std.specs.List.{flat_map}
 use Rattle.std.proofs.lemmas.List.Elements.{All-head, All-tail, filter-append}
 use Rattle.page_text.specs.declared.page_line.PageLine.{PageLine}
 use Rattle.page_text.specs.declared.page_line.PageLine.TheVariants.{Para, Link, Form}
-use Rattle.page_text.specs.Bare.{bare}
+use Rattle.page_text.specs.WithoutTexts.{without_texts}
 use Rattle.page_text.specs.Escapes.{escaped, is_markup}
 use Rattle.page_text.specs.Pages.{para_bytes, link_bytes, field_bytes, form_start, form_bytes, line_bytes, title_bytes, heading_bytes, page_bytes}
 use Rattle.page_text.proofs.Reading.{no_markup}
@@ -79,15 +79,15 @@ form_same address token fields =
     (then_same (form_start address token) (form_start [] []) (flat_map field_bytes fields) (flat_map field_bytes (map (λ name. []) fields))
     (start_same address token) (fields_same fields))
 
-line_same : (line : PageLine) → markup (line_bytes line) ≡ markup (line_bytes (bare line))
+line_same : (line : PageLine) → markup (line_bytes line) ≡ markup (line_bytes (without_texts line))
 line_same (Para text) = para_same text
 line_same (Link address text) = link_same address text
 line_same (Form address token fields) = form_same address token fields
 
-lines_same : (lines : List PageLine) → markup (flat_map line_bytes lines) ≡ markup (flat_map line_bytes (map bare lines))
+lines_same : (lines : List PageLine) → markup (flat_map line_bytes lines) ≡ markup (flat_map line_bytes (map without_texts lines))
 lines_same [] = refl
 lines_same (line ∷ lines) =
-    then_same (line_bytes line) (line_bytes (bare line)) (flat_map line_bytes lines) (flat_map line_bytes (map bare lines)) (line_same line) (lines_same lines)
+    then_same (line_bytes line) (line_bytes (without_texts line)) (flat_map line_bytes lines) (flat_map line_bytes (map without_texts lines)) (line_same line) (lines_same lines)
 
 title_same : (heading : List ℕ) → markup (title_bytes heading) ≡ markup (title_bytes [])
 unfolding title_bytes
@@ -97,9 +97,9 @@ heading_same : (heading : List ℕ) → markup (heading_bytes heading) ≡ marku
 unfolding heading_bytes
 heading_same heading = around (codes "<h1>") heading (codes "</h1>\n")
 
-pub own_markup : (heading : List ℕ) (lines : List PageLine) → filter is_markup (page_bytes heading lines) ≡ filter is_markup (page_bytes [] (map bare lines))
+pub own_markup : (heading : List ℕ) (lines : List PageLine) → filter is_markup (page_bytes heading lines) ≡ filter is_markup (page_bytes [] (map without_texts lines))
 unfolding page_bytes markup
 own_markup heading lines =
-    then_same (title_bytes heading ++ heading_bytes heading) (title_bytes [] ++ heading_bytes []) (flat_map line_bytes lines) (flat_map line_bytes (map bare lines))
+    then_same (title_bytes heading ++ heading_bytes heading) (title_bytes [] ++ heading_bytes []) (flat_map line_bytes lines) (flat_map line_bytes (map without_texts lines))
     (then_same (title_bytes heading) (title_bytes []) (heading_bytes heading) (heading_bytes []) (title_same heading) (heading_same heading))
     (lines_same lines)

@@ -37,7 +37,7 @@ no_markup [] = All-nil IsPlain
 no_markup (byte ∷ rest) = All-append IsPlain (escape_byte byte) (escaped rest) (byte_plain byte) (no_markup rest)
 
 -- a byte that was escaped reads back as the byte, before any rest
-byte_read : (byte : ℕ) (rest : List ℕ) → unescaped_after None (escape_byte byte ++ rest) ≡ option_map (λ text. byte ∷ text) (unescaped_after None rest)
+pub byte_read : (byte : ℕ) (rest : List ℕ) → unescaped_after None (escape_byte byte ++ rest) ≡ option_map (λ text. byte ∷ text) (unescaped_after None rest)
 byte_read byte rest = go (byte == 38) (byte == 60) (byte == 62) (byte == 34) (byte == 39) refl refl refl refl refl
   where
     go : (a b c d e : Bool) → (byte == 38) ≡ a → (byte == 60) ≡ b → (byte == 62) ≡ c → (byte == 34) ≡ d → (byte == 39) ≡ e

@@ -1,3 +1,3 @@
 pub mod Escapes
 pub mod Pages
-pub mod Bare
+pub mod WithoutTexts

@@ -13,7 +13,7 @@
 //! what stands for it has no `<`, `>`, `"` or `'`. `escapes_read_back` says that who reads the
 //! references again has the text that was given, and `escapes_differ` that texts which differ do so on
 //! the page too. `pages_have_own_markup_alone` says of a whole page that it has the markup of its lines,
-//! whatever their texts are.
+//! whatever their texts are, and that each `&` of it begins one of the five references.
 //!
 //! A page is written in one pass, into one vector: each byte of the heading and of a field's name is
 //! visited twice, and each other byte once.

@@ -4,7 +4,7 @@ use Rattle.page_text.specs.declared.page_line.PageLine.{PageLine}
 use Rattle.page_text.specs.declared.page_line.PageLine.TheVariants.{Para, Link, Form}
 
 -- a line whose texts and addresses are empty, with as many fields
-abbrev pub bare : PageLine → PageLine
-bare (Para text) = Para []
-bare (Link address text) = Link [] []
-bare (Form address token fields) = Form [] [] (map (λ name. []) fields)
+abbrev pub without_texts : PageLine → PageLine
+without_texts (Para text) = Para []
+without_texts (Link address text) = Link [] []
+without_texts (Form address token fields) = Form [] [] (map (λ name. []) fields)
