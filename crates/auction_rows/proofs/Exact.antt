@@ -6,7 +6,7 @@ use Rattle.crash_base.specs.declared.rows.TheConstants.{MAX_ROW_BYTES}
 use Rattle.byte_fields.specs.Reading.{Field}
 use Rattle.byte_fields.specs.Spelling.{AreBytes}
 use Rattle.byte_fields.proofs.Exact.{bound, unless_some, if_some, Takes}
-use Rattle.auction_rows.specs.Bounds.{are_few}
+use Rattle.auction_rows.specs.Bounds.{fits_a_row}
 use Rattle.auction_rows.specs.Reading.{whole}
 
 pub both_true : (a b : Bool) → a ≡ true → b ≡ true → (a && b) ≡ true
@@ -19,13 +19,13 @@ split false b e = absurd cc
 -- how the fields of a row were read
 pub record Reads {A : Type 0} (spell : A → List ℕ) (IsIn : A → Type 0) (bytes : List ℕ) (x : A) (rest : List ℕ) : Type 0 where
   pub takes : Takes bytes (spell x) rest
-  pub is_in : are_few (spell x) ≡ true → IsIn x
+  pub is_in : fits_a_row (spell x) ≡ true → IsIn x
 
 -- the fields of a row are exact
 pub record AreExact {A : Type 0} (fields : Field A) (spell : A → List ℕ) (IsIn : A → Type 0) : Type 0 where
   pub takes : (bytes : List ℕ) (y : A × List ℕ) → AreBytes bytes → fields bytes ≡ Some y → Reads spell IsIn bytes y.0 y.1
   pub again : (x : A) (rest : List ℕ) → IsIn x → fields (spell x ++ rest) ≡ Some (x, rest)
-  pub few : (x : A) → IsIn x → are_few (spell x) ≡ true
+  pub few : (x : A) → IsIn x → fits_a_row (spell x) ≡ true
 
 -- what all of the bytes were read to
 pub whole_takes : {A : Type 0} {fields : Field A} {spell : A → List ℕ} {IsIn : A → Type 0} → AreExact fields spell IsIn → (bytes : List ℕ) (x : A) → AreBytes bytes → whole fields bytes ≡ Some x → IsIn x × (bytes ≡ spell x)
@@ -39,15 +39,15 @@ whole_takes {A} {fields} {spell} {IsIn} exact bytes x are e =
     let same : y.0 ≡ x = cc in
     let is : bytes ≡ spell y.0 = r.takes.parts ∙ ap (λ rest. spell y.0 ++ rest) (nil_from_length y.1 none) ∙ append-nil (spell y.0) in
     let long : nat_lt MAX_ROW_BYTES (length bytes) ≡ false = f.0 in
-    let bytes_few : are_few bytes ≡ true = grind (arith, nat_tests) in
-    let few : are_few (spell y.0) ≡ true = subst (λ (s : List ℕ). are_few s ≡ true) is bytes_few in
+    let bytes_few : fits_a_row bytes ≡ true = grind (arith, nat_tests) in
+    let few : fits_a_row (spell y.0) ≡ true = subst (λ (s : List ℕ). fits_a_row s ≡ true) is bytes_few in
     let P : A → Type 0 = λ z. IsIn z × (bytes ≡ spell z) in
     subst P same (r.is_in few, is)
 
 -- what spells a row is read as it
 pub whole_again : {A : Type 0} {fields : Field A} {spell : A → List ℕ} {IsIn : A → Type 0} → AreExact fields spell IsIn → (x : A) → IsIn x → whole fields (spell x) ≡ Some x
 whole_again {A} {fields} {spell} {IsIn} exact x h =
-    let few : are_few (spell x) ≡ true = exact.few x h in
+    let few : fits_a_row (spell x) ≡ true = exact.few x h in
     let short : nat_lt MAX_ROW_BYTES (length (spell x)) ≡ false = grind (arith, nat_tests) in
     let read : fields (spell x) ≡ Some (x, []) = ap fields (sym (append-nil (spell x))) ∙ exact.again x [] h in
     rw (short, read) refl

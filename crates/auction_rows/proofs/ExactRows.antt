@@ -10,7 +10,7 @@ use Rattle.auction_rows.specs.declared.rows.ItemRow.{ItemRow}
 use Rattle.auction_rows.specs.declared.rows.NameRow.{NameRow}
 use Rattle.auction_rows.specs.declared.rows.OwnItemRow.{OwnItemRow}
 use Rattle.auction_rows.specs.declared.rows.UserRow.{UserRow}
-use Rattle.auction_rows.specs.Bounds.{AreBytes, are_few, is_user, is_name, is_counter, is_item, is_category, is_bid, is_entry, is_feedback, is_own_item, IsUser, IsName, IsCounter, IsItem, IsCategory, IsBid, IsEntry, IsFeedback, IsOwnItem}
+use Rattle.auction_rows.specs.Bounds.{AreBytes, fits_a_row, is_user, is_name, is_counter, is_item, is_category, is_bid, is_entry, is_feedback, is_own_item, IsUser, IsName, IsCounter, IsItem, IsCategory, IsBid, IsEntry, IsFeedback, IsOwnItem}
 use Rattle.auction_rows.specs.Reading.{user_at, name_at, counter_at, item_at, category_at, bid_at, entry_at, feedback_at, own_item_at, user_of, name_of, counter_of, item_of, category_of, bid_of, entry_of, feedback_of, own_item_of}
 use Rattle.auction_rows.specs.Spelling.{item_numbers, user_bytes, name_bytes, counter_bytes, item_bytes, category_bytes, bid_bytes, entry_bytes, feedback_bytes, own_item_bytes}
 use Rattle.byte_fields.proofs.Exact.{start, taken, again}
@@ -25,7 +25,7 @@ wide n h = omega arith
 
 -- user: its text
 user_text : (row : UserRow) → IsUser row → IsText row.name
-user_text row h = record { utf8 = (split (is_utf8 row.name) (are_few (user_bytes row)) h.within).0; few = user_short row h.within }
+user_text row h = record { utf8 = (split (is_utf8 row.name) (fits_a_row (user_bytes row)) h.within).0; few = user_short row h.within }
 
 -- its fields
 user_taken : (bytes : List ℕ) (y : UserRow × List ℕ) → AreBytes bytes → user_at bytes ≡ Some y → Reads user_bytes IsUser bytes y.0 y.1
@@ -41,7 +41,7 @@ user_taken bytes y are e =
     let row : UserRow = record { name = name_; salt = salt_; digest = digest_; good = good_; bad = bad_; items = items_ } in
     let same : (row, r6) ≡ y = cc in
     let P : UserRow × List ℕ → Type 0 = λ z. Reads user_bytes IsUser bytes z.0 z.1 in
-    subst P same (record { takes = t6; is_in = λ few. record { within = both_true (is_utf8 name_) (are_few (user_bytes row)) h1.utf8 few; salt = h2; digest = h3; good = h4; bad = h5; items = h6 } })))))))
+    subst P same (record { takes = t6; is_in = λ few. record { within = both_true (is_utf8 name_) (fits_a_row (user_bytes row)) h1.utf8 few; salt = h2; digest = h3; good = h4; bad = h5; items = h6 } })))))))
 
 user_again : (row : UserRow) (rest : List ℕ) → IsUser row → user_at (user_bytes row ++ rest) ≡ Some (row, rest)
 unfolding user_at user_bytes
@@ -58,12 +58,12 @@ user_again row rest h =
 pub user_exact : IsExactRow user_of user_bytes IsUser
 unfolding user_of
 user_exact =
-    let fields : AreExact user_at user_bytes IsUser = record { takes = user_taken; again = user_again; few = λ row h. (split (is_utf8 row.name) (are_few (user_bytes row)) h.within).1 } in
+    let fields : AreExact user_at user_bytes IsUser = record { takes = user_taken; again = user_again; few = λ row h. (split (is_utf8 row.name) (fits_a_row (user_bytes row)) h.within).1 } in
     record { takes = whole_takes fields; again = whole_again fields }
 
 -- name: its text
 name_text : (row : NameRow) → IsName row → IsText row.name
-name_text row h = record { utf8 = (split (is_utf8 row.name) (are_few (name_bytes row)) h.within).0; few = name_short row h.within }
+name_text row h = record { utf8 = (split (is_utf8 row.name) (fits_a_row (name_bytes row)) h.within).0; few = name_short row h.within }
 
 -- its fields
 name_taken : (bytes : List ℕ) (y : NameRow × List ℕ) → AreBytes bytes → name_at bytes ≡ Some y → Reads name_bytes IsName bytes y.0 y.1
@@ -75,7 +75,7 @@ name_taken bytes y are e =
     let row : NameRow = record { name = name_; user = user_ } in
     let same : (row, r2) ≡ y = cc in
     let P : NameRow × List ℕ → Type 0 = λ z. Reads name_bytes IsName bytes z.0 z.1 in
-    subst P same (record { takes = t2; is_in = λ few. record { within = both_true (is_utf8 name_) (are_few (name_bytes row)) h1.utf8 few; user = h2 } })))
+    subst P same (record { takes = t2; is_in = λ few. record { within = both_true (is_utf8 name_) (fits_a_row (name_bytes row)) h1.utf8 few; user = h2 } })))
 
 name_again : (row : NameRow) (rest : List ℕ) → IsName row → name_at (name_bytes row ++ rest) ≡ Some (row, rest)
 unfolding name_at name_bytes
@@ -88,7 +88,7 @@ name_again row rest h =
 pub name_exact : IsExactRow name_of name_bytes IsName
 unfolding name_of
 name_exact =
-    let fields : AreExact name_at name_bytes IsName = record { takes = name_taken; again = name_again; few = λ row h. (split (is_utf8 row.name) (are_few (name_bytes row)) h.within).1 } in
+    let fields : AreExact name_at name_bytes IsName = record { takes = name_taken; again = name_again; few = λ row h. (split (is_utf8 row.name) (fits_a_row (name_bytes row)) h.within).1 } in
     record { takes = whole_takes fields; again = whole_again fields }
 
 -- counter
@@ -115,7 +115,7 @@ counter_exact =
 
 -- item: its text
 item_text : (row : ItemRow) → IsItem row → IsText row.title
-item_text row h = record { utf8 = (split (is_utf8 row.title) (are_few (item_bytes row)) h.within).0; few = item_short row h.within }
+item_text row h = record { utf8 = (split (is_utf8 row.title) (fits_a_row (item_bytes row)) h.within).0; few = item_short row h.within }
 
 -- its fields
 item_taken : (bytes : List ℕ) (y : ItemRow × List ℕ) → AreBytes bytes → item_at bytes ≡ Some y → Reads item_bytes IsItem bytes y.0 y.1
@@ -137,7 +137,7 @@ item_taken bytes y are e =
     let row : ItemRow = record { state = state_; seller = seller_; category = category_; start = start_; buy_now = buy_now_; best = best_; best_bidder = best_bidder_; bids = bids_; ends = record { 0 = ends_ }; buyer = buyer_; given = given_; title = title_ } in
     let same : (row, r12) ≡ y = cc in
     let P : ItemRow × List ℕ → Type 0 = λ z. Reads item_bytes IsItem bytes z.0 z.1 in
-    subst P same (record { takes = t12; is_in = λ few. record { within = both_true (is_utf8 title_) (are_few (item_bytes row)) h12.utf8 few; seller = h2; category = h3; start = h4; buy_now = h5; best = h6; best_bidder = h7; bids = h8; ends = h9; buyer = h10 } })))))))))))))
+    subst P same (record { takes = t12; is_in = λ few. record { within = both_true (is_utf8 title_) (fits_a_row (item_bytes row)) h12.utf8 few; seller = h2; category = h3; start = h4; buy_now = h5; best = h6; best_bidder = h7; bids = h8; ends = h9; buyer = h10 } })))))))))))))
 
 item_again : (row : ItemRow) (rest : List ℕ) → IsItem row → item_at (item_bytes row ++ rest) ≡ Some (row, rest)
 unfolding item_at item_bytes item_numbers
@@ -160,12 +160,12 @@ item_again row rest h =
 pub item_exact : IsExactRow item_of item_bytes IsItem
 unfolding item_of
 item_exact =
-    let fields : AreExact item_at item_bytes IsItem = record { takes = item_taken; again = item_again; few = λ row h. (split (is_utf8 row.title) (are_few (item_bytes row)) h.within).1 } in
+    let fields : AreExact item_at item_bytes IsItem = record { takes = item_taken; again = item_again; few = λ row h. (split (is_utf8 row.title) (fits_a_row (item_bytes row)) h.within).1 } in
     record { takes = whole_takes fields; again = whole_again fields }
 
 -- category: its text
 category_text : (row : CategoryRow) → IsCategory row → IsText row.name
-category_text row h = record { utf8 = (split (is_utf8 row.name) (are_few (category_bytes row)) h.within).0; few = category_short row h.within }
+category_text row h = record { utf8 = (split (is_utf8 row.name) (fits_a_row (category_bytes row)) h.within).0; few = category_short row h.within }
 
 -- its fields
 category_taken : (bytes : List ℕ) (y : CategoryRow × List ℕ) → AreBytes bytes → category_at bytes ≡ Some y → Reads category_bytes IsCategory bytes y.0 y.1
@@ -176,7 +176,7 @@ category_taken bytes y are e =
     let row : CategoryRow = record { name = name_ } in
     let same : (row, r1) ≡ y = cc in
     let P : CategoryRow × List ℕ → Type 0 = λ z. Reads category_bytes IsCategory bytes z.0 z.1 in
-    subst P same (record { takes = t1; is_in = λ few. record { within = both_true (is_utf8 name_) (are_few (category_bytes row)) h1.utf8 few } }))
+    subst P same (record { takes = t1; is_in = λ few. record { within = both_true (is_utf8 name_) (fits_a_row (category_bytes row)) h1.utf8 few } }))
 
 category_again : (row : CategoryRow) (rest : List ℕ) → IsCategory row → category_at (category_bytes row ++ rest) ≡ Some (row, rest)
 unfolding category_at category_bytes
@@ -187,7 +187,7 @@ category_again row rest h =
 pub category_exact : IsExactRow category_of category_bytes IsCategory
 unfolding category_of
 category_exact =
-    let fields : AreExact category_at category_bytes IsCategory = record { takes = category_taken; again = category_again; few = λ row h. (split (is_utf8 row.name) (are_few (category_bytes row)) h.within).1 } in
+    let fields : AreExact category_at category_bytes IsCategory = record { takes = category_taken; again = category_again; few = λ row h. (split (is_utf8 row.name) (fits_a_row (category_bytes row)) h.within).1 } in
     record { takes = whole_takes fields; again = whole_again fields }
 
 -- bid
@@ -241,7 +241,7 @@ entry_exact =
 
 -- feedback: its text
 feedback_text : (row : FeedbackRow) → IsFeedback row → IsText row.text
-feedback_text row h = record { utf8 = (split (is_utf8 row.text) (are_few (feedback_bytes row)) h.within).0; few = feedback_short row h.within }
+feedback_text row h = record { utf8 = (split (is_utf8 row.text) (fits_a_row (feedback_bytes row)) h.within).0; few = feedback_short row h.within }
 
 -- its fields
 feedback_taken : (bytes : List ℕ) (y : FeedbackRow × List ℕ) → AreBytes bytes → feedback_at bytes ≡ Some y → Reads feedback_bytes IsFeedback bytes y.0 y.1
@@ -255,7 +255,7 @@ feedback_taken bytes y are e =
     let row : FeedbackRow = record { from = from_; item = item_; good = good_; text = text_ } in
     let same : (row, r4) ≡ y = cc in
     let P : FeedbackRow × List ℕ → Type 0 = λ z. Reads feedback_bytes IsFeedback bytes z.0 z.1 in
-    subst P same (record { takes = t4; is_in = λ few. record { within = both_true (is_utf8 text_) (are_few (feedback_bytes row)) h4.utf8 few; from = h1; item = h2 } })))))
+    subst P same (record { takes = t4; is_in = λ few. record { within = both_true (is_utf8 text_) (fits_a_row (feedback_bytes row)) h4.utf8 few; from = h1; item = h2 } })))))
 
 feedback_again : (row : FeedbackRow) (rest : List ℕ) → IsFeedback row → feedback_at (feedback_bytes row ++ rest) ≡ Some (row, rest)
 unfolding feedback_at feedback_bytes
@@ -270,7 +270,7 @@ feedback_again row rest h =
 pub feedback_exact : IsExactRow feedback_of feedback_bytes IsFeedback
 unfolding feedback_of
 feedback_exact =
-    let fields : AreExact feedback_at feedback_bytes IsFeedback = record { takes = feedback_taken; again = feedback_again; few = λ row h. (split (is_utf8 row.text) (are_few (feedback_bytes row)) h.within).1 } in
+    let fields : AreExact feedback_at feedback_bytes IsFeedback = record { takes = feedback_taken; again = feedback_again; few = λ row h. (split (is_utf8 row.text) (fits_a_row (feedback_bytes row)) h.within).1 } in
     record { takes = whole_takes fields; again = whole_again fields }
 
 -- own item

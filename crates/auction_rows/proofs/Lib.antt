@@ -2,5 +2,6 @@ pub mod AnyRow
 pub mod Exact
 pub mod ExactFields
 pub mod ExactRows
+pub mod RowBytes
 pub mod Sizes
 pub mod Values

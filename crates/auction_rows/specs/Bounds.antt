@@ -17,44 +17,44 @@ use Rattle.auction_rows.specs.declared.rows.UserRow.{UserRow}
 use Rattle.auction_rows.specs.Spelling.{user_bytes, name_bytes, counter_bytes, item_bytes, category_bytes, bid_bytes, entry_bytes, feedback_bytes, own_item_bytes, row_bytes, table_of}
 
 -- bytes are at most 4,096
-abbrev pub are_few : List ℕ → Bool
-are_few bytes = nat_le (length bytes) MAX_ROW_BYTES
+abbrev pub fits_a_row : List ℕ → Bool
+fits_a_row bytes = nat_le (length bytes) MAX_ROW_BYTES
 
 -- whether a user's name is UTF-8, and its bytes are few
 abbrev pub is_user : UserRow → Bool
-is_user user = is_utf8 user.name && are_few (user_bytes user)
+is_user user = is_utf8 user.name && fits_a_row (user_bytes user)
 
 -- whether a name is UTF-8, and its bytes are few
 abbrev pub is_name : NameRow → Bool
-is_name name = is_utf8 name.name && are_few (name_bytes name)
+is_name name = is_utf8 name.name && fits_a_row (name_bytes name)
 
 -- whether a counter's bytes are few
 abbrev pub is_counter : CounterRow → Bool
-is_counter counter = are_few (counter_bytes counter)
+is_counter counter = fits_a_row (counter_bytes counter)
 
 -- whether an item's title is UTF-8, and its bytes are few
 abbrev pub is_item : ItemRow → Bool
-is_item item = is_utf8 item.title && are_few (item_bytes item)
+is_item item = is_utf8 item.title && fits_a_row (item_bytes item)
 
 -- whether a category's name is UTF-8, and its bytes are few
 abbrev pub is_category : CategoryRow → Bool
-is_category category = is_utf8 category.name && are_few (category_bytes category)
+is_category category = is_utf8 category.name && fits_a_row (category_bytes category)
 
 -- whether a bid's bytes are few
 abbrev pub is_bid : BidRow → Bool
-is_bid bid = are_few (bid_bytes bid)
+is_bid bid = fits_a_row (bid_bytes bid)
 
 -- whether an entry's bytes are few
 abbrev pub is_entry : EntryRow → Bool
-is_entry entry = are_few (entry_bytes entry)
+is_entry entry = fits_a_row (entry_bytes entry)
 
 -- whether the text of feedback is UTF-8, and its bytes are few
 abbrev pub is_feedback : FeedbackRow → Bool
-is_feedback feedback = is_utf8 feedback.text && are_few (feedback_bytes feedback)
+is_feedback feedback = is_utf8 feedback.text && fits_a_row (feedback_bytes feedback)
 
 -- whether an own item's bytes are few
 abbrev pub is_own_item : OwnItemRow → Bool
-is_own_item own = are_few (own_item_bytes own)
+is_own_item own = fits_a_row (own_item_bytes own)
 
 -- Whether a row's text is UTF-8, and its bytes are at most 4,096.
 abbrev pub is_row : AuctionRow → Bool

@@ -5,13 +5,14 @@ use Rattle.deployment.specs.declared.parts.Parts.{Parts}
 use Rattle.deployment.specs.declared.parts.Reference.{Reference}
 use Rattle.deployment.specs.declared.parts.TablePart.{TablePart}
 use Rattle.deployment.specs.Parts.{one_call}
+use Rattle.auction_rows.specs.declared.components.TheConstants.{WEB, USERS, NUMBERS, ITEMS, CATEGORIES, BIDS, PURCHASES, FEEDBACK}
 use Rattle.auction_rows.specs.declared.rows.TheConstants.{USER_TABLE, NAME_TABLE, COUNTER_TABLE, ITEM_TABLE, CATEGORY_TABLE, BID_TABLE, ENTRY_TABLE, FEEDBACK_TABLE, OWN_ITEM_TABLE}
 
 -- a component with one idempotent method `call`
 abbrev pub caller : List ℕ → ComponentPart
 caller name = record { name = name; methods = one_call }
 
--- the component that buys, which is not done twice where it is asked for twice
+-- Purchases: its method `call` may be called again, and its method `buy` may not
 abbrev pub purchases : ComponentPart
 purchases = record {
   name = codes "Purchases";
@@ -35,16 +36,17 @@ site_components =
 -- Web may call each other one; Bids and Purchases need Items; Feedback needs Users, and may call Items
 unfoldable pub site_references : List Reference
 site_references =
-    reference 0 1 false ∷ reference 0 2 false ∷ reference 0 3 false ∷ reference 0 4 false
-    ∷ reference 0 5 false ∷ reference 0 6 false ∷ reference 0 7 false
-    ∷ reference 5 3 true ∷ reference 6 3 true ∷ reference 7 1 true ∷ reference 7 3 false ∷ []
+    reference WEB USERS false ∷ reference WEB NUMBERS false ∷ reference WEB ITEMS false
+    ∷ reference WEB CATEGORIES false ∷ reference WEB BIDS false ∷ reference WEB PURCHASES false
+    ∷ reference WEB FEEDBACK false ∷ reference BIDS ITEMS true ∷ reference PURCHASES ITEMS true
+    ∷ reference FEEDBACK USERS true ∷ reference FEEDBACK ITEMS false ∷ []
 
 -- who owns the tables
 unfoldable pub site_tables : List TablePart
 site_tables =
-    table USER_TABLE 1 ∷ table NAME_TABLE 1 ∷ table COUNTER_TABLE 2
-    ∷ table ITEM_TABLE 3 ∷ table ENTRY_TABLE 3 ∷ table OWN_ITEM_TABLE 3
-    ∷ table CATEGORY_TABLE 4 ∷ table BID_TABLE 5 ∷ table FEEDBACK_TABLE 7 ∷ []
+    table USER_TABLE USERS ∷ table NAME_TABLE USERS ∷ table COUNTER_TABLE NUMBERS
+    ∷ table ITEM_TABLE ITEMS ∷ table ENTRY_TABLE ITEMS ∷ table OWN_ITEM_TABLE ITEMS
+    ∷ table CATEGORY_TABLE CATEGORIES ∷ table BID_TABLE BIDS ∷ table FEEDBACK_TABLE FEEDBACK ∷ []
 
 -- The parts of the site.
 abbrev pub site_parts : Parts

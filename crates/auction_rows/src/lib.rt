@@ -25,7 +25,8 @@
 //! The ids say under which key a row stands; those with a number differ where the numbers are in their
 //! ranges (`ids_differ`). A session's value is its user and the moment at which it was set
 //! (`encode_session`, `session_user`). `site_deployment` is the deployment whose components own the
-//! nine tables, in five recovery groups (`site_groups`).
+//! nine tables, in five recovery groups (`site_groups`); `site_tables` are the tables with their owners. `WEB` to
+//! `FEEDBACK`, `CALL` and `BUY` are the numbers of components and methods.
 //!
 //! Each call goes over its bytes a few times at most, and copies a text once.
 #![tactic(auto)]
@@ -33,6 +34,7 @@
 mod auction_row;
 mod bids;
 mod categories;
+mod components;
 mod counters;
 mod entries;
 mod feedback;
@@ -53,6 +55,9 @@ pub use auction_row::{decode_row, encode_row, is_row, row_is_in_range};
 pub use bids::is_bid;
 pub use byte_fields::bytes_are_in_range;
 pub use categories::is_category;
+pub use components::{
+    BIDS, BUY, CALL, CATEGORIES, FEEDBACK, ITEMS, NUMBERS, PURCHASES, USERS, WEB,
+};
 pub use counters::is_counter;
 pub use entries::is_entry;
 pub use feedback::is_feedback;
@@ -79,6 +84,6 @@ pub use rows::{
     ItemState, NAME_TABLE, NameRow, OWN_ITEM_TABLE, OwnItemRow, USER_TABLE, UserRow,
 };
 pub use session::{SESSION_BYTES, encode_session, session_user};
-pub use site::site_deployment;
+pub use site::{site_deployment, site_tables};
 pub use table_row::TableRow;
 pub use users::is_user;

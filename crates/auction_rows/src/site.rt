@@ -3,6 +3,7 @@
 ghost use Rattle.std.specs.Prelude.{◌≡◌, ◌++◌, [], ◌∷◌, IfOk, OnOk};
 ghost use Rattle.auction_rows.specs.Parts.{caller, purchases, reference, table, site_components, site_references, site_tables, site_parts};
 
+use crate::components::{BIDS, CATEGORIES, FEEDBACK, ITEMS, NUMBERS, PURCHASES, USERS, WEB};
 use crate::rows::{
     BID_TABLE, CATEGORY_TABLE, COUNTER_TABLE, ENTRY_TABLE, FEEDBACK_TABLE, ITEM_TABLE, NAME_TABLE,
     OWN_ITEM_TABLE, USER_TABLE,
@@ -85,17 +86,17 @@ fn references(alloc: Global) -> Result<ReferenceList, OutOfMemory>
     ensures { IfOk result (λ references. references ≡ site_references) }
 {
     let references = vec![in alloc;
-        reference(0, 1, false),
-        reference(0, 2, false),
-        reference(0, 3, false),
-        reference(0, 4, false),
-        reference(0, 5, false),
-        reference(0, 6, false),
-        reference(0, 7, false),
-        reference(5, 3, true),
-        reference(6, 3, true),
-        reference(7, 1, true),
-        reference(7, 3, false),
+        reference(WEB, USERS, false),
+        reference(WEB, NUMBERS, false),
+        reference(WEB, ITEMS, false),
+        reference(WEB, CATEGORIES, false),
+        reference(WEB, BIDS, false),
+        reference(WEB, PURCHASES, false),
+        reference(WEB, FEEDBACK, false),
+        reference(BIDS, ITEMS, true),
+        reference(PURCHASES, ITEMS, true),
+        reference(FEEDBACK, USERS, true),
+        reference(FEEDBACK, ITEMS, false),
     ]?;
     Ok(ReferenceList::from_vec(references))
 }
@@ -109,21 +110,29 @@ fn table(number: u8, owner: u16) -> TablePart
     }
 }
 
+/// The tables of the site, each with its owner.
 #[tactic(auto, unfolding(crate::specs::Parts::site_tables))]
+pub fn site_tables() -> [TablePart; 9]
+    ensures { result ≡ site_tables }
+{
+    [
+        table(USER_TABLE, USERS),
+        table(NAME_TABLE, USERS),
+        table(COUNTER_TABLE, NUMBERS),
+        table(ITEM_TABLE, ITEMS),
+        table(ENTRY_TABLE, ITEMS),
+        table(OWN_ITEM_TABLE, ITEMS),
+        table(CATEGORY_TABLE, CATEGORIES),
+        table(BID_TABLE, BIDS),
+        table(FEEDBACK_TABLE, FEEDBACK),
+    ]
+}
+
 fn tables(alloc: Global) -> Result<TableList, OutOfMemory>
     ensures { IfOk result (λ tables. tables ≡ site_tables) }
 {
-    let tables = vec![in alloc;
-        table(USER_TABLE, 1),
-        table(NAME_TABLE, 1),
-        table(COUNTER_TABLE, 2),
-        table(ITEM_TABLE, 3),
-        table(ENTRY_TABLE, 3),
-        table(OWN_ITEM_TABLE, 3),
-        table(CATEGORY_TABLE, 4),
-        table(BID_TABLE, 5),
-        table(FEEDBACK_TABLE, 7),
-    ]?;
+    let mut tables = Vec::new(alloc);
+    tables.extend_from_slice(site_tables().as_slice())?;
     Ok(TableList::from_vec(tables))
 }
 
