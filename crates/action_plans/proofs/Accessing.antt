@@ -15,7 +15,7 @@ use Rattle.call_ticket.proofs.MoreSteps.{run_more, run_step}
 use Rattle.action_plans.specs.declared.plan.Outcome.{Outcome}
 use Rattle.action_plans.specs.declared.plan.Through.{Through}
 use Rattle.action_plans.specs.Plans.{Plan, walk, wanted}
-use Rattle.action_plans.specs.Steps.{is_kept, is_read, kept, reads_in, home_of, is_home, access, access_in, wanting, program_of, may_go, reaches}
+use Rattle.action_plans.specs.Steps.{is_kept, is_read, put_count, reads_in, home_of, is_home, access, access_in, wanting, program_of, may_go, reaches}
 use Rattle.action_plans.proofs.Counting.{reads-push, IsHome, IsAccess, step-home, step-out, access-home, access-out, goes_out, had_out, had_home, comes_home}
 use Rattle.action_plans.proofs.Entering.{state, home_frames, second, near, inside_home, inside_owner, enters, leaves}
 
@@ -33,7 +33,7 @@ pub record IsAccessOf (parts : Parts) (rows : List RowWrite) (through : Option T
   pub home : IsHome through had k
   pub makes : (h : List Answer) (frames : List ComponentNo) (go : Running → Option Ran) → is_inside parts frames t ≡ true
       → resume parts rows (state h frames r q ms ws) x go ≡ go (state (h ++ a ∷ []) frames r2 q2 ms2 ws2)
-  pub wants : (h : List Answer) → reads_in h ≡ reads_in had → kept h ≡ k → wanting parts.tables through h (wanted (walk plan (reads_in h))) ≡ access parts.tables through h t x
+  pub wants : (h : List Answer) → reads_in h ≡ reads_in had → put_count h ≡ k → wanting parts.tables through h (wanted (walk plan (reads_in h))) ≡ access parts.tables through h t x
 
 -- at home in the owner
 access_here : (parts : Parts) (rows : List RowWrite) (through : Option Through) (plan : Plan Outcome) (x : Next) (t : ℕ) (a : Answer) (had : List Answer) (k r q r2 q2 : ℕ) (ms ms2 : List Mark) (ws ws2 : List RowWrite) (f : ℕ) (own : ComponentNo)

@@ -22,9 +22,9 @@ use Rattle.call_ticket.proofs.MoreSteps.{run_step}
 use Rattle.action_plans.specs.declared.plan.Outcome.{Outcome}
 use Rattle.action_plans.specs.declared.plan.Through.{Through}
 use Rattle.action_plans.specs.declared.plan.Want.TheVariants as want
-use Rattle.action_plans.specs.declared.plan.TheConstants.{FRONT, MAX_ACCESSES}
+use Rattle.action_plans.specs.declared.plan.TheConstants.{GATEWAY, MAX_ACCESSES}
 use Rattle.action_plans.specs.Plans.{Plan, Asks, Refuses, Gives, walk, wanted, answer_to, put_each}
-use Rattle.action_plans.specs.Steps.{is_kept, is_read, entered, left, kept, reads_in, reading, table_of, putting, wanting, program_of, may_go, reaches, may_put, may_put_all, has_home, outcome, outcome_of}
+use Rattle.action_plans.specs.Steps.{is_kept, is_read, enter_count, exit_count, put_count, reads_in, reading, table_of, putting, wanting, program_of, may_go, reaches, may_put, may_put_all, has_home, outcome, outcome_of}
 use Rattle.action_plans.proofs.Accessing.{Comes, comes_more, IsAccessOf, access_run}
 use Rattle.action_plans.proofs.Counting.{get_at, IsHome, IsAccess}
 use Rattle.action_plans.proofs.Entering.{state, home_frames, taken}
@@ -140,50 +140,50 @@ read_all_run (suc n) parts rows through plan (Asks m go) o r ms had room home wa
     (λ more. ap (λ rs. walk plan (rs ++ more)) (same ∙ ap (λ l. reads_in had ++ l) (one_read rows m)) ∙ ap (walk plan) (append_assoc (reads_in had) (a ∷ []) more) ∙ walked (a ∷ more))
     got.1)
 
--- the steps into the front, and into what the action goes through
+-- the answers to the steps into the gateway, and into what the action goes through
 
-abbrev in_front : List Answer
-in_front = answer.Entered ∷ []
+abbrev in_gateway : List Answer
+in_gateway = answer.Entered ∷ []
 
 abbrev in_both : List Answer
 in_both = answer.Entered ∷ answer.Entered ∷ []
 
-none_entered : entered [] ≡ 0
-unfolding entered
-none_entered = refl
+no_enter : enter_count [] ≡ 0
+unfolding enter_count
+no_enter = refl
 
-one_entered : entered in_front ≡ 1
-unfolding entered
-one_entered = refl
+one_enter : enter_count in_gateway ≡ 1
+unfolding enter_count
+one_enter = refl
 
-front_home : IsHome None in_front 0
-unfolding entered left kept
-front_home = record { level = refl; rows = refl }
+gateway_home : IsHome None in_gateway 0
+unfolding enter_count exit_count put_count
+gateway_home = record { level = refl; rows = refl }
 
 both_home : (h : Through) → IsHome (Some h) in_both 0
-unfolding entered left kept
+unfolding enter_count exit_count put_count
 both_home h = record { level = refl; rows = refl }
 
-none_read : (more : List Answer) → (reads_in in_front ++ more ≡ more) × (reads_in in_both ++ more ≡ more)
+none_read : (more : List Answer) → (reads_in in_gateway ++ more ≡ more) × (reads_in in_both ++ more ≡ more)
 unfolding reads_in
 none_read more = (refl, refl)
 
--- the front is entered first
-enter_front : (n : ℕ) (parts : Parts) (through : Option Through) (plan : Plan Outcome) (rows : List RowWrite) → nat_lt FRONT.0 (length parts.components) ≡ true
-    → run (suc n) parts (program_of parts.tables through plan) rows not_run ≡ run n parts (program_of parts.tables through plan) rows (state in_front (FRONT ∷ []) 0 0 [] [])
-enter_front n parts through plan rows low =
-    run_step n parts (program_of parts.tables through plan) rows not_run (next.Enter FRONT 0) (asked through)
-    ∙ ap (λ b. cond ((b && true) && nat_lt 0 MAX_FRAMES) (run n parts (program_of parts.tables through plan) rows (state in_front (FRONT ∷ []) 0 0 [] [])) None) low
+-- the gateway is entered first
+enter_gateway : (n : ℕ) (parts : Parts) (through : Option Through) (plan : Plan Outcome) (rows : List RowWrite) → nat_lt GATEWAY.0 (length parts.components) ≡ true
+    → run (suc n) parts (program_of parts.tables through plan) rows not_run ≡ run n parts (program_of parts.tables through plan) rows (state in_gateway (GATEWAY ∷ []) 0 0 [] [])
+enter_gateway n parts through plan rows low =
+    run_step n parts (program_of parts.tables through plan) rows not_run (next.Enter GATEWAY 0) (asked through)
+    ∙ ap (λ b. cond ((b && true) && nat_lt 0 MAX_FRAMES) (run n parts (program_of parts.tables through plan) rows (state in_gateway (GATEWAY ∷ []) 0 0 [] [])) None) low
   where
-    asked : (through : Option Through) → program_of parts.tables through plan [] ≡ next.Enter FRONT 0
-    asked None = rw none_entered refl
-    asked (Some h) = rw none_entered refl
+    asked : (through : Option Through) → program_of parts.tables through plan [] ≡ next.Enter GATEWAY 0
+    asked None = rw no_enter refl
+    asked (Some h) = rw no_enter refl
 
-enter_through : (n : ℕ) (parts : Parts) (h : Through) (plan : Plan Outcome) (rows : List RowWrite) → may_go parts FRONT h.component ≡ true
-    → run (suc n) parts (program_of parts.tables (Some h) plan) rows (state in_front (FRONT ∷ []) 0 0 [] []) ≡ run n parts (program_of parts.tables (Some h) plan) rows (state in_both (home_frames (Some h)) 0 0 [] [])
+enter_through : (n : ℕ) (parts : Parts) (h : Through) (plan : Plan Outcome) (rows : List RowWrite) → may_go parts GATEWAY h.component ≡ true
+    → run (suc n) parts (program_of parts.tables (Some h) plan) rows (state in_gateway (GATEWAY ∷ []) 0 0 [] []) ≡ run n parts (program_of parts.tables (Some h) plan) rows (state in_both (home_frames (Some h)) 0 0 [] [])
 enter_through n parts h plan rows may =
-    let asked : program_of parts.tables (Some h) plan in_front ≡ next.Enter h.component h.method = rw one_entered refl in
-    run_step n parts (program_of parts.tables (Some h) plan) rows (state in_front (FRONT ∷ []) 0 0 [] []) (next.Enter h.component h.method) asked
+    let asked : program_of parts.tables (Some h) plan in_gateway ≡ next.Enter h.component h.method = rw one_enter refl in
+    run_step n parts (program_of parts.tables (Some h) plan) rows (state in_gateway (GATEWAY ∷ []) 0 0 [] []) (next.Enter h.component h.method) asked
     ∙ ap (λ b. cond (b && nat_lt 1 MAX_FRAMES) (run n parts (program_of parts.tables (Some h) plan) rows (state in_both (home_frames (Some h)) 0 0 [] [])) None) may
 
 pub plan_run : (parts : Parts) (through : Option Through) (plan : Plan Outcome) (rows : List RowWrite) (o : Outcome) → outcome_of parts through rows plan ≡ Some o → Comes o (run_of parts (program_of parts.tables through plan) rows)
@@ -191,15 +191,15 @@ unfolding run_of outcome_of budget
 plan_run parts None plan rows o is =
     let P : Option Ran → Type 0 = λ got. Comes o got in
     let asks = program_of parts.tables None plan in
-    let s : Running = state in_front (home_frames None) 0 0 [] [] in
+    let s : Running = state in_gateway (home_frames None) 0 0 [] [] in
     let got = taken (has_home parts None) (outcome MAX_ACCESSES parts None rows plan) o is in
-    let rest = read_all_run MAX_ACCESSES parts rows None plan plan o 0 [] in_front (omega arith) front_home (λ more. ap (walk plan) (none_read more).0) got.1 in
-    subst P (sym (enter_front 128 parts None plan rows got.0)) (comes_more 127 parts asks rows s o (comes_more 126 parts asks rows s o rest))
+    let rest = read_all_run MAX_ACCESSES parts rows None plan plan o 0 [] in_gateway (omega arith) gateway_home (λ more. ap (walk plan) (none_read more).0) got.1 in
+    subst P (sym (enter_gateway 128 parts None plan rows got.0)) (comes_more 127 parts asks rows s o (comes_more 126 parts asks rows s o rest))
 plan_run parts (Some h) plan rows o is =
     let P : Option Ran → Type 0 = λ got. Comes o got in
     let asks = program_of parts.tables (Some h) plan in
     let s : Running = state in_both (home_frames (Some h)) 0 0 [] [] in
     let got = taken (has_home parts (Some h)) (outcome MAX_ACCESSES parts (Some h) rows plan) o is in
-    let can = and_parts (nat_lt FRONT.0 (length parts.components)) (may_go parts FRONT h.component) got.0 in
+    let can = and_parts (nat_lt GATEWAY.0 (length parts.components)) (may_go parts GATEWAY h.component) got.0 in
     let rest = read_all_run MAX_ACCESSES parts rows (Some h) plan plan o 0 [] in_both (omega arith) (both_home h) (λ more. ap (walk plan) (none_read more).1) got.1 in
-    subst P (sym (enter_front 128 parts (Some h) plan rows can.0 ∙ enter_through 127 parts h plan rows can.1)) (comes_more 126 parts asks rows s o rest)
+    subst P (sym (enter_gateway 128 parts (Some h) plan rows can.0 ∙ enter_through 127 parts h plan rows can.1)) (comes_more 126 parts asks rows s o rest)

@@ -13,7 +13,7 @@ use Rattle.call_ticket.specs.declared.next.Next.TheVariants as next
 use Rattle.call_ticket.specs.Access.{is_same_component, is_inside}
 use Rattle.call_ticket.specs.Runs.{Running, Ran, resume}
 use Rattle.action_plans.specs.declared.plan.Through.{Through}
-use Rattle.action_plans.specs.declared.plan.TheConstants.{FRONT}
+use Rattle.action_plans.specs.declared.plan.TheConstants.{GATEWAY}
 use Rattle.action_plans.specs.Steps.{home_of, is_home, may_go, is_near, reaches}
 
 -- a run between two steps
@@ -22,8 +22,8 @@ state had frames r q ms ws = record { answers = had; frames = frames; reads = r;
 
 -- the components that are open at home
 abbrev pub home_frames : Option Through → List ComponentNo
-home_frames None = FRONT ∷ []
-home_frames (Some t) = FRONT ∷ t.component ∷ []
+home_frames None = GATEWAY ∷ []
+home_frames (Some t) = GATEWAY ∷ t.component ∷ []
 
 -- one of two tests holds, and it is not the first
 pub second : (a b : Bool) → a ≡ false → (a || b) ≡ true → b ≡ true
@@ -55,7 +55,7 @@ near parts through t can = go (owner_of parts.tables t) refl can
 
 -- at home the action is in the owner where that is its home, and away it is in the owner
 pub inside_home : (parts : Parts) (through : Option Through) (t : ℕ) (c : ComponentNo) → owner_of parts.tables t ≡ Some c → is_home through c ≡ true → is_inside parts (home_frames through) t ≡ true
-inside_home parts None t c owns home = ap (is_same_component (Some FRONT)) owns ∙ flip_test c.0 FRONT.0 home
+inside_home parts None t c owns home = ap (is_same_component (Some GATEWAY)) owns ∙ flip_test c.0 GATEWAY.0 home
 inside_home parts (Some h) t c owns home = ap (is_same_component (Some h.component)) owns ∙ flip_test c.0 h.component.0 home
 
 pub inside_owner : (parts : Parts) (through : Option Through) (t : ℕ) (c : ComponentNo) → owner_of parts.tables t ≡ Some c → is_inside parts (home_frames through ++ c ∷ []) t ≡ true
@@ -66,9 +66,9 @@ inside_owner parts (Some h) t c owns = ap (is_same_component (Some c)) owns ∙ 
 pub enters : (parts : Parts) (rows : List RowWrite) (through : Option Through) (c : ComponentNo) (had : List Answer) (r q : ℕ) (ms : List Mark) (ws : List RowWrite) (go : Running → Option Ran) → may_go parts (home_of through) c ≡ true
     → resume parts rows (state had (home_frames through) r q ms ws) (next.Enter c 0) go ≡ go (state (had ++ answer.Entered ∷ []) (home_frames through ++ c ∷ []) r q ms ws)
 enters parts rows None c had r q ms ws go may =
-    ap (λ b. cond (b && nat_lt 1 MAX_FRAMES) (go (state (had ++ answer.Entered ∷ []) (FRONT ∷ c ∷ []) r q ms ws)) None) may
+    ap (λ b. cond (b && nat_lt 1 MAX_FRAMES) (go (state (had ++ answer.Entered ∷ []) (GATEWAY ∷ c ∷ []) r q ms ws)) None) may
 enters parts rows (Some h) c had r q ms ws go may =
-    ap (λ b. cond (b && nat_lt 2 MAX_FRAMES) (go (state (had ++ answer.Entered ∷ []) (FRONT ∷ h.component ∷ c ∷ []) r q ms ws)) None) may
+    ap (λ b. cond (b && nat_lt 2 MAX_FRAMES) (go (state (had ++ answer.Entered ∷ []) (GATEWAY ∷ h.component ∷ c ∷ []) r q ms ws)) None) may
 
 -- an owner is left for home
 pub leaves : (parts : Parts) (rows : List RowWrite) (through : Option Through) (c : ComponentNo) (had : List Answer) (r q : ℕ) (ms : List Mark) (ws : List RowWrite) (go : Running → Option Ran)

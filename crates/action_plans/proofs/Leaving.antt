@@ -14,19 +14,19 @@ use Rattle.call_ticket.proofs.MoreSteps.{run_step}
 use Rattle.action_plans.specs.declared.plan.Outcome.{Outcome}
 use Rattle.action_plans.specs.declared.plan.Through.{Through}
 use Rattle.action_plans.specs.declared.plan.Want.TheVariants as want
-use Rattle.action_plans.specs.declared.plan.TheConstants.{FRONT}
+use Rattle.action_plans.specs.declared.plan.TheConstants.{GATEWAY}
 use Rattle.action_plans.specs.Plans.{Plan, walk, wanted}
-use Rattle.action_plans.specs.Steps.{entered, left, kept, reads_in, home_depth, leaving, putting, wanting, program_of}
+use Rattle.action_plans.specs.Steps.{enter_count, exit_count, put_count, reads_in, home_depth, leaving, putting, wanting, program_of}
 use Rattle.action_plans.proofs.Accessing.{Comes, comes_more}
-use Rattle.action_plans.proofs.Counting.{entered-push, left-push, kept-push, reads-push, IsHome, low_step, level_end, level_open}
+use Rattle.action_plans.proofs.Counting.{enter_count-push, exit_count-push, put_count-push, reads-push, IsHome, low_step, level_end, level_open}
 use Rattle.action_plans.proofs.Entering.{state, home_frames}
 
 -- an action that has put all its rows, with so many components open
 record IsLeaving (through : Option Through) (plan : Plan Outcome) (o : Outcome) (had : List Answer) (j : ℕ) : Type 0 where
-  level : entered had ≡ left had + j
-  up : home_depth through ≤ entered had
+  level : enter_count had ≡ exit_count had + j
+  up : home_depth through ≤ enter_count had
   low : j ≤ home_depth through
-  none : slice_get o.writes (kept had) ≡ None
+  none : slice_get o.writes (put_count had) ≡ None
   finish : wanted (walk plan (reads_in had)) ≡ want.Finish o
 
 leaving_step : (tables : List TablePart) (through : Option Through) (plan : Plan Outcome) (o : Outcome) (had : List Answer) (j : ℕ) → IsLeaving through plan o had j → program_of tables through plan had ≡ leaving had o.done
@@ -40,10 +40,10 @@ left_one through plan o had j is =
     let level = is.level in
     let up = is.up in
     let low = is.low in
-    let e : entered h1 ≡ entered had + 0 = entered-push had answer.Left in
-    let l : left h1 ≡ left had + 1 = left-push had answer.Left in
-    let k0 : kept h1 ≡ kept had + 0 = kept-push had answer.Left in
-    let k : kept h1 ≡ kept had = omega (arith, k0) in
+    let e : enter_count h1 ≡ enter_count had + 0 = enter_count-push had answer.Left in
+    let l : exit_count h1 ≡ exit_count had + 1 = exit_count-push had answer.Left in
+    let k0 : put_count h1 ≡ put_count had + 0 = put_count-push had answer.Left in
+    let k : put_count h1 ≡ put_count had = omega (arith, k0) in
     let rd : reads_in h1 ≡ reads_in had = reads-push had answer.Left ∙ append-nil (reads_in had) in
     record {
       level = omega (arith, level, e, l);
@@ -80,8 +80,8 @@ leave_home f parts rows None plan o k r q ms ws had home none finish =
     let end : Outcome = record { writes = ws; done = o.done } in
     let is : IsLeaving None plan o had 1 = record { level = level; up = omega (arith, level); low = omega arith; none = ap (slice_get o.writes) home.rows ∙ none; finish = finish } in
     let rest = leave_end f parts rows None plan o (had ++ answer.Left ∷ []) r q ms ws (left_one None plan o had 0 is) in
-    let made = leave_one (suc f) parts rows None plan o had 0 r q ms ws (FRONT ∷ []) is refl in
-    comes_more (suc (suc f)) parts asks rows (state had (FRONT ∷ []) r q ms ws) end (subst (λ got. Comes end got) (sym made) rest)
+    let made = leave_one (suc f) parts rows None plan o had 0 r q ms ws (GATEWAY ∷ []) is refl in
+    comes_more (suc (suc f)) parts asks rows (state had (GATEWAY ∷ []) r q ms ws) end (subst (λ got. Comes end got) (sym made) rest)
 leave_home f parts rows (Some h) plan o k r q ms ws had home none finish =
     let level = home.level in
     let end : Outcome = record { writes = ws; done = o.done } in
@@ -89,6 +89,6 @@ leave_home f parts rows (Some h) plan o k r q ms ws had home none finish =
     let is : IsLeaving (Some h) plan o had 2 = record { level = level; up = omega (arith, level); low = omega arith; none = ap (slice_get o.writes) home.rows ∙ none; finish = finish } in
     let is1 = left_one (Some h) plan o had 1 is in
     let rest = leave_end f parts rows (Some h) plan o (h1 ++ answer.Left ∷ []) r q ms ws (left_one (Some h) plan o h1 0 is1) in
-    let made0 = leave_one (suc (suc f)) parts rows (Some h) plan o had 1 r q ms ws (FRONT ∷ h.component ∷ []) is refl in
-    let made1 = leave_one (suc f) parts rows (Some h) plan o h1 0 r q ms ws (FRONT ∷ []) is1 refl in
+    let made0 = leave_one (suc (suc f)) parts rows (Some h) plan o had 1 r q ms ws (GATEWAY ∷ h.component ∷ []) is refl in
+    let made1 = leave_one (suc f) parts rows (Some h) plan o h1 0 r q ms ws (GATEWAY ∷ []) is1 refl in
     subst (λ got. Comes end got) (sym (made0 ∙ made1)) rest

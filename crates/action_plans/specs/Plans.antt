@@ -42,12 +42,6 @@ walk (Asks m go) (a ∷ answers) = walk (go a) answers
 walk (Refuses d) answers = Refused d
 walk (Gives x) answers = Came x answers
 
--- how far one comes who has come so far and then follows a second plan
-abbrev pub walk_on : {A B : Type 0} → Walked A → (A → Plan B) → Walked B
-walk_on (Wants m) f = Wants m
-walk_on (Refused d) f = Refused d
-walk_on (Came x left) f = walk (f x) left
-
 -- Code that takes answers comes just as far, where memory does not run out.
 abbrev pub HasCome : {A : Type 0} → Result A Stop → List Answer → Walked A → Type 0
 HasCome (Ok x) left walked = walked ≡ Came x left

@@ -18,7 +18,7 @@ use Rattle.action_plans.specs.declared.plan.Outcome.{Outcome}
 use Rattle.action_plans.specs.declared.plan.Through.{Through}
 use Rattle.action_plans.specs.declared.plan.Want.{Want}
 use Rattle.action_plans.specs.declared.plan.Want.TheVariants as want
-use Rattle.action_plans.specs.declared.plan.TheConstants.{FRONT, MAX_ACCESSES}
+use Rattle.action_plans.specs.declared.plan.TheConstants.{GATEWAY, MAX_ACCESSES}
 use Rattle.action_plans.specs.Plans.{Plan, Asks, Refuses, Gives, walk, wanted, answer_to, put_each}
 
 -- whether an answer is one to an enter
@@ -54,16 +54,16 @@ is_read answer.Kept = false
 is_read answer.Left = false
 
 -- how many enters were answered
-unfoldable pub entered : List Answer → ℕ
-entered answers = count_by is_entered answers
+unfoldable pub enter_count : List Answer → ℕ
+enter_count answers = count_by is_entered answers
 
 -- how many exits were answered
-unfoldable pub left : List Answer → ℕ
-left answers = count_by is_left answers
+unfoldable pub exit_count : List Answer → ℕ
+exit_count answers = count_by is_left answers
 
 -- how many puts were answered
-unfoldable pub kept : List Answer → ℕ
-kept answers = count_by is_kept answers
+unfoldable pub put_count : List Answer → ℕ
+put_count answers = count_by is_kept answers
 
 -- whether there is an answer, and it is one to an enter
 abbrev pub is_entry : Option Answer → Bool
@@ -71,31 +71,31 @@ is_entry None = false
 is_entry (Some a) = is_entered a
 
 -- whether the last step was an enter
-unfoldable pub is_fresh : List Answer → Bool
-is_fresh answers = is_entry (slice_get answers (length answers - 1))
+unfoldable pub has_just_entered : List Answer → Bool
+has_just_entered answers = is_entry (slice_get answers (length answers - 1))
 
 -- the answers to reads and lists
 unfoldable pub reads_in : List Answer → List Answer
 reads_in answers = filter is_read answers
 
--- how many components are open while the action is at home: the front, and what it goes through
+-- how many components are open while the action is at home: the gateway, and what it goes through
 abbrev pub home_depth : Option Through → ℕ
 home_depth None = 1
 home_depth (Some t) = 2
 
--- where the action is at home: in what it goes through, else in the front
+-- where the action is at home: in what it goes through, else in the gateway
 abbrev pub home_of : Option Through → ComponentNo
-home_of None = FRONT
+home_of None = GATEWAY
 home_of (Some t) = t.component
 
--- the steps into the home: first the front is entered, and then what the action goes through
+-- the steps into the home: first the gateway is entered, and then what the action goes through
 abbrev pub enter_home : Option Through → ℕ → Next
-enter_home None n = next.Enter FRONT 0
-enter_home (Some t) n = if n == 0 then next.Enter FRONT 0 else next.Enter t.component t.method
+enter_home None n = next.Enter GATEWAY 0
+enter_home (Some t) n = if n == 0 then next.Enter GATEWAY 0 else next.Enter t.component t.method
 
 -- whether the action is away from home, in the owner of the table that it accesses
 abbrev pub is_away : Option Through → List Answer → Bool
-is_away through answers = entered answers == (left answers + home_depth through) + 1
+is_away through answers = enter_count answers == (exit_count answers + home_depth through) + 1
 
 -- whether a component is the home of the action
 abbrev pub is_home : Option Through → ComponentNo → Bool
@@ -123,7 +123,7 @@ table_of (Table t) = t
 
 -- every open component is left, and then the action is done
 abbrev pub leaving : List Answer → DoneText → Next
-leaving answers d = if entered answers == left answers then next.Done d else next.Exit
+leaving answers d = if enter_count answers == exit_count answers then next.Done d else next.Exit
 
 -- the next row is put, and after the last one all is left
 abbrev pub putting : List TablePart → Option Through → List Answer → DoneText → Option RowWrite → Next
@@ -135,22 +135,22 @@ abbrev pub wanting : List TablePart → Option Through → List Answer → Want 
 wanting tables through answers (want.Ask m) =
     access tables through answers (table_of m) (reading m)
 wanting tables through answers (want.Finish o) =
-    putting tables through answers o.done (slice_get o.writes (kept answers))
+    putting tables through answers o.done (slice_get o.writes (put_count answers))
 
 -- The next step where none but the answers decide it: into the home, and back from an owner where the action has made
 -- its access.
 abbrev pub fixed_step : Option Through → List Answer → Option Next
 fixed_step through answers =
-    if nat_lt (entered answers) (home_depth through) then Some (enter_home through (entered answers))
-    else (if is_away through answers && not (is_fresh answers) then Some next.Exit
+    if nat_lt (enter_count answers) (home_depth through) then Some (enter_home through (enter_count answers))
+    else (if is_away through answers && not (has_just_entered answers) then Some next.Exit
     else None)
 
 -- The next step of an action after these answers: into its home, back from an owner where it has made its access, and
 -- else to what it wants.
 abbrev pub step_to : List TablePart → Option Through → List Answer → Want → Next
 step_to tables through answers w =
-    if nat_lt (entered answers) (home_depth through) then enter_home through (entered answers)
-    else (if is_away through answers && not (is_fresh answers) then next.Exit
+    if nat_lt (enter_count answers) (home_depth through) then enter_home through (enter_count answers)
+    else (if is_away through answers && not (has_just_entered answers) then next.Exit
     else wanting tables through answers w)
 
 -- The program of a plan: after these answers it makes the next step to what the plan wants.
@@ -183,9 +183,9 @@ may_put_all parts through (w ∷ ws) = may_put parts through w && may_put_all pa
 
 -- whether the action can enter its home
 abbrev pub has_home : Parts → Option Through → Bool
-has_home parts None = nat_lt FRONT.0 (length parts.components)
+has_home parts None = nat_lt GATEWAY.0 (length parts.components)
 has_home parts (Some t) =
-    nat_lt FRONT.0 (length parts.components) && may_go parts FRONT t.component
+    nat_lt GATEWAY.0 (length parts.components) && may_go parts GATEWAY t.component
 
 -- What a plan comes to over rows in so many reads and puts at most, where it can make each of them.
 abbrev pub outcome : ℕ → Parts → Option Through → List RowWrite → Plan Outcome → Option Outcome

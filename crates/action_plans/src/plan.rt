@@ -6,13 +6,13 @@ use crash_base::{ComponentNo, WriteList};
 use journal_model::{DoneText, ReadMark};
 
 /// The component that each action enters first.
-pub const FRONT: ComponentNo = ComponentNo(0);
+pub const GATEWAY: ComponentNo = ComponentNo(0);
 
 /// The most reads and puts of an action: each takes three steps at most, with the enter and the exit of the table's
 /// owner, and four more lead into its home and out of it.
 pub const MAX_ACCESSES: usize = 41;
 
-/// The component that an action goes through behind the front, and the method by which it enters it.
+/// The component that an action goes through behind the gateway, and the method by which it enters it.
 #[derive(Clone, Copy)]
 pub struct Through {
     pub component: ComponentNo,

@@ -5,9 +5,9 @@ ghost use Rattle.call_ticket.specs.declared.next.Answer.{Answer};
 ghost use Rattle.action_plans.specs.declared.plan.Outcome.{Outcome};
 ghost use Rattle.action_plans.specs.declared.plan.Stop.TheVariants as stop;
 ghost use Rattle.action_plans.specs.Plans.{HasCome, Walked, wanted};
-ghost use Rattle.action_plans.specs.Steps.{entered, left, kept, is_fresh, is_entered, is_left, is_kept, home_depth, home_of, enter_home, is_away, is_home, access, access_in, reading, table_of, leaving, wanting, fixed_step, step_to};
+ghost use Rattle.action_plans.specs.Steps.{enter_count, exit_count, put_count, has_just_entered, is_entered, is_left, is_kept, home_depth, home_of, enter_home, is_away, is_home, access, access_in, reading, table_of, leaving, wanting, fixed_step, step_to};
 
-use crate::plan::{FRONT, Outcome, Stop, Through, Want};
+use crate::plan::{GATEWAY, Outcome, Stop, Through, Want};
 use call_ticket::{Answer, Next};
 use crash_base::{ComponentNo, OutOfMemory, WriteList};
 use deployment::{TablePart, owner_of};
@@ -36,33 +36,33 @@ fn is_kept(answer: &Answer) -> bool
 }
 
 /// How many enters were answered.
-#[tactic(auto, unfolding(crate::specs::Steps::entered))]
-fn entered(answers: &[Answer]) -> usize
-    ensures { result ≡ entered answers.now }
+#[tactic(auto, unfolding(crate::specs::Steps::enter_count))]
+fn enter_count(answers: &[Answer]) -> usize
+    ensures { result ≡ enter_count answers.now }
 {
     answers.iter().filter(|answer| is_entered(answer)).count()
 }
 
 /// How many exits were answered.
-#[tactic(auto, unfolding(crate::specs::Steps::left))]
-fn left(answers: &[Answer]) -> usize
-    ensures { result ≡ left answers.now }
+#[tactic(auto, unfolding(crate::specs::Steps::exit_count))]
+fn exit_count(answers: &[Answer]) -> usize
+    ensures { result ≡ exit_count answers.now }
 {
     answers.iter().filter(|answer| is_left(answer)).count()
 }
 
 /// How many puts were answered.
-#[tactic(auto, unfolding(crate::specs::Steps::kept))]
-fn kept(answers: &[Answer]) -> usize
-    ensures { result ≡ kept answers.now }
+#[tactic(auto, unfolding(crate::specs::Steps::put_count))]
+fn put_count(answers: &[Answer]) -> usize
+    ensures { result ≡ put_count answers.now }
 {
     answers.iter().filter(|answer| is_kept(answer)).count()
 }
 
 /// Whether the last step was an enter.
-#[tactic(auto, unfolding(crate::specs::Steps::is_fresh))]
-fn is_fresh(answers: &[Answer]) -> bool
-    ensures { result ≡ is_fresh answers.now }
+#[tactic(auto, unfolding(crate::specs::Steps::has_just_entered))]
+fn has_just_entered(answers: &[Answer]) -> bool
+    ensures { result ≡ has_just_entered answers.now }
 {
     match answers.last() {
         None => false,
@@ -85,22 +85,22 @@ fn is_home(through: Option<Through>, c: ComponentNo) -> bool
     ensures { result ≡ is_home through c }
 {
     match through {
-        None => c.0 == FRONT.0,
+        None => c.0 == GATEWAY.0,
         Some(through) => c.0 == through.component.0,
     }
 }
 
 /// The next step into the home, after so many enters.
-fn enter_home(through: Option<Through>, entered: usize) -> Next
-    ensures { result ≡ enter_home through entered }
+fn enter_home(through: Option<Through>, enter_count: usize) -> Next
+    ensures { result ≡ enter_home through enter_count }
 {
     match through {
-        Some(through) if entered != 0 => Next::Enter {
+        Some(through) if enter_count != 0 => Next::Enter {
             component: through.component,
             method: through.method,
         },
         _ => Next::Enter {
-            component: FRONT,
+            component: GATEWAY,
             method: 0,
         },
     }
@@ -110,9 +110,9 @@ fn enter_home(through: Option<Through>, entered: usize) -> Next
 fn is_away(through: Option<Through>, answers: &[Answer]) -> bool
     ensures { result ≡ is_away through answers.now }
 {
-    let entered = entered(answers);
+    let enter_count = enter_count(answers);
     let home = home_depth(through);
-    1 + home <= entered && entered - home - 1 == left(answers)
+    1 + home <= enter_count && enter_count - home - 1 == exit_count(answers)
 }
 
 /// The step that reads a row or lists a table.
@@ -176,7 +176,7 @@ fn access(
 fn leaving(answers: &[Answer], done: DoneText) -> Next
     ensures { result ≡ leaving answers.now done }
 {
-    if entered(answers) == left(answers) {
+    if enter_count(answers) == exit_count(answers) {
         Next::Done(done)
     } else {
         Next::Exit
@@ -195,7 +195,7 @@ fn wanting(
 {
     match want {
         Want::Ask(mark) => Ok(access(tables, through, answers, table_of(mark), reading(mark))),
-        Want::Finish(outcome) => match outcome.writes.as_slice().get(kept(answers)) {
+        Want::Finish(outcome) => match outcome.writes.as_slice().get(put_count(answers)) {
             None => Ok(leaving(answers, outcome.done)),
             Some(write) => {
                 let write = write.copied(alloc)?;
@@ -210,11 +210,11 @@ fn wanting(
 pub fn fixed_step(through: Option<Through>, answers: &[Answer]) -> Option<Next>
     ensures { result ≡ fixed_step through answers.now }
 {
-    let entered = entered(answers);
-    if entered < home_depth(through) {
-        return Some(enter_home(through, entered));
+    let enter_count = enter_count(answers);
+    if enter_count < home_depth(through) {
+        return Some(enter_home(through, enter_count));
     }
-    if is_away(through, answers) && !is_fresh(answers) {
+    if is_away(through, answers) && !has_just_entered(answers) {
         return Some(Next::Exit);
     }
     None
@@ -243,8 +243,8 @@ pub fn next_step(
 /// # Errors
 /// `OutOfMemory` exactly where that stopped the action.
 pub fn want_of(alloc: Global, came: Result<Outcome, Stop>) -> Result<Want, OutOfMemory>
-    ensures want { IfOk result (λ want. (left : List Answer) (walked : Walked Outcome) →
-        HasCome came left walked → want ≡ wanted walked) }
+    ensures want { IfOk result (λ want. (exit_count : List Answer) (walked : Walked Outcome) →
+        HasCome came exit_count walked → want ≡ wanted walked) }
     ensures memory { IfErr result (λ _. came ≡ Err stop.OutOfMemory) }
 {
     match came {
