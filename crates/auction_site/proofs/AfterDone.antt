@@ -10,7 +10,7 @@ use Rattle.auction_rules.specs.declared.refusal.RuleRefusal.{RuleRefusal}
 use Rattle.auction_rules.specs.declared.refusal.RuleRefusal.TheVariants.{AuctionOver, OwnItem, BidTooLow, NotSold, NotAllowed, AlreadyGiven}
 use Rattle.auction_rules.specs.Rules.{is_open, is_sold, bid_refusal, feedback_refusal, IsOnASide, IsRunning}
 use Rattle.auction_site.specs.Done.{IsOver}
-use Rattle.auction_site.specs.Outcomes.{ended, sold_to, with_bid, with_given}
+use Rattle.auction_site.specs.Outcomes.{after_close, sold_to, with_bid, with_given}
 
 -- a number is itself
 same_number : (n : ℕ) → (n == n) ≡ true
@@ -30,8 +30,8 @@ closed_is_over item = record {
   close = rw (same_number item.seller) refl;
 }
 
-pub ended_is_over : (item : ItemRow) → IsOver (ended item)
-ended_is_over item = by_bid (item.best == 0)
+pub after_close_is_over : (item : ItemRow) → IsOver (after_close item)
+after_close_is_over item = by_bid (item.best == 0)
   where
     by_bid : (none : Bool) → IsOver (cond none (record item { state = Closed }) (sold_to item item.best_bidder))
     by_bid true = closed_is_over item

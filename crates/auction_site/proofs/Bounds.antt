@@ -7,7 +7,7 @@ use Rattle.std.specs.List.{list_all}
 use Rattle.std.specs.Str.{is_utf8}
 use Rattle.crash_base.specs.Names.{is_name_byte}
 use Rattle.sha2.proofs.Facts256.{length-sha256}
-use Rattle.auction_rows.specs.Bounds.{are_few, is_user, is_name, is_item, is_category, is_feedback}
+use Rattle.auction_rows.specs.Bounds.{fits_a_row, is_user, is_name, is_item, is_category, is_feedback}
 use Rattle.auction_rows.specs.Spelling.{u64_bytes, user_bytes, name_bytes, item_bytes, category_bytes, feedback_bytes}
 use Rattle.auction_rows.specs.declared.rows.CategoryRow.{CategoryRow}
 use Rattle.auction_rows.specs.declared.rows.FeedbackRow.{FeedbackRow}
@@ -18,14 +18,14 @@ use Rattle.auction_rows.specs.declared.rows.UserRow.{UserRow}
 use Rattle.auction_calls.specs.Calls.{is_between, is_text, is_user_name}
 use Rattle.auction_calls.proofs.Names.{user_name_utf8}
 use Rattle.auction_rows.proofs.Sizes.{user_size, user_bounds, name_bounds, item_bounds, category_bounds, feedback_bounds}
-use Rattle.auction_site.specs.Outcomes.{Offer, new_user, digest_of, new_item, with_items, with_bid, sold_to, ended, with_feedback, with_given}
+use Rattle.auction_site.specs.Outcomes.{Offer, new_user, digest_of, new_item, with_items, with_bid, sold_to, after_close, with_feedback, with_given}
 
 pub number_length : (n : ℕ) → length (u64_bytes n) ≡ 8
 unfolding u64_bytes
 number_length n = refl
 
 -- few bytes, by their number
-pub are_few_of : (bytes : List ℕ) (size : ℕ) → length bytes ≡ size → size ≤ 4096 → are_few bytes ≡ true
+pub are_few_of : (bytes : List ℕ) (size : ℕ) → length bytes ≡ size → size ≤ 4096 → fits_a_row bytes ≡ true
 are_few_of bytes size is few = let less : length bytes ≤ 4096 = omega (arith, is, few) in grind (arith, nat_tests)
 
 -- an item with the same title
@@ -36,7 +36,7 @@ same_item item other same is =
 -- a user with the same name, salt and digest
 pub same_user : (user other : UserRow) → other.name ≡ user.name → other.salt ≡ user.salt → other.digest ≡ user.digest → is_user user ≡ true → is_user other ≡ true
 same_user user other name salt digest is =
-    let two = and_parts (is_utf8 user.name) (are_few (user_bytes user)) is in
+    let two = and_parts (is_utf8 user.name) (fits_a_row (user_bytes user)) is in
     let less : length (user_bytes user) ≤ 4096 = let fact = two.1 in grind (arith, nat_tests) in
     both_true (rw name two.0)
     (are_few_of (user_bytes other) (14 + (length other.name + (length other.salt + length other.digest))) (user_size other)
@@ -48,8 +48,8 @@ with_bid_is item bidder amount is = same_item item (with_bid item bidder amount)
 pub sold_to_is : (item : ItemRow) (buyer : ℕ) → is_item item ≡ true → is_item (sold_to item buyer) ≡ true
 sold_to_is item buyer is = same_item item (sold_to item buyer) refl is
 
-pub ended_is : (item : ItemRow) → is_item item ≡ true → is_item (ended item) ≡ true
-ended_is item is = same_item item (ended item) (by_bid (item.best == 0)) is
+pub after_close_is : (item : ItemRow) → is_item item ≡ true → is_item (after_close item) ≡ true
+after_close_is item is = same_item item (after_close item) (by_bid (item.best == 0)) is
   where
     by_bid : (none : Bool) → (cond none (record item { state = Closed }) (sold_to item item.best_bidder)).title ≡ item.title
     by_bid true = refl
@@ -115,20 +115,20 @@ name_is name is =
 
 -- an item has few bytes
 pub few_item : (item : ItemRow) → is_item item ≡ true → nat_le (length (item_bytes item)) 4096 ≡ true
-few_item item is = (and_parts (is_utf8 item.title) (are_few (item_bytes item)) is).1
+few_item item is = (and_parts (is_utf8 item.title) (fits_a_row (item_bytes item)) is).1
 
 -- a user has few bytes
 pub few_user : (user : UserRow) → is_user user ≡ true → nat_le (length (user_bytes user)) 4096 ≡ true
-few_user user is = (and_parts (is_utf8 user.name) (are_few (user_bytes user)) is).1
+few_user user is = (and_parts (is_utf8 user.name) (fits_a_row (user_bytes user)) is).1
 
 -- a name has few bytes
 pub few_name : (name : NameRow) → is_name name ≡ true → nat_le (length (name_bytes name)) 4096 ≡ true
-few_name name is = (and_parts (is_utf8 name.name) (are_few (name_bytes name)) is).1
+few_name name is = (and_parts (is_utf8 name.name) (fits_a_row (name_bytes name)) is).1
 
 -- a category has few bytes
 pub few_category : (category : CategoryRow) → is_category category ≡ true → nat_le (length (category_bytes category)) 4096 ≡ true
-few_category category is = (and_parts (is_utf8 category.name) (are_few (category_bytes category)) is).1
+few_category category is = (and_parts (is_utf8 category.name) (fits_a_row (category_bytes category)) is).1
 
 -- feedback has few bytes
 pub few_feedback : (feedback : FeedbackRow) → is_feedback feedback ≡ true → nat_le (length (feedback_bytes feedback)) 4096 ≡ true
-few_feedback feedback is = (and_parts (is_utf8 feedback.text) (are_few (feedback_bytes feedback)) is).1
+few_feedback feedback is = (and_parts (is_utf8 feedback.text) (fits_a_row (feedback_bytes feedback)) is).1

@@ -10,7 +10,7 @@ use Rattle.auction_rows.specs.Reading.{bid_of, counter_of, item_of}
 use Rattle.auction_rows.specs.Spelling.{item_bytes, bid_bytes, counter_bytes}
 use Rattle.auction_rows.specs.declared.rows.BidRow.{BidRow}
 use Rattle.auction_rows.specs.declared.rows.ItemRow.{ItemRow}
-use Rattle.auction_site.specs.declared.limits.TheConstants.{LAST_SMALL_NUMBER}
+use Rattle.auction_site.specs.declared.limits.TheConstants.{LAST_BID}
 use Rattle.auction_site.specs.Coherent.{row_at, bid_at, count_of, item_count, HasNoBid, HasBest, AreBidsOn, IsCoherentItem, IsCoherent}
 use Rattle.auction_site.specs.Outcomes.{with_bid}
 use Rattle.auction_rows.proofs.ExactRows.{item_exact, bid_exact, counter_exact}
@@ -74,7 +74,7 @@ IsNewOrLess rows number item bid n found =
 
 -- the bids on an item with a bid more, which is of more than the best before
 bids_added : (rows after : List RowWrite) (number : ℕ) (item : ItemRow) (bid : BidRow) → AreBidsOn rows number item → IsBid bid
-    → item.bids < LAST_SMALL_NUMBER → item.best < bid.amount → AddsBid rows after number item bid
+    → item.bids < LAST_BID → item.best < bid.amount → AddsBid rows after number item bid
     → AreBidsOn after number (with_bid item bid.bidder bid.amount)
 bids_added rows after number item bid bids in_range few more adds =
     record { few = omega (arith, few); numbered = numbered; spelled = spelled; differ = differ; best = inr best }
@@ -85,7 +85,7 @@ bids_added rows after number item bid bids in_range few more adds =
     old : (n : ℕ) → n ≢ item.bids + 1 → row_in after (bid_id number n) ≡ row_in rows (bid_id number n)
     old n apart = adds.bids (number * 2 ^ 20 + n) (let other : number * 2 ^ 20 + n ≢ number * 2 ^ 20 + (item.bids + 1) = omega (arith, apart) in other)
 
-    numbered_by : (n : ℕ) (same : Bool) → (n == item.bids + 1) ≡ same → n ≤ LAST_SMALL_NUMBER
+    numbered_by : (n : ℕ) (same : Bool) → (n == item.bids + 1) ≡ same → n ≤ LAST_BID
         → IsSome (row_in after (bid_id number n)) ↔ ((1 ≤ n) × (n ≤ item.bids + 1))
     numbered_by n true same small =
         let one : n ≡ item.bids + 1 = grind (arith, nat_tests) in
@@ -98,7 +98,7 @@ bids_added rows after number item bid bids in_range few more adds =
           λ two. subst IsThere (sym (old n apart)) (before.1 (two.0, let last = two.1 in omega (arith, last, apart))),
         )
 
-    numbered : (n : ℕ) → n ≤ LAST_SMALL_NUMBER → IsSome (row_in after (bid_id number n)) ↔ ((1 ≤ n) × (n ≤ item.bids + 1))
+    numbered : (n : ℕ) → n ≤ LAST_BID → IsSome (row_in after (bid_id number n)) ↔ ((1 ≤ n) × (n ≤ item.bids + 1))
     numbered n small = numbered_by n (n == item.bids + 1) refl small
 
     spelled_by : (n : ℕ) (same : Bool) → (n == item.bids + 1) ≡ same → 1 ≤ n → n ≤ item.bids + 1
@@ -151,7 +151,7 @@ bids_added rows after number item bid bids in_range few more adds =
 
 pub bid_added : (rows after : List RowWrite) (number : ℕ) (item : ItemRow) (bid : BidRow) → IsCoherent rows
     → row_at rows item_of (item_id number) ≡ Some item → IsItem (with_bid item bid.bidder bid.amount) → IsBid bid
-    → item.bids < LAST_SMALL_NUMBER → item.best < bid.amount → AddsBid rows after number item bid → IsCoherent after
+    → item.bids < LAST_BID → item.best < bid.amount → AddsBid rows after number item bid → IsCoherent after
 bid_added rows after number item bid coherent is in_range bid_in_range few more adds =
     changed_coherent rows after number coherent (record {
       item = with_bid item bid.bidder bid.amount;
@@ -231,7 +231,7 @@ item_added rows after number item coherent next low in_range none adds =
     same : (n : ℕ) → SameBids rows after n
     same n m small = adds.bids (n * 2 ^ 20 + m)
 
-    numbered : (n : ℕ) → n ≤ LAST_SMALL_NUMBER → IsSome (row_in after (bid_id number n)) ↔ ((1 ≤ n) × (n ≤ item.bids))
+    numbered : (n : ℕ) → n ≤ LAST_BID → IsSome (row_in after (bid_id number n)) ↔ ((1 ≤ n) × (n ≤ item.bids))
     numbered n small = (
       λ is. let old = coherent.bids (number * 2 ^ 20 + n) (subst IsThere (same number n small) is) in absurd (omega (arith, old, next, small)),
       λ two. let first = two.0 in let last = two.1 in absurd (omega (arith, first, last, no_bid)),

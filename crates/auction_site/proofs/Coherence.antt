@@ -4,7 +4,9 @@ use Rattle.std.proofs.Common.{◌≡◌, ◌≢◌, ◌⊎◌, ◌↔◌, ℕ, �
 use Rattle.std.proofs.lemmas.Bool.Decides.{nat_tests}
 use Rattle.crash_base.specs.declared.row_id.RowId.{RowId}
 use Rattle.crash_base.specs.declared.rows.RowWrite.{RowWrite}
-use Rattle.crash_base.specs.Rows.{row_in}
+use Rattle.crash_base.specs.declared.row_id.TheConstants.{SERVICE_TABLE}
+use Rattle.crash_base.specs.Rows.{put, row_in}
+use Rattle.crash_base.proofs.Ordering.{row_in-put}
 use Rattle.auction_rows.specs.Bounds.{IsCounter}
 use Rattle.auction_rows.specs.Ids.{items_counter, item_id, bid_id}
 use Rattle.auction_rows.specs.Reading.{bid_of, counter_of, item_of}
@@ -12,8 +14,8 @@ use Rattle.auction_rows.specs.declared.rows.BidRow.{BidRow}
 use Rattle.auction_rows.specs.declared.rows.CounterRow.{CounterRow}
 use Rattle.auction_rows.specs.declared.rows.ItemRow.{ItemRow}
 use Rattle.auction_rows.specs.declared.rows.TheConstants.{BID_TABLE}
-use Rattle.auction_site.specs.declared.limits.TheConstants.{LAST_SMALL_NUMBER}
-use Rattle.auction_site.specs.Coherent.{row_at, bid_at, count_of, item_count, HasNoBid, HasBest, AreBidsOn, IsCoherentItem, IsCoherent}
+use Rattle.auction_site.specs.declared.limits.TheConstants.{LAST_BID}
+use Rattle.auction_site.specs.Coherent.{row_at, bid_at, count_of, item_count, HasNoBid, HasBest, AreBidsOn, IsCoherentItem, IsCoherent, AgreeOnItems}
 
 -- a row has bytes
 abbrev pub IsThere : Option (List ℕ) → Type 0
@@ -38,7 +40,7 @@ the_item rows number item coherent is =
 
 -- each bid on an item is the same among other rows
 abbrev pub SameBids : List RowWrite → List RowWrite → ℕ → Type 0
-SameBids rows after number = (n : ℕ) → n ≤ LAST_SMALL_NUMBER → row_in after (bid_id number n) ≡ row_in rows (bid_id number n)
+SameBids rows after number = (n : ℕ) → n ≤ LAST_BID → row_in after (bid_id number n) ≡ row_in rows (bid_id number n)
 
 -- the bids on an item are those on one that has as many, and the same best
 pub bids_moved : (rows after : List RowWrite) (number : ℕ) (item other : ItemRow) → other.bids ≡ item.bids → other.best ≡ item.best
@@ -49,13 +51,13 @@ bids_moved rows after number item other count best bidder same bids =
     within : (n : ℕ) → n ≤ other.bids → n ≤ item.bids
     within n few = omega (arith, count, few)
 
-    small : (n : ℕ) → n ≤ other.bids → n ≤ LAST_SMALL_NUMBER
+    small : (n : ℕ) → n ≤ other.bids → n ≤ LAST_BID
     small n few = let most = bids.few in omega (arith, count, few, most)
 
     moved : (n : ℕ) → n ≤ other.bids → bid_at after number n ≡ bid_at rows number n
     moved n few = ap (option_and_then bid_of) (same n (small n few))
 
-    numbered : (n : ℕ) → n ≤ LAST_SMALL_NUMBER → IsSome (row_in after (bid_id number n)) ↔ ((1 ≤ n) × (n ≤ other.bids))
+    numbered : (n : ℕ) → n ≤ LAST_BID → IsSome (row_in after (bid_id number n)) ↔ ((1 ≤ n) × (n ≤ other.bids))
     numbered n few =
         let old = bids.numbered n few in (
           λ is. let two = old.0 (subst IsThere (same n few) is) in (two.0, omega (arith, count, two.1)),
@@ -106,13 +108,7 @@ count_moved rows after same = ap (λ (o : Option (List ℕ)). count_of (option_a
 abbrev pub bid_key : ℕ → RowId
 bid_key key = record { table = BID_TABLE; key = key }
 
--- items, bids and the counter of items are the same
-pub record AreSame (rows after : List RowWrite) : Type 0 where
-  pub items : (n : ℕ) → row_in after (item_id n) ≡ row_in rows (item_id n)
-  pub bids : (key : ℕ) → row_in after (bid_key key) ≡ row_in rows (bid_key key)
-  pub counter : row_in after items_counter ≡ row_in rows items_counter
-
-pub same_coherent : (rows after : List RowWrite) → AreSame rows after → IsCoherent rows → IsCoherent after
+pub same_coherent : (rows after : List RowWrite) → AgreeOnItems rows after → IsCoherent rows → IsCoherent after
 same_coherent rows after same coherent = record { items = items; bids = bids; counter = counter_moved rows after same.counter coherent.counter }
   where
     items : (number : ℕ) → IsSome (row_in after (item_id number)) → (item : ItemRow) × IsCoherentItem after number item
@@ -126,6 +122,20 @@ same_coherent rows after same coherent = record { items = items; bids = bids; co
         let old = coherent.bids key (subst IsThere (same.bids key) is) in
         let as_many = count_moved rows after same.counter in
         omega (arith, as_many, old)
+
+-- a row of the service's own table is none of another table
+other_table : (w : RowWrite) (rows : List RowWrite) (id : RowId) → w.id.table ≡ SERVICE_TABLE → SERVICE_TABLE ≢ id.table
+    → row_in (put w rows) id ≡ row_in rows id
+other_table w rows id is apart =
+    let other : (w.id.table == id.table) ≡ false = grind (arith, nat_tests) in
+    row_in-put w rows id ∙ rw other refl
+
+pub service_coherent : (rows : List RowWrite) (w : RowWrite) → w.id.table ≡ SERVICE_TABLE → IsCoherent rows → IsCoherent (put w rows)
+service_coherent rows w is = same_coherent rows (put w rows) (record {
+  items = λ n. other_table w rows (item_id n) is (omega arith);
+  bids = λ key. other_table w rows (bid_key key) is (omega arith);
+  counter = other_table w rows items_counter is (omega arith);
+})
 
 -- Rows after others are changed at one item, at its bids, and at the counter of items.
 pub record ChangesAt (rows after : List RowWrite) (number : ℕ) : Type 0 where

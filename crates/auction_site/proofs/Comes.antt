@@ -13,42 +13,42 @@ use Rattle.auction_rows.specs.Parts.{site_parts}
 use Rattle.auction_rows.specs.declared.rows.CounterRow.{CounterRow}
 use Rattle.auction_rows.specs.Reading.{counter_of}
 use Rattle.auction_rules.specs.declared.refusal.RuleRefusal.{RuleRefusal}
-use Rattle.auction_site.specs.Found.{Found, and_then, refused_if, refused_by, spelled, spelled_or, row_or, unspelled, no_row, counted, the_counter, collected, finished}
-use Rattle.auction_site.specs.Pieces.{stops_if, stops_by, reads, reads_or, asks_row_or, reads_none, asks_no_row, reads_count, asks_counter, asks_table, asks_each}
+use Rattle.auction_site.specs.Found.{Found, and_then, refused_if, refused_by, spelled, spelled_or, row_or, absent, no_row, counted, the_counter, collected, finished}
+use Rattle.auction_site.specs.Pieces.{refuses_if, refuses_by, decoded, decoded_or, asks_row_or, none_decoded, asks_no_row, count_decoded, asks_counter, asks_table, asks_each}
 
 -- in so many accesses a plan comes to what the site finds
 abbrev pub Comes : ℕ → Option Through → List RowWrite → Plan Outcome → Found Outcome → Type 0
 Comes n through rows plan found = outcome n site_parts through rows plan ≡ Some (finished found)
 
-pub stops_if_comes : (n : ℕ) (through : Option Through) (rows : List RowWrite) (test : Bool) (done : DoneText)
+pub refuses_if_comes : (n : ℕ) (through : Option Through) (rows : List RowWrite) (test : Bool) (done : DoneText)
     (f : Unit {0} → Plan Outcome) (g : Unit {0} → Found Outcome)
     → (test ≡ false → Comes n through rows (f tt) (g tt))
-    → Comes n through rows (stops_if test done >>= f) (and_then (refused_if test done) g)
-unfolding stops_if ◌>>=◌
-stops_if_comes n through rows true done f g later = refl
-stops_if_comes n through rows false done f g later = later refl
+    → Comes n through rows (refuses_if test done >>= f) (and_then (refused_if test done) g)
+unfolding refuses_if ◌>>=◌
+refuses_if_comes n through rows true done f g later = refl
+refuses_if_comes n through rows false done f g later = later refl
 
-pub stops_by_comes : (n : ℕ) (through : Option Through) (rows : List RowWrite) (refusal : Option RuleRefusal)
+pub refuses_by_comes : (n : ℕ) (through : Option Through) (rows : List RowWrite) (refusal : Option RuleRefusal)
     (f : Unit {0} → Plan Outcome) (g : Unit {0} → Found Outcome)
     → (refusal ≡ None → Comes n through rows (f tt) (g tt))
-    → Comes n through rows (stops_by refusal >>= f) (and_then (refused_by refusal) g)
-unfolding stops_by ◌>>=◌
-stops_by_comes n through rows None f g later = later refl
-stops_by_comes n through rows (Some refusal) f g later = refl
+    → Comes n through rows (refuses_by refusal >>= f) (and_then (refused_by refusal) g)
+unfolding refuses_by ◌>>=◌
+refuses_by_comes n through rows None f g later = later refl
+refuses_by_comes n through rows (Some refusal) f g later = refl
 
 pub reads_comes : {T : Type 0} (n : ℕ) (through : Option Through) (rows : List RowWrite) (id : RowId) (row : Option T)
     (f : T → Plan Outcome) (g : T → Found Outcome)
     → ((x : T) → row ≡ Some x → Comes n through rows (f x) (g x))
-    → Comes n through rows (reads id row >>= f) (and_then (spelled id row) g)
-unfolding reads ◌>>=◌
+    → Comes n through rows (decoded id row >>= f) (and_then (spelled id row) g)
+unfolding decoded ◌>>=◌
 reads_comes n through rows id None f g later = refl
 reads_comes n through rows id (Some x) f g later = later x refl
 
 reads_or_comes : {T : Type 0} (n : ℕ) (through : Option Through) (rows : List RowWrite) (spells : List ℕ → Option T) (id : RowId)
     (missing : DoneText) (bytes : Option (List ℕ)) (f : T → Plan Outcome) (g : T → Found Outcome)
     → ((bytes : List ℕ) (x : T) → spells bytes ≡ Some x → Comes n through rows (f x) (g x))
-    → Comes n through rows (reads_or spells id missing bytes >>= f) (and_then (spelled_or spells id missing bytes) g)
-unfolding reads_or ◌>>=◌
+    → Comes n through rows (decoded_or spells id missing bytes >>= f) (and_then (spelled_or spells id missing bytes) g)
+unfolding decoded_or ◌>>=◌
 reads_or_comes n through rows spells id missing None f g later = refl
 reads_or_comes n through rows spells id missing (Some bytes) f g later =
     reads_comes n through rows id (spells bytes) f g (later bytes)
@@ -65,13 +65,13 @@ row_comes n through rows spells id missing f g can later =
 reads_none_comes : {T : Type 0} (n : ℕ) (through : Option Through) (rows : List RowWrite) (spells : List ℕ → Option T) (id : RowId)
     (there : DoneText) (bytes : Option (List ℕ)) (f : Unit {0} → Plan Outcome) (g : Unit {0} → Found Outcome)
     → Comes n through rows (f tt) (g tt)
-    → Comes n through rows (reads_none spells id there bytes >>= f) (and_then (unspelled spells id there bytes) g)
-unfolding reads_none reads ◌>>=◌
+    → Comes n through rows (none_decoded spells id there bytes >>= f) (and_then (absent spells id there bytes) g)
+unfolding none_decoded decoded ◌>>=◌
 reads_none_comes n through rows spells id there None f g later = later
 reads_none_comes {T = T} n through rows spells id there (Some bytes) f g later = by_row (spells bytes)
   where
     by_row : (row : Option T)
-        → Comes n through rows ((reads id row >>= λ x. Refuses there) >>= f) (and_then (and_then (spelled id row) (λ x. Err there)) g)
+        → Comes n through rows ((decoded id row >>= λ x. Refuses there) >>= f) (and_then (and_then (spelled id row) (λ x. Err there)) g)
     by_row None = refl
     by_row (Some x) = refl
 
@@ -87,13 +87,13 @@ no_row_comes n through rows spells id there f g can later =
 reads_count_comes : (n : ℕ) (through : Option Through) (rows : List RowWrite) (id : RowId) (bytes : Option (List ℕ))
     (f : ℕ → Plan Outcome) (g : ℕ → Found Outcome)
     → ((x : ℕ) → Comes n through rows (f x) (g x))
-    → Comes n through rows (reads_count id bytes >>= f) (and_then (counted id bytes) g)
-unfolding reads_count reads ◌>>=◌
+    → Comes n through rows (count_decoded id bytes >>= f) (and_then (counted id bytes) g)
+unfolding count_decoded decoded ◌>>=◌
 reads_count_comes n through rows id None f g later = later 0
 reads_count_comes n through rows id (Some bytes) f g later = by_row (counter_of bytes)
   where
     by_row : (row : Option CounterRow)
-        → Comes n through rows ((reads id row >>= λ x. Gives x.count) >>= f) (and_then (and_then (spelled id row) (λ x. Ok x.count)) g)
+        → Comes n through rows ((decoded id row >>= λ x. Gives x.count) >>= f) (and_then (and_then (spelled id row) (λ x. Ok x.count)) g)
     by_row None = refl
     by_row (Some x) = later x.count
 

@@ -1,22 +1,26 @@
 -- Each action that writes is taken exactly where it may be.
 use Rattle.std.proofs.Common.{◌≡◌, ◌≢◌, ◌⊎◌, ◌↔◌, ℕ, ◌+◌, ◌-◌, ◌^◌, ◌==◌, ◌≤◌, ◌<◌, nat_le, not, Bool, true, false, List, None, Ok, refl, ap, sym, inl, inr, arith}
+use Rattle.std.specs.Str.{bytes_eq}
 use Rattle.std.proofs.lemmas.Bool.Decides.{nat_tests}
+use Rattle.std.proofs.lemmas.Slice.Eq.{bytes_eq-Decides}
 use Rattle.crash_base.specs.declared.rows.RowWrite.{RowWrite}
 use Rattle.action_plans.specs.declared.plan.Outcome.{Outcome}
 use Rattle.auction_rows.specs.declared.rows.ItemRow.{ItemRow}
 use Rattle.auction_rows.specs.declared.rows.ItemState.TheVariants.{Running, Sold}
+use Rattle.auction_rows.specs.declared.rows.NameRow.{NameRow}
 use Rattle.auction_rows.specs.declared.rows.UserRow.{UserRow}
 use Rattle.auction_rows.specs.Ids.{user_id, name_id, users_counter, items_counter, categories_counter, category_counter, item_id, category_id}
 use Rattle.auction_rows.specs.Reading.{user_of, name_of, item_of, category_of}
 use Rattle.auction_rules.specs.Rules.{bid_refusal, buy_refusal, close_refusal, feedback_refusal, other_side, IsRunning, IsTooLow, IsNotForSale, IsOnASide, HasGiven}
-use Rattle.auction_site.specs.declared.limits.TheConstants.{LAST_NUMBER, LAST_SMALL_NUMBER, CATEGORY_KEEPER}
-use Rattle.auction_site.specs.Answers.{sign_in_first, not_there, no_more_numbers, name_taken, not_allowed, bad_buy_now, no_such_category}
+use Rattle.auction_site.specs.declared.limits.TheConstants.{LAST_NUMBER, LAST_BID, LAST_FEEDBACK, CATEGORY_EDITOR}
+use Rattle.auction_site.specs.Answers.{sign_in_first, not_there, no_more_numbers, name_taken, not_allowed, bad_buy_now, no_such_category, wrong_password}
 use Rattle.auction_site.specs.Found.{Found, refused_if, refused_by, row_or, the_row, no_row, the_counter}
-use Rattle.auction_site.specs.Outcomes.{Offer, registered, category_added, offered, bid_made, bought, closed, feedback_given}
-use Rattle.auction_site.specs.Rules.{register, add_category, sells_too_low, sell, bid, buy, close, give_feedback}
-use Rattle.auction_site.specs.Taken.{MayRegister, MayAddCategory, MaySell, MayBid, MayBuy, MayClose, MayGiveFeedback}
+use Rattle.auction_site.specs.Outcomes.{Offer, digest_of, registered, category_added, offered, bid_made, bought, closed, feedback_given, signed_in}
+use Rattle.auction_site.specs.Rules.{register, sign_in, add_category, sells_too_low, sell, bid, buy, close, give_feedback}
+use Rattle.auction_site.specs.Accepted.{MayRegister, MaySignIn, MayAddCategory, MaySell, MayBid, MayBuy, MayClose, MayGiveFeedback}
 use Rattle.auction_site.proofs.Finding.{if_found, by_found, row_found}
-use Rattle.auction_site.proofs.Taking.{split_found, then_found, if_passes, by_passes, row_is_found, no_row_found, no_row_is_found, counter_counts, counter_is_found}
+use Rattle.auction_site.proofs.Signing.{equal_bytes}
+use Rattle.auction_site.proofs.Accepting.{split_found, then_found, if_passes, by_passes, row_is_found, no_row_found, no_row_is_found, counter_counts, counter_is_found}
 
 -- what is found
 abbrev gives : {A : Type 0} → A → Found A
@@ -40,17 +44,17 @@ next_is : (n : ℕ) → n < 2 ^ 32 - 1 → nat_le LAST_NUMBER n ≡ false
 next_is n few = grind (arith, nat_tests)
 
 -- a small one
-pub has_small_next : (n : ℕ) → nat_le LAST_SMALL_NUMBER n ≡ false → n < 2 ^ 20 - 1
+pub has_small_next : (n : ℕ) → nat_le LAST_BID n ≡ false → n < 2 ^ 20 - 1
 has_small_next n test = grind (arith, nat_tests)
 
-small_next_is : (n : ℕ) → n < 2 ^ 20 - 1 → nat_le LAST_SMALL_NUMBER n ≡ false
+small_next_is : (n : ℕ) → n < 2 ^ 20 - 1 → nat_le LAST_BID n ≡ false
 small_next_is n few = grind (arith, nat_tests)
 
-pub register_taken : (name password : List ℕ) (fresh now : ℕ) (rows : List RowWrite) (outcome : Outcome)
+pub register_accepted : (name password : List ℕ) (fresh now : ℕ) (rows : List RowWrite) (outcome : Outcome)
     → (register name password fresh now rows ≡ Ok outcome)
     ↔ ((users : ℕ) × MayRegister rows name users × (outcome ≡ registered name password fresh now (users + 1)))
 unfolding register
-register_taken name password fresh now rows outcome = (to, from)
+register_accepted name password fresh now rows outcome = (to, from)
   where
     to : register name password fresh now rows ≡ Ok outcome
         → (users : ℕ) × MayRegister rows name users × (outcome ≡ registered name password fresh now (users + 1))
@@ -77,23 +81,23 @@ register_taken name password fresh now rows outcome = (to, from)
         then_found (refused_if (nat_le LAST_NUMBER users) no_more_numbers) _ tt (Ok outcome) (if_passes (nat_le LAST_NUMBER users) no_more_numbers (next_is users may.few))
         (ap Ok (sym all.2))))
 
-pub add_category_taken : (user : ℕ) (name : List ℕ) (rows : List RowWrite) (outcome : Outcome)
+pub add_category_accepted : (user : ℕ) (name : List ℕ) (rows : List RowWrite) (outcome : Outcome)
     → (add_category user name rows ≡ Ok outcome)
     ↔ ((categories : ℕ) × MayAddCategory rows user categories × (outcome ≡ category_added name (categories + 1)))
 unfolding add_category
-add_category_taken user name rows outcome = (to, from)
+add_category_accepted user name rows outcome = (to, from)
   where
     to : add_category user name rows ≡ Ok outcome
         → (categories : ℕ) × MayAddCategory rows user categories × (outcome ≡ category_added name (categories + 1))
     to is =
         let signed = split_found (refused_if (user == 0) sign_in_first) _ outcome is in
-        let keeps = split_found (refused_if (not (user == CATEGORY_KEEPER)) not_allowed) _ outcome signed.2 in
+        let keeps = split_found (refused_if (not (user == CATEGORY_EDITOR)) not_allowed) _ outcome signed.2 in
         let categories = split_found (the_counter rows categories_counter) _ outcome keeps.2 in
         let numbered = split_found (refused_if (nat_le LAST_NUMBER categories.0) no_more_numbers) _ outcome categories.2 in
-        let keeper : not (user == CATEGORY_KEEPER) ≡ false = if_found (not (user == CATEGORY_KEEPER)) not_allowed keeps.0 keeps.1 in (
+        let keeper : not (user == CATEGORY_EDITOR) ≡ false = if_found (not (user == CATEGORY_EDITOR)) not_allowed keeps.0 keeps.1 in (
           categories.0,
           record {
-            keeper = grind (arith, nat_tests);
+            editor = grind (arith, nat_tests);
             counted = counter_counts rows categories_counter categories.0 categories.1;
             few = has_next categories.0 (if_found (nat_le LAST_NUMBER categories.0) no_more_numbers numbered.0 numbered.1);
           },
@@ -105,11 +109,11 @@ add_category_taken user name rows outcome = (to, from)
     from all =
         let categories : ℕ = all.0 in
         let may = all.1 in
-        let keeper = may.keeper in
+        let keeper = may.editor in
         let signed : (user == 0) ≡ false = grind (arith, nat_tests) in
-        let keeps : not (user == CATEGORY_KEEPER) ≡ false = grind (arith, nat_tests) in
+        let keeps : not (user == CATEGORY_EDITOR) ≡ false = grind (arith, nat_tests) in
         then_found (refused_if (user == 0) sign_in_first) _ tt (Ok outcome) (if_passes (user == 0) sign_in_first signed) (
-        then_found (refused_if (not (user == CATEGORY_KEEPER)) not_allowed) _ tt (Ok outcome) (if_passes (not (user == CATEGORY_KEEPER)) not_allowed keeps) (
+        then_found (refused_if (not (user == CATEGORY_EDITOR)) not_allowed) _ tt (Ok outcome) (if_passes (not (user == CATEGORY_EDITOR)) not_allowed keeps) (
         then_found (the_counter rows categories_counter) _ categories (Ok outcome) (counter_is_found rows categories_counter categories may.counted) (
         then_found (refused_if (nat_le LAST_NUMBER categories) no_more_numbers) _ tt (Ok outcome) (if_passes (nat_le LAST_NUMBER categories) no_more_numbers (next_is categories may.few))
         (ap Ok (sym all.2)))))
@@ -132,10 +136,10 @@ IsOffered rows seller now offer outcome =
     (items : ℕ) × (entries : ℕ) × (user : UserRow) × MaySell rows seller offer items entries user
     × (outcome ≡ offered seller now offer (items + 1) (entries + 1) user)
 
-pub sell_taken : (seller now : ℕ) (offer : Offer) (rows : List RowWrite) (outcome : Outcome)
+pub sell_accepted : (seller now : ℕ) (offer : Offer) (rows : List RowWrite) (outcome : Outcome)
     → (sell seller now offer rows ≡ Ok outcome) ↔ IsOffered rows seller now offer outcome
 unfolding sell
-sell_taken seller now offer rows outcome = (to, from)
+sell_accepted seller now offer rows outcome = (to, from)
   where
     to : sell seller now offer rows ≡ Ok outcome → IsOffered rows seller now offer outcome
     to is =
@@ -189,11 +193,11 @@ abbrev BidRule : Type 0
 BidRule = (item : ItemRow) (user amount now : ℕ)
     → (bid_refusal item user amount now ≡ None) ↔ (IsRunning item now × (item.seller ≢ user) × (¬ IsTooLow item amount))
 
-pub bid_taken : BidRule → (user now number amount : ℕ) (rows : List RowWrite) (outcome : Outcome)
+pub bid_accepted : BidRule → (user now number amount : ℕ) (rows : List RowWrite) (outcome : Outcome)
     → (bid user now number amount rows ≡ Ok outcome)
     ↔ ((item : ItemRow) × MayBid rows user now number amount item × (outcome ≡ bid_made user now number amount item))
 unfolding bid
-bid_taken exact user now number amount rows outcome = (to, from)
+bid_accepted exact user now number amount rows outcome = (to, from)
   where
     to : bid user now number amount rows ≡ Ok outcome
         → (item : ItemRow) × MayBid rows user now number amount item × (outcome ≡ bid_made user now number amount item)
@@ -201,7 +205,7 @@ bid_taken exact user now number amount rows outcome = (to, from)
         let signed = split_found (refused_if (user == 0) sign_in_first) _ outcome is in
         let item = split_found (the_row rows item_of (item_id number)) _ outcome signed.2 in
         let allowed = split_found (refused_by (bid_refusal item.0 user amount now)) _ outcome item.2 in
-        let numbered = split_found (refused_if (nat_le LAST_SMALL_NUMBER item.0.bids) no_more_numbers) _ outcome allowed.2 in
+        let numbered = split_found (refused_if (nat_le LAST_BID item.0.bids) no_more_numbers) _ outcome allowed.2 in
         let may = (exact item.0 user amount now).0 (by_found (bid_refusal item.0 user amount now) allowed.0 allowed.1) in (
           item.0,
           record {
@@ -210,7 +214,7 @@ bid_taken exact user now number amount rows outcome = (to, from)
             running = may.0;
             other = may.1;
             enough = may.2;
-            few = has_small_next item.0.bids (if_found (nat_le LAST_SMALL_NUMBER item.0.bids) no_more_numbers numbered.0 numbered.1);
+            few = has_small_next item.0.bids (if_found (nat_le LAST_BID item.0.bids) no_more_numbers numbered.0 numbered.1);
           },
           given (bid_made user now number amount item.0) outcome numbered.2,
         )
@@ -224,8 +228,8 @@ bid_taken exact user now number amount rows outcome = (to, from)
         then_found (refused_if (user == 0) sign_in_first) _ tt (Ok outcome) (if_passes (user == 0) sign_in_first (is_zero_not user may.signed)) (
         then_found (the_row rows item_of (item_id number)) _ item (Ok outcome) (row_is_found rows item_of (item_id number) not_there item may.there) (
         then_found (refused_by (bid_refusal item user amount now)) _ tt (Ok outcome) (by_passes (bid_refusal item user amount now) none) (
-        then_found (refused_if (nat_le LAST_SMALL_NUMBER item.bids) no_more_numbers) _ tt (Ok outcome)
-        (if_passes (nat_le LAST_SMALL_NUMBER item.bids) no_more_numbers (small_next_is item.bids may.few))
+        then_found (refused_if (nat_le LAST_BID item.bids) no_more_numbers) _ tt (Ok outcome)
+        (if_passes (nat_le LAST_BID item.bids) no_more_numbers (small_next_is item.bids may.few))
         (ap Ok (sym all.2)))))
 
 -- when no purchase is refused
@@ -233,11 +237,11 @@ abbrev BuyRule : Type 0
 BuyRule = (item : ItemRow) (user now : ℕ)
     → (buy_refusal item user now ≡ None) ↔ (IsRunning item now × (item.seller ≢ user) × (¬ IsNotForSale item))
 
-pub buy_taken : BuyRule → (user now number : ℕ) (rows : List RowWrite) (outcome : Outcome)
+pub buy_accepted : BuyRule → (user now number : ℕ) (rows : List RowWrite) (outcome : Outcome)
     → (buy user now number rows ≡ Ok outcome)
     ↔ ((item : ItemRow) × MayBuy rows user now number item × (outcome ≡ bought user number item))
 unfolding buy
-buy_taken exact user now number rows outcome = (to, from)
+buy_accepted exact user now number rows outcome = (to, from)
   where
     to : buy user now number rows ≡ Ok outcome
         → (item : ItemRow) × MayBuy rows user now number item × (outcome ≡ bought user number item)
@@ -271,10 +275,10 @@ buy_taken exact user now number rows outcome = (to, from)
 abbrev CloseRule : Type 0
 CloseRule = (item : ItemRow) (user : ℕ) → (close_refusal item user ≡ None) ↔ ((item.seller ≡ user) × (item.state ≡ Running))
 
-pub close_taken : CloseRule → (user number : ℕ) (rows : List RowWrite) (outcome : Outcome)
+pub close_accepted : CloseRule → (user number : ℕ) (rows : List RowWrite) (outcome : Outcome)
     → (close user number rows ≡ Ok outcome) ↔ ((item : ItemRow) × MayClose rows user number item × (outcome ≡ closed number item))
 unfolding close
-close_taken exact user number rows outcome = (to, from)
+close_accepted exact user number rows outcome = (to, from)
   where
     to : close user number rows ≡ Ok outcome → (item : ItemRow) × MayClose rows user number item × (outcome ≡ closed number item)
     to is =
@@ -287,7 +291,7 @@ close_taken exact user number rows outcome = (to, from)
             signed = is_not_zero user (if_found (user == 0) sign_in_first signed.0 signed.1);
             there = row_found rows item_of (item_id number) not_there item.0 item.1;
             own = may.0;
-            open_yet = may.1;
+            still_open = may.1;
           },
           given (closed number item.0) outcome allowed.2,
         )
@@ -296,7 +300,7 @@ close_taken exact user number rows outcome = (to, from)
     from all =
         let item : ItemRow = all.0 in
         let may = all.1 in
-        let none : close_refusal item user ≡ None = (exact item user).1 (may.own, may.open_yet) in
+        let none : close_refusal item user ≡ None = (exact item user).1 (may.own, may.still_open) in
         then_found (refused_if (user == 0) sign_in_first) _ tt (Ok outcome) (if_passes (user == 0) sign_in_first (is_zero_not user may.signed)) (
         then_found (the_row rows item_of (item_id number)) _ item (Ok outcome) (row_is_found rows item_of (item_id number) not_there item may.there) (
         then_found (refused_by (close_refusal item user)) _ tt (Ok outcome) (by_passes (close_refusal item user) none)
@@ -313,10 +317,10 @@ IsGiven rows user number good text outcome =
     (item : ItemRow) × (about : UserRow) × MayGiveFeedback rows user number item about
     × (outcome ≡ feedback_given user number good text item about)
 
-pub feedback_taken : FeedbackRule → (user number : ℕ) (good : Bool) (text : List ℕ) (rows : List RowWrite) (outcome : Outcome)
+pub feedback_accepted : FeedbackRule → (user number : ℕ) (good : Bool) (text : List ℕ) (rows : List RowWrite) (outcome : Outcome)
     → (give_feedback user number good text rows ≡ Ok outcome) ↔ IsGiven rows user number good text outcome
 unfolding give_feedback
-feedback_taken exact user number good text rows outcome = (to, from)
+feedback_accepted exact user number good text rows outcome = (to, from)
   where
     to : give_feedback user number good text rows ≡ Ok outcome → IsGiven rows user number good text outcome
     to is =
@@ -325,7 +329,7 @@ feedback_taken exact user number good text rows outcome = (to, from)
         let allowed = split_found (refused_by (feedback_refusal item.0 user)) _ outcome item.2 in
         let about = split_found (the_row rows user_of (user_id (other_side item.0 user))) _ outcome allowed.2 in
         let count : ℕ = about.0.good + about.0.bad in
-        let numbered = split_found (refused_if (nat_le LAST_SMALL_NUMBER count) no_more_numbers) _ outcome about.2 in
+        let numbered = split_found (refused_if (nat_le LAST_FEEDBACK count) no_more_numbers) _ outcome about.2 in
         let may = (exact item.0 user).0 (by_found (feedback_refusal item.0 user) allowed.0 allowed.1) in (
           item.0,
           about.0,
@@ -336,7 +340,7 @@ feedback_taken exact user number good text rows outcome = (to, from)
             side = may.1;
             first = may.2;
             about_there = row_found rows user_of (user_id (other_side item.0 user)) not_there about.0 about.1;
-            few = has_small_next count (if_found (nat_le LAST_SMALL_NUMBER count) no_more_numbers numbered.0 numbered.1);
+            few = has_small_next count (if_found (nat_le LAST_FEEDBACK count) no_more_numbers numbered.0 numbered.1);
           },
           given (feedback_given user number good text item.0 about.0) outcome numbered.2,
         )
@@ -353,6 +357,54 @@ feedback_taken exact user number good text rows outcome = (to, from)
         then_found (refused_by (feedback_refusal item user)) _ tt (Ok outcome) (by_passes (feedback_refusal item user) none) (
         then_found (the_row rows user_of (user_id (other_side item user))) _ about (Ok outcome)
         (row_is_found rows user_of (user_id (other_side item user)) not_there about may.about_there) (
-        then_found (refused_if (nat_le LAST_SMALL_NUMBER count) no_more_numbers) _ tt (Ok outcome)
-        (if_passes (nat_le LAST_SMALL_NUMBER count) no_more_numbers (small_next_is count may.few))
+        then_found (refused_if (nat_le LAST_FEEDBACK count) no_more_numbers) _ tt (Ok outcome)
+        (if_passes (nat_le LAST_FEEDBACK count) no_more_numbers (small_next_is count may.few))
         (ap Ok (sym all.3))))))
+
+pub sign_in_accepted : (name password : List ℕ) (now : ℕ) (rows : List RowWrite) (outcome : Outcome)
+    → (sign_in name password now rows ≡ Ok outcome)
+    ↔ ((found : NameRow) × (user : UserRow) × MaySignIn rows name password found user × (outcome ≡ signed_in name now found.user))
+unfolding sign_in
+sign_in_accepted name password now rows outcome = (to, from)
+  where
+    -- the test of two bytes that are the same
+    same_bytes : (a b : List ℕ) → not (bytes_eq a b) ≡ false → a ≡ b
+    same_bytes a b is = (bytes_eq-Decides a b).0 (by_test (bytes_eq a b) is)
+      where
+        by_test : (same : Bool) → not same ≡ false → same ≡ true
+        by_test true e = refl
+        by_test false e = absurd (cc)
+
+    to : sign_in name password now rows ≡ Ok outcome
+        → (found : NameRow) × (user : UserRow) × MaySignIn rows name password found user × (outcome ≡ signed_in name now found.user)
+    to is =
+        let found = split_found (row_or rows name_of (name_id name) wrong_password) _ outcome is in
+        let named = split_found (refused_if (not (bytes_eq found.0.name name)) wrong_password) _ outcome found.2 in
+        let user = split_found (row_or rows user_of (user_id found.0.user) wrong_password) _ outcome named.2 in
+        let digest : List ℕ = digest_of user.0.salt password in
+        let known = split_found (refused_if (not (bytes_eq digest user.0.digest)) wrong_password) _ outcome user.2 in (
+          found.0,
+          user.0,
+          record {
+            there = row_found rows name_of (name_id name) wrong_password found.0 found.1;
+            same_name = same_bytes found.0.name name (if_found (not (bytes_eq found.0.name name)) wrong_password named.0 named.1);
+            user_there = row_found rows user_of (user_id found.0.user) wrong_password user.0 user.1;
+            known = same_bytes digest user.0.digest (if_found (not (bytes_eq digest user.0.digest)) wrong_password known.0 known.1);
+          },
+          given (signed_in name now found.0.user) outcome known.2,
+        )
+
+    from : ((found : NameRow) × (user : UserRow) × MaySignIn rows name password found user × (outcome ≡ signed_in name now found.user))
+        → sign_in name password now rows ≡ Ok outcome
+    from all =
+        let found : NameRow = all.0 in
+        let user : UserRow = all.1 in
+        let may = all.2 in
+        let digest : List ℕ = digest_of user.salt password in
+        then_found (row_or rows name_of (name_id name) wrong_password) _ found (Ok outcome) (row_is_found rows name_of (name_id name) wrong_password found may.there) (
+        then_found (refused_if (not (bytes_eq found.name name)) wrong_password) _ tt (Ok outcome)
+        (if_passes (not (bytes_eq found.name name)) wrong_password (equal_bytes found.name name may.same_name)) (
+        then_found (row_or rows user_of (user_id found.user) wrong_password) _ user (Ok outcome) (row_is_found rows user_of (user_id found.user) wrong_password user may.user_there) (
+        then_found (refused_if (not (bytes_eq digest user.digest)) wrong_password) _ tt (Ok outcome)
+        (if_passes (not (bytes_eq digest user.digest)) wrong_password (equal_bytes digest user.digest may.known))
+        (ap Ok (sym all.3)))))

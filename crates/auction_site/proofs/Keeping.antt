@@ -13,18 +13,18 @@ use Rattle.auction_rows.specs.declared.rows.TheConstants.{CATEGORY_TABLE}
 use Rattle.auction_rows.specs.Ids.{user_id, name_id, users_counter, items_counter, categories_counter, category_counter, item_id, category_id}
 use Rattle.auction_rows.specs.Reading.{user_of, name_of, item_of, category_of}
 use Rattle.auction_rules.specs.Rules.{bid_refusal, buy_refusal, close_refusal, feedback_refusal, other_side}
-use Rattle.auction_site.specs.declared.limits.TheConstants.{LAST_NUMBER, LAST_SMALL_NUMBER, PAGE_ITEMS, CATEGORY_KEEPER}
+use Rattle.auction_site.specs.declared.limits.TheConstants.{LAST_NUMBER, LAST_BID, LAST_FEEDBACK, PAGE_ITEMS, CATEGORY_EDITOR}
 use Rattle.auction_site.specs.Actions.{offer_of, meaning, site}
 use Rattle.auction_site.specs.Answers.{not_there, sign_in_first, no_more_numbers, name_taken, wrong_password, not_allowed, bad_buy_now, no_such_category}
 use Rattle.auction_site.specs.Coherent.{row_at, item_count, IsCoherent, IsCoherentItem}
 use Rattle.auction_site.specs.Found.{refused_if, refused_by, row_or, the_row, no_row, the_counter, collected}
 use Rattle.auction_site.specs.Numbers.{count_up, count_down}
-use Rattle.auction_site.specs.Outcomes.{Offer, digest_of, new_item, with_given, sold_to, ended, registered, category_added, offered, bid_made, bought, closed, feedback_given}
+use Rattle.auction_site.specs.Outcomes.{Offer, digest_of, new_item, with_given, sold_to, after_close, registered, category_added, offered, bid_made, bought, closed, feedback_given}
 use Rattle.auction_site.specs.Rules.{register, sign_in, category_line, categories, add_category, entry_line, browse, show_item, show_user, own_item_line, show_own_items, sells_too_low, sell, bid, buy, close, give_feedback}
 use Rattle.auction_site.proofs.Finding.{Leaves, then_leaves, if_found, by_found, row_found, counter_found}
 use Rattle.auction_site.proofs.Coherence.{the_item, same_coherent}
 use Rattle.auction_site.proofs.Changes.{replaced, bid_added, item_added}
-use Rattle.auction_site.proofs.Ranges.{call_action, call_numbers, between, IsOffer, offer_is, new_item_range, with_bid_range, sold_to_range, with_given_range, ended_range, ended_same, bid_allowed}
+use Rattle.auction_site.proofs.Ranges.{call_action, call_numbers, between, IsOffer, offer_is, new_item_range, with_bid_range, sold_to_range, with_given_range, after_close_range, after_close_same, bid_allowed}
 use Rattle.auction_site.proofs.Put.{registered_same, category_same, bought_replaces, closed_replaces, given_replaces, bid_row, bid_adds, offer_adds}
 
 register_keeps : (name password : List ℕ) (fresh now : ℕ) (rows : List RowWrite) → IsCoherent rows → Leaves rows (register name password fresh now rows)
@@ -40,7 +40,7 @@ add_category_keeps : (user : ℕ) (name : List ℕ) (rows : List RowWrite) → I
 unfolding add_category
 add_category_keeps user name rows coherent =
     then_leaves rows coherent (refused_if (user == 0) sign_in_first) _ (λ signed f1.
-    then_leaves rows coherent (refused_if (not (user == CATEGORY_KEEPER)) not_allowed) _ (λ allowed f2.
+    then_leaves rows coherent (refused_if (not (user == CATEGORY_EDITOR)) not_allowed) _ (λ allowed f2.
     then_leaves rows coherent (the_counter rows categories_counter) _ (λ categories f3.
     then_leaves rows coherent (refused_if (nat_le LAST_NUMBER categories) no_more_numbers) _ (λ numbered f4.
     same_coherent rows (put_all (category_added name (categories + 1)).writes rows) (category_same rows name (categories + 1)) coherent))))
@@ -111,10 +111,10 @@ bid_keeps user now number amount rows coherent low early less =
     then_leaves rows coherent (refused_if (user == 0) sign_in_first) _ (λ signed f1.
     then_leaves rows coherent (the_row rows item_of (item_id number)) _ (λ item f2.
     then_leaves rows coherent (refused_by (bid_refusal item user amount now)) _ (λ allowed f3.
-    then_leaves rows coherent (refused_if (nat_le LAST_SMALL_NUMBER item.bids) no_more_numbers) _ (λ numbered f4.
+    then_leaves rows coherent (refused_if (nat_le LAST_BID item.bids) no_more_numbers) _ (λ numbered f4.
     let is : row_at rows item_of (item_id number) ≡ Some item = row_found rows item_of (item_id number) not_there item f2 in
-    let test : nat_le LAST_SMALL_NUMBER item.bids ≡ false = if_found (nat_le LAST_SMALL_NUMBER item.bids) no_more_numbers numbered f4 in
-    let few : item.bids < LAST_SMALL_NUMBER = grind (arith, nat_tests) in
+    let test : nat_le LAST_BID item.bids ≡ false = if_found (nat_le LAST_BID item.bids) no_more_numbers numbered f4 in
+    let few : item.bids < LAST_BID = grind (arith, nat_tests) in
     let more : item.best < amount = bid_allowed item user amount now (by_found (bid_refusal item user amount now) allowed f3) in
     let known : IsCoherentItem rows number item = the_item rows number item coherent is in
     bid_added rows (put_all (bid_made user now number amount item).writes rows) number item (bid_row user amount now) coherent is
@@ -141,9 +141,9 @@ close_keeps user number rows coherent =
     then_leaves rows coherent (refused_by (close_refusal item user)) _ (λ allowed f3.
     let is : row_at rows item_of (item_id number) ≡ Some item = row_found rows item_of (item_id number) not_there item f2 in
     let known : IsCoherentItem rows number item = the_item rows number item coherent is in
-    let same = ended_same item in
-    replaced rows (put_all (closed number item).writes rows) number item (ended item) coherent is
-    (ended_range item known.in_range) same.bids same.best same.bidder (closed_replaces rows number item))))
+    let same = after_close_same item in
+    replaced rows (put_all (closed number item).writes rows) number item (after_close item) coherent is
+    (after_close_range item known.in_range) same.bids same.best same.bidder (closed_replaces rows number item))))
 
 give_feedback_keeps : (user number : ℕ) (good : Bool) (text : List ℕ) (rows : List RowWrite) → IsCoherent rows
     → Leaves rows (give_feedback user number good text rows)
@@ -153,7 +153,7 @@ give_feedback_keeps user number good text rows coherent =
     then_leaves rows coherent (the_row rows item_of (item_id number)) _ (λ item f2.
     then_leaves rows coherent (refused_by (feedback_refusal item user)) _ (λ allowed f3.
     then_leaves rows coherent (the_row rows user_of (user_id (other_side item user))) _ (λ about f4.
-    then_leaves rows coherent (refused_if (nat_le LAST_SMALL_NUMBER (about.good + about.bad)) no_more_numbers) _ (λ numbered f5.
+    then_leaves rows coherent (refused_if (nat_le LAST_FEEDBACK (about.good + about.bad)) no_more_numbers) _ (λ numbered f5.
     let is : row_at rows item_of (item_id number) ≡ Some item = row_found rows item_of (item_id number) not_there item f2 in
     let known : IsCoherentItem rows number item = the_item rows number item coherent is in
     replaced rows (put_all (feedback_given user number good text item about).writes rows) number item (with_given item user) coherent is

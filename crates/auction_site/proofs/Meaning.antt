@@ -6,11 +6,17 @@ use Rattle.crash_base.specs.declared.rows.RowWrite.{RowWrite}
 use Rattle.deployment.specs.declared.parts.Parts.{Parts}
 use Rattle.journal_model.specs.declared.entry.CommitEntry.{CommitEntry}
 use Rattle.journal_model.specs.declared.entry.ActionEntry.{ActionEntry}
+use Rattle.journal_model.specs.declared.entry.DoneText.{DoneText}
 use Rattle.journal_model.specs.declared.entry.Entry.{Entry}
 use Rattle.journal_model.specs.declared.entry.Mark.{Mark}
+use Rattle.journal_model.specs.Calls.{Call, entry_of}
 use Rattle.journal_model.specs.Legal.{IsCurrent}
 use Rattle.journal_model.specs.Rows.{rows_after}
 use Rattle.journal_model.specs.Snapshots.{snapshot}
+use Rattle.call_ticket.specs.declared.next.Answer.{Answer}
+use Rattle.call_ticket.specs.declared.next.Next.{Next}
+use Rattle.call_ticket.specs.declared.next.Next.TheVariants as next
+use Rattle.call_ticket.specs.Following.{Follows}
 use Rattle.call_ticket.specs.Runs.{Ran, Makes, run_of}
 use Rattle.call_ticket.proofs.EqualRuns.{serial}
 use Rattle.action_plans.proofs.Driving.{plan_run}
@@ -105,3 +111,22 @@ pub accepted_is_done : (call : ActionCall) (parts : Parts) (rows : List RowWrite
     → IsSome (run_of parts (steps_of call) rows)
 accepted_is_done call parts rows accepted =
     subst (λ p. IsSome (run_of p (steps_of call) rows)) (sym accepted.0) (call_is_done call rows accepted.1)
+
+-- what a call that follows a program to its end has marked and written is what its run gives
+abbrev FollowRule : Type 0
+FollowRule = (parts : Parts) (asks : List Answer → Next) (rows : List RowWrite) (answers : List Answer) (call : Call) (d : DoneText)
+    → IsSome (run_of parts asks rows) → Follows asks rows answers call → asks answers ≡ next.Done d
+    → run_of parts asks rows ≡ Some (record { marks = call.marks; writes = call.writes; done = d })
+
+-- a call that follows its steps to their end has made its entry
+pub followed_is_made : FollowRule → (call : ActionCall) (rows : List RowWrite) (answers : List Answer) (made : Call) (action : ActionEntry)
+    → Spells action.text call → Follows (steps_of call) rows answers made → steps_of call answers ≡ next.Done action.done
+    → IsMade rows (entry_of made (Some action))
+unfolding Makes
+followed_is_made follow_rule call rows answers made action spelled follows asked = record {
+  action = action;
+  is_there = refl;
+  call = call;
+  spelled = spelled;
+  made = follow_rule site_parts (steps_of call) rows answers made action.done (call_is_done call rows spelled.in_ranges) follows asked;
+}

@@ -9,8 +9,9 @@ use Rattle.auction_rows.specs.Spelling.{item_bytes, bid_bytes, counter_bytes}
 use Rattle.auction_rows.specs.declared.rows.BidRow.{BidRow}
 use Rattle.auction_rows.specs.declared.rows.ItemRow.{ItemRow}
 use Rattle.auction_rows.specs.declared.rows.UserRow.{UserRow}
-use Rattle.auction_site.specs.Outcomes.{Offer, row, new_item, with_bid, with_given, sold_to, ended, registered, category_added, offered, bid_made, bought, closed, feedback_given}
-use Rattle.auction_site.proofs.Coherence.{bid_key, AreSame}
+use Rattle.auction_site.specs.Outcomes.{Offer, row, new_item, with_bid, with_given, sold_to, after_close, registered, category_added, offered, bid_made, bought, closed, feedback_given}
+use Rattle.auction_site.specs.Coherent.{AgreeOnItems}
+use Rattle.auction_site.proofs.Coherence.{bid_key}
 use Rattle.auction_site.proofs.Changes.{Replaces, AddsBid, AddsItem}
 
 -- a row that was put at this number
@@ -26,7 +27,7 @@ other_counter : (category : ℕ) (new old : Option (List ℕ)) → cond (2 ^ 32 
 other_counter category new old = let other : (2 ^ 32 + category == 2) ≡ false = grind (arith, nat_tests) in rw other refl
 
 pub registered_same : (rows : List RowWrite) (name password : List ℕ) (fresh now user : ℕ)
-    → AreSame rows (put_all (registered name password fresh now user).writes rows)
+    → AgreeOnItems rows (put_all (registered name password fresh now user).writes rows)
 unfolding registered name_id
 registered_same rows name password fresh now user =
     let ws : List RowWrite = (registered name password fresh now user).writes in
@@ -36,7 +37,7 @@ registered_same rows name password fresh now user =
       counter = row_in-put_all ws rows items_counter;
     }
 
-pub category_same : (rows : List RowWrite) (name : List ℕ) (category : ℕ) → AreSame rows (put_all (category_added name category).writes rows)
+pub category_same : (rows : List RowWrite) (name : List ℕ) (category : ℕ) → AgreeOnItems rows (put_all (category_added name category).writes rows)
 unfolding category_added
 category_same rows name category =
     let ws : List RowWrite = (category_added name category).writes in
@@ -61,9 +62,9 @@ pub bought_replaces : (rows : List RowWrite) (user number : ℕ) (item : ItemRow
 unfolding bought
 bought_replaces rows user number item = item_replaces rows number (sold_to item user)
 
-pub closed_replaces : (rows : List RowWrite) (number : ℕ) (item : ItemRow) → Replaces rows (put_all (closed number item).writes rows) number (ended item)
+pub closed_replaces : (rows : List RowWrite) (number : ℕ) (item : ItemRow) → Replaces rows (put_all (closed number item).writes rows) number (after_close item)
 unfolding closed
-closed_replaces rows number item = item_replaces rows number (ended item)
+closed_replaces rows number item = item_replaces rows number (after_close item)
 
 pub given_replaces : (rows : List RowWrite) (user number : ℕ) (good : Bool) (text : List ℕ) (item : ItemRow) (about : UserRow)
     → Replaces rows (put_all (feedback_given user number good text item about).writes rows) number (with_given item user)

@@ -11,9 +11,9 @@ use Rattle.auction_rows.specs.declared.rows.ItemState.TheVariants.{Closed}
 use Rattle.auction_rules.specs.declared.refusal.RuleRefusal.{RuleRefusal}
 use Rattle.auction_rules.specs.declared.refusal.RuleRefusal.TheVariants.{AuctionOver, OwnItem, BidTooLow}
 use Rattle.auction_rules.specs.Rules.{bid_refusal, is_running, is_too_low}
-use Rattle.auction_site.specs.declared.limits.TheConstants.{LAST_SMALL_NUMBER}
-use Rattle.auction_site.specs.Outcomes.{Offer, new_item, with_bid, sold_to, ended, with_given}
-use Rattle.auction_site.proofs.Bounds.{new_item_is, with_bid_is, sold_to_is, with_given_is, ended_is}
+use Rattle.auction_site.specs.declared.limits.TheConstants.{LAST_BID}
+use Rattle.auction_site.specs.Outcomes.{Offer, new_item, with_bid, sold_to, after_close, with_given}
+use Rattle.auction_site.proofs.Bounds.{new_item_is, with_bid_is, sold_to_is, with_given_is, after_close_is}
 
 -- the numbers of a call
 pub record AreNumbers (call : ActionCall) : Type 0 where
@@ -81,7 +81,7 @@ new_item_range seller now offer low early is = record {
   buyer = omega arith;
 }
 
-pub with_bid_range : (item : ItemRow) (bidder amount : ℕ) → IsItem item → bidder < 2 ^ 32 → amount < 2 ^ 64 → item.bids < LAST_SMALL_NUMBER
+pub with_bid_range : (item : ItemRow) (bidder amount : ℕ) → IsItem item → bidder < 2 ^ 32 → amount < 2 ^ 64 → item.bids < LAST_BID
     → IsItem (with_bid item bidder amount)
 with_bid_range item bidder amount is low less few = record {
   within = with_bid_is item bidder amount is.within;
@@ -141,8 +141,8 @@ closed_range item true is within = record {
 }
 closed_range item false is within = sold_to_range item item.best_bidder is is.best_bidder
 
-pub ended_range : (item : ItemRow) → IsItem item → IsItem (ended item)
-ended_range item is = closed_range item (item.best == 0) is (ended_is item is.within)
+pub after_close_range : (item : ItemRow) → IsItem item → IsItem (after_close item)
+after_close_range item is = closed_range item (item.best == 0) is (after_close_is item is.within)
 
 -- an item that is the same in its bids
 pub record HasSameBids (item other : ItemRow) : Type 0 where
@@ -150,8 +150,8 @@ pub record HasSameBids (item other : ItemRow) : Type 0 where
   pub best : other.best ≡ item.best
   pub bidder : other.best_bidder ≡ item.best_bidder
 
-pub ended_same : (item : ItemRow) → HasSameBids item (ended item)
-ended_same item = by_bid (item.best == 0)
+pub after_close_same : (item : ItemRow) → HasSameBids item (after_close item)
+after_close_same item = by_bid (item.best == 0)
   where
     by_bid : (none : Bool) → HasSameBids item (cond none (record item { state = Closed }) (sold_to item item.best_bidder))
     by_bid true = record { bids = refl; best = refl; bidder = refl }

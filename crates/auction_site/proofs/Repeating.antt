@@ -1,5 +1,5 @@
 -- Only a purchase enters a component by a method that may not be called again.
-use Rattle.std.proofs.Common.{◌≡◌, ◌≢◌, ℕ, ◌==◌, ◌&&◌, ◌||◌, nat_lt, not, Bool, true, false, cond, List, [], ◌∷◌, Option, Some, None, refl, ap, sym, subst, slice_get, option_map, find}
+use Rattle.std.proofs.Common.{◌≡◌, ◌≢◌, ℕ, ◌==◌, ◌&&◌, ◌||◌, nat_lt, not, Bool, true, false, cond, List, [], ◌∷◌, Option, Some, None, refl, ap, sym, subst, slice_get, option_map, find, ◌∙◌}
 use Rattle.std.specs.List.{list_all}
 use Rattle.crash_base.specs.declared.numbers.ComponentNo.{ComponentNo}
 use Rattle.crash_base.specs.declared.rows.RowWrite.{RowWrite}
@@ -17,7 +17,7 @@ use Rattle.action_plans.specs.declared.plan.Through.{Through}
 use Rattle.action_plans.specs.declared.plan.Want.{Want}
 use Rattle.action_plans.specs.declared.plan.Want.TheVariants as want
 use Rattle.action_plans.specs.Plans.{Plan, walk, wanted}
-use Rattle.action_plans.specs.Steps.{entered, left, kept, home_depth, enter_home, is_away, is_home, is_fresh, access_in, reading, table_of, putting, wanting, program_of, reads_in}
+use Rattle.action_plans.specs.Steps.{enter_count, exit_count, put_count, home_depth, enter_home, is_away, is_home, has_just_entered, access_in, reading, table_of, putting, wanting, program_of, reads_in}
 use Rattle.auction_calls.specs.declared.action.Action.{Action}
 use Rattle.auction_calls.specs.declared.action.Action.TheVariants as action
 use Rattle.auction_calls.specs.declared.action.ActionCall.{ActionCall}
@@ -80,22 +80,22 @@ reading_repeats (Table t) = refl
 
 putting_repeats : (through : Option Through) (answers : List Answer) (done : DoneText) (w : Option RowWrite)
     → Repeats (putting site_tables through answers done w)
-putting_repeats through answers done None = either (entered answers == left answers) (next.Done done) next.Exit refl refl
+putting_repeats through answers done None = either (enter_count answers == exit_count answers) (next.Done done) next.Exit refl refl
 putting_repeats through answers done (Some w) =
     access_repeats through answers (owner_of site_tables w.id.table) (next.Put w) (owner_of_site w.id.table) refl
 
 wanting_repeats : (through : Option Through) (answers : List Answer) (w : Want) → Repeats (wanting site_tables through answers w)
 wanting_repeats through answers (want.Ask m) =
     access_repeats through answers (owner_of site_tables (table_of m)) (reading m) (owner_of_site (table_of m)) (reading_repeats m)
-wanting_repeats through answers (want.Finish o) = putting_repeats through answers o.done (slice_get o.writes (kept answers))
+wanting_repeats through answers (want.Finish o) = putting_repeats through answers o.done (slice_get o.writes (put_count answers))
 
 -- the steps of a program, where its home may be entered again
 program_repeats : (through : Option Through) (plan : Plan Outcome) (answers : List Answer) → home_repeats through ≡ true
     → Repeats (program_of site_tables through plan answers)
 program_repeats through plan answers is =
     let w : Want = wanted (walk plan (reads_in answers)) in
-    either (nat_lt (entered answers) (home_depth through)) (enter_home through (entered answers)) _ (enter_repeats through (entered answers) is)
-    (either (is_away through answers && not (is_fresh answers)) next.Exit (wanting site_tables through answers w) refl (wanting_repeats through answers w))
+    either (nat_lt (enter_count answers) (home_depth through)) (enter_home through (enter_count answers)) _ (enter_repeats through (enter_count answers) is)
+    (either (is_away through answers && not (has_just_entered answers)) next.Exit (wanting site_tables through answers w) refl (wanting_repeats through answers w))
 
 home_of_action : (a : Action) → ((item : ℕ) → a ≢ action.Buy item) → home_repeats (through_of a) ≡ true
 unfolding site_components
@@ -122,10 +122,22 @@ others_repeat call answers other = program_repeats (through_of call.action) (pla
 
 -- the second step of what goes through Purchases by its method `buy`
 buying : (plan : Plan Outcome) → may_repeat site_parts (program_of site_tables (through 6 1) plan (Entered ∷ [])) ≡ false
-unfolding entered site_components
+unfolding enter_count site_components
 buying plan = refl
 
 pub buy_does_not : (call : ActionCall) (item : ℕ) → call.action ≡ action.Buy item → may_repeat site_parts (steps_of call (Entered ∷ [])) ≡ false
 buy_does_not call item is =
     let P : Option Through → Type 0 = λ t. may_repeat site_parts (program_of site_tables t (plan_of call) (Entered ∷ [])) ≡ false in
     subst P (sym (ap through_of is)) (buying (plan_of call))
+
+-- the second step of an action that goes through a component
+second_step : (component method : ℕ) (plan : Plan Outcome)
+    → program_of site_tables (through component method) plan (Entered ∷ []) ≡ next.Enter (record { 0 = component }) method
+unfolding enter_count
+second_step component method plan = refl
+
+pub goes_through : (call : ActionCall) (a : Action) (component method : ℕ) → through_of a ≡ through component method → call.action ≡ a
+    → steps_of call (Entered ∷ []) ≡ next.Enter (record { 0 = component }) method
+goes_through call a component method by is =
+    let P : Option Through → Type 0 = λ t. program_of site_tables t (plan_of call) (Entered ∷ []) ≡ next.Enter (record { 0 = component }) method in
+    subst P (sym (ap through_of is ∙ by)) (second_step component method (plan_of call))

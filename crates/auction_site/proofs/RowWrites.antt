@@ -1,11 +1,15 @@
--- What comes of each action writes rows of their tables.
-use Rattle.std.proofs.Common.{◌≡◌, ℕ, ◌+◌, ◌^◌, ◌<◌, Bool, true, false, cond, List, [], ◌∷◌, Option, Some, None, All, refl, subst, arith, option_and_then}
+-- What comes of each action writes rows of their tables, in bytes.
+use Rattle.std.proofs.Common.{◌≡◌, ℕ, zero, suc, ◌+◌, ◌^◌, ◌<◌, Bool, true, false, cond, List, [], ◌∷◌, ◌++◌, Option, Some, None, All, refl, subst, arith, option_and_then}
 use Rattle.std.proofs.lemmas.List.Elements.{All-nil, All-cons, All-head, All-tail}
+use Rattle.std.specs.Prelude.{slice_index}
+use Rattle.sha2.specs.Sha256.{digest_bytes, final_hash, initial_hash_256, sha256}
 use Rattle.crash_base.specs.declared.row_id.RowId.{RowId}
 use Rattle.crash_base.specs.declared.rows.RowWrite.{RowWrite}
 use Rattle.crash_base.specs.RowId.{same_id}
 use Rattle.crash_base.specs.Rows.{row_in}
 use Rattle.auction_calls.specs.Calls.{is_text, is_user_name}
+use Rattle.byte_fields.proofs.FieldBytes.{append_are, u32_are, u64_are}
+use Rattle.auction_rows.specs.declared.rows.AuctionRow.{AuctionRow}
 use Rattle.auction_rows.specs.declared.rows.AuctionRow.TheVariants as a
 use Rattle.auction_rows.specs.declared.rows.BidRow.{BidRow}
 use Rattle.auction_rows.specs.declared.rows.CategoryRow.{CategoryRow}
@@ -16,18 +20,19 @@ use Rattle.auction_rows.specs.declared.rows.ItemRow.{ItemRow}
 use Rattle.auction_rows.specs.declared.rows.NameRow.{NameRow}
 use Rattle.auction_rows.specs.declared.rows.OwnItemRow.{OwnItemRow}
 use Rattle.auction_rows.specs.declared.rows.UserRow.{UserRow}
-use Rattle.auction_rows.specs.Bounds.{AreBytes, IsItem, IsUser}
-use Rattle.auction_rows.specs.Ids.{user_id, name_id, item_id}
-use Rattle.auction_rows.specs.Reading.{user_of, item_of}
-use Rattle.auction_rows.specs.Spelling.{u64_bytes, user_bytes, item_bytes}
-use Rattle.auction_rows.proofs.ExactRows.{user_exact, item_exact}
+use Rattle.auction_rows.specs.Bounds.{AreBytes, IsItem, IsName, IsRow, IsUser}
+use Rattle.auction_rows.specs.Ids.{user_id, name_id, item_id, category_id, bid_id, entry_id, feedback_id, own_item_id}
+use Rattle.auction_rows.specs.Reading.{user_of, name_of, item_of}
+use Rattle.auction_rows.specs.Spelling.{u32_bytes, u64_bytes, user_bytes, item_bytes, row_bytes, table_of}
+use Rattle.auction_rows.proofs.ExactRows.{item_exact, name_exact}
+use Rattle.auction_rows.proofs.RowBytes.{IsUserOfBytes, user_are, user_read, name_are, counter_are, item_are, category_are, bid_are, entry_are, feedback_are, own_item_are}
 use Rattle.auction_rules.specs.Rules.{other_side}
-use Rattle.auction_site.specs.declared.limits.TheConstants.{LAST_SMALL_NUMBER}
+use Rattle.auction_site.specs.declared.limits.TheConstants.{LAST_BID, LAST_FEEDBACK}
 use Rattle.auction_site.specs.Coherent.{row_at}
-use Rattle.auction_site.specs.Outcomes.{Offer, row, counter_row, new_user, new_item, with_items, registered, category_added, offered, bid_made, with_bid, bought, sold_to, closed, ended, feedback_given, with_feedback, with_given}
+use Rattle.auction_site.specs.Outcomes.{Offer, row, counter_row, new_user, new_item, with_items, registered, category_added, offered, bid_made, with_bid, bought, sold_to, closed, after_close, feedback_given, with_feedback, with_given}
 use Rattle.auction_site.specs.Written.{HaveBytes, SpellsARow}
 use Rattle.auction_site.proofs.Bounds.{with_items_is, with_feedback_is, category_is, feedback_is, name_is}
-use Rattle.auction_site.proofs.Ranges.{with_bid_range, sold_to_range, with_given_range, ended_range}
+use Rattle.auction_site.proofs.Ranges.{with_bid_range, sold_to_range, with_given_range, after_close_range}
 use Rattle.auction_site.proofs.Signing.{new_user_range}
 
 -- the bytes of a row among rows of bytes
@@ -50,46 +55,79 @@ in_bounds {T = T} Bounds spells exact rows id x all is = by_bytes (row_in rows i
     by_bytes None at e = absurd (cc)
     by_bytes (Some bytes) at e = exact bytes x (bytes_in rows id bytes all at) e
 
-pub user_in_bounds : (rows : List RowWrite) (id : RowId) (user : UserRow) → HaveBytes rows → row_at rows user_of id ≡ Some user → IsUser user
-user_in_bounds = in_bounds IsUser user_of (λ bytes x are is. (user_exact.takes bytes x are is).0)
+pub user_in_bounds : (rows : List RowWrite) (id : RowId) (user : UserRow) → HaveBytes rows → row_at rows user_of id ≡ Some user → IsUserOfBytes user
+user_in_bounds = in_bounds IsUserOfBytes user_of user_read
+
+pub name_in_bounds : (rows : List RowWrite) (id : RowId) (name : NameRow) → HaveBytes rows → row_at rows name_of id ≡ Some name → IsName name
+name_in_bounds = in_bounds IsName name_of (λ bytes x are is. (name_exact.takes bytes x are is).0)
 
 pub item_in_bounds : (rows : List RowWrite) (id : RowId) (item : ItemRow) → HaveBytes rows → row_at rows item_of id ≡ Some item → IsItem item
 item_in_bounds = in_bounds IsItem item_of (λ bytes x are is. (item_exact.takes bytes x are is).0)
 
--- each of these writes spells a row
+-- a write spells a row, in numbers that bytes may be
+pub record SpellsInBytes (w : RowWrite) : Type 0 where
+  pub spells : SpellsARow w
+  pub are : AreBytes w.bytes
+
+-- each of these writes does
 abbrev pub EachSpells : List RowWrite → Type 0
 EachSpells [] = Unit {0}
-EachSpells (w ∷ ws) = SpellsARow w × EachSpells ws
+EachSpells (w ∷ ws) = SpellsInBytes w × EachSpells ws
 
-pub all_spell : (ws : List RowWrite) → EachSpells ws → All SpellsARow ws
-all_spell [] each = All-nil SpellsARow
-all_spell (w ∷ ws) each = All-cons SpellsARow w ws each.0 (all_spell ws each.1)
+pub all_spell : (ws : List RowWrite) → EachSpells ws → All SpellsInBytes ws
+all_spell [] each = All-nil SpellsInBytes
+all_spell (w ∷ ws) each = All-cons SpellsInBytes w ws each.0 (all_spell ws each.1)
 
-counter_spells : (key count : ℕ) → count < 2 ^ 64 → SpellsARow (counter_row (record { table = 3; key = key }) count)
+-- a row, in its bytes
+row_spells : (id : RowId) (any : AuctionRow) → id.table ≡ table_of any → IsRow any → AreBytes (row_bytes any) → SpellsInBytes (row id (row_bytes any))
+row_spells id any table is are = record {
+  spells = (any, record { table_is = table; in_range = is; bytes_are = refl });
+  are = are;
+}
+
+counter_spells : (key count : ℕ) → count < 2 ^ 64 → SpellsInBytes (counter_row (record { table = 3; key = key }) count)
 counter_spells key count few =
     let counter : CounterRow = record { count = count } in
-    (a.Counter counter, record { table_is = refl; in_range = record { count = few }; bytes_are = refl })
+    row_spells (record { table = 3; key = key }) (a.Counter counter) refl (record { count = few }) (counter_are counter)
 
-user_spells : (number : ℕ) (user : UserRow) → IsUser user → SpellsARow (row (user_id number) (user_bytes user))
-user_spells number user is = (a.User user, record { table_is = refl; in_range = is; bytes_are = refl })
+user_spells : (number : ℕ) (user : UserRow) → IsUserOfBytes user → SpellsInBytes (row (user_id number) (user_bytes user))
+user_spells number user is = row_spells (user_id number) (a.User user) refl is.within (user_are user is)
 
-item_spells : (number : ℕ) (item : ItemRow) → IsItem item → SpellsARow (row (item_id number) (item_bytes item))
-item_spells number item is = (a.Item item, record { table_is = refl; in_range = is; bytes_are = refl })
+item_spells : (number : ℕ) (item : ItemRow) → IsItem item → SpellsInBytes (row (item_id number) (item_bytes item))
+item_spells number item is = row_spells (item_id number) (a.Item item) refl is (item_are item is.within)
 
 -- a number below 2^32 is one of a counter
 small : (n : ℕ) → n < 2 ^ 32 → n < 2 ^ 64
 small n few = omega (arith, few)
+
+-- the bytes of a digest
+words_are : (words : List ℕ) (size : ℕ) → AreBytes (digest_bytes words size)
+unfolding digest_bytes u32_bytes
+words_are words zero = All-nil (λ byte. byte < 2 ^ 8)
+words_are words (suc size) = append_are (digest_bytes words size) (u32_bytes (slice_index words size)) (words_are words size) (u32_are (slice_index words size))
+
+digest_are : (message : List ℕ) → AreBytes (sha256 message)
+unfolding sha256
+digest_are message = words_are (final_hash initial_hash_256 message) 8
+
+new_user_of_bytes : (name password : List ℕ) (fresh : ℕ) → is_user_name name ≡ true → IsUserOfBytes (new_user name password (u64_bytes fresh))
+new_user_of_bytes name password fresh is = record {
+  within = new_user_range name password fresh is;
+  salt = u64_are fresh;
+  digest = digest_are (u64_bytes fresh ++ password);
+}
 
 pub registered_writes : (name password : List ℕ) (fresh now user : ℕ) → is_user_name name ≡ true → user < 2 ^ 32
     → EachSpells (registered name password fresh now user).writes
 unfolding registered name_id
 registered_writes name password fresh now user is low =
     let known : UserRow = new_user name password (u64_bytes fresh) in
-    let named : NameRow = record { name = name; user = user } in (
+    let named : NameRow = record { name = name; user = user } in
+    let named_is = name_is named is in (
       counter_spells 1 user (small user low),
       (
-        user_spells user known (new_user_range name password fresh is),
-        ((a.Name named, record { table_is = refl; in_range = record { within = name_is named is; user = low }; bytes_are = refl }), tt),
+        user_spells user known (new_user_of_bytes name password fresh is),
+        (row_spells (name_id name) (a.Name named) refl (record { within = named_is; user = low }) (name_are named named_is), tt),
       ),
     )
 
@@ -97,12 +135,13 @@ pub category_writes : (name : List ℕ) (category : ℕ) → is_text 1 40 name �
     → EachSpells (category_added name category).writes
 unfolding category_added
 category_writes name category is low =
-    let added : CategoryRow = record { name = name } in (
+    let added : CategoryRow = record { name = name } in
+    let added_is = category_is added is in (
       counter_spells 3 category (small category low),
-      ((a.Category added, record { table_is = refl; in_range = record { within = category_is added is }; bytes_are = refl }), tt),
+      (row_spells (category_id category) (a.Category added) refl (record { within = added_is }) (category_are added added_is), tt),
     )
 
-with_items_range : (user : UserRow) (items : ℕ) → IsUser user → items < 2 ^ 32 → IsUser (with_items user items)
+pub with_items_range : (user : UserRow) (items : ℕ) → IsUser user → items < 2 ^ 32 → IsUser (with_items user items)
 with_items_range user items is few = record {
   within = with_items_is user items is.within;
   salt = is.salt;
@@ -112,8 +151,15 @@ with_items_range user items is few = record {
   items = few;
 }
 
+with_items_of_bytes : (user : UserRow) (items : ℕ) → IsUserOfBytes user → items < 2 ^ 32 → IsUserOfBytes (with_items user items)
+with_items_of_bytes user items is few = record {
+  within = with_items_range user items is.within few;
+  salt = is.salt;
+  digest = is.digest;
+}
+
 pub offered_writes : (seller now : ℕ) (offer : Offer) (item entry : ℕ) (user : UserRow) → IsItem (new_item seller now offer)
-    → item < 2 ^ 32 → entry < 2 ^ 32 → IsUser user → user.items + 1 < 2 ^ 32
+    → item < 2 ^ 32 → entry < 2 ^ 32 → IsUserOfBytes user → user.items + 1 < 2 ^ 32
     → EachSpells (offered seller now offer item entry user).writes
 unfolding offered
 offered_writes seller now offer item entry user is low entry_low user_is few =
@@ -125,10 +171,10 @@ offered_writes seller now offer item entry user is low entry_low user_is few =
         (
           item_spells item (new_item seller now offer) is,
           (
-            (a.Entry listed, record { table_is = refl; in_range = record { item = low }; bytes_are = refl }),
+            row_spells (entry_id offer.category entry) (a.Entry listed) refl (record { item = low }) (entry_are listed),
             (
-              user_spells seller (with_items user (user.items + 1)) (with_items_range user (user.items + 1) user_is few),
-              ((a.OwnItem own, record { table_is = refl; in_range = record { item = low }; bytes_are = refl }), tt),
+              user_spells seller (with_items user (user.items + 1)) (with_items_of_bytes user (user.items + 1) user_is few),
+              (row_spells (own_item_id seller (user.items + 1)) (a.OwnItem own) refl (record { item = low }) (own_item_are own), tt),
             ),
           ),
         ),
@@ -136,11 +182,11 @@ offered_writes seller now offer item entry user is low entry_low user_is few =
     )
 
 pub bid_writes : (user now number amount : ℕ) (item : ItemRow) → IsItem item → user < 2 ^ 32 → now < 2 ^ 64 → amount < 2 ^ 64
-    → item.bids < LAST_SMALL_NUMBER → EachSpells (bid_made user now number amount item).writes
+    → item.bids < LAST_BID → EachSpells (bid_made user now number amount item).writes
 unfolding bid_made
 bid_writes user now number amount item is low early less few =
     let made : BidRow = record { bidder = user; amount = amount; moment = record { 0 = now } } in (
-      (a.Bid made, record { table_is = refl; in_range = record { bidder = low; amount = less; moment = early }; bytes_are = refl }),
+      row_spells (bid_id number (item.bids + 1)) (a.Bid made) refl (record { bidder = low; amount = less; moment = early }) (bid_are made),
       (item_spells number (with_bid item user amount) (with_bid_range item user amount is low less few), tt),
     )
 
@@ -151,9 +197,9 @@ bought_writes user number item is low =
 
 pub closed_writes : (number : ℕ) (item : ItemRow) → IsItem item → EachSpells (closed number item).writes
 unfolding closed
-closed_writes number item is = (item_spells number (ended item) (ended_range item is), tt)
+closed_writes number item is = (item_spells number (after_close item) (after_close_range item is), tt)
 
-with_feedback_range : (user : UserRow) (good : Bool) → IsUser user → user.good + user.bad < LAST_SMALL_NUMBER → IsUser (with_feedback user good)
+pub with_feedback_range : (user : UserRow) (good : Bool) → IsUser user → user.good + user.bad < LAST_FEEDBACK → IsUser (with_feedback user good)
 with_feedback_range user true is few = record {
   within = with_feedback_is user true is.within;
   salt = is.salt;
@@ -171,15 +217,28 @@ with_feedback_range user false is few = record {
   items = is.items;
 }
 
+with_feedback_of_bytes : (user : UserRow) (good : Bool) → IsUserOfBytes user → user.good + user.bad < LAST_FEEDBACK → IsUserOfBytes (with_feedback user good)
+with_feedback_of_bytes user true is few = record {
+  within = with_feedback_range user true is.within few;
+  salt = is.salt;
+  digest = is.digest;
+}
+with_feedback_of_bytes user false is few = record {
+  within = with_feedback_range user false is.within few;
+  salt = is.salt;
+  digest = is.digest;
+}
+
 pub feedback_writes : (user number : ℕ) (good : Bool) (text : List ℕ) (item : ItemRow) (about : UserRow)
-    → is_text 0 200 text ≡ true → user < 2 ^ 32 → number < 2 ^ 32 → IsItem item → IsUser about → about.good + about.bad < LAST_SMALL_NUMBER
+    → is_text 0 200 text ≡ true → user < 2 ^ 32 → number < 2 ^ 32 → IsItem item → IsUserOfBytes about → about.good + about.bad < LAST_FEEDBACK
     → EachSpells (feedback_given user number good text item about).writes
 unfolding feedback_given
 feedback_writes user number good text item about is low item_low item_is about_is few =
-    let said : FeedbackRow = record { from = user; item = number; good = good; text = text } in (
-      (a.Feedback said, record { table_is = refl; in_range = record { within = feedback_is said is; from = low; item = item_low }; bytes_are = refl }),
+    let said : FeedbackRow = record { from = user; item = number; good = good; text = text } in
+    let said_is = feedback_is said is in (
+      row_spells (feedback_id (other_side item user) (about.good + about.bad + 1)) (a.Feedback said) refl (record { within = said_is; from = low; item = item_low }) (feedback_are said said_is),
       (
-        user_spells (other_side item user) (with_feedback about good) (with_feedback_range about good about_is few),
+        user_spells (other_side item user) (with_feedback about good) (with_feedback_of_bytes about good about_is few),
         (item_spells number (with_given item user) (with_given_range item user item_is), tt),
       ),
     )

@@ -20,8 +20,8 @@ use Rattle.auction_site.specs.Numbers.{count_up, count_down}
 use Rattle.auction_site.specs.Outcomes.{digest_of, category_link, categories_shown, priced_link, category_shown, item_link, user_items_shown}
 use Rattle.auction_site.specs.Planned.{sign_in_plan, category_link_plan, categories_plan, entry_link_plan, browse_plan, show_item_plan, show_user_plan, own_item_link_plan, show_own_items_plan}
 use Rattle.auction_site.specs.Rules.{sign_in, category_line, categories, entry_line, browse, show_item, show_user, own_item_line, show_own_items}
-use Rattle.auction_site.specs.Pieces.{reads, asks_row, asks_each}
-use Rattle.auction_site.proofs.Comes.{Comes, stops_if_comes, reads_comes, row_comes, counter_comes, table_comes, join_comes, spent, each_comes}
+use Rattle.auction_site.specs.Pieces.{decoded, asks_row, asks_each}
+use Rattle.auction_site.proofs.Comes.{Comes, refuses_if_comes, reads_comes, row_comes, counter_comes, table_comes, join_comes, spent, each_comes}
 use Rattle.page_text.specs.declared.page_line.PageLine.{PageLine}
 
 -- an answer without writes, in any number of accesses
@@ -33,9 +33,9 @@ pub sign_in_comes : (name password : List ℕ) (now : ℕ) (rows : List RowWrite
 unfolding outcome_of sign_in_plan sign_in site_components site_references site_tables name_id
 sign_in_comes name password now rows =
     row_comes 40 None rows name_of (name_id name) wrong_password _ _ refl (λ bytes found is.
-    stops_if_comes 40 None rows (not (bytes_eq found.name name)) wrong_password _ _ (λ named.
+    refuses_if_comes 40 None rows (not (bytes_eq found.name name)) wrong_password _ _ (λ named.
     row_comes 39 None rows user_of (user_id found.user) wrong_password _ _ refl (λ bytes user is.
-    stops_if_comes 39 None rows (not (bytes_eq (digest_of user.salt password) user.digest)) wrong_password _ _ (λ known. refl))))
+    refuses_if_comes 39 None rows (not (bytes_eq (digest_of user.salt password) user.digest)) wrong_password _ _ (λ known. refl))))
 
 category_link_comes : (rows : List RowWrite) (row : RowWrite) (n : ℕ) (f : PageLine → Plan Outcome) (g : PageLine → Found Outcome)
     → ((line : PageLine) → Comes n None rows (f line) (g line))
@@ -43,7 +43,7 @@ category_link_comes : (rows : List RowWrite) (row : RowWrite) (n : ℕ) (f : Pag
 unfolding category_link_plan ◌>>=◌
 category_link_comes rows row n f g later =
     let link = λ (category : CategoryRow). category_link row.id.key category in
-    join_comes n None rows (reads row.id (category_of row.bytes)) (λ c. Gives (link c)) f
+    join_comes n None rows (decoded row.id (category_of row.bytes)) (λ c. Gives (link c)) f
     (spelled row.id (category_of row.bytes)) (λ c. Ok (link c)) g
     (reads_comes n None rows row.id (category_of row.bytes) (λ c. f (link c)) (λ c. g (link c)) (λ c is. later (link c)))
 
@@ -130,7 +130,7 @@ pub show_own_items_comes : (number : ℕ) (rows : List RowWrite)
     → outcome_of site_parts None rows (show_own_items_plan number) ≡ Some (finished (show_own_items number rows))
 unfolding outcome_of show_own_items_plan show_own_items site_components site_references site_tables
 show_own_items_comes number rows =
-    stops_if_comes 41 None rows (number == 0) sign_in_first _ _ (λ signed.
+    refuses_if_comes 41 None rows (number == 0) sign_in_first _ _ (λ signed.
     row_comes 40 None rows user_of (user_id number) not_there _ _ refl (λ bytes user is.
     few_links 40 rows (own_item_link_plan number) (own_item_line rows number)
     (count_down user.items (min PAGE_ITEMS user.items)) (min PAGE_ITEMS user.items)

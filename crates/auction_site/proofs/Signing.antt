@@ -23,11 +23,11 @@ use Rattle.auction_site.specs.Coherent.{row_at}
 use Rattle.auction_site.specs.Found.{Found, and_then, refused_if, row_or, no_row, the_counter}
 use Rattle.auction_site.specs.Outcomes.{digest_of, new_user, registered, signed_in}
 use Rattle.auction_site.specs.Rules.{register, sign_in}
-use Rattle.auction_site.specs.Taken.{Counts}
+use Rattle.auction_site.specs.Accepted.{Counts}
 use Rattle.auction_site.proofs.Bounds.{number_length, new_user_is, name_is}
 use Rattle.auction_site.proofs.Finding.{if_found}
 use Rattle.auction_site.proofs.Put.{at_here}
-use Rattle.auction_site.proofs.Taking.{split_found, then_found, then_refused, if_passes, if_refuses, row_is_found, counter_is_found}
+use Rattle.auction_site.proofs.Accepting.{split_found, then_found, then_refused, if_passes, if_refuses, row_is_found, counter_is_found}
 
 -- the rows after a user was registered under a number
 abbrev after : List ℕ → List ℕ → ℕ → ℕ → ℕ → List RowWrite → List RowWrite
@@ -65,7 +65,7 @@ user_there name password fresh now user rows is =
     ∙ user_exact.again known (new_user_range name password fresh is)
 
 -- equal bytes are not found to differ
-equal_bytes : (a b : List ℕ) → a ≡ b → not (bytes_eq a b) ≡ false
+pub equal_bytes : (a b : List ℕ) → a ≡ b → not (bytes_eq a b) ≡ false
 equal_bytes a b same = ap not ((bytes_eq-Decides a b).1 same)
 
 -- and others are
@@ -89,11 +89,11 @@ signs_in name password later number rows user done named known last =
     then_found (row_or rows user_of (user_id number) wrong_password) _ user done (row_is_found rows user_of (user_id number) wrong_password user known) last))
 
 -- how a user was registered
-record Registers (name password : List ℕ) (fresh now users : ℕ) (outcome : Outcome) : Type 0 where
-  low : users + 1 < 2 ^ 32
-  same : outcome ≡ registered name password fresh now (users + 1)
+pub record Registers (name password : List ℕ) (fresh now users : ℕ) (outcome : Outcome) : Type 0 where
+  pub low : users + 1 < 2 ^ 32
+  pub same : outcome ≡ registered name password fresh now (users + 1)
 
-registers : (name password : List ℕ) (fresh now users : ℕ) (rows : List RowWrite) (outcome : Outcome)
+pub registers : (name password : List ℕ) (fresh now users : ℕ) (rows : List RowWrite) (outcome : Outcome)
     → register name password fresh now rows ≡ Ok outcome → the_counter rows users_counter ≡ Ok users → Registers name password fresh now users outcome
 unfolding register
 registers name password fresh now users rows outcome is counted =
@@ -166,3 +166,24 @@ wrong_does_not name password other fresh now later rows outcome is taken apart =
     let count = counted_of name password fresh now rows outcome taken in
     signs_after name password other fresh now count.0 later rows outcome _ is taken count.1
     (then_refused (refused_if (not (bytes_eq a b)) wrong_password) _ wrong_password (if_refuses (not (bytes_eq a b)) wrong_password (other_bytes a b apart)))
+
+-- two findings are the same that go on alike
+same_after : {A B : Type 0} (found : Found A) (f g : A → Found B) → ((x : A) → f x ≡ g x) → and_then found f ≡ and_then found g
+same_after (Err done) f g same = refl
+same_after (Ok x) f g same = same x
+
+-- a user is registered by the digest of the password
+registered_by_digest : (name password other : List ℕ) (fresh now user : ℕ) → sha256 (u64_bytes fresh ++ other) ≡ sha256 (u64_bytes fresh ++ password)
+    → registered name other fresh now user ≡ registered name password fresh now user
+unfolding registered
+registered_by_digest name password other fresh now user is = rw is refl
+
+pub password_is_hidden : (name password other : List ℕ) (fresh now : ℕ) (rows : List RowWrite)
+    → sha256 (u64_bytes fresh ++ other) ≡ sha256 (u64_bytes fresh ++ password)
+    → register name other fresh now rows ≡ register name password fresh now rows
+unfolding register
+password_is_hidden name password other fresh now rows is =
+    same_after (no_row rows name_of (name_id name) name_taken) _ _ (λ free.
+    same_after (the_counter rows users_counter) _ _ (λ users.
+    same_after (refused_if (nat_le LAST_NUMBER users) no_more_numbers) _ _ (λ numbered.
+    ap Ok (registered_by_digest name password other fresh now (users + 1) is))))

@@ -12,16 +12,16 @@ use Rattle.auction_rows.specs.Reading.{item_of}
 use Rattle.auction_rules.specs.declared.refusal.RuleRefusal.{RuleRefusal}
 use Rattle.auction_rules.specs.declared.refusal.RuleRefusal.TheVariants.{AuctionOver, OwnItem, BidTooLow, NotForSale, NotSold, NotAllowed, AlreadyGiven}
 use Rattle.auction_rules.specs.Rules.{bid_refusal, is_running, IsRunning, IsTooLow}
-use Rattle.auction_site.specs.declared.limits.TheConstants.{LAST_SMALL_NUMBER}
+use Rattle.auction_site.specs.declared.limits.TheConstants.{LAST_BID}
 use Rattle.auction_site.specs.Answers.{bad_row, sign_in_first, not_there, no_more_numbers, rule_answer}
 use Rattle.auction_site.specs.Coherent.{row_at, IsCoherent, IsTooLowFor}
 use Rattle.auction_site.specs.Found.{Found, and_then, refused_if, refused_by, spelled, spelled_or, the_row}
 use Rattle.auction_site.specs.Rules.{bid}
-use Rattle.auction_site.specs.Taken.{BidsTooLow}
+use Rattle.auction_site.specs.Accepted.{BidsTooLow}
 use Rattle.auction_site.proofs.Exactly.{is_zero_not, is_not_zero}
 use Rattle.auction_site.proofs.Finding.{if_found, row_found}
 use Rattle.auction_site.proofs.LowBids.{low_bids}
-use Rattle.auction_site.proofs.Taking.{then_found, then_refused, if_passes, row_is_found}
+use Rattle.auction_site.proofs.Accepting.{then_found, then_refused, if_passes, row_is_found}
 
 -- the answer that a bid is too low
 abbrev low_answer : DoneText
@@ -129,8 +129,8 @@ answers_too_low low_rule running_rule rows user now number amount coherent some 
           refused (is_not_zero user (if_found (user == 0) sign_in_first signed f1)) item (row_found rows item_of (item_id number) not_there item f2)
               (by_refused (bid_refusal item user amount now) e),
         )) (λ allowed f3 e3.
-        refuses (refused_if (nat_le LAST_SMALL_NUMBER item.bids) no_more_numbers) _ low_answer G e3
-        (λ e. absurd (not_numbers (if_refused (nat_le LAST_SMALL_NUMBER item.bids) no_more_numbers low_answer e))) (λ numbered f4 e4. absurd (cc)))))
+        refuses (refused_if (nat_le LAST_BID item.bids) no_more_numbers) _ low_answer G e3
+        (λ e. absurd (not_numbers (if_refused (nat_le LAST_BID item.bids) no_more_numbers low_answer e))) (λ numbered f4 e4. absurd (cc)))))
 
     from : ((item : ItemRow) × BidsTooLow rows user now number amount item) → bid user now number amount rows ≡ Err (rule_answer BidTooLow)
     from all =

@@ -1,5 +1,5 @@
--- Each write of a call spells a row of its table.
-use Rattle.std.proofs.Common.{◌≡◌, ℕ, ◌+◌, ◌-◌, ◌*◌, ◌^◌, ◌==◌, ◌<◌, nat_le, not, min, map, bytes_eq, Bool, true, List, Ok, Err, All, refl, arith}
+-- Each write of a call spells a row of its table, in bytes.
+use Rattle.std.proofs.Common.{◌≡◌, ℕ, ◌+◌, ◌-◌, ◌*◌, ◌^◌, ◌==◌, ◌<◌, nat_le, not, min, map, bytes_eq, Bool, true, List, Ok, Err, refl, arith}
 use Rattle.std.proofs.lemmas.Bool.{and_parts}
 use Rattle.crash_base.specs.declared.rows.RowWrite.{RowWrite}
 use Rattle.journal_model.specs.Snapshots.{table_rows}
@@ -12,18 +12,18 @@ use Rattle.auction_rows.specs.declared.rows.TheConstants.{CATEGORY_TABLE}
 use Rattle.auction_rows.specs.Ids.{user_id, name_id, users_counter, items_counter, categories_counter, category_counter, item_id, category_id}
 use Rattle.auction_rows.specs.Reading.{user_of, name_of, item_of, category_of}
 use Rattle.auction_rules.specs.Rules.{bid_refusal, buy_refusal, close_refusal, feedback_refusal, other_side}
-use Rattle.auction_site.specs.declared.limits.TheConstants.{LAST_NUMBER, LAST_SMALL_NUMBER, PAGE_ITEMS, CATEGORY_KEEPER}
+use Rattle.auction_site.specs.declared.limits.TheConstants.{LAST_NUMBER, LAST_BID, LAST_FEEDBACK, PAGE_ITEMS, CATEGORY_EDITOR}
 use Rattle.auction_site.specs.Actions.{offer_of, meaning, site}
 use Rattle.auction_site.specs.Answers.{not_there, sign_in_first, no_more_numbers, name_taken, wrong_password, not_allowed, bad_buy_now, no_such_category}
 use Rattle.auction_site.specs.Found.{Found, and_then, finished, refused_if, refused_by, row_or, the_row, no_row, the_counter, collected}
 use Rattle.auction_site.specs.Numbers.{count_up, count_down}
 use Rattle.auction_site.specs.Outcomes.{Offer, digest_of}
 use Rattle.auction_site.specs.Rules.{register, sign_in, category_line, categories, add_category, entry_line, browse, show_item, show_user, own_item_line, show_own_items, sells_too_low, sell, bid, buy, close, give_feedback}
-use Rattle.auction_site.specs.Written.{HaveBytes, SpellsARow}
+use Rattle.auction_site.specs.Written.{HaveBytes}
 use Rattle.auction_site.proofs.Exactly.{has_next, has_small_next}
 use Rattle.auction_site.proofs.Finding.{if_found, row_found}
 use Rattle.auction_site.proofs.Ranges.{call_action, call_numbers, between, IsOffer, offer_is, new_item_range}
-use Rattle.auction_site.proofs.RowWrites.{EachSpells, all_spell, user_in_bounds, item_in_bounds, registered_writes, category_writes, offered_writes, bid_writes, bought_writes, closed_writes, feedback_writes}
+use Rattle.auction_site.proofs.RowWrites.{EachSpells, user_in_bounds, item_in_bounds, registered_writes, category_writes, offered_writes, bid_writes, bought_writes, closed_writes, feedback_writes}
 
 -- what comes of this writes rows
 abbrev Writes : Found Outcome → Type 0
@@ -47,7 +47,7 @@ add_category_writes : (user : ℕ) (name : List ℕ) (rows : List RowWrite) → 
 unfolding add_category
 add_category_writes user name rows is =
     then_writes (refused_if (user == 0) sign_in_first) _ (λ signed f1.
-    then_writes (refused_if (not (user == CATEGORY_KEEPER)) not_allowed) _ (λ allowed f2.
+    then_writes (refused_if (not (user == CATEGORY_EDITOR)) not_allowed) _ (λ allowed f2.
     then_writes (the_counter rows categories_counter) _ (λ categories f3.
     then_writes (refused_if (nat_le LAST_NUMBER categories) no_more_numbers) _ (λ numbered f4.
     let few = has_next categories (if_found (nat_le LAST_NUMBER categories) no_more_numbers numbered f4) in
@@ -117,8 +117,8 @@ bid_call_writes user now number amount rows all low early less =
     then_writes (refused_if (user == 0) sign_in_first) _ (λ signed f1.
     then_writes (the_row rows item_of (item_id number)) _ (λ item f2.
     then_writes (refused_by (bid_refusal item user amount now)) _ (λ allowed f3.
-    then_writes (refused_if (nat_le LAST_SMALL_NUMBER item.bids) no_more_numbers) _ (λ numbered f4.
-    let few = has_small_next item.bids (if_found (nat_le LAST_SMALL_NUMBER item.bids) no_more_numbers numbered f4) in
+    then_writes (refused_if (nat_le LAST_BID item.bids) no_more_numbers) _ (λ numbered f4.
+    let few = has_small_next item.bids (if_found (nat_le LAST_BID item.bids) no_more_numbers numbered f4) in
     bid_writes user now number amount item
     (item_in_bounds rows (item_id number) item all (row_found rows item_of (item_id number) not_there item f2))
     low (omega (arith, early)) less (omega (arith, few))))))
@@ -149,8 +149,8 @@ give_feedback_writes user number good text rows all is low item_low =
     then_writes (the_row rows item_of (item_id number)) _ (λ item f2.
     then_writes (refused_by (feedback_refusal item user)) _ (λ allowed f3.
     then_writes (the_row rows user_of (user_id (other_side item user))) _ (λ about f4.
-    then_writes (refused_if (nat_le LAST_SMALL_NUMBER (about.good + about.bad)) no_more_numbers) _ (λ numbered f5.
-    let few = has_small_next (about.good + about.bad) (if_found (nat_le LAST_SMALL_NUMBER (about.good + about.bad)) no_more_numbers numbered f5) in
+    then_writes (refused_if (nat_le LAST_FEEDBACK (about.good + about.bad)) no_more_numbers) _ (λ numbered f5.
+    let few = has_small_next (about.good + about.bad) (if_found (nat_le LAST_FEEDBACK (about.good + about.bad)) no_more_numbers numbered f5) in
     feedback_writes user number good text item about is low item_low
     (item_in_bounds rows (item_id number) item all (row_found rows item_of (item_id number) not_there item f2))
     (user_in_bounds rows (user_id (other_side item user)) about all (row_found rows user_of (user_id (other_side item user)) not_there about f4))
@@ -184,7 +184,7 @@ action_writes call (action.Feedback item good text) rows low early is all =
     give_feedback_writes call.user item good text rows all two.1 low (omega (arith, most))
 action_writes call (action.Form kind) rows low early is all = tt
 
-pub call_writes_rows : (call : ActionCall) (rows : List RowWrite) → is_call call ≡ true → HaveBytes rows → All SpellsARow (site call rows).writes
-call_writes_rows call rows is all =
+pub call_writes : (call : ActionCall) (rows : List RowWrite) → is_call call ≡ true → HaveBytes rows → EachSpells (site call rows).writes
+call_writes call rows is all =
     let numbers = call_numbers call is in
-    all_spell (site call rows).writes (action_writes call call.action rows numbers.user numbers.now (call_action call is) all)
+    action_writes call call.action rows numbers.user numbers.now (call_action call is) all

@@ -10,6 +10,7 @@ use Rattle.call_ticket.specs.declared.next.Next.{Next}
 use Rattle.auction_calls.specs.declared.action.Action.{Action}
 use Rattle.auction_calls.specs.declared.action.Action.TheVariants as action
 use Rattle.auction_calls.specs.declared.action.ActionCall.{ActionCall}
+use Rattle.auction_rows.specs.declared.components.TheConstants.{BIDS, PURCHASES, FEEDBACK, CALL, BUY}
 use Rattle.auction_rows.specs.Parts.{site_parts}
 use Rattle.auction_site.specs.Found.{Found, finished}
 use Rattle.auction_site.specs.Outcomes.{Offer, home, signed_out, form_shown}
@@ -87,10 +88,10 @@ through_of (action.Item item) = None
 through_of (action.User user) = None
 through_of action.About = None
 through_of (action.Sell title category start buy_now hours) = None
-through_of (action.Bid item amount) = through 5 0
-through_of (action.Buy item) = through 6 1
-through_of (action.Close item) = through 6 0
-through_of (action.Feedback item good text) = through 7 0
+through_of (action.Bid item amount) = through BIDS CALL
+through_of (action.Buy item) = through PURCHASES BUY
+through_of (action.Close item) = through PURCHASES CALL
+through_of (action.Feedback item good text) = through FEEDBACK CALL
 through_of (action.Form kind) = None
 
 -- The steps of a call: the program of its plan over the site's tables.

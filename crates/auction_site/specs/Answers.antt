@@ -16,8 +16,8 @@ abbrev pub shows : ℕ → List ℕ → List PageLine → DoneText
 shows status heading lines = record { status = status; page = page_bytes heading lines; session = Keep }
 
 -- an answer after which the session is that of a user
-abbrev pub signs : ℕ → ℕ → List ℕ → List PageLine → DoneText
-signs user now heading lines =
+abbrev pub shows_with_session : ℕ → ℕ → List ℕ → List PageLine → DoneText
+shows_with_session user now heading lines =
     record { status = 200; page = page_bytes heading lines; session = Set (session_bytes user now) }
 
 -- an answer and nothing written

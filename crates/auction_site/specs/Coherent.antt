@@ -11,7 +11,7 @@ use Rattle.auction_rows.specs.declared.rows.ItemRow.{ItemRow}
 use Rattle.auction_rows.specs.declared.rows.TheConstants.{BID_TABLE}
 use Rattle.auction_rows.specs.Ids.{items_counter, item_id, bid_id}
 use Rattle.auction_rows.specs.Reading.{bid_of, counter_of, item_of}
-use Rattle.auction_site.specs.declared.limits.TheConstants.{LAST_SMALL_NUMBER}
+use Rattle.auction_site.specs.declared.limits.TheConstants.{LAST_BID}
 
 -- the row of an id, where it is there and its bytes spell one
 abbrev pub row_at : {T : Type 0} → List RowWrite → (List ℕ → Option T) → RowId → Option T
@@ -44,11 +44,12 @@ pub record HasBest (rows : List RowWrite) (number : ℕ) (item : ItemRow) : Type
   pub amount : item.best ≡ bid.amount
   pub bidder : item.best_bidder ≡ bid.bidder
 
--- The bids on an item have the numbers from 1 to its count of bids. Each is of an amount of its own, and none
--- is of more than the item's best. The best is one of them, or there is no bid.
+-- The bids on an item have the numbers from 1 to its count of bids. Each is of an amount of its own, and none is of
+-- more than the item's best. The item's best and its best bidder are those of one of them, or there is no bid and
+-- both are 0.
 pub record AreBidsOn (rows : List RowWrite) (number : ℕ) (item : ItemRow) : Type 0 where
-  pub few : item.bids ≤ LAST_SMALL_NUMBER
-  pub numbered : (n : ℕ) → n ≤ LAST_SMALL_NUMBER
+  pub few : item.bids ≤ LAST_BID
+  pub numbered : (n : ℕ) → n ≤ LAST_BID
       → IsSome (row_in rows (bid_id number n)) ↔ ((1 ≤ n) × (n ≤ item.bids))
   pub spelled : (n : ℕ) → 1 ≤ n → n ≤ item.bids
       → (bid : BidRow) × (bid_at rows number n ≡ Some bid) × (bid.amount ≤ item.best)
@@ -73,6 +74,20 @@ pub record IsCoherent (rows : List RowWrite) : Type 0 where
       → key / 2 ^ 20 ≤ item_count rows
   pub counter : IsSome (row_in rows items_counter)
       → (counter : CounterRow) × (row_at rows counter_of items_counter ≡ Some counter) × IsCounter counter
+
+-- a bid on an item that is of no less than each other one
+pub record IsGreatestBid (rows : List RowWrite) (number : ℕ) (item : ItemRow) (n : ℕ) (bid : BidRow) : Type 0 where
+  pub from_one : 1 ≤ n
+  pub to_last : n ≤ item.bids
+  pub there : bid_at rows number n ≡ Some bid
+  pub greatest : (m : ℕ) (other : BidRow) → 1 ≤ m → m ≤ item.bids → bid_at rows number m ≡ Some other
+      → other.amount ≤ bid.amount
+
+-- Rows agree with others on the items, the bids and the counter of items.
+pub record AgreeOnItems (rows others : List RowWrite) : Type 0 where
+  pub items : (number : ℕ) → row_in others (item_id number) ≡ row_in rows (item_id number)
+  pub bids : (key : ℕ) → row_in others (record { table = BID_TABLE; key = key }) ≡ row_in rows (record { table = BID_TABLE; key = key })
+  pub counter : row_in others items_counter ≡ row_in rows items_counter
 
 -- An amount is too low for the bids on an item: it is below the start, or some bid is of no less.
 abbrev pub IsTooLowFor : List RowWrite → ℕ → ItemRow → ℕ → Type 0

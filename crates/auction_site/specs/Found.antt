@@ -51,15 +51,15 @@ abbrev pub the_row : {T : Type 0} → List RowWrite → (List ℕ → Option T) 
 the_row rows spells id = row_or rows spells id not_there
 
 -- no bytes; refused with this answer where they spell a row, and else as a bad row
-abbrev pub unspelled : {T : Type 0} → (List ℕ → Option T) → RowId → DoneText
+abbrev pub absent : {T : Type 0} → (List ℕ → Option T) → RowId → DoneText
     → Option (List ℕ) → Found (Unit {0})
-unspelled spells id there None = Ok tt
-unspelled spells id there (Some bytes) = spelled id (spells bytes) >>= λ row. Err there
+absent spells id there None = Ok tt
+absent spells id there (Some bytes) = spelled id (spells bytes) >>= λ row. Err there
 
 -- no row of an id is among rows; refused with this answer where it is there
 abbrev pub no_row : {T : Type 0} → List RowWrite → (List ℕ → Option T) → RowId → DoneText
     → Found (Unit {0})
-no_row rows spells id there = unspelled spells id there (row_in rows id)
+no_row rows spells id there = absent spells id there (row_in rows id)
 
 -- the count that these bytes spell, if there are any, and else 0
 abbrev pub counted : RowId → Option (List ℕ) → Found ℕ

@@ -8,7 +8,9 @@ pub mod Planned
 pub mod Actions
 pub mod Coherent
 pub mod Done
-pub mod Taken
+pub mod Accepted
 pub mod Repeated
 pub mod Meant
 pub mod Written
+pub mod Sessions
+pub mod Offered

@@ -25,6 +25,6 @@ pub record Means (rows : List RowWrite) (entry : CommitEntry) (action : ActionEn
   pub writes : entry.writes ≡ (site call rows).writes
   pub answers : action.done ≡ (site call rows).done
 
--- A commit is meant over these rows: its action, if it has one, means it.
+-- A commit is meant over these rows: where it has an action, it is what the site means by the call of the text.
 abbrev pub IsMeant : List RowWrite → CommitEntry → Type 0
 IsMeant rows entry = (action : ActionEntry) → entry.action ≡ Some action → Means rows entry action

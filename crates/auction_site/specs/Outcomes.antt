@@ -17,7 +17,7 @@ use Rattle.auction_rows.specs.Ids.{user_id, name_id, users_counter, items_counte
 use Rattle.auction_rows.specs.Spelling.{u64_bytes, user_bytes, name_bytes, counter_bytes, item_bytes, category_bytes, bid_bytes, entry_bytes, feedback_bytes, own_item_bytes}
 use Rattle.auction_rules.specs.Rules.{other_side}
 use Rattle.auction_site.specs.declared.limits.TheConstants.{HOUR}
-use Rattle.auction_site.specs.Answers.{shows, signs, answered}
+use Rattle.auction_site.specs.Answers.{shows, shows_with_session, answered}
 use Rattle.page_text.specs.declared.page_line.PageLine.{PageLine}
 use Rattle.page_text.specs.declared.page_line.PageLine.TheVariants.{Para, Link, Form}
 
@@ -61,16 +61,16 @@ registered name password fresh now user = record {
       counter_row users_counter user
       ∷ row (user_id user) (user_bytes (new_user name password (u64_bytes fresh)))
       ∷ row (name_id name) (name_bytes (record { name = name; user = user })) ∷ [];
-  done = signs user now (codes "Welcome " ++ name) [];
+  done = shows_with_session user now (codes "Welcome " ++ name) [];
 }
 
 -- Sign in: the session is that of the user.
 abbrev pub signed_in : List ℕ → ℕ → ℕ → Outcome
-signed_in name now user = answered (signs user now (codes "Welcome " ++ name) [])
+signed_in name now user = answered (shows_with_session user now (codes "Welcome " ++ name) [])
 
 -- Sign out: the session is that of no user.
 abbrev pub signed_out : ℕ → Outcome
-signed_out now = answered (signs 0 now (codes "Signed out") [])
+signed_out now = answered (shows_with_session 0 now (codes "Signed out") [])
 
 -- a link to a category
 abbrev pub category_link : ℕ → CategoryRow → PageLine
@@ -200,14 +200,14 @@ bought buyer number item = record {
 }
 
 -- the item at the end of its auction: sold to the best bidder, or closed where nothing was bid
-abbrev pub ended : ItemRow → ItemRow
-ended item =
+abbrev pub after_close : ItemRow → ItemRow
+after_close item =
     if item.best == 0 then record item { state = state.Closed } else sold_to item item.best_bidder
 
 -- Close: the auction of the item ends.
 unfoldable pub closed : ℕ → ItemRow → Outcome
 closed number item = record {
-  writes = row (item_id number) (item_bytes (ended item)) ∷ [];
+  writes = row (item_id number) (item_bytes (after_close item)) ∷ [];
   done = shows 200 (codes "Closed item " ++ decimal number) [];
 }
 
@@ -260,5 +260,5 @@ form_line kind token = Form (form_address kind) token (form_fields kind)
 -- Form: a form with its token. Whoever is not signed in gets a session of no user.
 abbrev pub form_shown : ℕ → ℕ → List ℕ → FormKind → Outcome
 form_shown user now token kind = answered (
-    if user == 0 then signs 0 now (codes "Form " ++ kind_text kind) (form_line kind token ∷ [])
+    if user == 0 then shows_with_session 0 now (codes "Form " ++ kind_text kind) (form_line kind token ∷ [])
     else shows 200 (codes "Form " ++ kind_text kind) (form_line kind token ∷ []))

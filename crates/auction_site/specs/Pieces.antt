@@ -28,50 +28,50 @@ table_answer answer.Kept = []
 table_answer answer.Left = []
 
 -- refused where the test holds
-unfoldable pub stops_if : Bool → DoneText → Plan (Unit {0})
-stops_if test done = if test then Refuses done else Gives tt
+unfoldable pub refuses_if : Bool → DoneText → Plan (Unit {0})
+refuses_if test done = if test then Refuses done else Gives tt
 
 -- refused where a rule refuses
-unfoldable pub stops_by : Option RuleRefusal → Plan (Unit {0})
-stops_by None = Gives tt
-stops_by (Some refusal) = Refuses (rule_answer refusal)
+unfoldable pub refuses_by : Option RuleRefusal → Plan (Unit {0})
+refuses_by None = Gives tt
+refuses_by (Some refusal) = Refuses (rule_answer refusal)
 
 -- the row that bytes spell; refused where they spell none
-unfoldable pub reads : {T : Type 0} → RowId → Option T → Plan T
-reads id None = Refuses (bad_row id)
-reads id (Some row) = Gives row
+unfoldable pub decoded : {T : Type 0} → RowId → Option T → Plan T
+decoded id None = Refuses (bad_row id)
+decoded id (Some row) = Gives row
 
 -- the row that these bytes spell, if there are any; refused with this answer where there are none
-unfoldable pub reads_or : {T : Type 0} → (List ℕ → Option T) → RowId → DoneText → Option (List ℕ) → Plan T
-reads_or spells id missing None = Refuses missing
-reads_or spells id missing (Some bytes) = reads id (spells bytes)
+unfoldable pub decoded_or : {T : Type 0} → (List ℕ → Option T) → RowId → DoneText → Option (List ℕ) → Plan T
+decoded_or spells id missing None = Refuses missing
+decoded_or spells id missing (Some bytes) = decoded id (spells bytes)
 
 -- the row of an id; refused with this answer where it is missing
 unfoldable pub asks_row_or : {T : Type 0} → (List ℕ → Option T) → RowId → DoneText → Plan T
-asks_row_or spells id missing = Asks (Row id) (λ a. reads_or spells id missing (row_answer a))
+asks_row_or spells id missing = Asks (Row id) (λ a. decoded_or spells id missing (row_answer a))
 
 -- the row of an id; refused where it is missing
 abbrev pub asks_row : {T : Type 0} → (List ℕ → Option T) → RowId → Plan T
 asks_row spells id = asks_row_or spells id not_there
 
 -- no bytes; refused with this answer where they spell a row, and else as a bad row
-unfoldable pub reads_none : {T : Type 0} → (List ℕ → Option T) → RowId → DoneText
+unfoldable pub none_decoded : {T : Type 0} → (List ℕ → Option T) → RowId → DoneText
     → Option (List ℕ) → Plan (Unit {0})
-reads_none spells id there None = Gives tt
-reads_none spells id there (Some bytes) = reads id (spells bytes) >>= λ row. Refuses there
+none_decoded spells id there None = Gives tt
+none_decoded spells id there (Some bytes) = decoded id (spells bytes) >>= λ row. Refuses there
 
 -- no row of an id; refused with this answer where it is there
 unfoldable pub asks_no_row : {T : Type 0} → (List ℕ → Option T) → RowId → DoneText → Plan (Unit {0})
-asks_no_row spells id there = Asks (Row id) (λ a. reads_none spells id there (row_answer a))
+asks_no_row spells id there = Asks (Row id) (λ a. none_decoded spells id there (row_answer a))
 
 -- the count that these bytes spell, if there are any, and else 0
-unfoldable pub reads_count : RowId → Option (List ℕ) → Plan ℕ
-reads_count id None = Gives 0
-reads_count id (Some bytes) = reads id (counter_of bytes) >>= λ counter. Gives counter.count
+unfoldable pub count_decoded : RowId → Option (List ℕ) → Plan ℕ
+count_decoded id None = Gives 0
+count_decoded id (Some bytes) = decoded id (counter_of bytes) >>= λ counter. Gives counter.count
 
 -- a counter, which is 0 where its row is missing
 unfoldable pub asks_counter : RowId → Plan ℕ
-asks_counter id = Asks (Row id) (λ a. reads_count id (row_answer a))
+asks_counter id = Asks (Row id) (λ a. count_decoded id (row_answer a))
 
 -- the rows of a table
 unfoldable pub asks_table : ℕ → Plan (List RowWrite)

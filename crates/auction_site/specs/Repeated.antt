@@ -5,7 +5,7 @@ use Rattle.deployment.specs.Parts.{idempotent}
 use Rattle.call_ticket.specs.declared.next.Next.{Next}
 use Rattle.call_ticket.specs.declared.next.Next.TheVariants as next
 
--- Whether a step enters no component by a method that may not be called again.
+-- Whether a step may be made again: an enter where its method may be called again, and any other step.
 abbrev pub may_repeat : Parts → Next → Bool
 may_repeat parts (next.Enter component method) = idempotent parts component.0 method
 may_repeat parts (next.Read id) = true

@@ -7,7 +7,7 @@ use Rattle.auction_rows.specs.declared.rows.TheConstants.{CATEGORY_TABLE}
 use Rattle.auction_rows.specs.Ids.{user_id, name_id, users_counter, items_counter, categories_counter, category_counter, item_id, category_id, entry_id, own_item_id}
 use Rattle.auction_rows.specs.Reading.{user_of, name_of, item_of, category_of, entry_of, own_item_of}
 use Rattle.auction_rules.specs.Rules.{bid_refusal, buy_refusal, close_refusal, feedback_refusal, other_side}
-use Rattle.auction_site.specs.declared.limits.TheConstants.{LAST_NUMBER, LAST_SMALL_NUMBER, PAGE_ITEMS, CATEGORY_KEEPER}
+use Rattle.auction_site.specs.declared.limits.TheConstants.{LAST_NUMBER, LAST_BID, LAST_FEEDBACK, PAGE_ITEMS, CATEGORY_EDITOR}
 use Rattle.auction_site.specs.Answers.{sign_in_first, no_more_numbers, name_taken, wrong_password, not_allowed, bad_buy_now, no_such_category}
 use Rattle.auction_site.specs.Found.{Found, ◌>>=◌, refused_if, refused_by, spelled, row_or, the_row, no_row, the_counter, collected}
 use Rattle.auction_site.specs.Numbers.{count_up, count_down}
@@ -43,11 +43,11 @@ categories rows = do
   links ← collected (map category_line (table_rows CATEGORY_TABLE rows))
   Ok (categories_shown links)
 
--- Add category: by the user who keeps the categories.
+-- Add category: by the user who may add categories.
 unfoldable pub add_category : ℕ → List ℕ → List RowWrite → Found Outcome
 add_category user name rows = do
   signed ← refused_if (user == 0) sign_in_first
-  allowed ← refused_if (not (user == CATEGORY_KEEPER)) not_allowed
+  allowed ← refused_if (not (user == CATEGORY_EDITOR)) not_allowed
   categories ← the_counter rows categories_counter
   numbered ← refused_if (nat_le LAST_NUMBER categories) no_more_numbers
   Ok (category_added name (categories + 1))
@@ -120,7 +120,7 @@ bid user now number amount rows = do
   signed ← refused_if (user == 0) sign_in_first
   item ← the_row rows item_of (item_id number)
   allowed ← refused_by (bid_refusal item user amount now)
-  numbered ← refused_if (nat_le LAST_SMALL_NUMBER item.bids) no_more_numbers
+  numbered ← refused_if (nat_le LAST_BID item.bids) no_more_numbers
   Ok (bid_made user now number amount item)
 
 -- Buy: an item that is running, another's, and still sold at once.
@@ -146,5 +146,5 @@ give_feedback user number good text rows = do
   item ← the_row rows item_of (item_id number)
   allowed ← refused_by (feedback_refusal item user)
   about ← the_row rows user_of (user_id (other_side item user))
-  numbered ← refused_if (nat_le LAST_SMALL_NUMBER (about.good + about.bad)) no_more_numbers
+  numbered ← refused_if (nat_le LAST_FEEDBACK (about.good + about.bad)) no_more_numbers
   Ok (feedback_given user number good text item about)

@@ -3,19 +3,27 @@
 
 ghost use Rattle.std.specs.Prelude.{◌≡◌, List, Some, true};
 ghost use Rattle.crash_base.specs.declared.rows.RowWrite.{RowWrite};
+ghost use Rattle.journal_model.specs.declared.entry.ActionEntry.{ActionEntry};
 ghost use Rattle.journal_model.specs.declared.entry.CommitEntry.{CommitEntry};
 ghost use Rattle.journal_model.specs.declared.entry.Entry.{Entry};
 ghost use Rattle.journal_model.specs.declared.entry.Mark.{Mark};
+ghost use Rattle.journal_model.specs.Calls.{Call, entry_of};
 ghost use Rattle.journal_model.specs.Legal.{IsCurrent};
 ghost use Rattle.journal_model.specs.Rows.{rows_after};
 ghost use Rattle.journal_model.specs.Snapshots.{snapshot};
+ghost use Rattle.call_ticket.specs.declared.next.Answer.{Answer};
+ghost use Rattle.call_ticket.specs.declared.next.Next.TheVariants as next;
+ghost use Rattle.call_ticket.specs.Following.{Follows};
 ghost use Rattle.call_ticket.specs.Runs.{run_of};
 ghost use Rattle.action_plans.specs.Steps.{outcome_of};
 ghost use Rattle.auction_calls.specs.declared.action.ActionCall.{ActionCall};
 ghost use Rattle.auction_calls.specs.Calls.{is_call};
+ghost use Rattle.auction_calls.specs.Texts.{Spells};
 ghost use Rattle.auction_rows.specs.Parts.{site_parts};
 ghost use Rattle.auction_site.specs.Actions.{site, plan_of, through_of, steps_of};
 ghost use Rattle.auction_site.specs.Meant.{IsMade, IsMeant};
+
+use call_ticket::calls_follow;
 
 /// The plan of each call comes to what the site means by the call. This holds over any rows, also over such
 /// as no action writes.
@@ -32,9 +40,18 @@ pub fn calls_run_as_the_site()
         ≡ Some (record { marks = marks; writes = (site call rows).writes; done = (site call rows).done })) }
 {}
 
-/// A call read the rows as they were at its begin. What the call that an action's text spells wrote and
-/// answered is what the site means by it over the rows just before its own entry: as if it had been done
-/// all at once, there.
+/// Where the call that makes the commit follows the steps of an action over rows until they are done, its entry, with
+/// the text of the action's call and the answer, is made by the action over these rows.
+pub fn followed_calls_are_made()
+    ensures { (call : ActionCall) (rows : List RowWrite) (answers : List Answer) (made : Call) (action : ActionEntry) →
+        Spells action.text call → Follows (steps_of call) rows answers made →
+        steps_of call answers ≡ next.Done action.done → IsMade rows (entry_of made (Some action)) }
+{
+    calls_follow();
+}
+
+/// A commit that is current, and that the call of its text made over the rows at its begin, wrote and answered what
+/// the site means by that call over the rows just before its own entry: as if it had been done all at once, there.
 pub fn commits_are_meant()
     ensures { (base : List RowWrite) (es : List Entry) (entry : CommitEntry) → IsCurrent base es entry →
         IsMade (snapshot base es entry.at.0) entry → IsMeant (rows_after base es) entry }

@@ -8,8 +8,8 @@ use Rattle.auction_rows.specs.declared.rows.CounterRow.{CounterRow}
 use Rattle.auction_rows.specs.Reading.{counter_of}
 use Rattle.auction_rules.specs.declared.refusal.RuleRefusal.{RuleRefusal}
 use Rattle.auction_site.specs.Coherent.{row_at}
-use Rattle.auction_site.specs.Found.{Found, and_then, refused_if, refused_by, spelled, spelled_or, row_or, unspelled, no_row, counted, the_counter}
-use Rattle.auction_site.specs.Taken.{Counts}
+use Rattle.auction_site.specs.Found.{Found, and_then, refused_if, refused_by, spelled, spelled_or, row_or, absent, no_row, counted, the_counter}
+use Rattle.auction_site.specs.Accepted.{Counts}
 
 -- what is found was found of what was found before
 pub split_found : {A B : Type 0} (found : Found A) (g : A → Found B) (y : B) → and_then found g ≡ Ok y
@@ -45,7 +45,7 @@ pub row_is_found : {T : Type 0} (rows : List RowWrite) (spells : List ℕ → Op
 row_is_found rows spells id missing x is = spelled_or_is spells id missing (row_in rows id) x is
 
 none_found : {T : Type 0} (spells : List ℕ → Option T) (id : RowId) (there : DoneText) (bytes : Option (List ℕ)) (x : Unit {0})
-    → unspelled spells id there bytes ≡ Ok x → bytes ≡ None
+    → absent spells id there bytes ≡ Ok x → bytes ≡ None
 none_found spells id there None x is = refl
 none_found {T = T} spells id there (Some bytes) x is = by_row (spells bytes) is
   where
@@ -60,7 +60,7 @@ no_row_found rows spells id there x is = none_found spells id there (row_in rows
 
 pub no_row_is_found : {T : Type 0} (rows : List RowWrite) (spells : List ℕ → Option T) (id : RowId) (there : DoneText)
     → row_in rows id ≡ None → no_row rows spells id there ≡ Ok tt
-no_row_is_found rows spells id there is = ap (unspelled spells id there) is
+no_row_is_found rows spells id there is = ap (absent spells id there) is
 
 -- a count that is found, by the bytes of its row
 abbrev CountsBytes : Option (List ℕ) → ℕ → Type 0

@@ -1,5 +1,6 @@
--- When each action that writes is taken, by the rows of the site.
-use Rattle.std.specs.Prelude.{◌≡◌, ◌≢◌, ◌⊎◌, ℕ, ◌+◌, ◌-◌, ◌^◌, ◌<◌, ◌≤◌, List, Some, None}
+-- When signing in and each action that writes is accepted, and when a bid is too low, by the rows of the site.
+use Rattle.std.specs.Prelude.{◌≡◌, ◌≢◌, ◌⊎◌, ℕ, ◌+◌, ◌-◌, ◌^◌, ◌<◌, ◌≤◌, List, ◌++◌, Some, None}
+use Rattle.sha2.specs.Sha256.{sha256}
 use Rattle.crash_base.specs.declared.row_id.RowId.{RowId}
 use Rattle.crash_base.specs.declared.rows.RowWrite.{RowWrite}
 use Rattle.crash_base.specs.Rows.{row_in}
@@ -7,9 +8,10 @@ use Rattle.auction_rows.specs.declared.rows.CategoryRow.{CategoryRow}
 use Rattle.auction_rows.specs.declared.rows.CounterRow.{CounterRow}
 use Rattle.auction_rows.specs.declared.rows.ItemRow.{ItemRow}
 use Rattle.auction_rows.specs.declared.rows.ItemState.TheVariants.{Running, Sold}
+use Rattle.auction_rows.specs.declared.rows.NameRow.{NameRow}
 use Rattle.auction_rows.specs.declared.rows.UserRow.{UserRow}
 use Rattle.auction_rows.specs.Ids.{user_id, name_id, users_counter, items_counter, categories_counter, category_counter, item_id, category_id}
-use Rattle.auction_rows.specs.Reading.{user_of, counter_of, item_of, category_of}
+use Rattle.auction_rows.specs.Reading.{user_of, name_of, counter_of, item_of, category_of}
 use Rattle.auction_rules.specs.Rules.{other_side, IsRunning, IsTooLow, IsNotForSale, IsOnASide, HasGiven}
 use Rattle.auction_site.specs.Coherent.{row_at, IsTooLowFor}
 use Rattle.auction_site.specs.Outcomes.{Offer}
@@ -26,9 +28,17 @@ pub record MayRegister (rows : List RowWrite) (name : List ℕ) (users : ℕ) : 
   pub counted : Counts rows users_counter users
   pub few : users < 2 ^ 32 - 1
 
+-- Who gives a name and a password may sign in: a row has the key of the name and is of this name, its user is there,
+-- and the SHA-256 of the user's salt and the password is the user's digest.
+pub record MaySignIn (rows : List RowWrite) (name password : List ℕ) (found : NameRow) (user : UserRow) : Type 0 where
+  pub there : row_at rows name_of (name_id name) ≡ Some found
+  pub same_name : found.name ≡ name
+  pub user_there : row_at rows user_of (user_id found.user) ≡ Some user
+  pub known : sha256 (user.salt ++ password) ≡ user.digest
+
 -- A user may add a category after so many: it is user 1, and the next number is below 2^32.
 pub record MayAddCategory (rows : List RowWrite) (user categories : ℕ) : Type 0 where
-  pub keeper : user ≡ 1
+  pub editor : user ≡ 1
   pub counted : Counts rows categories_counter categories
   pub few : categories < 2 ^ 32 - 1
 
@@ -78,7 +88,7 @@ pub record MayClose (rows : List RowWrite) (user number : ℕ) (item : ItemRow) 
   pub signed : user ≢ 0
   pub there : row_at rows item_of (item_id number) ≡ Some item
   pub own : item.seller ≡ user
-  pub open_yet : item.state ≡ Running
+  pub still_open : item.state ≡ Running
 
 -- A user may give feedback on an item about another user. It is sold, the user is on a side and has given
 -- none, the other side is there, and the number of the feedback is below 2^20.
