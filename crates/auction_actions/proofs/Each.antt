@@ -4,8 +4,8 @@ use Rattle.std.specs.Result.{IsErrAnd}
 use Rattle.std.proofs.lemmas.List.{at_drop_more}
 use Rattle.call_ticket.specs.declared.next.Answer.{Answer}
 use Rattle.action_plans.specs.declared.plan.Stop.{Stop}
-use Rattle.action_plans.specs.Plans.{Plan, Asks, Refuses, Gives, Has, HasCome, Walked, Came, walk, walk_on, ◌>>=◌}
-use Rattle.action_plans.proofs.Walking.{walk_bind, walk_gives, bind_gives, exit_part, out_come}
+use Rattle.action_plans.specs.Plans.{Plan, Asks, Refuses, Gives, Has, HasCome, Walked, Came, walk, ◌>>=◌}
+use Rattle.action_plans.proofs.Walking.{walk_on, walk_bind, walk_gives, bind_gives, exit_part, out_come}
 use Rattle.auction_site.specs.Numbers.{count_up, count_down}
 use Rattle.auction_site.specs.Pieces.{asks_each}
 

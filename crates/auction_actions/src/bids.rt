@@ -7,14 +7,13 @@ ghost use Rattle.auction_rows.specs.Bounds.{is_item};
 ghost use Rattle.auction_site.specs.Answers.{shows};
 ghost use Rattle.auction_site.specs.Outcomes.{bid_made, with_bid};
 ghost use Rattle.auction_site.specs.Planned.{bid_plan};
-ghost use Rattle.auction_site.specs.declared.limits.TheConstants.{LAST_SMALL_NUMBER};
+ghost use Rattle.auction_site.specs.declared.limits.TheConstants.{LAST_BID};
 
-use crate::outcomes::write_row;
-use crate::pieces::{asks_row, says, stops_by, stops_if};
 use action_plans::{Outcome, Reads, Stop};
+use auction_pieces::{asks_row, refuses_by, refuses_if, says, write_row};
 use auction_rows::{BidRow, ItemRow, bid_id, item_id};
 use auction_rules::bid_refusal;
-use auction_site::LAST_SMALL_NUMBER;
+use auction_site::LAST_BID;
 use crash_base::{Moment, OutOfMemory, WriteList};
 use journal_model::DoneText;
 use std::alloc::Global;
@@ -25,7 +24,7 @@ const ANSWER_BYTES: usize = 33;
 
 /// The item after a bid.
 fn with_bid(mut item: ItemRow, bidder: u32, amount: u64) -> ItemRow
-    requires { item.bids < LAST_SMALL_NUMBER }
+    requires { item.bids < LAST_BID }
     ensures { result ≡ with_bid item bidder amount }
 {
     item.best = amount;
@@ -36,9 +35,9 @@ fn with_bid(mut item: ItemRow, bidder: u32, amount: u64) -> ItemRow
 
 /// Whether an item has had its last bid.
 fn has_last_bid(item: &ItemRow) -> bool
-    ensures { result ≡ nat_le LAST_SMALL_NUMBER item.now.bids }
+    ensures { result ≡ nat_le LAST_BID item.now.bids }
 {
-    u64::from(item.bids) >= LAST_SMALL_NUMBER
+    u64::from(item.bids) >= LAST_BID
 }
 
 /// The answer to a bid.
@@ -62,7 +61,7 @@ fn bid_made(
     item: ItemRow,
 ) -> Result<Outcome, OutOfMemory>
     requires within { is_item item ≡ true }
-    requires room { item.bids < LAST_SMALL_NUMBER }
+    requires room { item.bids < LAST_BID }
     ensures { IfOk result (λ outcome. outcome ≡ bid_made bidder now.0 number amount item) }
 {
     let item = with_bid(item, bidder, amount);
@@ -90,10 +89,10 @@ pub fn bid(
 ) -> Result<Outcome, Stop>
     ensures { HasCome result reads.new (walk (bid_plan user now.0 number amount) reads.old) }
 {
-    stops_if(alloc, user == 0, 403, b"Sign in first")?;
+    refuses_if(alloc, user == 0, 403, b"Sign in first")?;
     let item = asks_row::<ItemRow>(alloc, reads, item_id(number))?;
-    stops_by(alloc, bid_refusal(&item, user, amount, now))?;
-    stops_if(alloc, has_last_bid(&item), 409, b"No more numbers")?;
+    refuses_by(alloc, bid_refusal(&item, user, amount, now))?;
+    refuses_if(alloc, has_last_bid(&item), 409, b"No more numbers")?;
     let outcome = bid_made(alloc, user, now, number, amount, item)?;
     Ok(outcome)
 }

@@ -8,10 +8,8 @@ ghost use Rattle.auction_site.specs.Outcomes.{category_shown};
 ghost use Rattle.auction_site.specs.Pieces.{asks_each};
 ghost use Rattle.auction_site.specs.Planned.{browse_plan, entry_link_plan};
 
-use crate::links::priced_link;
-use crate::outcomes::answered;
-use crate::pieces::{asks_counter, asks_row, shows};
 use action_plans::{Outcome, Reads, Stop};
+use auction_pieces::{answered, asks_counter, asks_row, priced_link, shows};
 use auction_rows::{
     CategoryRow, EntryRow, ItemRow, category_counter, category_id, entry_id, item_id,
 };

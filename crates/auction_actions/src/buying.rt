@@ -5,12 +5,11 @@ ghost use Rattle.action_plans.specs.Plans.{HasCome, walk};
 ghost use Rattle.auction_rows.specs.Bounds.{is_item};
 ghost use Rattle.auction_rows.specs.Ids.{item_id};
 ghost use Rattle.auction_rows.specs.Spelling.{item_bytes};
-ghost use Rattle.auction_site.specs.Outcomes.{row, sold_to, ended, bought, closed};
+ghost use Rattle.auction_site.specs.Outcomes.{row, sold_to, after_close, bought, closed};
 ghost use Rattle.auction_site.specs.Planned.{buy_plan, close_plan};
 
-use crate::outcomes::{says_number, write_row};
-use crate::pieces::{asks_row, stops_by, stops_if};
 use action_plans::{Outcome, Reads, Stop};
+use auction_pieces::{asks_row, refuses_by, refuses_if, says_number, write_row};
 use auction_rows::{ItemRow, ItemState, item_id};
 use auction_rules::{buy_refusal, close_refusal};
 use crash_base::{Moment, OutOfMemory, WriteList};
@@ -26,8 +25,8 @@ fn sold_to(mut item: ItemRow, buyer: u32) -> ItemRow
 }
 
 /// The item at the end of its auction.
-fn ended(mut item: ItemRow) -> ItemRow
-    ensures { result ≡ ended item }
+fn after_close(mut item: ItemRow) -> ItemRow
+    ensures { result ≡ after_close item }
 {
     if item.best == 0 {
         item.state = ItemState::Closed;
@@ -61,12 +60,12 @@ fn bought(alloc: Global, buyer: u32, number: u32, item: ItemRow) -> Result<Outco
 }
 
 /// The auction of the item ends.
-#[tactic(auto, using(auction_site::proofs::Bounds::ended_is))]
+#[tactic(auto, using(auction_site::proofs::Bounds::after_close_is))]
 fn closed(alloc: Global, number: u32, item: ItemRow) -> Result<Outcome, OutOfMemory>
     requires { is_item item ≡ true }
     ensures { IfOk result (λ outcome. outcome ≡ closed number item) }
 {
-    let item = ended(item);
+    let item = after_close(item);
     let writes = item_written(alloc, number, &item)?;
     let done = says_number(alloc, "Closed item ", number)?;
     Ok(Outcome { writes, done })
@@ -83,9 +82,9 @@ pub fn buy(
 ) -> Result<Outcome, Stop>
     ensures { HasCome result reads.new (walk (buy_plan user now.0 number) reads.old) }
 {
-    stops_if(alloc, user == 0, 403, b"Sign in first")?;
+    refuses_if(alloc, user == 0, 403, b"Sign in first")?;
     let item = asks_row::<ItemRow>(alloc, reads, item_id(number))?;
-    stops_by(alloc, buy_refusal(&item, user, now))?;
+    refuses_by(alloc, buy_refusal(&item, user, now))?;
     let outcome = bought(alloc, user, number, item)?;
     Ok(outcome)
 }
@@ -95,9 +94,9 @@ pub fn buy(
 pub fn close(alloc: Global, user: u32, number: u32, reads: &mut Reads<'_>) -> Result<Outcome, Stop>
     ensures { HasCome result reads.new (walk (close_plan user number) reads.old) }
 {
-    stops_if(alloc, user == 0, 403, b"Sign in first")?;
+    refuses_if(alloc, user == 0, 403, b"Sign in first")?;
     let item = asks_row::<ItemRow>(alloc, reads, item_id(number))?;
-    stops_by(alloc, close_refusal(&item, user))?;
+    refuses_by(alloc, close_refusal(&item, user))?;
     let outcome = closed(alloc, number, item)?;
     Ok(outcome)
 }

@@ -1,32 +1,32 @@
 //! Calls of actions, as programs.
 
-ghost use Rattle.std.specs.Prelude.{◌≡◌, true, IfOk};
+ghost use Rattle.std.specs.Prelude.{◌≡◌, true, List, Some, IfOk};
+ghost use Rattle.crash_base.specs.declared.rows.RowWrite.{RowWrite};
+ghost use Rattle.journal_model.specs.declared.entry.Mark.{Mark};
+ghost use Rattle.call_ticket.specs.Runs.{run_of};
 ghost use Rattle.action_plans.specs.Plans.{HasCome, walk};
 ghost use Rattle.auction_calls.specs.Calls.{is_call};
-ghost use Rattle.auction_rows.specs.Parts.{site_tables, table};
-ghost use Rattle.auction_site.specs.Actions.{plan_of, steps_of, through, through_of};
+ghost use Rattle.auction_rows.specs.Parts.{site_parts};
+ghost use Rattle.auction_site.specs.Actions.{plan_of, site, steps_of, through, through_of};
 
 use crate::bids::bid;
 use crate::browsing::browse;
 use crate::buying::{buy, close};
 use crate::feedback::give_feedback;
-use crate::fronts::{form_shown, home, signed_out};
 use crate::items::show_item;
 use crate::listing::categories;
 use crate::new_categories::add_category;
 use crate::offer::Offer;
 use crate::own_items::show_own_items;
+use crate::pages::{form_shown, home, signed_out};
 use crate::selling::sell;
 use crate::users::{register, show_user, sign_in};
 use action_plans::{Outcome, Reads, Stop, Through, fixed_step, next_step, want_of};
 use auction_calls::{Action, ActionCall, CheckedCall};
-use auction_rows::{
-    BID_TABLE, CATEGORY_TABLE, COUNTER_TABLE, ENTRY_TABLE, FEEDBACK_TABLE, ITEM_TABLE, NAME_TABLE,
-    OWN_ITEM_TABLE, USER_TABLE,
-};
+use auction_rows::{BIDS, BUY, CALL, FEEDBACK, PURCHASES, site_tables};
+use auction_site::calls_run_as_the_site;
 use call_ticket::{AnswerList, Next, Program};
 use crash_base::{ComponentNo, OutOfMemory};
-use deployment::TablePart;
 use std::alloc::Global;
 use std::marker::Model;
 
@@ -44,43 +44,15 @@ impl Model for ActionProgram {
     ghost view = { λ program. program.call };
 }
 
-/// A table of the site, and the component that owns it.
-fn owned(number: u8, owner: u16) -> TablePart
-    ensures { result ≡ table number owner }
-{
-    TablePart {
-        table: number,
-        owner: ComponentNo(owner),
-    }
-}
-
-/// The tables of the site, each with its owner.
-#[tactic(auto, unfolding(auction_rows::specs::Parts::site_tables))]
-fn site_tables() -> [TablePart; 9]
-    ensures { result ≡ site_tables }
-{
-    [
-        owned(USER_TABLE, 1),
-        owned(NAME_TABLE, 1),
-        owned(COUNTER_TABLE, 2),
-        owned(ITEM_TABLE, 3),
-        owned(ENTRY_TABLE, 3),
-        owned(OWN_ITEM_TABLE, 3),
-        owned(CATEGORY_TABLE, 4),
-        owned(BID_TABLE, 5),
-        owned(FEEDBACK_TABLE, 7),
-    ]
-}
-
 /// The component behind Web that an action goes through.
 fn through_of(action: &Action) -> Option<Through>
     ensures { result ≡ through_of action.now }
 {
     let (component, method) = match action {
-        Action::Bid { .. } => (5, 0),
-        Action::Buy { .. } => (6, 1),
-        Action::Close { .. } => (6, 0),
-        Action::Feedback { .. } => (7, 0),
+        Action::Bid { .. } => (BIDS, CALL),
+        Action::Buy { .. } => (PURCHASES, BUY),
+        Action::Close { .. } => (PURCHASES, CALL),
+        Action::Feedback { .. } => (FEEDBACK, CALL),
         _ => return None,
     };
     Some(Through {
@@ -209,11 +181,15 @@ impl Program for ActionProgram {
 }
 
 impl ActionProgram {
-    /// The program of a call. It takes no memory.
+    /// The program of a call. Over any rows in the site's deployment, the run of its steps keeps the rules and limits
+    /// of calls, and writes and answers what the site means by the call. It takes no memory.
     pub fn new(call: CheckedCall) -> ActionProgram
         ensures value { result ≡ call }
         ensures in_ranges { is_call result ≡ true }
+        ensures runs { (rows : List RowWrite) → (marks : List Mark) × (run_of site_parts (steps_of result) rows
+            ≡ Some (record { marks = marks; writes = (site result rows).writes; done = (site result rows).done })) }
     {
+        calls_run_as_the_site();
         call.call();
         ActionProgram { call }
     }

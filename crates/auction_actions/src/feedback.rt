@@ -8,20 +8,19 @@ ghost use Rattle.auction_rows.specs.Ids.{feedback_id};
 ghost use Rattle.auction_rows.specs.Spelling.{feedback_bytes};
 ghost use Rattle.auction_site.specs.Outcomes.{row, feedback_given, with_feedback, with_given};
 ghost use Rattle.auction_site.specs.Planned.{give_feedback_plan};
-ghost use Rattle.auction_site.specs.declared.limits.TheConstants.{LAST_SMALL_NUMBER};
+ghost use Rattle.auction_site.specs.declared.limits.TheConstants.{LAST_FEEDBACK};
 
-use crate::outcomes::write_row;
-use crate::pieces::{asks_row, says, stops_by, stops_if};
 use action_plans::{Outcome, Reads, Stop};
+use auction_pieces::{asks_row, refuses_by, refuses_if, says, write_row};
 use auction_rows::{FeedbackRow, ItemRow, UserRow, feedback_id, item_id, user_id};
 use auction_rules::{feedback_refusal, other_side};
-use auction_site::LAST_SMALL_NUMBER;
+use auction_site::LAST_FEEDBACK;
 use crash_base::{FieldText, OutOfMemory, WriteList};
 use std::alloc::Global;
 
 /// The user with one feedback more.
 fn with_feedback(mut user: UserRow, good: bool) -> UserRow
-    requires { user.good + user.bad < LAST_SMALL_NUMBER }
+    requires { user.good + user.bad < LAST_FEEDBACK }
     ensures { result ≡ with_feedback user good }
 {
     if good {
@@ -46,9 +45,9 @@ fn with_given(mut item: ItemRow, user: u32) -> ItemRow
 
 /// Whether a user has had the last feedback.
 fn has_last_feedback(user: &UserRow) -> bool
-    ensures { result ≡ nat_le LAST_SMALL_NUMBER (user.now.good + user.now.bad) }
+    ensures { result ≡ nat_le LAST_FEEDBACK (user.now.good + user.now.bad) }
 {
-    u64::from(user.good) + u64::from(user.bad) >= LAST_SMALL_NUMBER
+    u64::from(user.good) + u64::from(user.bad) >= LAST_FEEDBACK
 }
 
 /// Adds the next feedback about a user to the rows that are written.
@@ -81,7 +80,7 @@ fn feedback_given(
     requires text { is_text 0 200 text.now ≡ true }
     requires item { is_item item ≡ true }
     requires about { is_user about ≡ true }
-    requires room { about.good + about.bad < LAST_SMALL_NUMBER }
+    requires room { about.good + about.bad < LAST_FEEDBACK }
     ensures { IfOk result (λ outcome. outcome ≡ feedback_given from number good text.now item about) }
 {
     let other = other_side(&item, from);
@@ -116,11 +115,11 @@ pub fn give_feedback(
     requires { is_text 0 200 text.now ≡ true }
     ensures { HasCome result reads.new (walk (give_feedback_plan user number good text.now) reads.old) }
 {
-    stops_if(alloc, user == 0, 403, b"Sign in first")?;
+    refuses_if(alloc, user == 0, 403, b"Sign in first")?;
     let item = asks_row::<ItemRow>(alloc, reads, item_id(number))?;
-    stops_by(alloc, feedback_refusal(&item, user))?;
+    refuses_by(alloc, feedback_refusal(&item, user))?;
     let about = asks_row::<UserRow>(alloc, reads, user_id(other_side(&item, user)))?;
-    stops_if(alloc, has_last_feedback(&about), 409, b"No more numbers")?;
+    refuses_if(alloc, has_last_feedback(&about), 409, b"No more numbers")?;
     let outcome = feedback_given(alloc, user, number, good, text, item, about)?;
     Ok(outcome)
 }

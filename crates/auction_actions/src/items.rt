@@ -6,24 +6,12 @@ ghost use Rattle.action_plans.specs.Plans.{HasCome, walk};
 ghost use Rattle.auction_site.specs.Outcomes.{item_shown, price, state_text};
 ghost use Rattle.auction_site.specs.Planned.{show_item_plan};
 
-use crate::outcomes::{answered, numbered_text};
-use crate::pieces::{asks_row, shows};
 use action_plans::{Outcome, Reads, Stop};
+use auction_pieces::{answered, asks_row, numbered_text, price, shows};
 use auction_rows::{ItemRow, ItemState, UserRow, item_id, user_id};
 use crash_base::{FieldText, OutOfMemory};
 use page_text::{PageLine, PageLineList};
 use std::alloc::Global;
-
-/// What was bid most, or the least bid where nothing was bid.
-pub fn price(item: &ItemRow) -> u64
-    ensures { result ≡ price item.now }
-{
-    if item.best == 0 {
-        item.start
-    } else {
-        item.best
-    }
-}
 
 /// The price of an item, behind its word.
 fn price_text(alloc: Global, item: &ItemRow) -> Result<FieldText, OutOfMemory>

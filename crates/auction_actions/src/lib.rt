@@ -12,9 +12,9 @@
 //!
 //! An action is a function over the answers to its reads, as `bid` in `bids`: it takes an answer for each row
 //! that it reads, and stops where none is left. Its contract says that it comes just as far as its plan
-//! (`HasCome`). `ActionProgram` makes steps of it: by the clause `asks` they are `steps_of` of its call, and by the
-//! law `calls_run_as_the_site` of `auction_site` a run of these steps writes and answers what the site means by
-//! the call. Only out of memory is free.
+//! (`HasCome`). `ActionProgram` makes steps of it: by the clause `asks` they are `steps_of` of its call, and by a
+//! clause of `ActionProgram::new` the run of these steps, over any rows in the site's deployment, is what the site
+//! means by the call. A contract leaves open only whether memory runs out.
 //!
 //! | Action | Goes through | Reads | Writes |
 //! |---|---|---|---|
@@ -38,7 +38,8 @@
 //! Each read and each write takes at most three steps, with the enter and the exit of the table's owner. At most
 //! four more lead into Web and what the action goes through, and out again; the last step is `Next::Done`. Each
 //! step calls `next` once, which decodes again the rows that were read so far, and after the last read makes the
-//! outcome again. A run of n reads and m writes decodes at most 3 n (n + 1) / 2 + 3 n (m + 1) rows.
+//! outcome again. A run of n reads of rows and m writes decodes at most 3 n (n + 1) / 2 + 3 n (m + 1) rows. That of
+//! Categories, which lists a table, decodes each of its rows at its last two steps.
 #![tactic(auto)]
 
 mod bids;
@@ -46,16 +47,12 @@ mod browsing;
 mod buying;
 mod call;
 mod feedback;
-mod fronts;
 mod items;
-mod links;
 mod listing;
 mod new_categories;
-mod numbers;
 mod offer;
-mod outcomes;
 mod own_items;
-mod pieces;
+mod pages;
 mod selling;
 mod users;
 

@@ -6,10 +6,8 @@ ghost use Rattle.auction_site.specs.Outcomes.{categories_shown};
 ghost use Rattle.auction_site.specs.Pieces.{asks_each};
 ghost use Rattle.auction_site.specs.Planned.{categories_plan, category_link_plan};
 
-use crate::links::category_link;
-use crate::outcomes::answered;
-use crate::pieces::{asks_table, reads, shows};
 use action_plans::{Outcome, Reads, Stop};
+use auction_pieces::{answered, asks_table, category_link, decoded, shows};
 use auction_rows::{CATEGORY_TABLE, CategoryRow, TableRow};
 use crash_base::{OutOfMemory, RowWrite};
 use page_text::{PageLine, PageLineList};
@@ -20,7 +18,7 @@ fn row_link(alloc: Global, row: &RowWrite) -> Result<PageLine, Stop>
     ensures { Has result (category_link_plan row.now) }
 {
     let found = CategoryRow::decode(alloc, row.bytes.as_slice())?;
-    let category = reads(alloc, row.id, found)?;
+    let category = decoded(alloc, row.id, found)?;
     let link = category_link(alloc, row.id.key, category)?;
     Ok(link)
 }

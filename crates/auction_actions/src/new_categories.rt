@@ -5,22 +5,22 @@ ghost use Rattle.action_plans.specs.Plans.{HasCome, walk};
 ghost use Rattle.auction_calls.specs.Calls.{is_text};
 ghost use Rattle.auction_site.specs.Outcomes.{category_added};
 ghost use Rattle.auction_site.specs.Planned.{add_category_plan};
-ghost use Rattle.auction_site.specs.declared.limits.TheConstants.{CATEGORY_KEEPER};
+ghost use Rattle.auction_site.specs.declared.limits.TheConstants.{CATEGORY_EDITOR};
 
-use crate::numbers::is_last_number;
-use crate::outcomes::{says_number, write_counter, write_row};
-use crate::pieces::{asks_counter, stops_if};
 use action_plans::{Outcome, Reads, Stop};
+use auction_pieces::{
+    asks_counter, is_last_number, refuses_if, says_number, write_counter, write_row,
+};
 use auction_rows::{CategoryRow, categories_counter, category_id};
-use auction_site::CATEGORY_KEEPER;
+use auction_site::CATEGORY_EDITOR;
 use crash_base::{FieldText, OutOfMemory, WriteList};
 use std::alloc::Global;
 
 /// Whether a user is not the one who may add categories.
-fn is_no_keeper(user: u32) -> bool
-    ensures { result ≡ not (user == CATEGORY_KEEPER) }
+fn is_no_editor(user: u32) -> bool
+    ensures { result ≡ not (user == CATEGORY_EDITOR) }
 {
-    user != CATEGORY_KEEPER
+    user != CATEGORY_EDITOR
 }
 
 /// A category of this number.
@@ -49,10 +49,10 @@ pub fn add_category(
     requires { is_text 1 40 name.now ≡ true }
     ensures { HasCome result reads.new (walk (add_category_plan user name.now) reads.old) }
 {
-    stops_if(alloc, user == 0, 403, b"Sign in first")?;
-    stops_if(alloc, is_no_keeper(user), 403, b"Not allowed")?;
+    refuses_if(alloc, user == 0, 403, b"Sign in first")?;
+    refuses_if(alloc, is_no_editor(user), 403, b"Not allowed")?;
     let categories = asks_counter(alloc, reads, categories_counter())?;
-    stops_if(alloc, is_last_number(categories), 409, b"No more numbers")?;
+    refuses_if(alloc, is_last_number(categories), 409, b"No more numbers")?;
     let outcome = category_added(alloc, name, categories as u32 + 1)?;
     Ok(outcome)
 }

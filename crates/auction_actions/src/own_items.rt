@@ -8,10 +8,8 @@ ghost use Rattle.auction_site.specs.Outcomes.{user_items_shown};
 ghost use Rattle.auction_site.specs.Pieces.{asks_each};
 ghost use Rattle.auction_site.specs.Planned.{own_item_link_plan, show_own_items_plan};
 
-use crate::links::item_link;
-use crate::outcomes::answered;
-use crate::pieces::{asks_row, shows, stops_if};
 use action_plans::{Outcome, Reads, Stop};
+use auction_pieces::{answered, asks_row, item_link, price, refuses_if, shows};
 use auction_rows::{ItemRow, OwnItemRow, UserRow, item_id, own_item_id, user_id};
 use auction_site::PAGE_ITEMS;
 use crash_base::OutOfMemory;
@@ -77,7 +75,7 @@ fn user_items_shown(
 pub fn show_own_items(alloc: Global, number: u32, reads: &mut Reads<'_>) -> Result<Outcome, Stop>
     ensures { HasCome result reads.new (walk (show_own_items_plan number) reads.old) }
 {
-    stops_if(alloc, number == 0, 403, b"Sign in first")?;
+    refuses_if(alloc, number == 0, 403, b"Sign in first")?;
     let user = asks_row::<UserRow>(alloc, reads, user_id(number))?;
     let count = shown_items(user.items);
     let links = own_item_links(alloc, number, user.items, count, reads)?;

@@ -11,11 +11,12 @@ ghost use Rattle.auction_site.specs.Planned.{sell_plan};
 ghost use Rattle.auction_site.specs.Rules.{sells_too_low};
 ghost use Rattle.auction_site.specs.declared.limits.TheConstants.{LAST_NUMBER};
 
-use crate::numbers::{is_last_number, next_number};
 use crate::offer::Offer;
-use crate::outcomes::{says_number, write_counter, write_row};
-use crate::pieces::{asks_counter, asks_row, asks_row_or, stops_if};
 use action_plans::{Outcome, Reads, Stop};
+use auction_pieces::{
+    asks_counter, asks_row, asks_row_or, is_last_number, next_number, refuses_if, says_number,
+    write_counter, write_row,
+};
 use auction_rows::{
     CategoryRow, EntryRow, GivenFeedback, ItemRow, ItemState, OwnItemRow, UserRow,
     category_counter, category_id, entry_id, item_id, items_counter, own_item_id, user_id,
@@ -193,16 +194,16 @@ pub fn sell(
     requires title { is_text 1 80 offer.now.title ≡ true }
     ensures { HasCome result reads.new (walk (sell_plan seller now.0 offer.now) reads.old) }
 {
-    stops_if(alloc, seller == 0, 403, b"Sign in first")?;
-    stops_if(alloc, sells_too_low(offer), 400, b"Bad field buy_now")?;
+    refuses_if(alloc, seller == 0, 403, b"Sign in first")?;
+    refuses_if(alloc, sells_too_low(offer), 400, b"Bad field buy_now")?;
     let category = category_of(offer);
     asks_row_or::<CategoryRow>(alloc, reads, category, 409, b"No such category")?;
     let items = asks_counter(alloc, reads, items_counter())?;
-    stops_if(alloc, is_last_number(items), 409, b"No more numbers")?;
+    refuses_if(alloc, is_last_number(items), 409, b"No more numbers")?;
     let entries = asks_counter(alloc, reads, entries_of(offer))?;
-    stops_if(alloc, is_last_number(entries), 409, b"No more numbers")?;
+    refuses_if(alloc, is_last_number(entries), 409, b"No more numbers")?;
     let user = asks_row::<UserRow>(alloc, reads, user_id(seller))?;
-    stops_if(alloc, has_last_item(&user), 409, b"No more numbers")?;
+    refuses_if(alloc, has_last_item(&user), 409, b"No more numbers")?;
     let item = next_number(items);
     let entry = next_number(entries);
     let outcome = offered(alloc, seller, now, offer, item, entry, user)?;

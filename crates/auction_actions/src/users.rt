@@ -3,15 +3,19 @@
 ghost use Rattle.std.specs.Prelude.{◌≡◌, [], ◌∷◌, ◌++◌, true, codes, bytes_eq, not, nat_le, IfOk};
 ghost use Rattle.action_plans.specs.Plans.{HasCome, walk};
 ghost use Rattle.auction_calls.specs.Calls.{is_user_name};
+ghost use Rattle.auction_rows.specs.Ids.{name_id};
+ghost use Rattle.auction_rows.specs.Reading.{name_of};
 ghost use Rattle.auction_rows.specs.Spelling.{u64_bytes};
-ghost use Rattle.auction_site.specs.Answers.{signs};
+ghost use Rattle.auction_site.specs.Answers.{name_taken, shows_with_session};
 ghost use Rattle.auction_site.specs.Outcomes.{digest_of, new_user, registered, signed_in, user_shown};
+ghost use Rattle.auction_site.specs.Pieces.{asks_no_row};
 ghost use Rattle.auction_site.specs.Planned.{register_plan, show_user_plan, sign_in_plan};
 
-use crate::numbers::is_last_number;
-use crate::outcomes::{answered, numbered_text, signs, write_counter, write_row};
-use crate::pieces::{asks_counter, asks_no_row, asks_row, asks_row_or, shows, stops_if};
 use action_plans::{Outcome, Reads, Stop};
+use auction_pieces::{
+    answered, asks_counter, asks_no_row, asks_row, asks_row_or, is_last_number, numbered_text,
+    refuses_if, shows, shows_with_session, write_counter, write_row,
+};
 use auction_rows::{NameRow, UserRow, name_id, user_id, users_counter};
 use crash_base::{FieldText, Moment, OutOfMemory, WriteList};
 use journal_model::DoneText;
@@ -46,12 +50,12 @@ fn has_other_password(user: &UserRow, password: &[u8]) -> bool
 
 /// An answer that welcomes a user, whose session it becomes.
 fn welcomes(alloc: Global, name: &[u8], now: Moment, user: u32) -> Result<DoneText, OutOfMemory>
-    ensures { IfOk result (λ done. done ≡ signs user now.0 (codes "Welcome " ++ name.now) []) }
+    ensures { IfOk result (λ done. done ≡ shows_with_session user now.0 (codes "Welcome " ++ name.now) []) }
 {
     let mut heading = Vec::new(alloc);
     heading.extend_from_slice(b"Welcome ")?;
     heading.extend_from_slice(name)?;
-    signs(
+    shows_with_session(
         alloc,
         user,
         now,
@@ -102,8 +106,16 @@ fn registered(
     Ok(Outcome { writes, done })
 }
 
-/// A new user: as far as these reads bring it. It reads two rows, and writes three. The name is hashed, and
-/// after the last read the password with its salt.
+/// No row has the key of a name; refused where one has, also where it is of another name.
+fn asks_free_name(alloc: Global, name: &[u8], reads: &mut Reads<'_>) -> Result<(), Stop>
+    ensures { HasCome result reads.new
+        (walk (asks_no_row name_of (name_id name.now) name_taken) reads.old) }
+{
+    asks_no_row::<NameRow>(alloc, reads, name_id(name), 409, b"Name taken")
+}
+
+/// A new user: as far as these reads bring it. It reads two rows, and writes three. The name is hashed, and after
+/// the last read once more, and the password with its salt.
 pub fn register(
     alloc: Global,
     name: &[u8],
@@ -115,9 +127,9 @@ pub fn register(
     requires { is_user_name name.now ≡ true }
     ensures { HasCome result reads.new (walk (register_plan name.now password.now fresh now.0) reads.old) }
 {
-    asks_no_row::<NameRow>(alloc, reads, name_id(name), 409, b"Name taken")?;
+    asks_free_name(alloc, name, reads)?;
     let users = asks_counter(alloc, reads, users_counter())?;
-    stops_if(alloc, is_last_number(users), 409, b"No more numbers")?;
+    refuses_if(alloc, is_last_number(users), 409, b"No more numbers")?;
     let outcome = registered(alloc, name, password, fresh, now, users as u32 + 1)?;
     Ok(outcome)
 }
@@ -143,9 +155,9 @@ pub fn sign_in(
 {
     let wrong = b"Wrong name or password";
     let found = asks_row_or::<NameRow>(alloc, reads, name_id(name), 403, wrong)?;
-    stops_if(alloc, has_other_name(&found, name), 403, wrong)?;
+    refuses_if(alloc, has_other_name(&found, name), 403, wrong)?;
     let user = asks_row_or::<UserRow>(alloc, reads, user_id(found.user), 403, wrong)?;
-    stops_if(alloc, has_other_password(&user, password), 403, wrong)?;
+    refuses_if(alloc, has_other_password(&user, password), 403, wrong)?;
     let outcome = signed_in(alloc, name, now, found.user)?;
     Ok(outcome)
 }

@@ -2,18 +2,18 @@ use Rattle.action_plans.proofs.Walking.{walk_bind, walk_gives, out_has, out_come
 use Rattle.auction_site.specs.Planned.{buy_plan}
 use Rattle.auction_actions.proofs.buying.buy.Goals as goal
 
-pub returns-in_err-stops_if : goal.returns-in_err-stops_if
+pub returns-in_err-refuses_if : goal.returns-in_err-refuses_if
 unfolding buy_plan
-returns-in_err-stops_if c = simp walk_bind (out_has _ _ _ _ _ _ c.from_residual.ensures.1 c.in_err-stops_if.ensures.has)
+returns-in_err-refuses_if c = simp walk_bind (out_has _ _ _ _ _ _ c.from_residual.ensures.1 c.in_err-refuses_if.ensures.has)
 
 pub returns-in_err-item : goal.returns-in_err-item
 unfolding buy_plan
-returns-in_err-item c = simp (walk_bind, c.in_ok-stops_if.ensures.has, walk_gives, ← c.item_id.ensures) (out_come _ _ _ _ _ _ c.from_residual-in_err-item.ensures.1 c.in_err-item.ensures.come)
+returns-in_err-item c = simp (walk_bind, c.in_ok-refuses_if.ensures.has, walk_gives, ← c.item_id.ensures) (out_come _ _ _ _ _ _ c.from_residual-in_err-item.ensures.1 c.in_err-item.ensures.come)
 
-pub returns-in_err-stops_by : goal.returns-in_err-stops_by
+pub returns-in_err-refuses_by : goal.returns-in_err-refuses_by
 unfolding buy_plan
-returns-in_err-stops_by c = simp (walk_bind, c.in_ok-stops_if.ensures.has, walk_gives, ← c.item_id.ensures, c.in_ok-item.ensures.come, ← c.buy_refusal.ensures) (out_has _ _ _ _ _ _ c.from_residual-in_err-stops_by.ensures.1 c.in_err-stops_by.ensures.has)
+returns-in_err-refuses_by c = simp (walk_bind, c.in_ok-refuses_if.ensures.has, walk_gives, ← c.item_id.ensures, c.in_ok-item.ensures.come, ← c.buy_refusal.ensures) (out_has _ _ _ _ _ _ c.from_residual-in_err-refuses_by.ensures.1 c.in_err-refuses_by.ensures.has)
 
 pub returns : goal.returns
 unfolding buy_plan
-returns c = simp (walk_bind, c.in_ok-stops_if.ensures.has, walk_gives, ← c.item_id.ensures, c.in_ok-item.ensures.come, ← c.buy_refusal.ensures, c.in_ok-stops_by.ensures.has, c.in_ok-outcome.ensures)
+returns c = simp (walk_bind, c.in_ok-refuses_if.ensures.has, walk_gives, ← c.item_id.ensures, c.in_ok-item.ensures.come, ← c.buy_refusal.ensures, c.in_ok-refuses_by.ensures.has, c.in_ok-outcome.ensures)

@@ -4,4 +4,4 @@ use Rattle.auction_actions.proofs.buying.closed.Goals as goal
 
 pub returns : goal.returns
 unfolding closed
-returns c = rw (c.in_ok-writes.ensures, c.in_ok-done.ensures, c.ended-item.ensures) refl
+returns c = rw (c.in_ok-writes.ensures, c.in_ok-done.ensures, c.after_close-item.ensures) refl

@@ -8,36 +8,36 @@ use Rattle.action_plans.specs.Plans.{Plan, Gives, Refuses, Has, ◌>>=◌}
 use Rattle.action_plans.proofs.Walking.{bind_gives, exit_part}
 use Rattle.auction_rows.specs.declared.rows.CounterRow.{CounterRow}
 use Rattle.auction_rows.specs.Reading.{counter_of}
-use Rattle.auction_site.specs.Pieces.{reads, reads_none, reads_count}
+use Rattle.auction_site.specs.Pieces.{decoded, none_decoded, count_decoded}
 
 count_is : (id : RowId) (o : Option (List ℕ)) (bytes : List ℕ) (found : Option CounterRow) → o ≡ Some bytes → found ≡ counter_of bytes
-    → reads_count id o ≡ (reads id found >>= λ counter. Gives counter.count)
-unfolding reads_count
+    → count_decoded id o ≡ (decoded id found >>= λ counter. Gives counter.count)
+unfolding count_decoded
 count_is id o bytes found some is = rw (some, is) refl
 
 pub count_gives : (id : RowId) (o : Option (List ℕ)) (bytes : List ℕ) (found : Option CounterRow) (counter : CounterRow) → o ≡ Some bytes
-    → found ≡ counter_of bytes → reads id found ≡ Gives counter → reads_count id o ≡ Gives counter.count
+    → found ≡ counter_of bytes → decoded id found ≡ Gives counter → count_decoded id o ≡ Gives counter.count
 count_gives id o bytes found counter some is gives =
-    count_is id o bytes found some is ∙ bind_gives (reads id found) (λ c. Gives c.count) counter gives
+    count_is id o bytes found some is ∙ bind_gives (decoded id found) (λ c. Gives c.count) counter gives
 
 pub count_stops : (r : Result ℕ Stop) (e : Stop) (id : RowId) (o : Option (List ℕ)) (bytes : List ℕ) (found : Option CounterRow) → o ≡ Some bytes
-    → found ≡ counter_of bytes → IsErrAnd r (λ y. y ≡ e) → Has {A = CounterRow} (Err e) (reads id found) → Has r (reads_count id o)
+    → found ≡ counter_of bytes → IsErrAnd r (λ y. y ≡ e) → Has {A = CounterRow} (Err e) (decoded id found) → Has r (count_decoded id o)
 count_stops r e id o bytes found some is out has =
     let P : Plan ℕ → Type 0 = λ p. Has r p in
-    subst P (sym (count_is id o bytes found some is)) (exit_part r e (reads id found) (λ c. Gives c.count) out has)
+    subst P (sym (count_is id o bytes found some is)) (exit_part r e (decoded id found) (λ c. Gives c.count) out has)
 
 none_is : {T : Type 0} (spells : List ℕ → Option T) (id : RowId) (there : DoneText) (o : Option (List ℕ)) (bytes : List ℕ) (found : Option T)
-    → o ≡ Some bytes → found ≡ spells bytes → reads_none spells id there o ≡ (reads id found >>= λ row. Refuses there)
-unfolding reads_none
+    → o ≡ Some bytes → found ≡ spells bytes → none_decoded spells id there o ≡ (decoded id found >>= λ row. Refuses there)
+unfolding none_decoded
 none_is spells id there o bytes found some is = rw (some, is) refl
 
 pub none_refuses : {T : Type 0} (spells : List ℕ → Option T) (id : RowId) (there : DoneText) (o : Option (List ℕ)) (bytes : List ℕ) (found : Option T) (row : T)
-    → o ≡ Some bytes → found ≡ spells bytes → reads id found ≡ Gives row → reads_none spells id there o ≡ Refuses there
+    → o ≡ Some bytes → found ≡ spells bytes → decoded id found ≡ Gives row → none_decoded spells id there o ≡ Refuses there
 none_refuses spells id there o bytes found row some is gives =
-    none_is spells id there o bytes found some is ∙ bind_gives (reads id found) (λ x. Refuses there) row gives
+    none_is spells id there o bytes found some is ∙ bind_gives (decoded id found) (λ x. Refuses there) row gives
 
 pub none_stops : {T : Type 0} (r : Result (Unit {0}) Stop) (e : Stop) (spells : List ℕ → Option T) (id : RowId) (there : DoneText) (o : Option (List ℕ)) (bytes : List ℕ) (found : Option T)
-    → o ≡ Some bytes → found ≡ spells bytes → IsErrAnd r (λ y. y ≡ e) → Has {A = T} (Err e) (reads id found) → Has r (reads_none spells id there o)
+    → o ≡ Some bytes → found ≡ spells bytes → IsErrAnd r (λ y. y ≡ e) → Has {A = T} (Err e) (decoded id found) → Has r (none_decoded spells id there o)
 none_stops r e spells id there o bytes found some is out has =
     let P : Plan (Unit {0}) → Type 0 = λ p. Has r p in
-    subst P (sym (none_is spells id there o bytes found some is)) (exit_part r e (reads id found) (λ x. Refuses there) out has)
+    subst P (sym (none_is spells id there o bytes found some is)) (exit_part r e (decoded id found) (λ x. Refuses there) out has)

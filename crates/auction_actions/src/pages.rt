@@ -3,10 +3,9 @@
 ghost use Rattle.std.specs.Prelude.{◌≡◌, [], ◌∷◌, ◌++◌, codes, IfOk, OnOk};
 ghost use Rattle.auction_site.specs.Outcomes.{form_address, form_fields, form_line, form_shown, home, home_text, signed_out};
 
-use crate::outcomes::{answered, numbered_text, signs};
-use crate::pieces::shows;
 use action_plans::Outcome;
 use auction_calls::FormKind;
+use auction_pieces::{answered, numbered_text, shows, shows_with_session};
 use crash_base::{FieldText, Moment, OutOfMemory};
 use page_text::{FieldNameList, PageLine, PageLineList};
 use std::alloc::Global;
@@ -41,7 +40,7 @@ pub fn home(alloc: Global, user: u32) -> Result<Outcome, OutOfMemory>
 pub fn signed_out(alloc: Global, now: Moment) -> Result<Outcome, OutOfMemory>
     ensures { IfOk result (λ outcome. outcome ≡ signed_out now.0) }
 {
-    let done = signs(alloc, 0, now, b"Signed out", &PageLineList::new(alloc))?;
+    let done = shows_with_session(alloc, 0, now, b"Signed out", &PageLineList::new(alloc))?;
     Ok(answered(alloc, done))
 }
 
@@ -129,7 +128,7 @@ pub fn form_shown(
     let mut lines = PageLineList::new(alloc);
     lines.push(form_line(alloc, kind, token)?)?;
     let done = if user == 0 {
-        signs(alloc, 0, now, heading.as_slice(), &lines)?
+        shows_with_session(alloc, 0, now, heading.as_slice(), &lines)?
     } else {
         shows(alloc, 200, heading.as_slice(), &lines)?
     };

@@ -1,15 +1,25 @@
-//! Links to categories and items.
+//! Links to categories and items, and the price of an item.
 
 ghost use Rattle.std.specs.Prelude.{◌≡◌, ◌++◌, codes, IfOk};
 ghost use Rattle.std.specs.Fmt.{decimal};
-ghost use Rattle.auction_site.specs.Outcomes.{category_link, item_link, priced_link};
+ghost use Rattle.auction_site.specs.Outcomes.{category_link, item_link, price, priced_link};
 
-use crate::items::price;
-use crate::outcomes::numbered_text;
+use crate::answers::numbered_text;
 use auction_rows::{CategoryRow, ItemRow};
 use crash_base::{FieldText, OutOfMemory};
 use page_text::PageLine;
 use std::alloc::Global;
+
+/// What was bid most, or the least bid where nothing was bid.
+pub fn price(item: &ItemRow) -> u64
+    ensures { result ≡ price item.now }
+{
+    if item.best == 0 {
+        item.start
+    } else {
+        item.best
+    }
+}
 
 /// A link to a category.
 pub fn category_link(
