@@ -1,5 +1,8 @@
 //! Calls from their words: the user, the moment and the action.
 
+ghost use Rattle.std.specs.Prelude.{◌≡◌, true};
+ghost use Rattle.auction_calls.specs.Calls.{is_call};
+
 use crate::rows_read::field;
 use crate::words::{first_word, number, small_number};
 use auction_actions::ActionProgram;
@@ -114,15 +117,20 @@ fn action_of(rt: &impl Abort, alloc: Global, words: &str) -> Action {
     }
 }
 
-/// The program of an action of a user at a moment. Its key has bytes 1, and its token is 56 times the digit 7.
-pub fn program(rt: &impl Abort, user: u32, now: u64, action: Action) -> ActionProgram {
+/// A token of 56 bytes, no two of which are the same.
+const TOKEN: &[u8; 56] = b"0123456789abcdefghijklmnopqrstuvwxyzABCDEFGHIJKLMNOPQRST";
+
+/// The program of an action of a user at a moment. Its key has bytes 1, and its token is `TOKEN`.
+pub fn program(rt: &impl Abort, user: u32, now: u64, action: Action) -> ActionProgram
+    ensures { is_call result ≡ true }
+{
     let call = ActionCall {
         action,
         user,
         key: SessionKey([1; 16]),
         now: Moment(now),
         fresh: FRESH,
-        form: [b'7'; 56],
+        form: *TOKEN,
     };
     match CheckedCall::check(call) {
         Ok(call) => ActionProgram::new(call),
@@ -131,7 +139,9 @@ pub fn program(rt: &impl Abort, user: u32, now: u64, action: Action) -> ActionPr
 }
 
 /// The program of the call that words spell: `USER NOW ACTION ..`.
-pub fn program_of(rt: &impl Abort, alloc: Global, words: &str) -> ActionProgram {
+pub fn program_of(rt: &impl Abort, alloc: Global, words: &str) -> ActionProgram
+    ensures { is_call result ≡ true }
+{
     let (user, rest) = first_word(words);
     let (now, action) = first_word(rest);
     let action = action_of(rt, alloc, action);

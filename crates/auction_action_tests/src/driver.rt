@@ -1,5 +1,7 @@
 //! Programs that are run over rows in memory.
 
+ghost use Rattle.auction_rows.specs.Parts.{site_parts};
+
 use call_ticket::{Answer, AnswerList, MAX_STEPS, Next, Program};
 use crash_base::{RowBytes, RowId, RowList, RowWrite};
 use journal_model::DoneText;
@@ -115,13 +117,16 @@ fn end_of(
     }
 }
 
-/// Runs a program until it is done, over rows in order of id. Each of its puts is laid over them at once.
+/// Runs a program that accepts the site's deployment until it is done, over rows in order of id. Each of its puts is
+/// laid over them at once.
 pub fn drive<P: Program>(
     rt: &impl Abort,
     alloc: Global,
     program: &P,
     rows: &mut Vec<RowWrite>,
-) -> Driven {
+) -> Driven
+    requires { P.accepts program.now site_parts }
+{
     let mut steps = String::new(alloc);
     let mut puts = Vec::new(alloc);
     let mut answers = AnswerList::new(alloc);

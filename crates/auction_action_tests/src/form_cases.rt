@@ -8,7 +8,7 @@ const FORMS: &str = "\
 call 3 1000 form register
 is 200 Form register
 line <form method=\"post\" action=\"/register\">
-line <input type=\"hidden\" name=\"token\" value=\"77777777777777777777777777777777777777777777777777777777\">
+line <input type=\"hidden\" name=\"token\" value=\"0123456789abcdefghijklmnopqrstuvwxyzABCDEFGHIJKLMNOPQRST\">
 line <label>name <input name=\"name\"></label>
 line <label>password <input name=\"password\"></label>
 line <button>Send</button>
@@ -17,7 +17,7 @@ line </form>
 call 3 1000 form signin
 is 200 Form signin
 line <form method=\"post\" action=\"/signin\">
-line <input type=\"hidden\" name=\"token\" value=\"77777777777777777777777777777777777777777777777777777777\">
+line <input type=\"hidden\" name=\"token\" value=\"0123456789abcdefghijklmnopqrstuvwxyzABCDEFGHIJKLMNOPQRST\">
 line <label>name <input name=\"name\"></label>
 line <label>password <input name=\"password\"></label>
 line <button>Send</button>
@@ -26,14 +26,14 @@ line </form>
 call 3 1000 form signout
 is 200 Form signout
 line <form method=\"post\" action=\"/signout\">
-line <input type=\"hidden\" name=\"token\" value=\"77777777777777777777777777777777777777777777777777777777\">
+line <input type=\"hidden\" name=\"token\" value=\"0123456789abcdefghijklmnopqrstuvwxyzABCDEFGHIJKLMNOPQRST\">
 line <button>Send</button>
 line </form>
 
 call 3 1000 form category
 is 200 Form category
 line <form method=\"post\" action=\"/categories\">
-line <input type=\"hidden\" name=\"token\" value=\"77777777777777777777777777777777777777777777777777777777\">
+line <input type=\"hidden\" name=\"token\" value=\"0123456789abcdefghijklmnopqrstuvwxyzABCDEFGHIJKLMNOPQRST\">
 line <label>name <input name=\"name\"></label>
 line <button>Send</button>
 line </form>
@@ -41,7 +41,7 @@ line </form>
 call 3 1000 form sell
 is 200 Form sell
 line <form method=\"post\" action=\"/sell\">
-line <input type=\"hidden\" name=\"token\" value=\"77777777777777777777777777777777777777777777777777777777\">
+line <input type=\"hidden\" name=\"token\" value=\"0123456789abcdefghijklmnopqrstuvwxyzABCDEFGHIJKLMNOPQRST\">
 line <label>title <input name=\"title\"></label>
 line <label>category <input name=\"category\"></label>
 line <label>start <input name=\"start\"></label>
@@ -53,7 +53,7 @@ line </form>
 call 3 1000 form bid
 is 200 Form bid
 line <form method=\"post\" action=\"/bid\">
-line <input type=\"hidden\" name=\"token\" value=\"77777777777777777777777777777777777777777777777777777777\">
+line <input type=\"hidden\" name=\"token\" value=\"0123456789abcdefghijklmnopqrstuvwxyzABCDEFGHIJKLMNOPQRST\">
 line <label>item <input name=\"item\"></label>
 line <label>amount <input name=\"amount\"></label>
 line <button>Send</button>
@@ -62,7 +62,7 @@ line </form>
 call 3 1000 form buy
 is 200 Form buy
 line <form method=\"post\" action=\"/buy\">
-line <input type=\"hidden\" name=\"token\" value=\"77777777777777777777777777777777777777777777777777777777\">
+line <input type=\"hidden\" name=\"token\" value=\"0123456789abcdefghijklmnopqrstuvwxyzABCDEFGHIJKLMNOPQRST\">
 line <label>item <input name=\"item\"></label>
 line <button>Send</button>
 line </form>
@@ -70,7 +70,7 @@ line </form>
 call 3 1000 form close
 is 200 Form close
 line <form method=\"post\" action=\"/close\">
-line <input type=\"hidden\" name=\"token\" value=\"77777777777777777777777777777777777777777777777777777777\">
+line <input type=\"hidden\" name=\"token\" value=\"0123456789abcdefghijklmnopqrstuvwxyzABCDEFGHIJKLMNOPQRST\">
 line <label>item <input name=\"item\"></label>
 line <button>Send</button>
 line </form>
@@ -78,7 +78,7 @@ line </form>
 call 3 1000 form feedback
 is 200 Form feedback
 line <form method=\"post\" action=\"/feedback\">
-line <input type=\"hidden\" name=\"token\" value=\"77777777777777777777777777777777777777777777777777777777\">
+line <input type=\"hidden\" name=\"token\" value=\"0123456789abcdefghijklmnopqrstuvwxyzABCDEFGHIJKLMNOPQRST\">
 line <label>item <input name=\"item\"></label>
 line <label>good <input name=\"good\"></label>
 line <label>text <input name=\"text\"></label>
@@ -90,7 +90,7 @@ const WITHOUT_A_USER: &str = "\
 call 0 1000 form register
 is 200 Form register
 line <form method=\"post\" action=\"/register\">
-line <input type=\"hidden\" name=\"token\" value=\"77777777777777777777777777777777777777777777777777777777\">
+line <input type=\"hidden\" name=\"token\" value=\"0123456789abcdefghijklmnopqrstuvwxyzABCDEFGHIJKLMNOPQRST\">
 line <label>name <input name=\"name\"></label>
 line <label>password <input name=\"password\"></label>
 line <button>Send</button>
@@ -100,7 +100,7 @@ session 000000000000000000000000000003e8
 call 0 1000 form bid
 is 200 Form bid
 line <form method=\"post\" action=\"/bid\">
-line <input type=\"hidden\" name=\"token\" value=\"77777777777777777777777777777777777777777777777777777777\">
+line <input type=\"hidden\" name=\"token\" value=\"0123456789abcdefghijklmnopqrstuvwxyzABCDEFGHIJKLMNOPQRST\">
 line <label>item <input name=\"item\"></label>
 line <label>amount <input name=\"amount\"></label>
 line <button>Send</button>

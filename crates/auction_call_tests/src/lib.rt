@@ -1,4 +1,4 @@
-//! Tests of the rules of the auction and of the texts of its calls, through public calls.
+//! Tests of the rules of the auction, of the texts of its calls, and of the pieces of its actions, through public calls.
 //!
 //! Each goes through a table of rows. What a row's call answers is put into words, each with a space
 //! before it, and these are compared with the words that the row wants. A row that fails is shown
@@ -7,6 +7,10 @@
 
 #[cfg(test)]
 mod checking;
+#[cfg(test)]
+mod links;
+#[cfg(test)]
+mod pieces;
 #[cfg(test)]
 mod ranges;
 #[cfg(test)]
