@@ -20,11 +20,11 @@ use Rattle.auction_rows.specs.declared.rows.ItemRow.{ItemRow}
 use Rattle.auction_rows.specs.declared.rows.NameRow.{NameRow}
 use Rattle.auction_rows.specs.declared.rows.OwnItemRow.{OwnItemRow}
 use Rattle.auction_rows.specs.declared.rows.UserRow.{UserRow}
-use Rattle.auction_rows.specs.Bounds.{AreBytes, IsItem, IsName, IsRow, IsUser}
+use Rattle.auction_rows.specs.Bounds.{AreBytes, IsItem, IsRow, IsUser}
 use Rattle.auction_rows.specs.Ids.{user_id, name_id, item_id, category_id, bid_id, entry_id, feedback_id, own_item_id}
-use Rattle.auction_rows.specs.Reading.{user_of, name_of, item_of}
+use Rattle.auction_rows.specs.Reading.{user_of, item_of}
 use Rattle.auction_rows.specs.Spelling.{u32_bytes, u64_bytes, user_bytes, item_bytes, row_bytes, table_of}
-use Rattle.auction_rows.proofs.ExactRows.{item_exact, name_exact}
+use Rattle.auction_rows.proofs.ExactRows.{item_exact}
 use Rattle.auction_rows.proofs.RowBytes.{IsUserOfBytes, user_are, user_read, name_are, counter_are, item_are, category_are, bid_are, entry_are, feedback_are, own_item_are}
 use Rattle.auction_rules.specs.Rules.{other_side}
 use Rattle.auction_site.specs.declared.limits.TheConstants.{LAST_BID, LAST_FEEDBACK}
@@ -57,9 +57,6 @@ in_bounds {T = T} Bounds spells exact rows id x all is = by_bytes (row_in rows i
 
 pub user_in_bounds : (rows : List RowWrite) (id : RowId) (user : UserRow) → HaveBytes rows → row_at rows user_of id ≡ Some user → IsUserOfBytes user
 user_in_bounds = in_bounds IsUserOfBytes user_of user_read
-
-pub name_in_bounds : (rows : List RowWrite) (id : RowId) (name : NameRow) → HaveBytes rows → row_at rows name_of id ≡ Some name → IsName name
-name_in_bounds = in_bounds IsName name_of (λ bytes x are is. (name_exact.takes bytes x are is).0)
 
 pub item_in_bounds : (rows : List RowWrite) (id : RowId) (item : ItemRow) → HaveBytes rows → row_at rows item_of id ≡ Some item → IsItem item
 item_in_bounds = in_bounds IsItem item_of (λ bytes x are is. (item_exact.takes bytes x are is).0)

@@ -1,7 +1,10 @@
 -- Whose the session is after registering, signing in and out, and a form.
-use Rattle.std.proofs.Common.{◌≡◌, ℕ, ◌+◌, ◌<◌, ◌^◌, List, [], ◌∷◌, ◌++◌, codes, Ok, refl, sym, subst, arith, Some}
+use Rattle.std.proofs.Common.{◌≡◌, ℕ, ◌+◌, ◌<◌, ◌^◌, List, [], ◌∷◌, ◌++◌, codes, Ok, refl, sym, subst, arith, Some, ◌==◌, Bool, true, false, cond, nat_lt, length, Option, None, option_and_then}
+use Rattle.std.specs.Int.{w64}
+use Rattle.std.proofs.lemmas.Bool.Decides.{nat_tests}
+use Rattle.crash_base.specs.declared.rows.TheConstants.{MAX_ROW_BYTES}
 use Rattle.crash_base.specs.declared.rows.RowWrite.{RowWrite}
-use Rattle.crash_base.specs.Rows.{put_all}
+use Rattle.crash_base.specs.Rows.{put_all, row_in}
 use Rattle.action_plans.specs.declared.plan.Outcome.{Outcome}
 use Rattle.auction_calls.specs.Texts.{kind_text}
 use Rattle.auction_calls.specs.declared.action.Action.{Action}
@@ -9,7 +12,9 @@ use Rattle.auction_calls.specs.declared.action.Action.TheVariants.{Register, Sig
 use Rattle.auction_calls.specs.declared.action.ActionCall.{ActionCall}
 use Rattle.auction_calls.specs.declared.action.FormKind.{FormKind}
 use Rattle.auction_rows.specs.Ids.{name_id, users_counter}
-use Rattle.auction_rows.specs.Reading.{name_of}
+use Rattle.auction_rows.specs.Reading.{name_at, name_of}
+use Rattle.byte_fields.specs.Reading.{id_at, number_at, text_at}
+use Rattle.byte_fields.proofs.Exact.{bound, unless_some}
 use Rattle.auction_rows.specs.declared.rows.NameRow.{NameRow}
 use Rattle.auction_rows.proofs.Values.{read_back}
 use Rattle.page_text.specs.declared.page_line.PageLine.{PageLine}
@@ -20,11 +25,9 @@ use Rattle.auction_site.specs.Found.{finished}
 use Rattle.auction_site.specs.Outcomes.{registered, signed_in, form_line, form_shown}
 use Rattle.auction_site.specs.Sessions.{SetsSession}
 use Rattle.auction_site.specs.Accepted.{Counts}
-use Rattle.auction_site.specs.Written.{HaveBytes}
 use Rattle.auction_site.proofs.Coherence.{same_some}
 use Rattle.auction_site.proofs.Exactly.{sign_in_accepted}
 use Rattle.auction_site.proofs.LeftRows.{registered_counts}
-use Rattle.auction_site.proofs.RowWrites.{name_in_bounds}
 use Rattle.auction_site.proofs.Signing.{registers}
 use Rattle.auction_site.proofs.Accepting.{counter_is_found}
 
@@ -53,13 +56,51 @@ register_counts call name password users rows outcome is counted =
     let P : Outcome → Type 0 = λ o. Counts (put_all o.writes rows) users_counter (users + 1) in
     subst P (sym made.same) (registered_counts name password call.fresh call.now.0 (users + 1) rows made.low)
 
+-- an id is below 2^32
+id_low : (bytes : List ℕ) (found : ℕ × List ℕ) → id_at bytes ≡ Some found → found.0 < 2 ^ 32
+unfolding id_at
+id_low bytes found is =
+    let number = bound (number_at w64 bytes) _ found is in
+    by_test (nat_lt number.value.0 (2 ^ 32)) number.value refl number.next
+  where
+    by_test : (small : Bool) (n : ℕ × List ℕ) → nat_lt n.0 (2 ^ 32) ≡ small → cond small (Some n) None ≡ Some found → found.0 < 2 ^ 32
+    by_test true n low e =
+        let one : n ≡ found = cc in
+        subst (λ (f : ℕ × List ℕ). f.0 < 2 ^ 32) one (grind (arith, nat_tests))
+    by_test false n low e = absurd (cc)
+
+name_at_low : (bytes : List ℕ) (found : NameRow × List ℕ) → name_at bytes ≡ Some found → found.0.user < 2 ^ 32
+unfolding name_at
+name_at_low bytes found is =
+    let text = bound (text_at bytes) _ found is in
+    let user = bound (id_at text.value.1) _ found text.next in
+    let low = id_low text.value.1 user.value user.is in
+    let one : (record { name = text.value.0; user = user.value.0 }, user.value.1) ≡ found = cc in
+    subst (λ (f : NameRow × List ℕ). f.0.user < 2 ^ 32) one low
+
+-- the user of a name is below 2^32, whatever the bytes are that spell it
+name_low : (bytes : List ℕ) (found : NameRow) → name_of bytes ≡ Some found → found.user < 2 ^ 32
+unfolding name_of
+name_low bytes found is =
+    let read = bound (cond (nat_lt MAX_ROW_BYTES (length bytes)) None (name_at bytes)) _ found is in
+    let low = name_at_low bytes read.value (unless_some (nat_lt MAX_ROW_BYTES (length bytes)) (name_at bytes) read.value read.is).1 in
+    by_rest read.value (length read.value.1 == 0) read.next low
+  where
+    by_rest : (f : NameRow × List ℕ) (none : Bool) → cond none (Some f.0) None ≡ Some found → f.0.user < 2 ^ 32 → found.user < 2 ^ 32
+    by_rest f true e low = let one : f.0 ≡ found = cc in subst (λ (x : NameRow). x.user < 2 ^ 32) one low
+    by_rest f false e low = absurd (cc)
+
+row_low : (bytes : Option (List ℕ)) (found : NameRow) → option_and_then name_of bytes ≡ Some found → found.user < 2 ^ 32
+row_low None found is = absurd (cc)
+row_low (Some bytes) found is = name_low bytes found is
+
 pub sign_in_sets : (call : ActionCall) (name password : List ℕ) (rows : List RowWrite) (outcome : Outcome) (found : NameRow)
-    → HaveBytes rows → meaning call (SignIn name password) rows ≡ Ok outcome → row_at rows name_of (name_id name) ≡ Some found
+    → meaning call (SignIn name password) rows ≡ Ok outcome → row_at rows name_of (name_id name) ≡ Some found
     → SetsSession outcome.done found.user call.now.0
-sign_in_sets call name password rows outcome found all is there =
+sign_in_sets call name password rows outcome found is there =
     let taken = (sign_in_accepted name password call.now.0 rows outcome).0 is in
     let one : taken.0 ≡ found = same_some (row_at rows name_of (name_id name)) taken.0 found taken.2.there there in
-    let low = (name_in_bounds rows (name_id name) found all there).user in
+    let low = row_low (row_in rows (name_id name)) found there in
     let P : Outcome → Type 0 = λ o. SetsSession o.done found.user call.now.0 in
     let Q : NameRow → Type 0 = λ f. outcome ≡ signed_in name call.now.0 f.user in
     subst P (sym (subst Q one taken.3)) (sets found.user call.now.0 (codes "Welcome " ++ name) [] low)

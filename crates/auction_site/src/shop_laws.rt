@@ -57,8 +57,8 @@ pub fn what_was_done_is_refused()
         bid_refusal (with_bid item bidder amount) user next now ≡ Some BidTooLow }
 {}
 
-/// Over the rows that registering leaves, the user of the next number is there, and is counted. Over these rows any call signs in
-/// with the name and the password, and none with a password of another digest. The digest is that of
+/// Over the rows that registering leaves, the user of the next number is there, and is counted. Over these rows any
+/// call signs in with the name and the password, and none with a password of another digest. The digest is that of
 /// the salt and the password, and the salt is the call's random number. The rows have no more of the password: with
 /// another one of the same digest they are the same.
 pub fn who_registers_signs_in()
@@ -92,7 +92,7 @@ pub fn sessions_are_of_users()
         meaning call (Register name password) rows ≡ Ok outcome → Counts rows users_counter users →
         SetsSession outcome.done (users + 1) call.now.0 }
     ensures sign_in { (call : ActionCall) (name password : List ℕ) (rows : List RowWrite) (outcome : Outcome) (found : NameRow) →
-        HaveBytes rows → meaning call (SignIn name password) rows ≡ Ok outcome →
+        meaning call (SignIn name password) rows ≡ Ok outcome →
         row_at rows name_of (name_id name) ≡ Some found → SetsSession outcome.done found.user call.now.0 }
     ensures sign_out { (call : ActionCall) (rows : List RowWrite) → call.action ≡ SignOut →
         SetsSession (site call rows).done 0 call.now.0 }
