@@ -3,7 +3,7 @@ use Rattle.std.proofs.Common.{◌≡◌, List, ℕ, ◌++◌, Option, Some, ap, 
 use Rattle.std.specs.Option.{option_map, option_and_then}
 use Rattle.byte_fields.specs.Reading.{Field}
 use Rattle.byte_fields.proofs.Exact.{Takes, IsExact}
-use Rattle.byte_fields.proofs.MadeFields.{then_some, map_some}
+use Rattle.crash_base.proofs.Options.{then_some, map_some}
 use Rattle.auction_calls.specs.Reading.{found}
 
 -- how a value is found from another's, and that other again

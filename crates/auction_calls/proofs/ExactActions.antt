@@ -8,7 +8,8 @@ use Rattle.byte_fields.specs.Reading.{Field, made}
 use Rattle.byte_fields.specs.Spelling.{AreBytes}
 use Rattle.byte_fields.proofs.Exact.{IsExact}
 use Rattle.byte_fields.proofs.ExactFields.{u64_exact, id_exact, IsText, text_exact}
-use Rattle.byte_fields.proofs.MadeFields.{map_some, both_exact}
+use Rattle.crash_base.proofs.Options.{map_some}
+use Rattle.byte_fields.proofs.MadeFields.{both_exact}
 use Rattle.auction_calls.specs.declared.action.Action.{Action}
 use Rattle.auction_calls.specs.declared.action.Action.TheVariants.{Home, Register, SignIn, SignOut, Categories, AddCategory, Browse, Item, User, About, Sell, Bid, Buy, Close, Feedback, Form}
 use Rattle.auction_calls.specs.Calls.{is_between, is_id, is_text, is_user_name, are_credentials, is_action}

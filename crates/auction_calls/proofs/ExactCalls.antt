@@ -8,7 +8,7 @@ use Rattle.std.proofs.lemmas.List.Elements.{All-tail}
 use Rattle.std.proofs.lemmas.Option.{cond_some, same_Some}
 use Rattle.byte_fields.specs.Reading.{made, both}
 use Rattle.byte_fields.specs.Spelling.{AreBytes}
-use Rattle.byte_fields.proofs.MadeFields.{then_some, map_some}
+use Rattle.crash_base.proofs.Options.{then_some, map_some}
 use Rattle.auction_calls.specs.declared.action.Action.{Action}
 use Rattle.auction_calls.specs.declared.action.ActionCall.{ActionCall}
 use Rattle.auction_calls.specs.declared.fields.CallHead.{CallHead}

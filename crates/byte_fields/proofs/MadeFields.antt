@@ -2,17 +2,8 @@
 use Rattle.std.proofs.Common.{◌≡◌, List, ℕ, ◌++◌, Option, Some, None, refl, ap, subst, ◌∙◌, append_assoc}
 use Rattle.std.specs.Option.{option_map, option_and_then}
 use Rattle.byte_fields.specs.Reading.{Field, made, both}
+use Rattle.crash_base.proofs.Options.{then_some, map_some}
 use Rattle.byte_fields.proofs.Exact.{Takes, Takes-then, IsExact}
-
--- what an answer that is there came from
-pub then_some : {A B : Type 0} (f : A → Option B) (o : Option A) (y : B) → option_and_then f o ≡ Some y → (x : A) × (o ≡ Some x) × (f x ≡ Some y)
-then_some f None y h = cc
-then_some f (Some x) y h = (x, refl, h)
-
--- the same where it is the image of that
-pub map_some : {A B : Type 0} (f : A → B) (o : Option A) (y : B) → option_map f o ≡ Some y → (x : A) × (o ≡ Some x) × (f x ≡ y)
-map_some f None y h = cc
-map_some f (Some x) y h = (x, refl, cc)
 
 -- how a value is made of another's, and that other found again
 pub record IsMade {A B : Type 0} (make : A → B) (part : B → A) (spell : A → List ℕ) (spell_made : B → List ℕ) (IsIn : A → Type 0) (IsMadeIn : B → Type 0) : Type 0 where

@@ -13,7 +13,7 @@ use Rattle.scenario_text.specs.Fields.{hex_digit, hex_byte, bytes_of_digits, hex
 use Rattle.scenario_text.specs.declared.line.TheConstants.{MAX_HEX_BYTES}
 use Rattle.scenario_text.specs.Texts.{byte_text, hex_text}
 use Rattle.scenario_text.specs.FieldSpelling.{AreBytes}
-use Rattle.scenario_text.proofs.OneWord.{then_some, map_some}
+use Rattle.crash_base.proofs.Options.{then_some, map_some}
 use Rattle.scenario_text.proofs.Splits.{is_whole, whole_more}
 
 -- a digit, a byte, bytes: what the text of each is read as, and what is read, as its text

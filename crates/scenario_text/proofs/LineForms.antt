@@ -4,7 +4,7 @@ use Rattle.std.specs.Option.{option_map, option_zip}
 use Rattle.std.specs.Str.{bytes_eq}
 use Rattle.std.proofs.lemmas.Slice.Eq.{bytes_eq-Decides}
 use Rattle.scenario_text.specs.Words.{no_words, one_word, two_words, three_words}
-use Rattle.scenario_text.proofs.OneWord.{map_some}
+use Rattle.crash_base.proofs.Options.{map_some}
 use Rattle.scenario_text.proofs.WordKinds.{Kind, one_spelled, two_spelled, three_spelled}
 
 -- a grammar of lines: what their fields may be, and their words

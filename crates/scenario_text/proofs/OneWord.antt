@@ -12,6 +12,7 @@ use Rattle.std.proofs.lemmas.Bool.{and_parts, or_parts}
 use Rattle.std.proofs.lemmas.Option.{cond_some}
 use Rattle.std.proofs.lemmas.Bool.Decides.{nat_tests, Decides-by_and}
 use borrow.Author.Tests.{tests}
+use Rattle.crash_base.proofs.Options.{then_some, map_some}
 use Rattle.crash_base.specs.declared.names.TheConstants.{MAX_NAME_BYTES}
 use Rattle.crash_base.specs.Names.{is_name, is_name_byte}
 use Rattle.scenario_text.specs.Fields.{name_of, digits_from, decimal_number, lettered_number}
@@ -25,16 +26,6 @@ read n (c ∷ cs) = read (10 * n + (c - 48)) cs
 -- digits, and the number that they are
 own : IsNumeralModel (λ ds. all_ascii_digits ds ≡ true) (read 0)
 own = numerals_by_fold _ tells_all_ascii_digits read (search rules)
-
--- what an answer that is there came from
-pub then_some : {A B : Type 0} (f : A → Option B) (o : Option A) (y : B) → option_and_then f o ≡ Some y → (x : A) × (o ≡ Some x) × (f x ≡ Some y)
-then_some f None y h = cc
-then_some f (Some x) y h = (x, refl, h)
-
--- the same where it is the image of that
-pub map_some : {A B : Type 0} (f : A → B) (o : Option A) (y : B) → option_map f o ≡ Some y → (x : A) × (o ≡ Some x) × (f x ≡ y)
-map_some f None y h = cc
-map_some f (Some x) y h = (x, refl, cc)
 
 -- a word that is read is digits of that number
 digits_read : (k : ℕ) (ds : List ℕ) (n : ℕ) → k < 2 ^ 64 → digits_from k ds ≡ Some n → (all_ascii_digits ds ≡ true) × (read k ds ≡ n) × (n < 2 ^ 64)

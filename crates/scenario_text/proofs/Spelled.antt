@@ -17,7 +17,7 @@ use Rattle.scenario_text.specs.FieldSpelling.{caller_word}
 use Rattle.scenario_text.specs.SessionReading.{session_line}
 use Rattle.scenario_text.specs.declared.line.Line.{Line}
 use Rattle.scenario_text.specs.declared.line.Line.TheVariants.{Pass, Component, Hard, Soft, Owns, Limit, Bricks, Key, Begin, Enter, Exit, Read, List as ListLine, Put, Commit, Drop, Down, Up, Reboot, Table, Journal, Reopen, Session}
-use Rattle.scenario_text.proofs.OneWord.{then_some, map_some}
+use Rattle.crash_base.proofs.Options.{then_some, map_some}
 use Rattle.scenario_text.proofs.Splits.{words_joined}
 use Rattle.scenario_text.proofs.WordKinds.{names, numbers, callers, bytes, four_are}
 use Rattle.scenario_text.proofs.LineForms.{Grammar, AreWords, same_line, form, no_form, one_form, two_form, three_form}

@@ -9,7 +9,8 @@ use Rattle.byte_fields.specs.Reading.{Field, made}
 use Rattle.byte_fields.specs.Spelling.{AreBytes}
 use Rattle.byte_fields.proofs.Exact.{IsExact, Takes}
 use Rattle.byte_fields.proofs.ExactFields.{u32_exact, u64_exact}
-use Rattle.byte_fields.proofs.MadeFields.{then_some, map_some, both_exact}
+use Rattle.crash_base.proofs.Options.{then_some, map_some}
+use Rattle.byte_fields.proofs.MadeFields.{both_exact}
 use Rattle.ssm_frames.specs.declared.frame.Frame.{Frame}
 use Rattle.ssm_frames.specs.declared.frame.Frame.TheVariants.{Put, Get, Sweep, Stored, Found, Absent, BrickFull, Swept}
 use Rattle.ssm_frames.specs.Reading.{whole, put_at, get_at, sweep_at, stored_at, found_at, absent_at, brick_full_at, swept_at, frame_behind, frame_at, decode_of}
