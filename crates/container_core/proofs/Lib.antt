@@ -4,3 +4,4 @@ pub mod Raising
 pub mod Opening
 pub mod GoodRows
 pub mod Starting
+pub mod Prefixes

@@ -33,5 +33,5 @@ pub use boot_core::{
 };
 pub use container::Container;
 pub use history::{Event, HistoryMark, MarkedEvent};
-pub use laws::keepers_hold_the_rows;
+pub use laws::{histories_grow, keepers_hold_the_rows};
 pub use start::{StartFail, start_boot};

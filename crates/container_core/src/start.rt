@@ -1,6 +1,7 @@
 //! How a container is started from the rows of its keeper.
 
-ghost use Rattle.std.specs.Prelude.{◌≡◌, ◌≤◌, ◌+◌, ◌<◌, [], ◌∷◌, None, Err, IfOk, MatchResult};
+ghost use Rattle.std.specs.Prelude.{◌≡◌, ◌≤◌, ◌+◌, ◌<◌, [], ◌∷◌, ◌++◌, All, None, Err, IfOk, OnOk, MatchResult};
+ghost use Rattle.call_ticket.specs.Within.{IsShortWrite};
 ghost use Rattle.outside.specs.Faults.{Rose};
 ghost use Rattle.boot_core.specs.Boot.{new_boot};
 ghost use Rattle.container_core.specs.Start.{boot_row, first_bad, last_boot, greatest_boot, start_over, refusal_of, IsUnfit, IsRefusedStart, IsOpened};
@@ -71,6 +72,45 @@ struct Prepared {
     writes: WriteList,
 }
 
+/// Puts the row of a boot's number over these rows.
+fn put_number(alloc: Global, rows: &mut RowList, number: u32) -> Result<(), OutOfMemory>
+    ensures { OnOk result (rows.new ≡ rows.old ++ boot_row number ∷ []) }
+{
+    let row = boot_row(alloc, number)?;
+    rows.push(row)
+}
+
+/// Puts the row of the next boot's number over these rows, where all may be loaded. The answer is the number.
+fn raise(alloc: Global, rows: &mut RowList) -> Result<u32, StartRefusal>
+    ensures { MatchResult result
+        (λ number. (first_bad rows.old ≡ None) × (last_boot rows.old < greatest_boot)
+        × (number ≡ last_boot rows.old + 1) × (rows.new ≡ rows.old ++ boot_row number ∷ []))
+        (λ refusal. IsUnfit refusal rows.old) }
+{
+    let number = next_boot(rows.as_slice())?;
+    put_number(alloc, rows, number)?;
+    Ok(number)
+}
+
+/// The write of the row of a boot's number, as a list.
+fn raising(alloc: Global, number: u32) -> Result<WriteList, OutOfMemory>
+    ensures { IfOk result (λ writes. writes ≡ boot_row number ∷ []) }
+{
+    let mut writes = WriteList::new(alloc);
+    writes.push(boot_row(alloc, number)?)?;
+    Ok(writes)
+}
+
+/// A boot without history.
+fn begin(alloc: Global, start: Start) -> Result<Opened, OutOfMemory>
+    requires { All IsShortWrite start.base }
+    ensures { IfOk result (λ o. (o.boot ≡ new_boot start) × (o.history.marks ≡ [])) }
+{
+    let boot = Boot::start(alloc, start)?;
+    let history = History::new(alloc)?;
+    Ok(Opened { boot, history })
+}
+
 /// Makes a boot over these rows.
 fn prepare(
     alloc: Global,
@@ -85,21 +125,16 @@ fn prepare(
         × (p.writes ≡ boot_row (last_boot rows + 1) ∷ []))
         (λ refusal. IsUnfit refusal rows) }
 {
-    let number = next_boot(rows.as_slice())?;
-    let mut writes = WriteList::new(alloc);
-    writes.push(boot_row(alloc, number)?)?;
     let mut base = rows;
-    base.push(boot_row(alloc, number)?)?;
+    let number = raise(alloc, &mut base)?;
+    let writes = raising(alloc, number)?;
     let start = Start {
         boot: number,
         base,
         deployment,
         limits,
     };
-    let opened = Opened {
-        boot: Boot::start(alloc, start)?,
-        history: History::new(alloc)?,
-    };
+    let opened = begin(alloc, start)?;
     Ok(Prepared { opened, writes })
 }
 

@@ -86,9 +86,10 @@ impl Play {
     pub fn new(alloc: Global) -> Result<Play, OutOfMemory>
         ensures { IfOk result (λ play. play ≡ record { state = first; part = []; number = 1 }) }
     {
+        let part = Vec::with_capacity(alloc, MAX_LINE_BYTES)?;
         Ok(Play {
             engine: Engine::new(alloc),
-            part: Vec::with_capacity(alloc, MAX_LINE_BYTES)?,
+            part,
             number: 1,
         })
     }

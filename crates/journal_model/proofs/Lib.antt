@@ -20,3 +20,4 @@ pub mod Conflicting
 pub mod Reading
 pub mod Listing
 pub mod Serially
+pub mod Exactly

@@ -16,6 +16,7 @@ mod snapshot_laws;
 mod stale;
 mod status;
 mod statuses;
+mod step_laws;
 
 pub use bytes::{read_bytes, value_bytes, written_bytes};
 pub use conflict::Conflict;
@@ -40,3 +41,6 @@ pub use snapshot_laws::{
 pub use stale::Stale;
 pub use status::GroupStatus;
 pub use statuses::GroupStatuses;
+pub use step_laws::{
+    calls_keep_what_they_did, journals_are_full_exactly, puts_are_seen, tests_are_exact,
+};

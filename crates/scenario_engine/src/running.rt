@@ -84,12 +84,24 @@ fn current_rows<'a>(alloc: Global, boot: &'a Boot) -> Result<LatestRows<'a>, Out
 }
 
 impl Running {
+    /// A boot that was just started over these sessions, without callers.
+    fn over(alloc: Global, boot: Boot, mut sessions: Sessions) -> Running
+        ensures { (start : Start) → boot ≡ new_boot start → result ≡ started sessions start }
+    {
+        sessions.reopen(boot.number());
+        Running {
+            boot,
+            callers: Callers::new(alloc),
+            sessions,
+        }
+    }
+
     /// Opens a boot over the rows of the keeper and these sessions, without callers.
     fn open<K: Keeper>(
         alloc: Global,
         deployment: Deployment,
         limits: JournalLimits,
-        mut sessions: Sessions,
+        sessions: Sessions,
         keeper: &mut K,
     ) -> Result<Running, StartRefusal>
         ensures opens { MatchResult result
@@ -101,14 +113,7 @@ impl Running {
         ensures count { K.faults keeper.old ≤ K.faults keeper.new }
     {
         match start_boot(alloc, deployment, limits, keeper) {
-            Ok(boot) => {
-                sessions.reopen(boot.number());
-                Ok(Running {
-                    boot,
-                    callers: Callers::new(alloc),
-                    sessions,
-                })
-            }
+            Ok(boot) => Ok(Running::over(alloc, boot, sessions)),
             Err(refusal) => Err(refusal),
         }
     }
@@ -139,6 +144,16 @@ impl Running {
         }
     }
 
+    /// What the next boot takes over. The callers are gone.
+    fn into_parts(self) -> (Deployment, JournalLimits, Sessions)
+        ensures deployment { result.0 ≡ self.boot.start.deployment }
+        ensures limits { result.1 ≡ self.boot.start.limits }
+        ensures sessions { result.2 ≡ self.sessions }
+    {
+        let limits = self.boot.journal().limits();
+        (self.boot.into_deployment(), limits, self.sessions)
+    }
+
     /// Starts the next boot, over the same deployment and limits. The callers of this one are gone, and the sessions stay.
     pub(crate) fn reopen<K: Keeper>(
         self,
@@ -155,14 +170,8 @@ impl Running {
             → Rose (K.faults keeper.old) (K.faults keeper.new) }
         ensures count { K.faults keeper.old ≤ K.faults keeper.new }
     {
-        let limits = self.boot.journal().limits();
-        Running::open(
-            alloc,
-            self.boot.into_deployment(),
-            limits,
-            self.sessions,
-            keeper,
-        )
+        let (deployment, limits, sessions) = self.into_parts();
+        Running::open(alloc, deployment, limits, sessions, keeper)
     }
 
     /// The number of the boot.

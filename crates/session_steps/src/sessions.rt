@@ -55,6 +55,7 @@ fn set_up(alloc: Global, setup: Setup) -> Result<Parts, OutOfMemory>
     ensures { IfOk result (λ parts. parts ≡ set_up setup 0) }
 {
     let Setup { counts, key } = setup;
+    let key = service_key(alloc, key)?;
     let store = match counts {
         None => None,
         Some(counts) => Some(Store::new(alloc, counts)?),
@@ -63,7 +64,7 @@ fn set_up(alloc: Global, setup: Setup) -> Result<Parts, OutOfMemory>
         moment: Moment(0),
         boot: 0,
         serial: 0,
-        key: service_key(alloc, key)?,
+        key,
         cookies: Vec::new(alloc),
         store,
     })

@@ -78,9 +78,9 @@ impl Store {
             most,
             least,
         } = counts;
-        let world = World::new(alloc, bricks)?;
         let windows = Windows::new(alloc, bricks, most, least, true)?;
         let lanes = new_lanes(alloc, bricks)?;
+        let world = World::new(alloc, bricks)?;
         Ok(Store {
             world,
             windows,

@@ -14,13 +14,21 @@ use ssm_stub::{BrickCause, Cause};
 use std::alloc::Global;
 use std::fmt::Write;
 
+/// Writes a brick that holds a value.
+fn write_holder(text: &mut String, holder: Holder) -> Result<(), OutOfMemory>
+    ensures { OnOk result (string_bytes text.new ≡ string_bytes text.old ++ holder_text holder) }
+{
+    let brick = holder.brick.0;
+    write!(text, " {brick}")?;
+    Ok(())
+}
+
 /// Writes bricks that hold a value.
 fn write_holders(text: &mut String, holders: &[Holder]) -> Result<(), OutOfMemory>
     ensures { OnOk result (string_bytes text.new ≡ string_bytes text.old ++ flat_map holder_text holders.now) }
 {
     for holder in holders {
-        let brick = holder.brick.0;
-        write!(text, " {brick}")?;
+        write_holder(text, *holder)?;
     }
     Ok(())
 }
@@ -124,14 +132,22 @@ pub(crate) fn missed_text(
     Ok(text)
 }
 
+/// Writes the value that a fetch found.
+fn write_found(text: &mut String, key: u64, value: &[u8]) -> Result<(), OutOfMemory>
+    ensures { OnOk result (string_bytes text.new ≡ string_bytes text.old ++ found_text key value.now) }
+{
+    write!(text, "k{key} found ")?;
+    write_hex(text, value)?;
+    text.push_str("\n")?;
+    Ok(())
+}
+
 /// What a fetch writes that found the value.
 pub(crate) fn found_text(alloc: Global, key: u64, value: &[u8]) -> Result<String, OutOfMemory>
     ensures { IfOk result (λ text. string_bytes text ≡ found_text key value.now) }
 {
     let mut text = String::new(alloc);
-    write!(text, "k{key} found ")?;
-    write_hex(&mut text, value)?;
-    text.push_str("\n")?;
+    write_found(&mut text, key, value)?;
     Ok(text)
 }
 

@@ -31,19 +31,20 @@ impl Store {
             → brick.0 ≡ suc place → self.new ≡ asks self.old call brick (Some lane)) }
     {
         let ask = self.world.packets();
-        let send = WorldEvent::Send {
-            call,
-            silent: false,
-            sent: true,
-        };
-        self.world.step(alloc, &send)?;
+        self.happens(
+            alloc,
+            WorldEvent::Send {
+                call,
+                silent: false,
+                sent: true,
+            },
+        )?;
         if self.lanes[place].drops() {
             self.lanes[place].drop_ask();
             return Ok(());
         }
         let reply = ask.checked_add(1).ok_or(OutOfMemory)?;
-        self.world
-            .step(alloc, &WorldEvent::Deliver { packet: ask })?;
+        self.happens(alloc, WorldEvent::Deliver { packet: ask })?;
         self.lanes[place].keep_reply(reply)?;
         Ok(())
     }

@@ -7,7 +7,9 @@ ghost use Rattle.ssm_stub.specs.declared.event.StubEvent.{StubEvent};
 ghost use Rattle.ssm_stub.specs.declared.event.StubNext.TheVariants as next;
 ghost use Rattle.ssm_stub.specs.declared.event.Told.TheVariants as told;
 ghost use Rattle.ssm_stub.specs.Runs.{told_of};
+ghost use Rattle.ssm_stub.specs.Writes.{write_start};
 ghost use Rattle.ssm_world.specs.declared.call.Call.{Call};
+ghost use Rattle.ssm_world.specs.declared.call.Call.TheVariants as call;
 ghost use Rattle.ssm_world.specs.declared.event.WorldEvent.TheVariants.{Write, Read, Deliver};
 ghost use Rattle.ssm_world.specs.Worlds.{new_world, history, is_new, nonce_of, ask_of, next_of, hear, same_brick, are_distinct, may_be_asked, bricks_of, told_by_send, told_by_packet, sent, came, hushed, delivered, crashed, swept, step, told_if, told_by_hush, may_write, may_read, may_crash, may_happen};
 
@@ -72,6 +74,23 @@ fn event_of_packet(
     }
     let bytes = encode(alloc, &found.frame)?;
     Ok(Some(StubEvent::Frame(bytes)))
+}
+
+/// A write of a copy of this value, at copies of these bricks, of which nothing was sent.
+fn write_call(
+    alloc: Global,
+    nonce: Version,
+    key: SessionKey,
+    value: &SessionBytes,
+    expiry: Moment,
+    bricks: &BrickList,
+    least: u16,
+) -> Result<NoncedCall, OutOfMemory>
+    ensures { IfOk result (λ c. c ≡ call.Write (write_start bricks.now least nonce key value.now expiry)) }
+{
+    let copy = copied_bricks(alloc, bricks)?;
+    let kept = copied_value(alloc, value)?;
+    NoncedCall::write(alloc, copy, least, nonce, key, kept, expiry)
 }
 
 impl WorldState {
@@ -288,11 +307,8 @@ impl WorldState {
         if least == 0 || least as usize > asked.len() {
             return Ok(());
         }
-        let copy = copied_bricks(alloc, bricks)?;
-        let kept = copied_value(alloc, value)?;
-        let call = NoncedCall::write(alloc, copy, least, nonce, key, kept, expiry)?;
-        self.calls.push(call)?;
-        Ok(())
+        let call = write_call(alloc, nonce, key, value, expiry, bricks, least)?;
+        self.calls.push(call)
     }
 
     /// A read begins, where it may.

@@ -1,9 +1,0 @@
-use Rattle.std.proofs.Common.{◌≡◌, option_map, length, List, ℕ, Bor}
-use Rattle.crash_base.specs.Rows.{last_write}
-use Rattle.row_store.proofs.scans.last_write.Given as goal
-
-abbrev pub invariant-loop-rest : goal.invariant-loop-rest
-invariant-loop-rest l = last_write (option_map (λ (b : Bor (List ℕ)). b.now) l.last) l.rest l.id ≡ last_write (option_map (λ (b : Bor (List ℕ)). b.now) l.fn.found) l.fn.writes l.fn.id
-
-abbrev pub decreases-loop-rest : goal.decreases-loop-rest
-decreases-loop-rest l = length l.rest
