@@ -14,9 +14,6 @@ use Rattle.auction_rows.specs.declared.rows.EntryRow.{EntryRow}
 use Rattle.auction_rows.specs.declared.rows.FeedbackRow.{FeedbackRow}
 use Rattle.auction_rows.specs.declared.rows.GivenFeedback.{GivenFeedback}
 use Rattle.auction_rows.specs.declared.rows.ItemRow.{ItemRow}
-use Rattle.auction_rows.specs.declared.items.ItemHead.{ItemHead}
-use Rattle.auction_rows.specs.declared.items.ItemAmounts.{ItemAmounts}
-use Rattle.auction_rows.specs.declared.items.ItemEnd.{ItemEnd}
 use Rattle.auction_rows.specs.declared.rows.ItemState.{ItemState}
 use Rattle.auction_rows.specs.declared.rows.ItemState.TheVariants.{Running, Closed, Sold}
 use Rattle.auction_rows.specs.declared.rows.NameRow.{NameRow}
@@ -63,40 +60,22 @@ counter_at bytes = do
   count ← number_at w64 bytes
   Some (record { count = count.0 }, count.1)
 
--- the first fields of an item: its state, its seller and its category
-unfoldable pub item_head_at : Field ItemHead
-item_head_at bytes = do
+-- an item at the front of bytes
+unfoldable pub item_at : Field ItemRow
+item_at bytes = do
   state ← byte_as state_of bytes
   seller ← id_at state.1
   category ← id_at seller.1
-  Some (record { state = state.0; seller = seller.0; category = category.0 }, category.1)
-
--- the amounts of an item
-unfoldable pub item_amounts_at : Field ItemAmounts
-item_amounts_at bytes = do
-  start ← number_at w64 bytes
+  start ← number_at w64 category.1
   buy_now ← number_at w64 start.1
   best ← number_at w64 buy_now.1
   best_bidder ← id_at best.1
   bids ← number_at w32 best_bidder.1
-  Some (record { start = start.0; buy_now = buy_now.0; best = best.0; best_bidder = best_bidder.0; bids = bids.0 }, bids.1)
-
--- when an item ends, who has bought it, and the feedback given
-unfoldable pub item_end_at : Field ItemEnd
-item_end_at bytes = do
-  ends ← number_at w64 bytes
+  ends ← number_at w64 bids.1
   buyer ← id_at ends.1
   given ← byte_as given_of buyer.1
-  Some (record { ends = record { 0 = ends.0 }; buyer = buyer.0; given = given.0 }, given.1)
-
--- an item at the front of bytes
-unfoldable pub item_at : Field ItemRow
-item_at bytes = do
-  head ← item_head_at bytes
-  amounts ← item_amounts_at head.1
-  end ← item_end_at amounts.1
-  title ← text_at end.1
-  Some (record { state = head.0.state; seller = head.0.seller; category = head.0.category; start = amounts.0.start; buy_now = amounts.0.buy_now; best = amounts.0.best; best_bidder = amounts.0.best_bidder; bids = amounts.0.bids; ends = end.0.ends; buyer = end.0.buyer; given = end.0.given; title = title.0 }, title.1)
+  title ← text_at given.1
+  Some (record { state = state.0; seller = seller.0; category = category.0; start = start.0; buy_now = buy_now.0; best = best.0; best_bidder = best_bidder.0; bids = bids.0; ends = record { 0 = ends.0 }; buyer = buyer.0; given = given.0; title = title.0 }, title.1)
 
 -- a category at the front of bytes
 unfoldable pub category_at : Field CategoryRow
