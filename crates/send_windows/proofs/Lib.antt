@@ -1,3 +1,4 @@
 mod Tallies
 mod Keeping
 mod Moving
+pub mod Growing

@@ -15,8 +15,8 @@
 //! `take` gives a pass to each of the first `w` bricks whose windows are open, gone round from a
 //! number that the caller gives, so that load spreads. Where fewer than `wq` windows are open it gives
 //! none, and tells each full window with its brick. Passes that were taken together are spent together,
-//! by a call that takes no memory; their list cannot be dropped. `try_pass` gives a single pass, which
-//! `answered` or `silent` spends.
+//! by a call that takes no memory; a list that is dropped instead stays in flight. `try_pass` gives a
+//! single pass, which `answered` or `silent` spends.
 //!
 //! The law `windows_are_of_spent_passes` says that nothing but the passes counts: a window starts at 4
 //! and goes by the marks of the passes that were spent, between 1 and 64, and in flight are the passes
@@ -26,7 +26,8 @@
 //!
 //! Windows stand in one vector in order of number. A call visits each of the at most 16 bricks a few
 //! times. Beside them stands a history, one mark for each list of passes that was taken, refused or
-//! spent, of which contracts speak alone; it grows by one short node a mark.
+//! spent, of which contracts speak alone; it grows by one short node a mark, and each call says that the
+//! history before it begins the one after it.
 #![tactic(auto)]
 
 mod fact;

@@ -7,8 +7,9 @@ use crate::history::MarkRoom;
 use crate::pass::{Pass, PassMark, hushed};
 use std::marker::Model;
 
-/// Passes that were taken together. They can be spent, and not dropped; with them goes the room that
-/// `Windows::spend` will need.
+/// Passes that were taken together, with the room that `Windows::spend` will need. Passes that are
+/// dropped stay in flight: the history of the windows shows which were spent.
+#[derive(Drop)]
 pub struct PassList {
     passes: Vec<Pass>,
     room: MarkRoom,

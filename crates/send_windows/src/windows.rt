@@ -1,6 +1,7 @@
 //! Windows on what is sent to each brick at once.
 
 ghost use Rattle.std.specs.Prelude.{◌≡◌, ◌≤◌, [], ◌∷◌, ◌++◌, IsTrue, Some, IfOk, OnOk, OnErr, IfErr};
+ghost use mathlib.Core.List.{IsPrefix};
 ghost use Rattle.send_windows.specs.declared.fact.TheConstants.{MAX_BRICKS};
 ghost use Rattle.send_windows.specs.declared.history.WindowMark.TheVariants.{Refused};
 ghost use Rattle.send_windows.specs.declared.pass.PassMark.TheVariants.{Answered, Silent};
@@ -162,11 +163,13 @@ impl Windows {
 
     /// A pass to a brick; None exactly where its window is full: as many are in flight as it, or more. It
     /// adds no mark to the history. It visits each brick twice, and takes no memory.
+    #[tactic(auto, using(crate::proofs::Growing::begins_itself, crate::proofs::Growing::begins_more))]
     pub fn try_pass(&mut self, brick: BrickNo) -> Option<Pass>
         requires held { IsTrue self.old.holds }
         requires known { HasBrick self.old brick }
         ensures pass { result ≡ pass_tried self.old brick }
         ensures after { self.new ≡ after_try self.old brick }
+        ensures grown { IsPrefix self.old.history self.new.history }
     {
         match open_pass(&self.facts, brick) {
             Some(pass) => {
@@ -184,12 +187,14 @@ impl Windows {
     /// # Errors
     /// `Overload` exactly where fewer than `wq` windows are open. `OutOfMemory`, after which nothing
     /// changed.
+    #[tactic(auto, using(crate::proofs::Growing::begins_itself, crate::proofs::Growing::begins_more))]
     pub fn take(&mut self, alloc: Global, first: u64) -> Result<PassList, TakeRefusal>
         ensures passes { IfOk result (λ passes. passes ≡ chosen self.old first) }
         ensures lawful { IfOk result (AreTaken self.old.wq self.old.w) }
         ensures after { OnOk result (self.new ≡ taken self.old (chosen self.old first)) }
         ensures enough { OnOk result (self.old.wq ≤ open_count self.old.facts) }
         ensures err { IfErr result (RefusedAs self.old self.new) }
+        ensures grown { IsPrefix self.old.history self.new.history }
     {
         let mut passes = open_passes(alloc, &self.facts, first)?;
         if passes.len() < self.wq as usize {
@@ -208,8 +213,10 @@ impl Windows {
     /// Spends a single pass that was answered, whatever its mark: the window grows by one, to at most
     /// 64, and one less is in flight. A pass of a brick that is not one of these changes nothing. It
     /// adds no mark to the history. It visits each brick, and takes no memory.
+    #[tactic(auto, using(crate::proofs::Growing::begins_itself, crate::proofs::Growing::begins_more))]
     pub fn answered(&mut self, pass: Pass)
-        ensures { self.new ≡ after_pass self.old (with_mark pass Answered) }
+        ensures after { self.new ≡ after_pass self.old (with_mark pass Answered) }
+        ensures grown { IsPrefix self.old.history self.new.history }
     {
         spend_one(
             &mut self.facts,
@@ -223,8 +230,10 @@ impl Windows {
     /// Spends a single pass that met silence, whatever its mark: the window is halved, to at least 1,
     /// and one less is in flight. A pass of a brick that is not one of these changes nothing. It adds
     /// no mark to the history. It visits each brick, and takes no memory.
+    #[tactic(auto, using(crate::proofs::Growing::begins_itself, crate::proofs::Growing::begins_more))]
     pub fn silent(&mut self, pass: Pass)
-        ensures { self.new ≡ after_pass self.old (with_mark pass Silent) }
+        ensures after { self.new ≡ after_pass self.old (with_mark pass Silent) }
+        ensures grown { IsPrefix self.old.history self.new.history }
     {
         spend_one(
             &mut self.facts,
@@ -237,9 +246,11 @@ impl Windows {
 
     /// Spends passes that were taken together, each by its mark, the first first, and marks in the
     /// history that they were spent. It visits each brick for each pass, and takes no memory.
+    #[tactic(auto, using(crate::proofs::Growing::begins_itself, crate::proofs::Growing::begins_more))]
     pub fn spend(&mut self, passes: PassList)
         requires { AreHeard passes }
-        ensures { self.new ≡ after_spend self.old passes }
+        ensures after { self.new ≡ after_spend self.old passes }
+        ensures grown { IsPrefix self.old.history self.new.history }
     {
         let PassParts { passes, room } = passes.into_parts();
         spend_all(&mut self.facts, &passes);

@@ -1,6 +1,6 @@
-use Rattle.std.proofs.Common.{◌≡◌, ◌∙◌, ◌≤◌, List, length, take, ap, arith}
+use Rattle.std.proofs.Common.{◌≡◌, ◌∙◌, ◌≤◌, List, [], ◌∷◌, length, take, ap, arith, sym}
 use Rattle.send_windows.specs.declared.fact.WindowFact.{WindowFact}
-use Rattle.send_windows.specs.declared.history.WindowMark.TheVariants.{Taken}
+use Rattle.send_windows.specs.declared.history.WindowMark.TheVariants.{Taken, Refused}
 use Rattle.send_windows.specs.Facts.{open_count, open_passes, round_from}
 use Rattle.send_windows.specs.Windows.{WindowsValue, with_given, chosen}
 use Rattle.send_windows.proofs.Keeping.{keep_mark, given_keeps, chosen_tally, are_taken}
@@ -23,3 +23,9 @@ returns-clause-lawful c =
     let enough : s.wq ≤ open_count s.facts = (let size = c.len.ensures in let more = c.if-len-self.false in omega arith) in
     let passes : c.new-3.result ≡ chosen s c.args.first = c.new-3.ensures ∙ (c.truncate.ensures.items ∙ ap (take s.w) opened) in
     rw (← c.self.view_is) (rw passes (are_taken s c.args.first c.self.invariant enough))
+
+pub returns-clause-grown : goal.returns-clause-grown
+returns-clause-grown c = rw (← c.self.view_is) (Taken c.len-2.result ∷ [], sym c.put.ensures)
+
+pub returns-then-len-self-clause-grown : goal.returns-then-len-self-clause-grown
+returns-then-len-self-clause-grown c = rw (← c.self.view_is) (Refused ∷ [], sym c.in_ok-full.ensures.mark)
