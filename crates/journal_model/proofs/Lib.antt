@@ -21,3 +21,5 @@ pub mod Reading
 pub mod Listing
 pub mod Serially
 pub mod Exactly
+pub mod Marking
+pub mod Counting

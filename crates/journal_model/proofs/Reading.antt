@@ -32,6 +32,7 @@ fits_read base es id call f = record {
   at = f.at;
   marks = marks_found base (take call.at.0 es) id call.marks (is_put call.writes id) f.marks;
   touches = f.touches;
+  since = f.since;
   writes = f.writes;
   apart = f.apart;
 }
@@ -42,6 +43,7 @@ fits_listed base es t call f = record {
   at = f.at;
   marks = marks_with base (take call.at.0 es) (Table t) None call.marks (is_marked call.marks (Table t)) refl f.marks;
   touches = f.touches;
+  since = f.since;
   writes = f.writes;
   apart = f.apart;
 }

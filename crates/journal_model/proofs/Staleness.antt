@@ -1,5 +1,5 @@
 -- Staleness by places is staleness by generations.
-use Rattle.std.proofs.Common.{◌≡◌, ◌≢◌, ◌↔◌, inl, inr, ◌||◌, None, ℕ, zero, suc, ◌+◌, ◌<◌, ◌≤◌, Bool, true, false, cond, List, [], ◌∷◌, ◌++◌, length, take, drop, Some, refl, sym, ap, ◌∙◌, arith, slice_get, length-append}
+use Rattle.std.proofs.Common.{◌≡◌, ◌≢◌, inl, inr, ◌||◌, None, ℕ, zero, suc, ◌+◌, ◌<◌, ◌≤◌, Bool, true, false, cond, List, [], ◌∷◌, ◌++◌, length, take, drop, Some, refl, sym, ap, ◌∙◌, arith, slice_get, length-append}
 use Rattle.std.specs.List.{list_any}
 use Rattle.std.proofs.lemmas.Bool.{cases_lt}
 use Rattle.std.proofs.lemmas.Bool.Decides.{nat_tests}
@@ -70,9 +70,6 @@ shows es t touch is =
     let few : generation (take t.front.0 es) t.group.0 ≤ generation es t.group.0 = generation-take es t.group.0 t.front.0 in
     let d = down_since es t.group.0 t.front.0 (omega arith) in
     record { place = d.place; since = d.since; scope = d.scope; down = d.down; holding = d.holding }
-
-pub shown : (es : List Entry) (t : Touch) → IsTouch es t → IsStale es t ↔ (has_passed es t ≡ true)
-shown es t touch = (shown_by es t touch, shows es t touch)
 
 -- a touch that is made now
 

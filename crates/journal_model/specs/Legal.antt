@@ -14,7 +14,7 @@ use Rattle.journal_model.specs.Reboots.{IsUndone, down_of}
 use Rattle.journal_model.specs.Requests.{commit_of}
 use Rattle.journal_model.specs.Rows.{IsRead}
 use Rattle.journal_model.specs.Snapshots.{newest}
-use Rattle.journal_model.specs.Stale.{IsTouch, IsLive}
+use Rattle.journal_model.specs.Stale.{IsTouch, IsSince, IsLive}
 
 -- A commit is whole: its rows may be written, and no two of them are one row.
 pub record IsWhole (e : CommitEntry) : Type 0 where
@@ -30,12 +30,13 @@ pub record IsCurrent (base : List RowWrite) (es : List Entry) (e : CommitEntry) 
   pub writes : All (λ (w : RowWrite). newest es (Row w.id) ≤ e.at.0) e.writes
 
 -- A commit may come after these entries over this base: it is whole, its request has not committed yet, it is
--- current, it entered its groups in this journal, and each of them has been up since.
+-- current, it entered its groups in this journal since its begin, and each of them has been up since then.
 pub record MayCommit (base : List RowWrite) (es : List Entry) (e : CommitEntry) : Type 0 where
   pub whole : IsWhole e
   pub once : commit_of es e.request ≡ None
   pub current : IsCurrent base es e
   pub touches : All (IsTouch es) e.touched
+  pub since : All (IsSince e.at.0) e.touched
   pub live : All (IsLive es) e.touched
 
 -- a reboot may begin after these entries: its scope holds a group, and every group that it holds is up

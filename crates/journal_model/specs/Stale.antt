@@ -26,6 +26,10 @@ pub record IsTouch (es : List Entry) (t : Touch) : Type 0 where
   pub had : t.generation ≡ generation (take t.front.0 es) t.group.0
   pub up : down_of (take t.front.0 es) t.group.0 ≡ None
 
+-- A touch was made at a place or later.
+abbrev pub IsSince : ℕ → Touch → Type 0
+IsSince place t = place ≤ t.front.0
+
 -- A touch is stale: a Down whose scope holds its group is at its front or later.
 pub record IsStale (es : List Entry) (t : Touch) : Type 0 where
   pub place : ℕ

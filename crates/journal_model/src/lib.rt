@@ -3,7 +3,7 @@
 //! stale, and when what it read or writes was written since; which journals are legal, and how full one is.
 //!
 //! The container, its journal and its tickets share these types and definitions. The code here is small;
-//! the laws in `laws`, `snapshot_laws` and `reboot_laws` say what the definitions promise to each other.
+//! the laws in `laws`, `step_laws`, `snapshot_laws` and `reboot_laws` say what the definitions promise to each other.
 #![tactic(auto)]
 
 mod bytes;
@@ -42,5 +42,6 @@ pub use stale::Stale;
 pub use status::GroupStatus;
 pub use statuses::GroupStatuses;
 pub use step_laws::{
-    calls_keep_what_they_did, journals_are_full_exactly, puts_are_seen, tests_are_exact,
+    calls_keep_what_they_did, entries_count_what_they_hold, journals_are_full_exactly,
+    puts_are_seen, reads_leave_their_marks, tests_are_exact,
 };
