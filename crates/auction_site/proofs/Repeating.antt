@@ -23,7 +23,7 @@ use Rattle.auction_calls.specs.declared.action.Action.TheVariants as action
 use Rattle.auction_calls.specs.declared.action.ActionCall.{ActionCall}
 use Rattle.auction_rows.specs.Parts.{site_parts, site_components, site_tables}
 use Rattle.auction_site.specs.Actions.{through, through_of, plan_of, steps_of}
-use Rattle.auction_site.specs.Repeated.{may_repeat}
+use Rattle.call_ticket.specs.Repeated.{may_repeat}
 
 -- a step may be made again
 abbrev Repeats : Next → Type 0

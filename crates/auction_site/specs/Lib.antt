@@ -9,7 +9,6 @@ pub mod Actions
 pub mod Coherent
 pub mod Done
 pub mod Accepted
-pub mod Repeated
 pub mod Meant
 pub mod Written
 pub mod Sessions

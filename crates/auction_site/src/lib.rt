@@ -28,7 +28,6 @@
 //! | `Done` | `IsOver`: what an item is after its auction |
 //! | `Sessions` | whose the session is after an answer |
 //! | `Offered` | what an offer leaves in the rows |
-//! | `Repeated` | which steps may be made again |
 //! | `Written` | what writes spell |
 //!
 //! | Law | What it says |

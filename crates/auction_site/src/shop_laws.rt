@@ -32,7 +32,7 @@ ghost use Rattle.auction_site.specs.Answers.{wrong_password};
 ghost use Rattle.auction_site.specs.Coherent.{row_at};
 ghost use Rattle.auction_site.specs.Done.{IsOver};
 ghost use Rattle.auction_site.specs.Outcomes.{registered, category_added, offered, bid_made, bought, closed, after_close, feedback_given, signed_in, sold_to, with_bid, with_given};
-ghost use Rattle.auction_site.specs.Repeated.{may_repeat};
+ghost use Rattle.call_ticket.specs.Repeated.{may_repeat};
 ghost use Rattle.auction_site.specs.Sessions.{SetsSession, leaves_session};
 ghost use Rattle.auction_site.specs.Accepted.{Counts, MayRegister, MaySignIn, MayAddCategory, MaySell, MayBid, MayBuy, MayClose, MayGiveFeedback};
 ghost use Rattle.auction_site.specs.Written.{HaveBytes, SpellsARow};

@@ -4,3 +4,4 @@ pub mod MoreSteps
 pub mod Sums
 pub mod Touching
 mod Tracking
+pub mod Repeating

@@ -3,3 +3,4 @@ pub mod Within
 pub mod Access
 pub mod Runs
 pub mod Following
+pub mod Repeated

@@ -24,7 +24,8 @@
 //! A `Program` says which steps a call makes: the next one depends on the answers so far alone. Its run over rows
 //! answers each step from them, with its own puts laid over. So a run over other rows that are the same in all that
 //! it read is equal (`equal_answers`), and what a commit did at the begin of its call is what it would do where it
-//! commits (`serial_order`). A call that follows its program meets each condition of each step (`calls_follow`).
+//! commits (`serial_order`). A call that follows its program meets each condition of each step (`calls_follow`). A step
+//! whose answer did not come may be made again, but for an enter by a method that says otherwise (`steps_are_repeated`).
 #![tactic(auto)]
 
 mod limits;
@@ -39,5 +40,5 @@ pub use limits::{MAX_FRAMES, MAX_MARKS, MAX_STEPS, MAX_WRITES};
 pub use next::{Answer, AnswerList, Next};
 pub use parts::{InstanceList, TicketParts};
 pub use program::Program;
-pub use program_laws::{calls_follow, equal_answers, serial_order};
+pub use program_laws::{calls_follow, equal_answers, serial_order, steps_are_repeated};
 pub use ticket::Ticket;

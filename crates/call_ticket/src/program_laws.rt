@@ -1,8 +1,10 @@
 //! Laws of programs, as contracts of functions that do nothing.
 
-ghost use Rattle.std.specs.Prelude.{◌≡◌, List, Some, IsSome, All};
+ghost use Rattle.std.specs.Prelude.{◌≡◌, ◌↔◌, ℕ, List, false, Some, IsSome, All};
+ghost use Rattle.crash_base.specs.declared.numbers.ComponentNo.{ComponentNo};
 ghost use Rattle.crash_base.specs.declared.rows.RowWrite.{RowWrite};
 ghost use Rattle.deployment.specs.declared.parts.Parts.{Parts};
+ghost use Rattle.deployment.specs.Parts.{idempotent};
 ghost use Rattle.journal_model.specs.declared.entry.CommitEntry.{CommitEntry};
 ghost use Rattle.journal_model.specs.declared.entry.DoneText.{DoneText};
 ghost use Rattle.journal_model.specs.declared.entry.Entry.{Entry};
@@ -15,6 +17,7 @@ ghost use Rattle.call_ticket.specs.declared.next.Answer.{Answer};
 ghost use Rattle.call_ticket.specs.declared.next.Next.{Next};
 ghost use Rattle.call_ticket.specs.declared.next.Next.TheVariants as next;
 ghost use Rattle.call_ticket.specs.Following.{Follows, MayMake};
+ghost use Rattle.call_ticket.specs.Repeated.{may_repeat};
 ghost use Rattle.call_ticket.specs.Runs.{Ran, run_of, Makes};
 
 /// A run depends on what it marked alone: over other rows that are the same there, the run is equal.
@@ -45,4 +48,12 @@ pub fn calls_follow()
         Follows asks rows answers call → asks answers ≡ next.Done d →
         run_of parts asks rows
         ≡ Some (record { marks = call.marks; writes = call.writes; done = d }) }
+{}
+
+/// The only step that may not be made again is an enter by a method that may not be called again: one that kept a read, a
+/// put or an exit from being made again, or let such an enter be, is refused.
+pub fn steps_are_repeated()
+    ensures { (parts : Parts) (step : Next) → (may_repeat parts step ≡ false)
+        ↔ ((component : ComponentNo) × (method : ℕ) × (step ≡ next.Enter component method)
+        × (idempotent parts component.0 method ≡ false)) }
 {}
