@@ -1,5 +1,6 @@
 """Scenarios that are made by plain rules, which also say what they should write: two calls and a reboot in every order,
-two calls of one table in every order, and lists of lines by chance in which callers, reboots and sessions are mixed.
+two calls of one table in every order, lists of lines by chance in which callers, reboots and sessions are mixed, and
+pairs of faults of bricks.
 Each function of ALL yields pairs of an input and an output. The rules are stated again here, apart from the program."""
 
 from itertools import combinations
@@ -292,7 +293,8 @@ class Caller:
             return f"put c{number} {table} {number} {choice:04x}", stale
         if choice % 4 == 2:
             value = self.puts.get(name, self.rows.get(name))
-            return f"read c{number} {table} {number}", stale or [f"c{number} row {'none' if value is None else f'{value:04x}'}"]
+            shown = "none" if value is None else f"{value:04x}"
+            return f"read c{number} {table} {number}", stale or [f"c{number} row {shown}"]
         if not stale:
             self.inside = None
         return f"exit c{number}", stale
@@ -335,7 +337,10 @@ class Callers:
         return f"reboot {scope}", [f"down {self.place - 2}", f"up {self.place - 1}"]
 
     def table(self):
-        return [f"{table} {it.number} {it.rows[name]:04x}" for name, table in TABLES.items() for it in self.callers if name in it.rows]
+        rows = []
+        for name, table in TABLES.items():
+            rows += [f"{table} {it.number} {it.rows[name]:04x}" for it in self.callers if name in it.rows]
+        return rows
 
 
 class Chance:
@@ -487,8 +492,8 @@ class Mixed:
 
 
 # What lists of lines write, a word of each kind of answer: each 250 lists write them all.
-ANSWERS = (" version ", " missed ", " overload ", " found ", " expired ", " lost ", ":silent", ":strayed", ":crashed/", ":swept/")
-ANSWERS += ("closed ", " committed ", " already ", " revoked group 0 ", " revoked group 2 ", " row none", "boot 3")
+ANSWERS = (" version ", " missed ", " overload ", " found ", " expired ", " lost ", ":silent", ":strayed")
+ANSWERS += (":crashed/", ":swept/", "closed ", " committed ", " already ", " revoked group 0 ", " revoked group 2 ", " row none", "boot 3")
 
 
 def mixed_by_chance():
@@ -545,6 +550,41 @@ def reads_by_chance():
     yield whole("bricks 3 3 2\n", (lines, wanted))
 
 
+# One fault of a brick between two writes, and one between the second write and a fetch. The value is found, since the
+# cookie names two bricks that stored it.
+
+FAULTS = ("lose {} 1", "mute {} 1", "crash {}", "repeat {} 1", "sweep {} 1860001")
+
+
+def after_a_fault(fault, brick):
+    """The cookie's bricks and the windows after a fault at the write. A brick that is silent is in no cookie, and its
+    window is halved; any other fault keeps no brick from storing, so the cookie names the first two of 2, 3 and 1."""
+    silent = fault.startswith(("lose", "mute"))
+    bricks = {1: "2 3", 2: "3 1", 3: "2 1"}[brick] if silent else "2 3"
+    windows = [f"{it}:{2 if silent and it == brick else 6}/0" for it in (1, 2, 3)]
+    return f"k1 version 1 bricks {bricks}", f"windows {' '.join(windows)}"
+
+
+def one_fault_at_the_write_and_one_at_the_read():
+    places = [(fault, brick) for fault in FAULTS for brick in (1, 2, 3)]
+    for fault, brick in places:
+        version, windows = after_a_fault(fault, brick)
+        for later, other in places:
+            lines = ["write k2 60", fault.format(brick), "write k1 61", later.format(other), "fetch k1", "windows"]
+            yield whole("bricks 3 3 2\n", (lines, ["k2 version 0 bricks 1 2", version, "k1 found 61", windows]))
+
+
+def full_bricks_are_told():
+    """Both bricks keep 65,536 values of one byte, and so are full. Each one's cause is told: the reply of the one is
+    lost. A brick that crashed has room again."""
+    lines = ["write k1 61"] * 65_536 + ["values 1", "values 2", "windows", "lose 2 1", "write k1 61", "windows"]
+    lines += ["crash 1", "write k1 61", "values 1", "windows"]
+    wanted = [f"k1 version {serial} bricks {'2 1' if serial % 2 else '1 2'}" for serial in range(65_536)]
+    wanted += ["values 1 65536", "values 2 65536", "windows 1:64/0 2:64/0", "k1 missed 1:full/65536/65536 2:silent"]
+    wanted += ["windows 1:64/0 2:32/0", "k1 missed 2:full/65536/65536", "values 1 1", "windows 1:64/0 2:33/0"]
+    yield whole("bricks 2 2 2\n", (lines, wanted))
+
+
 def whole(head, played):
     """An input and an output of these lines."""
     lines, wanted = played
@@ -552,3 +592,4 @@ def whole(head, played):
 
 
 ALL = (reboots_in_every_order, calls_of_one_table_in_every_order, mixed_by_chance, reads_by_chance)
+ALL += (one_fault_at_the_write_and_one_at_the_read, full_bricks_are_told)
