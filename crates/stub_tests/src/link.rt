@@ -1,11 +1,10 @@
 //! The link in memory, call by call.
 
 use crate::replies::{Wanted, bytes_of};
-use crate::scenario::strike;
 use crate::words::{
     add_number, add_word, begin_line, brick, cut, expect_words, key, number, small, word,
 };
-use crash_base::{BrickNo, FrameBytes, MAX_FRAME_BYTES, Version};
+use crash_base::{BrickNo, FrameBytes, MAX_FRAME_BYTES, Moment, Version};
 use link_memory::{MAX_LINK_BRICKS, ScriptLink};
 use outside::{Link, Received, Sent};
 use ssm_frames::{Frame, decode};
@@ -150,6 +149,27 @@ fn add_brick_number(rt: &impl Abort, words: &mut String, link: &ScriptLink, line
         "values" => add_number(rt, words, link.values(brick)),
         "incarnation" => add_number(rt, words, link.incarnation(brick)),
         _ => add_number(rt, words, link.made(brick)),
+    }
+}
+
+/// A line that makes something happen to a brick of the link.
+fn strike(rt: &impl Abort, link: &mut ScriptLink, line: &str, name: &str) {
+    let brick = brick(rt, word(rt, line, 1));
+    assert!(rt; 1 <= brick.0 && brick.0 as usize <= link.bricks());
+    match name {
+        "lose" => link.lose(brick, number(rt, word(rt, line, 2))),
+        "mute" => link.drop_asks(brick, number(rt, word(rt, line, 2))),
+        "sweep" => link.sweep(brick, Moment(number(rt, word(rt, line, 2)))),
+        "repeat" => {
+            let reply = number(rt, word(rt, line, 2));
+            assert!(rt; 1 <= reply && reply <= link.made(brick));
+            link.repeat(brick, reply).expect(rt, line);
+        }
+        "crash" => {
+            assert!(rt; link.incarnation(brick) < u64::MAX);
+            link.crash(brick);
+        }
+        _ => panic!(rt; "{line}"),
     }
 }
 
