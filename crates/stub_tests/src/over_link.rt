@@ -119,7 +119,10 @@ fn play(rt: &impl Abort, alloc: Global, by_calls: bool) -> String {
     let mut windows = Windows::new(alloc, 3, 3, 2, true).expect(rt, "windows");
     assert!(rt; link.bricks() == 3);
     link.lose(BrickNo(1), 1);
-    let mut passes = windows.take(alloc, 0).expect(rt, "passes");
+    let mut passes = match windows.take(alloc, 0) {
+        Ok(passes) => passes,
+        Err(_) => panic!(rt; "passes"),
+    };
     let kept = if by_calls {
         write_by_calls(rt, alloc, &mut words, &mut link, &mut passes)
     } else {
