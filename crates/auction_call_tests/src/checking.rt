@@ -2,24 +2,27 @@
 
 use crate::shown::add_call;
 use crate::words::{
-    add_hex_bytes, add_word, cut, expect_bytes, expect_words, number, small_number,
+    add_hex_bytes, add_word, cut, expect_bytes, expect_words, first_word, number, small_number,
 };
 use auction_calls::{
-    Action, ActionCall, CheckedCall, FormKind, action_text, texts_are_exact, texts_read_back,
-    texts_spell_one_call, user_names_are_utf8, words_are_of_one_form,
+    Action, ActionCall, CheckedCall, FormKind, MAX_AMOUNT, MAX_CATEGORY_NAME_BYTES,
+    MAX_FEEDBACK_BYTES, MAX_HOURS, MAX_PAGE, MAX_PASSWORD_BYTES, MAX_TITLE_BYTES,
+    MAX_USER_NAME_BYTES, MOMENT_LIMIT, action_text, bad_field, bad_fields_are_first, ranges_are,
+    texts_are_exact, texts_read_back, texts_spell_one_call, user_names_are_utf8,
+    words_are_of_one_form,
 };
 use auction_rules::{
     bid_refusals_are_exact, buy_refusals_are_exact, close_refusals_are_exact,
     feedback_refusals_are_exact, other_sides_are_exact, running_is_exact,
 };
-use crash_base::{Moment, SessionKey};
+use crash_base::{FieldText, Moment, SessionKey};
 use std::alloc::Global;
 use std::process::Abort;
 
-/// A bid by user 258, whose key has bytes 1 and whose token has bytes 2.
-fn a_bid(item: u32, amount: u64, now: u64) -> ActionCall {
+/// A call by user 258 at a moment, whose key has bytes 1 and whose token has bytes 2.
+fn a_call(action: Action, now: u64) -> ActionCall {
     ActionCall {
-        action: Action::Bid { item, amount },
+        action,
         user: 258,
         key: SessionKey([1; 16]),
         now: Moment(now),
@@ -28,13 +31,19 @@ fn a_bid(item: u32, amount: u64, now: u64) -> ActionCall {
     }
 }
 
-/// A bid in words, and whether it is checked or handed back.
+fn a_bid(item: u32, amount: u64, now: u64) -> ActionCall {
+    a_call(Action::Bid { item, amount }, now)
+}
+
+/// A bid in words, and whether it is checked or handed back with its first bad field.
 const BIDS: &str = "1 1 0|checked Bid 1 1
 4294967295 4000000000 4611686018427387903|checked Bid 4294967295 4000000000
-0 1 0|back Bid 0 1
-1 0 0|back Bid 1 0
-1 4000000001 0|back Bid 1 4000000001
-1 1 4611686018427387904|back Bid 1 1";
+0 1 0|back item Bid 0 1
+1 0 0|back amount Bid 1 0
+1 4000000001 0|back amount Bid 1 4000000001
+0 0 0|back item Bid 0 0
+0 0 4611686018427387904|back moment Bid 0 0
+1 1 4611686018427387904|back moment Bid 1 1";
 
 fn add_checked(rt: &impl Abort, words: &mut String, call: ActionCall) {
     match CheckedCall::check(call) {
@@ -42,9 +51,10 @@ fn add_checked(rt: &impl Abort, words: &mut String, call: ActionCall) {
             add_word(rt, words, "checked");
             add_call(rt, words, &checked.into_call());
         }
-        Err(call) => {
+        Err(bad) => {
             add_word(rt, words, "back");
-            add_call(rt, words, &call);
+            add_word(rt, words, bad.field.word());
+            add_call(rt, words, &bad.call);
         }
     }
 }
@@ -64,6 +74,90 @@ fn calls_are_checked(rt: HostRuntime) {
     for row in BIDS.split('\n') {
         expect_checked(&rt, rt.alloc(), row);
     }
+}
+
+/// The numbers of letters of a title and the other fields of an offer, and the first that is out of its range.
+const OFFERS: &str = "1 1 1 0 1|none
+80 4294967295 4000000000 4000000000 720|none
+0 0 0 4000000001 0|title
+81 1 1 0 1|title
+80 0 0 4000000001 0|category
+80 1 0 4000000001 0|start
+80 1 4000000001 4000000001 721|start
+80 1 1 4000000001 721|buy_now
+80 1 1 4000000000 721|hours
+80 1 1 4000000000 0|hours";
+
+/// The numbers of letters of a name and of a password, and the first that is out of its range.
+const CREDENTIALS: &str = "1 1|none
+24 72|none
+0 0|name
+25 0|name
+24 0|password
+24 73|password";
+
+/// A text of so many letters `a`.
+fn letters(rt: &impl Abort, alloc: Global, count: &str) -> FieldText {
+    let mut bytes = Vec::new(alloc);
+    for _ in 0..small_number(rt, count) {
+        bytes.push(b'a').expect(rt, count);
+    }
+    FieldText::from_vec(bytes)
+}
+
+fn offer_of(rt: &impl Abort, alloc: Global, text: &str) -> Action {
+    let (title, rest) = first_word(text);
+    let (category, rest) = first_word(rest);
+    let (start, rest) = first_word(rest);
+    let (buy_now, hours) = first_word(rest);
+    Action::Sell {
+        title: letters(rt, alloc, title),
+        category: small_number(rt, category),
+        start: number(rt, start),
+        buy_now: number(rt, buy_now),
+        hours: small_number(rt, hours),
+    }
+}
+
+fn credentials_of(rt: &impl Abort, alloc: Global, text: &str) -> Action {
+    let (name, password) = first_word(text);
+    Action::SignIn {
+        name: letters(rt, alloc, name),
+        password: letters(rt, alloc, password),
+    }
+}
+
+fn expect_bad(rt: &impl Abort, action: Action, want: &str, row: &str) {
+    match bad_field(&a_call(action, 0)) {
+        None => expect_words(rt, "none", want, row),
+        Some(field) => expect_words(rt, field.word(), want, row),
+    }
+}
+
+#[test]
+fn the_first_bad_field_is_named(rt: HostRuntime) {
+    for row in OFFERS.split('\n') {
+        let (text, want) = cut(&rt, row, '|');
+        expect_bad(&rt, offer_of(&rt, rt.alloc(), text), want, row);
+    }
+    for row in CREDENTIALS.split('\n') {
+        let (text, want) = cut(&rt, row, '|');
+        expect_bad(&rt, credentials_of(&rt, rt.alloc(), text), want, row);
+    }
+}
+
+#[test]
+fn limits_are_told(rt: HostRuntime) {
+    let texts = [
+        MAX_USER_NAME_BYTES,
+        MAX_PASSWORD_BYTES,
+        MAX_CATEGORY_NAME_BYTES,
+        MAX_TITLE_BYTES,
+        MAX_FEEDBACK_BYTES,
+    ];
+    assert!(rt; texts == [24, 72, 40, 80, 200]);
+    assert!(rt; MAX_PAGE == 9999 && MAX_AMOUNT == 4_000_000_000);
+    assert!(rt; MAX_HOURS == 720 && MOMENT_LIMIT == 0x4000_0000_0000_0000);
 }
 
 /// The bytes of a bid of 513 cents on item 7: 0x0102 = 258, 0x0100 = 256 and 0x0201 = 513.
@@ -106,6 +200,8 @@ fn forms_have_words(rt: HostRuntime) {
 /// Laws do nothing when they are called.
 #[test]
 fn laws_are_called(_rt: HostRuntime) {
+    bad_fields_are_first();
+    ranges_are();
     texts_are_exact();
     texts_read_back();
     texts_spell_one_call();

@@ -1,3 +1,4 @@
 pub mod Calls
+pub mod BadFields
 pub mod Reading
 pub mod Texts

@@ -1,11 +1,20 @@
 //! Calls whose fields were checked.
 
-ghost use Rattle.std.specs.Prelude.{◌≡◌, true, false, MatchResult};
+ghost use Rattle.std.specs.Prelude.{◌≡◌, true, false, Some, MatchResult};
 ghost use Rattle.auction_calls.specs.Calls.{is_call};
+ghost use Rattle.auction_calls.specs.BadFields.{bad_field};
 
 use crate::action::ActionCall;
-use crate::ranges::is_call;
+use crate::call_field::CallField;
+use crate::ranges::bad_field;
 use std::marker::Model;
+
+/// A call that was handed back, and the first of its fields that is out of its range.
+#[derive(Drop)]
+pub struct BadCall {
+    pub call: ActionCall,
+    pub field: CallField,
+}
 
 /// A call whose fields are in their ranges, as its actions take it.
 #[derive(Drop)]
@@ -26,17 +35,16 @@ impl Model for CheckedCall {
 }
 
 impl CheckedCall {
-    /// The call, if each of its fields is in its range. Where one is not, the call is handed back. It
-    /// visits each byte of the texts of its action, and takes no memory.
-    pub fn check(call: ActionCall) -> Result<CheckedCall, ActionCall>
+    /// The call, if each of its fields is in its range. Where one is not, the call is handed back with the first that is
+    /// not. It visits each byte of the texts of its action once, and takes no memory.
+    pub fn check(call: ActionCall) -> Result<CheckedCall, BadCall>
         ensures { MatchResult result
             (λ checked. (is_call call ≡ true) × (checked ≡ call))
-            (λ back. (is_call call ≡ false) × (back ≡ call)) }
+            (λ bad. (is_call call ≡ false) × (bad.call ≡ call) × (bad_field call ≡ Some bad.field)) }
     {
-        if is_call(&call) {
-            Ok(CheckedCall { call })
-        } else {
-            Err(call)
+        match bad_field(&call) {
+            None => Ok(CheckedCall { call }),
+            Some(field) => Err(BadCall { call, field }),
         }
     }
 

@@ -6,7 +6,7 @@
 //!
 //! ```text
 //! let call = ActionCall { action: Action::Buy { item: 7 }, user: 3, key, now, fresh, form };
-//! let Ok(call) = CheckedCall::check(call) else { .. };    // item 0 would be handed back
+//! let Ok(call) = CheckedCall::check(call) else { .. };    // item 0 would be handed back, with CallField::Item
 //! let text = action_text(alloc, &call)?;                  // 0d, then 96 bytes, then 8 of the item
 //! read_action(alloc, text.as_slice())?                    // that call again
 //! ```
@@ -31,6 +31,9 @@
 //! | `buy_now` | 0 to 4,000,000,000 cents |
 //! | hours | 1 to 720 |
 //!
+//! Each limit is a public constant (`MAX_TITLE_BYTES`), and the first field that is out of its range is named
+//! (`bad_field`): the moment, or a field of the action in the order above.
+//!
 //! `is_call` says which calls are in their ranges, `call_bytes` what the text of each is, and `Spells` that
 //! a text spells a call. A text is read as exactly the call in its ranges that it spells, and as none
 //! exactly where it spells none (`texts_are_exact`); what is written is read as itself
@@ -38,6 +41,7 @@
 #![tactic(auto)]
 
 mod action;
+mod call_field;
 mod checked;
 mod fields;
 mod kinds;
@@ -47,10 +51,15 @@ mod reading;
 mod writing;
 
 pub use action::{Action, ActionCall, FormKind};
-pub use checked::CheckedCall;
+pub use call_field::CallField;
+pub use checked::{BadCall, CheckedCall};
 pub use laws::{
-    texts_are_exact, texts_read_back, texts_spell_one_call, user_names_are_utf8,
-    words_are_of_one_form,
+    bad_fields_are_first, ranges_are, texts_are_exact, texts_read_back, texts_spell_one_call,
+    user_names_are_utf8, words_are_of_one_form,
+};
+pub use ranges::{
+    MAX_AMOUNT, MAX_CATEGORY_NAME_BYTES, MAX_FEEDBACK_BYTES, MAX_HOURS, MAX_PAGE,
+    MAX_PASSWORD_BYTES, MAX_TITLE_BYTES, MAX_USER_NAME_BYTES, MOMENT_LIMIT, bad_field,
 };
 pub use reading::read_action;
 pub use writing::action_text;
