@@ -9,12 +9,16 @@ use std::alloc::Global;
 use std::process::Abort;
 
 /// The piece, the start and the best bid of an item with the title `Lamp`, and the link. The first number is that of the
-/// category `Lamps` for `category`, and the number of the text for `text`.
+/// category `Lamps` for `category`, and the number of the text for `text`. A best bid is the price also where it is below the
+/// start.
 const LINKS: &str = "item 100 0|/item/4294967295 Lamp
 priced 100 0|/item/4294967295 Lamp, 100
 priced 100 250|/item/4294967295 Lamp, 250
+priced 100 99|/item/4294967295 Lamp, 99
 price 100 0|100
 price 100 250|250
+price 100 99|99
+price 100 1|1
 category 258 0|/category/258 Lamps
 text 258 0|Bid 258";
 

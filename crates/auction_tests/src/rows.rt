@@ -414,11 +414,26 @@ fn expect_id(rt: &impl Abort, id: RowId, table: u8, key: u64) {
     assert!(rt; id.table == table && id.key == key);
 }
 
-/// SHA-256 of `abc` begins with ba7816bf8f01cfea, and that of no bytes with e3b0c44298fc1c14.
+/// SHA-256 of `abc` begins with ba7816bf8f01cfea, and that of no bytes with e3b0c44298fc1c14. Each byte of a name counts, to
+/// the last one of the longest, and a capital is another letter.
 #[test]
 fn names_stand_under_their_digest(rt: HostRuntime) {
     expect_id(&rt, name_id(b"abc"), 2, 0xba78_16bf_8f01_cfea);
     expect_id(&rt, name_id(b""), 2, 0xe3b0_c442_98fc_1c14);
+    expect_id(&rt, name_id(b"ann"), 2, 0x4991_5e0d_7d4b_402e);
+    expect_id(&rt, name_id(b"Ann"), 2, 0x1723_9b6e_2501_1033);
+    expect_id(
+        &rt,
+        name_id(b"abcdefghijklmnopqrstuvwx"),
+        2,
+        0x93b0_cabf_8668_e0c5,
+    );
+    expect_id(
+        &rt,
+        name_id(b"abcdefghijklmnopqrstuvwy"),
+        2,
+        0xabc7_1131_a7ce_d50d,
+    );
 }
 
 #[test]
