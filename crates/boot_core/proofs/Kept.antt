@@ -26,7 +26,7 @@ use Rattle.row_store.proofs.Noting.{rows_silent, rows_written}
 use Rattle.boot_core.specs.Keeping.{PartsAgree, start_of, of_parts, with_writes}
 use Rattle.boot_core.specs.Refusals.{commit_refusal, reboot_refusal}
 use Rattle.boot_core.specs.declared.boot.Start.{Start}
-use Rattle.boot_core.proofs.Sounding.{IsFree, MayReboot, sound_commit, sound_down, sound_up}
+use Rattle.boot_core.proofs.Sounding.{MayReboot, sound_commit, sound_down, sound_up}
 
 -- the rows of a journal, once an entry came that writes these at its end
 rows_with : (rows : RowsValue) (base : List RowWrite) (es : List Entry) (e : Entry) (place : Place) (ws : List RowWrite) → ws ≡ writes_of e → place.0 ≡ length es → AreRowsOf rows base es → AreRowsOf (with_writes rows place ws) base (es ++ e ∷ [])
@@ -92,12 +92,6 @@ can_push_down old new s entries limits spare may =
     let P : List Entry → Type 0 = λ es. CanPush (record new { entries = es; limits = old.limits }) (Down s) in
     let Q : JournalLimits → Type 0 = λ l. CanPush (record new { limits = l }) (Down s) in
     subst Q (sym limits) (subst P (sym entries) (record { spare = spare; free = may.room }, may.begins))
-
-pub can_push_commit : (old new : JournalValue) (call : Call) (action : Option ActionEntry) → new.entries ≡ old.entries → new.limits ≡ old.limits → 1 ≤ new.spare → IsFree old.limits old.entries call action → CanPush new (Commit (entry_of call action))
-can_push_commit old new call action entries limits spare free =
-    let P : List Entry → Type 0 = λ es. CanPush (record new { entries = es; limits = old.limits }) (Commit (entry_of call action)) in
-    let Q : JournalLimits → Type 0 = λ l. CanPush (record new { limits = l }) (Commit (entry_of call action)) in
-    subst Q (sym limits) (subst P (sym entries) (record { spare = spare; free = free.room }))
 
 -- a boot whose journal has one entry more has grown
 pub grown_by : (old : BootValue) (start now_start : Start) (es now : List Entry) (e : Entry) → of_parts start es ≡ old → now_start ≡ start → now ≡ es ++ e ∷ [] → HasGrown old (of_parts now_start now)

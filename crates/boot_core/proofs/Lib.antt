@@ -9,3 +9,5 @@ pub mod Newer
 pub mod Short
 pub mod Found
 pub mod Allowed
+pub mod Stepping
+pub mod Ordering

@@ -104,6 +104,18 @@ commit_refusal limits es call action =
     (full_for limits es 1 (entry_bytes (Commit (entry_of call action))))
     ∷ [])
 
+-- The cause is the first of four parts that is there: the earlier commit of the request, a stale touch, a conflict, and a
+-- journal that is too full.
+abbrev pub IsFirstOf : Option Place → Option Stale → Option Conflict → Option FullAt → CommitRefusal → Type 0
+IsFirstOf already stale conflict full commits.OutOfMemory = ⊥
+IsFirstOf already stale conflict full commits.KeeperFailed = ⊥
+IsFirstOf already stale conflict full (commits.Already place) = already ≡ Some place
+IsFirstOf already stale conflict full (commits.Revoked s) = (already ≡ None) × (stale ≡ Some s)
+IsFirstOf already stale conflict full (commits.Conflict c) =
+    (already ≡ None) × (stale ≡ None) × (conflict ≡ Some c)
+IsFirstOf already stale conflict full (commits.JournalFull at) =
+    (already ≡ None) × (stale ≡ None) × (conflict ≡ None) × (full ≡ Some at)
+
 -- The cause has a test: it is neither out of memory nor a failed keeper.
 abbrev pub IsTested : CommitRefusal → Type 0
 IsTested commits.OutOfMemory = ⊥

@@ -1,6 +1,6 @@
 //! Laws of boots and their calls, as contracts of functions that do nothing.
 
-ghost use Rattle.std.specs.Prelude.{◌≡◌, ◌<◌, ◌≤◌, ◌+◌, ℕ, List, [], ◌∷◌, ◌++◌, length, slice_get, true, false, None, Some, Option, All};
+ghost use Rattle.std.specs.Prelude.{◌≡◌, ◌↔◌, ◌<◌, ◌≤◌, ◌+◌, ℕ, List, [], ◌∷◌, ◌++◌, length, slice_get, true, false, None, Some, Option, All};
 ghost use Rattle.crash_base.specs.declared.numbers.ComponentNo.{ComponentNo};
 ghost use Rattle.crash_base.specs.declared.numbers.GroupNo.{GroupNo};
 ghost use Rattle.crash_base.specs.declared.numbers.Place.{Place};
@@ -18,16 +18,20 @@ ghost use Rattle.journal_model.specs.declared.entry.Entry.TheVariants.{Commit, D
 ghost use Rattle.journal_model.specs.declared.entry.Touch.{Touch};
 ghost use Rattle.journal_model.specs.declared.limits.JournalLimits.{JournalLimits};
 ghost use Rattle.journal_model.specs.Calls.{Call, begun, entered, left, has_read, has_listed, kept, entry_of};
+ghost use Rattle.journal_model.specs.Conflicts.{conflict_of};
 ghost use Rattle.journal_model.specs.Fits.{IsWrite};
+ghost use Rattle.journal_model.specs.Limits.{entry_bytes, full_for};
 ghost use Rattle.journal_model.specs.Reboots.{IsUndone, is_down_of, down_of};
 ghost use Rattle.journal_model.specs.Legal.{AreInTurn, MayEnd};
+ghost use Rattle.journal_model.specs.Requests.{commit_of};
 ghost use Rattle.journal_model.specs.Snapshots.{snapshot};
 ghost use Rattle.journal_model.specs.Stale.{IsTouch, stale_in};
 ghost use Rattle.boot_core.specs.Boot.{BootValue, new_boot, with_entry, HasGrown};
 ghost use Rattle.boot_core.specs.declared.boot.Start.{Start};
 ghost use Rattle.boot_core.specs.Fits.{FitsIn};
 ghost use Rattle.call_ticket.specs.Access.{is_in_owner};
-ghost use Rattle.boot_core.specs.Refusals.{busy, enter_refusal, exit_refusal, read_refusal, list_refusal, put_refusal, commit_refusal, reboot_refusal, HasRoomFor, IsLeastDown};
+ghost use Rattle.boot_core.specs.Refusals.{busy, enter_refusal, exit_refusal, read_refusal, list_refusal, put_refusal, commit_refusal, reboot_refusal, HasRoomFor, IsFirstOf, IsLeastDown};
+ghost use Rattle.boot_core.specs.declared.refusals.CommitRefusal.{CommitRefusal};
 ghost use Rattle.boot_core.specs.declared.refusals.RebootRefusal.TheVariants.{Busy};
 ghost use Rattle.boot_core.specs.Revoked.{IsRevoked};
 ghost use Rattle.boot_core.specs.Sound.{IsSound};
@@ -124,4 +128,17 @@ pub fn reboots_revoke_calls()
         All (IsTouch es) call.touched → stale_in es call.touched ≡ None →
         length call.frames < MAX_FRAMES → call.steps < MAX_STEPS →
         enter_refusal (es ++ Up s ∷ []) call g ≡ None }
+{}
+
+/// A commit is refused exactly for the first of four parts that is there: the request has committed, a group that the call
+/// entered was rebooted since, what it read or writes was written since, and its entry would pass a limit of the journal.
+/// Another order of these is refused, and so is a part that is left out.
+pub fn commits_are_refused_in_order()
+    ensures first { (limits : JournalLimits) (es : List Entry) (call : Call) (action : Option ActionEntry)
+        (cause : CommitRefusal) → (commit_refusal limits es call action ≡ Some cause)
+        ↔ IsFirstOf (commit_of es call.request) (stale_in es call.touched) (conflict_of es call)
+        (full_for limits es 1 (entry_bytes (Commit (entry_of call action)))) cause }
+    ensures none { (limits : JournalLimits) (es : List Entry) (call : Call) (action : Option ActionEntry) →
+        (commit_refusal limits es call action ≡ None) ↔ ((commit_of es call.request ≡ None)
+        × (stale_in es call.touched ≡ None) × (conflict_of es call ≡ None) × HasRoomFor limits es call action) }
 {}

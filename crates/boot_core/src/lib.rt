@@ -25,8 +25,9 @@
 //! `Boot::journal` hands out that the boot is sound (`IsSound` in `specs/Sound`): its journal is legal, so each commit is
 //! whole, once, live and current; it is within its limits; and each row was written by a call that entered the group of
 //! the row's owner. The laws `boots_stay_sound`, `calls_go_on_fitting` and `reboots_revoke_calls` say so of the
-//! definitions alone, and `journal_model::legal_journals_are_serial` what it means. A call that follows a program is
-//! refused by nothing but a reboot (`programs_pass_no_limit`).
+//! definitions alone, and `journal_model::legal_journals_are_serial` what it means. The steps of a call here are those of
+//! a program's call (`boot_steps_follow`), and one that follows a program is refused by nothing but a reboot
+//! (`programs_pass_no_limit`).
 //!
 //! Refusals come in a fixed order; `enter`, `read`, `list`, `put`, `commit` and `begin_reboot` each have one function in
 //! `specs/Refusals` that says which one comes first, and answer exactly that one. Out of memory is apart, and so is a
@@ -58,8 +59,11 @@ pub use commit_journal::{
     MAX_ENTRIES, MAX_JOURNAL_BYTES, Mark, MarkList, ReadMark, SessionChange, Stale, Touch,
     TouchList,
 };
-pub use laws::{boots_stay_sound, calls_go_on_fitting, least_group_is_busy, reboots_revoke_calls};
+pub use laws::{
+    boots_stay_sound, calls_go_on_fitting, commits_are_refused_in_order, least_group_is_busy,
+    reboots_revoke_calls,
+};
 pub use naming_table::Binding;
-pub use program_laws::programs_pass_no_limit;
+pub use program_laws::{boot_steps_follow, programs_pass_no_limit};
 pub use refusals::{CallRefusal, CommitRefusal, RebootRefusal, Refused, StartRefusal};
 pub use row_store::Rows;
