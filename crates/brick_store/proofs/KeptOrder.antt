@@ -38,7 +38,7 @@ is_eq-nat_cmp x y = go (nat_lt x y) (x == y) refl refl
     go false true l s = refl
     go false false l s = refl
 
-is_eq-version : (a b : Version) → is_eq (version_order a b) ≡ same_version a b
+pub is_eq-version : (a b : Version) → is_eq (version_order a b) ≡ same_version a b
 is_eq-version a b =
     is_eq-then (nat_cmp a.node b.node) (ordering_then (nat_cmp a.boot b.boot) (nat_cmp a.serial b.serial))
     ∙ (λ l. is_eq-nat_cmp a.node b.node l && is_eq-then (nat_cmp a.boot b.boot) (nat_cmp a.serial b.serial) l)

@@ -1,4 +1,4 @@
-mod KeptOrder
+pub mod KeptOrder
 mod Keeping
 mod Leases
 mod Limits

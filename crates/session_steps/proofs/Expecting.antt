@@ -28,10 +28,10 @@ use Rattle.ssm_stub.proofs.HearingEnds.{strays_pass, heard_stays}
 use Rattle.ssm_world.specs.declared.call.Call.{Call}
 use Rattle.ssm_world.specs.declared.event.Packet.{Packet}
 use Rattle.ssm_world.specs.Facts.{frame_nonce}
-use Rattle.ssm_world.specs.Sound.{WasMade, WasAsked, IsSound, RepliesSince}
+use Rattle.ssm_world.specs.Sound.{WasMade, IsSound, RepliesSince}
 use Rattle.ssm_world.specs.Worlds.{WorldValue, new_world, nonce_of, history, is_new, reply_to, IsMade}
 use Rattle.ssm_world.proofs.CallAsks.{asked_nonce}
-use Rattle.ssm_world.proofs.Growing.{ask_of_call}
+use Rattle.ssm_world.proofs.Growing.{WasAsked, ask_of_call}
 use Rattle.ssm_world.proofs.Lawful.{lawful_get_is, IsGetReply}
 use Rattle.ssm_world.proofs.Lists.{none_passes}
 use Rattle.ssm_world.proofs.Replying.{RepliesTo, reply_to as replies_so}

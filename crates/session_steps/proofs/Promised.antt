@@ -15,9 +15,9 @@ use Rattle.brick_store.specs.declared.event.BrickEvent.{BrickEvent}
 use Rattle.ssm_stub.specs.Reads.{read_answer}
 use Rattle.ssm_world.specs.declared.call.Call.TheVariants as call
 use Rattle.ssm_world.specs.Claims.{IsAcknowledged, kept_for, Keeps}
-use Rattle.ssm_world.specs.Sound.{WasAsked, Grows}
+use Rattle.ssm_world.specs.Sound.{Grows}
 use Rattle.ssm_world.specs.Worlds.{WorldValue, new_world, history, history_at, is_new, IsMade}
-use Rattle.ssm_world.proofs.Growing.{asked_stays}
+use Rattle.ssm_world.proofs.Growing.{WasAsked, asked_stays}
 use Rattle.ssm_world.proofs.Holding.{answer_cookie, acknowledged_keeps}
 use Rattle.session_steps.specs.Lanes.{LaneState, lane_at}
 use Rattle.session_steps.specs.Promise.{SessionTurn, Does, Lead, FetchMade, IsRight, lanes_of, FetchedWrite, fetch_of}

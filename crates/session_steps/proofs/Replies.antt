@@ -24,8 +24,9 @@ use Rattle.ssm_stub.specs.Reads.{get_lawful}
 use Rattle.ssm_stub.specs.Replies.{is_reply, refers, absence}
 use Rattle.ssm_world.specs.Claims.{kept_for}
 use Rattle.ssm_world.specs.Facts.{is_late_sweep, has_late_sweep, AllStored}
-use Rattle.ssm_world.specs.Sound.{WasAsked, WasWritten, IsSound}
+use Rattle.ssm_world.specs.Sound.{WasWritten, IsSound}
 use Rattle.ssm_world.specs.Worlds.{WorldValue}
+use Rattle.ssm_world.proofs.Growing.{WasAsked}
 use Rattle.ssm_world.proofs.Histories.{incarnation_grows, left_is, held_was_stored, held_on, stored_front, stored_weaker}
 use Rattle.ssm_world.proofs.Holding.{written_is}
 use Rattle.ssm_world.proofs.Tests.{both, same_number, number_same, version_is, version_same, key_same, late_is}

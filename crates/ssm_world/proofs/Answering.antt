@@ -1,5 +1,5 @@
 -- What a read of an acknowledged cookie answers.
-use Rattle.std.proofs.Common.{◌≡◌, ◌⊎◌, inl, inr, ℕ, zero, suc, ◌+◌, ◌<◌, ◌≤◌, Bool, true, false, not, if◌then◌else◌, nat_lt, List, [], ◌∷◌, ◌++◌, length, Option, Some, None, Result, Ok, Err, refl, sym, ap, ◌∙◌, subst, arith, append_assoc}
+use Rattle.std.proofs.Common.{◌≡◌, ◌⊎◌, inl, inr, ℕ, zero, suc, ◌+◌, ◌<◌, ◌≤◌, Bool, true, false, if◌then◌else◌, nat_lt, List, [], ◌∷◌, ◌++◌, length, Option, Some, None, Result, Ok, Err, refl, sym, ap, ◌∙◌, subst, arith, append_assoc}
 use Rattle.std.specs.Prelude.{slice_get}
 use Rattle.std.specs.List.{filter_map, cons_option}
 use Rattle.std.proofs.lemmas.Bool.Decides.{nat_tests}
@@ -15,7 +15,7 @@ use Rattle.brick_store.specs.declared.event.BrickEvent.TheVariants as happened
 use Rattle.brick_store.specs.declared.kept.Kept.{Kept}
 use Rattle.ssm_frames.specs.declared.frame.TheConstants.{SWEEP_GRACE}
 use Rattle.brick_store.specs.Bricks.{get_reply}
-use Rattle.brick_store.specs.History.{held, all_held, incarnation_after, swept_after}
+use Rattle.brick_store.specs.History.{all_held, incarnation_after, swept_after}
 use Rattle.brick_store.specs.Kept.{is_under, is_late, kept_under}
 use Rattle.brick_store.proofs.Standing.{all_found}
 use Rattle.ssm_stub.specs.declared.ask.Ask.{Ask}
@@ -36,15 +36,14 @@ use Rattle.ssm_stub.specs.Writes.{with_brick}
 use Rattle.ssm_stub.specs.Reads.{ReadState, get_lawful, value_by, found_in, loss_by, loss_of, lost_unless, found_or, read_answer}
 use Rattle.ssm_world.specs.declared.call.Call.TheVariants as call
 use Rattle.ssm_world.specs.declared.event.WorldEvent.{WorldEvent}
-use Rattle.ssm_world.specs.Facts.{AllStored, is_late_sweep, has_late_sweep, frame_nonce}
+use Rattle.ssm_world.specs.Facts.{AllStored, has_late_sweep, frame_nonce, WasStored, WasSweptAt}
 use Rattle.ssm_world.specs.Worlds.{WorldValue, new_world, after}
 use Rattle.ssm_world.specs.Sound.{asked_of, WasSent, WasWritten, ReadIsSound}
 use Rattle.ssm_world.specs.Claims.{kept_for, IsIntact, HasCrashed, WasSwept, ReadOrder, HeardAs, IsLost, AreLost, WasGiven, IsRight, read_world, told_since, ReadAfter}
 use Rattle.ssm_world.proofs.Ending.{FoundAt, found_at, none_found, HasOutcome, all_ended}
-use Rattle.ssm_world.proofs.Histories.{incarnation_grows, crash_stands, stored_front, stored_behind, stored_weaker, held_on, swept_stands, stands_behind, no_late_front, no_late_behind}
+use Rattle.ssm_world.proofs.Histories.{incarnation_grows, crash_stands, stored_front, stored_behind, stored_weaker, held_on, greatest_swept, swept_before, LateSweep, late_sweep, late_among, stands_behind, no_late_behind}
 use Rattle.ssm_world.proofs.Holding.{written_is}
 use Rattle.ssm_world.proofs.Lawful.{IsGetReply, lawful_get_is}
-use Rattle.ssm_world.proofs.Lists.{none_passes}
 use Rattle.ssm_world.proofs.Replying.{AbsentFor, absent_for}
 use Rattle.ssm_world.proofs.Scenes.{Scene, IsOrdered, scene, ordered, runs, distinct, found_is, Replied, replied}
 use Rattle.ssm_world.proofs.Tests.{both, late_is}
@@ -73,46 +72,96 @@ crashed_is v order value h i moment r apart =
       reached = omega (arith, for.incarnation_is, on);
     }
 
--- one that tells a late sweep was swept late
-swept_is : (v : WorldValue) (order : ReadOrder) (value : List ℕ) (h : Holder) (i : ℕ) (moment : Moment) → Replied v order value h (Absent order.nonce order.cookie.key order.cookie.version h.brick i moment) → is_late moment order.cookie.expiry ≡ true
-    → WasSwept v h order.cookie.expiry moment
-swept_is v order value h i moment r late =
-    let e : List BrickEvent = r.between ++ happened.Stored (kept_for order.cookie value) ∷ r.before in
-    let for : AbsentFor e i moment = absent_for h.brick h.brick e _ _ _ _ _ _ _ _ r.reply_is in
-    let stands : (j : ℕ) × (slice_get e j ≡ Some (happened.Sweep (swept_after e))) = swept_stands order.cookie.expiry e (ap (λ m. is_late m order.cookie.expiry) for.swept_is ∙ late) in
-    let now : (j : ℕ) × (slice_get (r.since ++ e) j ≡ Some (happened.Sweep (swept_after e))) = stands_behind r.since e stands.0 (happened.Sweep (swept_after e)) stands.1 in
+-- where a holder had not crashed and was not swept late since it stored the value, it had the value when it replied
+still_kept : (n : ℕ) (w v : WorldValue) (order : ReadOrder) (value : List ℕ) (h : Holder) (frame : Frame) (s : Scene n w v order value) (r : Replied v order value h frame)
+    → incarnation_after 1 (r.between ++ happened.Stored (kept_for order.cookie value) ∷ r.before) ≡ incarnation_after 1 r.before → has_late_sweep order.cookie.expiry r.between ≡ false
+    → kept_under order.cookie.key order.cookie.version (all_held (r.between ++ happened.Stored (kept_for order.cookie value) ∷ r.before)) ≡ Some (kept_for order.cookie value)
+still_kept n w v order value h frame s r stays quiet =
+    let c : Cookie = order.cookie in
+    let kept : Kept = kept_for c value in
+    let stored : List BrickEvent = happened.Stored kept ∷ r.before in
+    let e : List BrickEvent = r.between ++ stored in
+    let all : AllStored (WasWritten v h.brick) r.between = stored_front (WasWritten v h.brick) r.between stored (stored_behind (WasWritten v h.brick) r.since e (s.late.stored h.brick (r.since ++ e) r.history_is)) in
+    let same : AllStored (λ (t : Kept). is_under c.key c.version t ≡ true → t ≡ kept) r.between =
+    stored_weaker (WasWritten v h.brick) (λ (t : Kept). is_under c.key c.version t ≡ true → t ≡ kept) r.between
+    (λ t written under. written_is v h.brick c.version c.key c.expiry value t s.late s.wrote written (both (same_key c.key t.key) (same_version c.version t.version) under).1)
+    all in
+    all_found e c.key c.version ∙ held_on r.between r.before kept same stays quiet
+
+-- one that did not have it though it has not crashed was swept late since
+swept_since : (n : ℕ) (w v : WorldValue) (order : ReadOrder) (value : List ℕ) (h : Holder) (i : ℕ) (moment : Moment) → Scene n w v order value
+    → (r : Replied v order value h (Absent order.nonce order.cookie.key order.cookie.version h.brick i moment))
+    → incarnation_after 1 (r.between ++ happened.Stored (kept_for order.cookie value) ∷ r.before) ≡ incarnation_after 1 r.before → has_late_sweep order.cookie.expiry r.between ≡ true
+swept_since n w v order value h i moment s r stays = go (has_late_sweep order.cookie.expiry r.between) refl
+  where
+    go : (b : Bool) → has_late_sweep order.cookie.expiry r.between ≡ b → has_late_sweep order.cookie.expiry r.between ≡ true
+    go true swept = swept
+    go false quiet = absurd (
+        let c : Cookie = order.cookie in
+        let kept : Kept = kept_for c value in
+        let e : List BrickEvent = r.between ++ happened.Stored kept ∷ r.before in
+        let there : kept_under c.key c.version (all_held e) ≡ Some kept = still_kept n w v order value h _ s r stays quiet in
+        let replies : Some (get_reply h.brick (incarnation_after 1 e) (swept_after e) order.nonce c.key c.version (Some kept)) ≡ Some (Absent order.nonce c.key c.version h.brick i moment) =
+        ap (λ k. Some (get_reply h.brick (incarnation_after 1 e) (swept_after e) order.nonce c.key c.version k)) (sym there) ∙ r.reply_is in
+        cc)
+
+-- one that tells a late sweep was swept late since it stored the value
+swept_is : (n : ℕ) (w v : WorldValue) (order : ReadOrder) (value : List ℕ) (h : Holder) (told : Moment) → Scene n w v order value
+    → Replied v order value h (Absent order.nonce order.cookie.key order.cookie.version h.brick h.incarnation told) → is_late told order.cookie.expiry ≡ true
+    → WasSwept v h (kept_for order.cookie value) told
+swept_is n w v order value h told s r late =
+    let expiry : Moment = order.cookie.expiry in
+    let kept : Kept = kept_for order.cookie value in
+    let stored : List BrickEvent = happened.Stored kept ∷ r.before in
+    let e : List BrickEvent = r.between ++ stored in
+    let for : AbsentFor e h.incarnation told = absent_for h.brick h.brick e _ _ _ _ _ _ _ _ r.reply_is in
+    let q : LateSweep expiry r.between = late_sweep expiry r.between (swept_since n w v order value h h.incarnation told s r (for.incarnation_is ∙ sym r.in_named)) in
+    let met : List BrickEvent = q.earlier ++ stored in
+    let parts : e ≡ q.later ++ happened.Sweep q.moment ∷ met = ap (λ g. g ++ stored) q.parts ∙ append_assoc q.later (happened.Sweep q.moment ∷ q.earlier) stored in
+    let up : incarnation_after 1 r.before ≤ incarnation_after 1 met = incarnation_grows q.earlier stored in
+    let on : incarnation_after 1 met ≤ incarnation_after 1 (q.later ++ happened.Sweep q.moment ∷ met) = incarnation_grows q.later (happened.Sweep q.moment ∷ met) in
+    let now : incarnation_after 1 (q.later ++ happened.Sweep q.moment ∷ met) ≡ h.incarnation = ap (incarnation_after 1) (sym parts) ∙ for.incarnation_is in
+    let in_it : incarnation_after 1 met ≡ h.incarnation = omega (arith, up, on, now, r.in_named) in
+    let before : q.moment.0 ≤ (swept_after (q.later ++ happened.Sweep q.moment ∷ met)).0 = swept_before q.later met q.moment (now ∙ sym in_it) in
+    let greatest : WasSweptAt e (incarnation_after 1 e) (swept_after e) = greatest_swept expiry e (ap (λ m. is_late m expiry) for.swept_is ∙ late) in
     record {
       events = r.since ++ e;
       history_is = r.history_is;
-      place = now.0;
-      sweep = now.1 ∙ ap (λ m. Some (happened.Sweep m)) for.swept_is;
-      late = late_is moment order.cookie.expiry late;
+      moment = q.moment;
+      sweep = record { earlier = met; later = r.since ++ q.later; parts = ap (λ g. r.since ++ g) parts ∙ sym (append_assoc r.since q.later (happened.Sweep q.moment ∷ met)); incarnation_is = in_it };
+      stored = record { earlier = r.before; later = q.earlier; parts = refl; incarnation_is = r.in_named };
+      late = late_is q.moment expiry q.late;
+      told_sweep = record {
+        earlier = greatest.earlier;
+        later = r.since ++ greatest.later;
+        parts =
+            ap (λ g. r.since ++ g) greatest.parts
+            ∙ sym (append_assoc r.since greatest.later (happened.Sweep (swept_after e) ∷ greatest.earlier))
+            ∙ ap (λ m. (r.since ++ greatest.later) ++ happened.Sweep m ∷ greatest.earlier) for.swept_is;
+        incarnation_is = greatest.incarnation_is ∙ for.incarnation_is;
+      };
+      told_late = subst (λ (m : Moment). q.moment.0 ≤ m.0) (ap swept_after (sym parts) ∙ for.swept_is) before;
     }
 
 -- a holder that is intact replies Found with the value
 pub intact_found : (n : ℕ) (w v : WorldValue) (order : ReadOrder) (value : List ℕ) (i : ℕ) (h : Holder) (frame : Frame) → Scene n w v order value → slice_get order.cookie.bricks i ≡ Some h
-    → WasSent v h.brick frame → is_request frame ≡ false → frame_nonce frame ≡ order.nonce → IsIntact v h order.cookie.expiry
+    → WasSent v h.brick frame → is_request frame ≡ false → frame_nonce frame ≡ order.nonce → IsIntact v h (kept_for order.cookie value)
     → frame ≡ Found order.nonce order.cookie.key order.cookie.version h.brick h.incarnation order.cookie.expiry value
 intact_found n w v order value i h frame s among was none nonce intact =
     let r : Replied v order value h frame = replied n w v order value i h frame s among was none nonce in
     let c : Cookie = order.cookie in
     let kept : Kept = kept_for c value in
-    let e : List BrickEvent = r.between ++ happened.Stored kept ∷ r.before in
+    let stored : List BrickEvent = happened.Stored kept ∷ r.before in
+    let e : List BrickEvent = r.between ++ stored in
     let one : Some intact.events ≡ Some (r.since ++ e) = sym intact.history_is ∙ r.history_is in
     let events : intact.events ≡ r.since ++ e = cc in
     let now : incarnation_after 1 (r.since ++ e) ≡ h.incarnation = ap (incarnation_after 1) (sym events) ∙ intact.uncrashed in
-    let up : incarnation_after 1 r.before ≤ incarnation_after 1 e = incarnation_grows r.between (happened.Stored kept ∷ r.before) in
+    let up : incarnation_after 1 r.before ≤ incarnation_after 1 e = incarnation_grows r.between stored in
     let on : incarnation_after 1 e ≤ incarnation_after 1 (r.since ++ e) = incarnation_grows r.since e in
     let stays : incarnation_after 1 e ≡ incarnation_after 1 r.before = omega (arith, now, r.in_named) in
-    let quiet_all : has_late_sweep c.expiry (r.since ++ e) ≡ false = ap (has_late_sweep c.expiry) (sym events) ∙ intact.unswept in
-    let quiet : has_late_sweep c.expiry r.between ≡ false = no_late_front c.expiry r.between (happened.Stored kept ∷ r.before) (no_late_behind c.expiry r.since e quiet_all) in
-    let all : AllStored (WasWritten v h.brick) r.between = stored_front (WasWritten v h.brick) r.between (happened.Stored kept ∷ r.before) (stored_behind (WasWritten v h.brick) r.since e (s.late.stored h.brick (r.since ++ e) r.history_is)) in
-    let same : AllStored (λ (t : Kept). is_under c.key c.version t ≡ true → t ≡ kept) r.between =
-    stored_weaker (WasWritten v h.brick) (λ (t : Kept). is_under c.key c.version t ≡ true → t ≡ kept) r.between
-    (λ t written under. written_is v h.brick c.version c.key c.expiry value t s.late s.wrote written (both (same_key c.key t.key) (same_version c.version t.version) under).1)
-    all in
-    let holds : held e c.key c.version ≡ Some kept = held_on r.between r.before kept same stays quiet in
-    let there : kept_under c.key c.version (all_held e) ≡ Some kept = all_found e c.key c.version ∙ holds in
+    let its : WasStored intact.events h.incarnation kept = record { earlier = r.before; later = r.since ++ r.between; parts = events ∙ sym (append_assoc r.since r.between stored); incarnation_is = r.in_named } in
+    let quiet : has_late_sweep c.expiry r.between ≡ false = no_late_behind c.expiry r.since r.between (intact.unswept its) in
+    let there : kept_under c.key c.version (all_held e) ≡ Some kept = still_kept n w v order value h frame s r stays quiet in
     let number : incarnation_after 1 e ≡ h.incarnation = stays ∙ r.in_named in
     let replies : Some (get_reply h.brick (incarnation_after 1 e) (swept_after e) order.nonce c.key c.version (Some kept)) ≡ Some frame =
     ap (λ k. Some (get_reply h.brick (incarnation_after 1 e) (swept_after e) order.nonce c.key c.version k)) (sym there) ∙ r.reply_is in
@@ -153,7 +202,7 @@ lost_by n w v order value i h told (outcome.Answered (get.Swept moment)) s among
     let e = its (get.Swept moment) refl in
     let frame : Frame = Absent order.nonce order.cookie.key order.cookie.version h.brick h.incarnation moment in
     let was : WasSent v h.brick frame = subst (λ f. WasSent v h.brick f) e.2.0 e.1 in
-    (cause.Swept moment, refl, (heard_so, swept_is v order value h h.incarnation moment (replied n w v order value i h frame s among was refl refl) e.2.1))
+    (cause.Swept moment, refl, (heard_so, swept_is n w v order value h moment s (replied n w v order value i h frame s among was refl refl) e.2.1))
 
 -- where each has its cause, all have them in order
 lost_all : (v : WorldValue) (order : ReadOrder) (kept : Kept) (told : Holder → List Told) (asks : List (Ask Holder ReadReply))
@@ -244,7 +293,7 @@ each_asked own ends bricks earlier later order value r place ask o read there ea
 
 pub holder_replies : (n : ℕ) (earlier later : List WorldEvent) (order : ReadOrder) (value : List ℕ) (r : ReadState) (place packet : ℕ) (h : Holder) (frame : Frame)
     → ReadAfter (after (new_world n) earlier) order value later r → slice_get order.cookie.bricks place ≡ Some h
-    → IsIntact (read_world (after (new_world n) earlier) order later) h order.cookie.expiry
+    → IsIntact (read_world (after (new_world n) earlier) order later) h (kept_for order.cookie value)
     → slice_get (read_world (after (new_world n) earlier) order later).packets packet ≡ Some (record { brick = h.brick; frame = frame }) → is_request frame ≡ false → frame_nonce frame ≡ order.nonce
     → frame ≡ Found order.nonce order.cookie.key order.cookie.version h.brick h.incarnation order.cookie.expiry value
 holder_replies n earlier later order value r place packet h frame read among intact there none nonce =
@@ -254,30 +303,31 @@ holder_replies n earlier later order value r place packet h frame read among int
 abbrev IsServed : List ℕ → Outcome ReadReply → Type 0
 IsServed value o = (o ≡ outcome.Answered (get.Found value)) ⊎ ((o ≡ outcome.Silent) ⊎ (o ≡ outcome.Strayed))
 
-uncrashed : (v : WorldValue) (h : Holder) (expiry : Moment) (kept : Kept) (i : ℕ) → IsIntact v h expiry → HasCrashed v h kept i → ⊥
-uncrashed v h expiry kept i intact crashed =
+uncrashed : (v : WorldValue) (h : Holder) (kept : Kept) (i : ℕ) → IsIntact v h kept → HasCrashed v h kept i → ⊥
+uncrashed v h kept i intact crashed =
     let one : Some intact.events ≡ Some crashed.events = sym intact.history_is ∙ crashed.history_is in
     let events : intact.events ≡ crashed.events = cc in
     let now : incarnation_after 1 crashed.events ≡ h.incarnation = ap (incarnation_after 1) (sym events) ∙ intact.uncrashed in
     omega (arith, now, crashed.greater, crashed.reached)
 
-not_early : (moment expiry : Moment) → is_late moment expiry ≡ false → expiry.0 + SWEEP_GRACE < moment.0 → ⊥
-not_early moment expiry early late = absurd (grind (arith, nat_tests))
+late_from : (moment expiry : Moment) → expiry.0 + SWEEP_GRACE < moment.0 → is_late moment expiry ≡ true
+late_from moment expiry late = grind (arith, nat_tests)
 
-not_any : (b : Bool) → b ≡ false → not b ≡ true
-not_any true e = absurd (cc)
-not_any false e = refl
-
-unswept : (v : WorldValue) (h : Holder) (expiry moment : Moment) → IsIntact v h expiry → WasSwept v h expiry moment → ⊥
-unswept v h expiry moment intact swept =
+unswept : (v : WorldValue) (h : Holder) (kept : Kept) (moment : Moment) → IsIntact v h kept → WasSwept v h kept moment → ⊥
+unswept v h kept moment intact swept =
     let one : Some intact.events ≡ Some swept.events = sym intact.history_is ∙ swept.history_is in
     let events : intact.events ≡ swept.events = cc in
-    let none : has_late_sweep expiry swept.events ≡ false = ap (has_late_sweep expiry) (sym events) ∙ intact.unswept in
-    let early : is_late moment expiry ≡ false = none_passes (is_late_sweep expiry) swept.events swept.place (happened.Sweep moment) (not_any (has_late_sweep expiry swept.events) none) swept.sweep in
-    not_early moment expiry early swept.late
+    let sweep : List BrickEvent = happened.Sweep swept.moment ∷ swept.stored.later in
+    let stored : List BrickEvent = happened.Stored kept ∷ swept.stored.earlier in
+    let parts : swept.events ≡ (swept.sweep.later ++ sweep) ++ stored =
+    swept.sweep.parts ∙ ap (λ g. swept.sweep.later ++ happened.Sweep swept.moment ∷ g) swept.stored.parts ∙ sym (append_assoc swept.sweep.later sweep stored) in
+    let its : WasStored intact.events h.incarnation kept = record { earlier = swept.stored.earlier; later = swept.sweep.later ++ sweep; parts = events ∙ parts; incarnation_is = swept.stored.incarnation_is } in
+    let none : has_late_sweep kept.expiry (swept.sweep.later ++ sweep) ≡ false = intact.unswept its in
+    let some : has_late_sweep kept.expiry (swept.sweep.later ++ sweep) ≡ true = late_among kept.expiry swept.sweep.later swept.stored.later swept.moment (late_from swept.moment kept.expiry swept.late) in
+    absurd (cc)
 
 served : (n : ℕ) (w v : WorldValue) (order : ReadOrder) (value : List ℕ) (i : ℕ) (h : Holder) (told : List Told) (o : Outcome ReadReply) → Scene n w v order value → slice_get order.cookie.bricks i ≡ Some h
-    → HeardAs order h told o → ((reply : ReadReply) → o ≡ outcome.Answered reply → Evidence v order h reply) → IsIntact v h order.cookie.expiry → IsServed value o
+    → HeardAs order h told o → ((reply : ReadReply) → o ≡ outcome.Answered reply → Evidence v order h reply) → IsIntact v h (kept_for order.cookie value) → IsServed value o
 served n w v order value i h told outcome.Silent s among heard_so its intact = inr (inl refl)
 served n w v order value i h told outcome.Strayed s among heard_so its intact = inr (inr refl)
 served n w v order value i h told (outcome.Answered (get.Found x)) s among heard_so its intact =
@@ -287,17 +337,17 @@ served n w v order value i h told (outcome.Answered (get.Crashed j)) s among hea
     let same : lost.0 ≡ cause.Crashed j = cc in
     let P : Cause → Type 0 = λ c. IsLost v order (kept_for order.cookie value) h told c in
     let its : IsLost v order (kept_for order.cookie value) h told (cause.Crashed j) = subst P same lost.2 in
-    uncrashed v h order.cookie.expiry (kept_for order.cookie value) j intact its.1)
+    uncrashed v h (kept_for order.cookie value) j intact its.1)
 served n w v order value i h told (outcome.Answered (get.Swept moment)) s among heard_so its intact = absurd (
     let lost : (c : Cause) × (loss_by (Heard (outcome.Answered (get.Swept moment))) ≡ Some c) × IsLost v order (kept_for order.cookie value) h told c = lost_by n w v order value i h told (outcome.Answered (get.Swept moment)) s among heard_so its refl in
     let same : lost.0 ≡ cause.Swept moment = cc in
     let P : Cause → Type 0 = λ c. IsLost v order (kept_for order.cookie value) h told c in
     let its : IsLost v order (kept_for order.cookie value) h told (cause.Swept moment) = subst P same lost.2 in
-    unswept v h order.cookie.expiry moment intact its.1)
+    unswept v h (kept_for order.cookie value) moment intact its.1)
 
 pub holder_heard : OwnLaw → EndLaw → (n : ℕ) (earlier later : List WorldEvent) (order : ReadOrder) (value : List ℕ) (r : ReadState) (place : ℕ) (a : Ask Holder ReadReply) (o : Outcome ReadReply)
     → ReadAfter (after (new_world n) earlier) order value later r → slice_get r.asks place ≡ Some a → a.ear ≡ Heard o
-    → IsIntact (read_world (after (new_world n) earlier) order later) a.who order.cookie.expiry
+    → IsIntact (read_world (after (new_world n) earlier) order later) a.who (kept_for order.cookie value)
     → HeardAs order a.who (told_since (after (new_world n) earlier) order later a.who) o
     × ((o ≡ outcome.Answered (get.Found value)) ⊎ ((o ≡ outcome.Silent) ⊎ (o ≡ outcome.Strayed)))
 holder_heard own ends n earlier later order value r place a o read there ear intact =
@@ -312,21 +362,21 @@ holder_heard own ends n earlier later order value r place a o read there ear int
     )
 
 -- a cause of a holder that is intact is the link's
-unheard : (v : WorldValue) (order : ReadOrder) (kept : Kept) (h : Holder) (told : List Told) (c : Cause) → IsLost v order kept h told c → IsIntact v h order.cookie.expiry → (c ≡ cause.Silent) ⊎ (c ≡ cause.Strayed)
+unheard : (v : WorldValue) (order : ReadOrder) (kept : Kept) (h : Holder) (told : List Told) (c : Cause) → IsLost v order kept h told c → IsIntact v h kept → (c ≡ cause.Silent) ⊎ (c ≡ cause.Strayed)
 unheard v order kept h told cause.Silent lost intact = inl refl
 unheard v order kept h told cause.Strayed lost intact = inr refl
 unheard v order kept h told (cause.Full entries bytes) lost intact = absurd lost
-unheard v order kept h told (cause.Crashed i) lost intact = absurd (uncrashed v h order.cookie.expiry kept i intact lost.1)
-unheard v order kept h told (cause.Swept moment) lost intact = absurd (unswept v h order.cookie.expiry moment intact lost.1)
+unheard v order kept h told (cause.Crashed i) lost intact = absurd (uncrashed v h kept i intact lost.1)
+unheard v order kept h told (cause.Swept moment) lost intact = absurd (unswept v h kept moment intact lost.1)
 
 pub all_unheard : (v : WorldValue) (order : ReadOrder) (kept : Kept) (told : Holder → List Told) (hs : List Holder) (cs : List BrickCause) (i : ℕ) (h : Holder) (c : BrickCause)
-    → AreLost v order kept told hs cs → slice_get hs i ≡ Some h → slice_get cs i ≡ Some c → IsIntact v h order.cookie.expiry → (c.cause ≡ cause.Silent) ⊎ (c.cause ≡ cause.Strayed)
+    → AreLost v order kept told hs cs → slice_get hs i ≡ Some h → slice_get cs i ≡ Some c → IsIntact v h kept → (c.cause ≡ cause.Silent) ⊎ (c.cause ≡ cause.Strayed)
 all_unheard v order kept told [] cs i h c lost at_h at_c intact = absurd (cc)
 all_unheard v order kept told (g ∷ hs) [] i h c lost at_h at_c intact = absurd (cc)
 all_unheard v order kept told (g ∷ hs) (d ∷ cs) zero h c lost at_h at_c intact =
     let holder : g ≡ h = cc in
     let same : d ≡ c = cc in
-    let P : Holder → Type 0 = λ x. IsIntact v x order.cookie.expiry in
+    let P : Holder → Type 0 = λ x. IsIntact v x kept in
     let Q : BrickCause → Type 0 = λ x. (x.cause ≡ cause.Silent) ⊎ (x.cause ≡ cause.Strayed) in
     subst Q same (unheard v order kept g (told g) d.cause lost.1 (subst P (sym holder) intact))
 all_unheard v order kept told (g ∷ hs) (d ∷ cs) (suc i) h c lost at_h at_c intact = all_unheard v order kept told hs cs i h c lost.2 at_h at_c intact

@@ -11,7 +11,8 @@ use Rattle.ssm_world.specs.declared.call.Call.{Call}
 use Rattle.ssm_world.specs.declared.call.Call.TheVariants as call
 use Rattle.ssm_world.specs.Facts.{frame_nonce}
 use Rattle.ssm_world.specs.Worlds.{WorldValue, nonce_of, ask_of}
-use Rattle.ssm_world.specs.Sound.{WasAsked, CallIsSound, IsSound}
+use Rattle.ssm_world.specs.Sound.{CallIsSound, IsSound}
+use Rattle.ssm_world.proofs.Growing.{WasAsked}
 
 pub ask_is_request : (w : WorldValue) (c : Call) → CallIsSound w c → is_request (ask_of c) ≡ true
 ask_is_request w (call.Write s) sound = ap is_request sound.ask_is

@@ -14,7 +14,7 @@ use Rattle.ssm_world.specs.declared.call.Call.{Call}
 use Rattle.ssm_world.specs.declared.call.Call.TheVariants as call
 use Rattle.ssm_world.specs.Facts.{AllStored}
 use Rattle.ssm_world.specs.Worlds.{WorldValue, nonce_of, ask_of, history, with_history, with_packet, with_new_call, with_call, bricks_of}
-use Rattle.ssm_world.specs.Sound.{asked_of, untold, WasSent, WasAsked, bricks_asked, Asks, WasAskedOf, Grows, WasMade, WasWritten, WereSent, CallIsSound}
+use Rattle.ssm_world.specs.Sound.{asked_of, untold, WasSent, bricks_asked, Asks, WasAskedOf, Grows, WasMade, WasWritten, WereSent, CallIsSound}
 use Rattle.ssm_world.proofs.Asks.{asked_none}
 use Rattle.ssm_world.proofs.Lists.{get_front, set_keeps, history_keeps}
 
@@ -103,6 +103,10 @@ grows_history w brick newer h there = record {
         (newer, changed.1 ∙ ap (λ x. Some (newer ++ x)) list))
   ];
 }
+
+-- this request is the ask of a call
+abbrev pub WasAsked : WorldValue → Frame → Type 0
+WasAsked w frame = (i : ℕ) × (c : Call) × (slice_get w.calls i ≡ Some c) × (ask_of c ≡ frame)
 
 -- what is said of calls, of values and of replies stays
 pub asked_stays : (w v : WorldValue) (frame : Frame) → Grows w v → WasAsked w frame → WasAsked v frame

@@ -31,10 +31,10 @@ use Rattle.ssm_world.specs.declared.event.Packet.{Packet}
 use Rattle.ssm_world.specs.declared.event.WorldEvent.{WorldEvent}
 use Rattle.ssm_world.specs.Facts.{AllStored}
 use Rattle.ssm_world.specs.Worlds.{WorldValue, new_world, history, after}
-use Rattle.ssm_world.specs.Sound.{WasSent, WasAsked, WasMade, RepliesSince, WasWritten, IsSound, WriteIsSound}
+use Rattle.ssm_world.specs.Sound.{WasSent, WasMade, RepliesSince, WasWritten, IsSound, WriteIsSound}
 use Rattle.ssm_world.specs.Claims.{IsAcknowledged, kept_for, Keeps}
 use Rattle.ssm_world.proofs.CallAsks.{one_ask, put_asked}
-use Rattle.ssm_world.proofs.Growing.{ask_of_call}
+use Rattle.ssm_world.proofs.Growing.{WasAsked, ask_of_call}
 use Rattle.ssm_world.proofs.Histories.{stored_front, stored_weaker, held_on}
 use Rattle.ssm_world.proofs.Lawful.{lawful_stored}
 use Rattle.ssm_world.proofs.Replying.{StoredFor, stored_for}

@@ -38,6 +38,30 @@ lawful_stored nonce key brick (Found n k v b j expiry value) i h = absurd (cc)
 lawful_stored nonce key brick (Absent n k v b j swept) i h = absurd (cc)
 lawful_stored nonce key brick (Swept n b j moment) i h = absurd (cc)
 
+-- and a lawful BrickFull is the brick's BrickFull to this write
+pub lawful_full : (nonce : Version) (key : SessionKey) (brick : BrickNo) (frame : Frame) (entries bytes : ℕ) → put_lawful nonce key brick frame ≡ Some (put.Full entries bytes)
+    → (i : ℕ) × (frame ≡ BrickFull nonce key nonce brick i entries bytes)
+lawful_full nonce key brick (BrickFull n k v b j e s) entries bytes h = go (is_reply (refers nonce key nonce brick) (refers n k v b)) refl h
+  where
+    go : (t : Bool) → is_reply (refers nonce key nonce brick) (refers n k v b) ≡ t → (if t then Some (put.Full e s) else None) ≡ Some (put.Full entries bytes) → (i : ℕ) × (BrickFull n k v b j e s ≡ BrickFull nonce key nonce brick i entries bytes)
+    go true is same =
+        let to : refers n k v b ≡ refers nonce key nonce brick = reply_is (refers nonce key nonce brick) (refers n k v b) is in
+        let count : e ≡ entries = cc in
+        let size : s ≡ bytes = cc in
+        (j, (λ l. BrickFull (to l).nonce (to l).key (to l).version (to l).brick j (count l) (size l)))
+    go false is same = absurd (cc)
+lawful_full nonce key brick (Stored n k v b j) entries bytes h = go (is_reply (refers nonce key nonce brick) (refers n k v b)) h
+  where
+    go : (t : Bool) → (if t then Some (put.Stored j) else None) ≡ Some (put.Full entries bytes) → (i : ℕ) × (Stored n k v b j ≡ BrickFull nonce key nonce brick i entries bytes)
+    go true same = absurd (cc)
+    go false same = absurd (cc)
+lawful_full nonce key brick (Put n k v expiry value) entries bytes h = absurd (cc)
+lawful_full nonce key brick (Get n k v) entries bytes h = absurd (cc)
+lawful_full nonce key brick (Sweep n moment) entries bytes h = absurd (cc)
+lawful_full nonce key brick (Found n k v b j expiry value) entries bytes h = absurd (cc)
+lawful_full nonce key brick (Absent n k v b j swept) entries bytes h = absurd (cc)
+lawful_full nonce key brick (Swept n b j moment) entries bytes h = absurd (cc)
+
 -- What a lawful reply to a Get is.
 abbrev pub IsGetReply : Version → SessionKey → Version → Moment → Holder → Frame → ReadReply → Type 0
 IsGetReply nonce key version expiry holder frame (get.Found value) =

@@ -13,6 +13,8 @@ pub mod Lawful
 pub mod Lists
 mod Logging
 pub mod Making
+pub mod Missing
+mod NewNonces
 mod Nonces
 pub mod Numbering
 mod Origins

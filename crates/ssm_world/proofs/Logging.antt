@@ -1,5 +1,5 @@
 -- A brick that stands for its history is the one after it.
-use Rattle.std.proofs.Common.{◌≡◌, Bool, true, false, if◌then◌else◌, List, [], ◌∷◌, ◌++◌, Some, refl, sym, ap, ◌∙◌, subst}
+use Rattle.std.proofs.Common.{◌≡◌, Bool, true, false, if◌then◌else◌, List, [], ◌∷◌, ◌++◌, Some, refl, sym, ap, ◌∙◌}
 use Rattle.std.specs.Prelude.{reverse}
 use Rattle.std.proofs.lemmas.List.{reverse-append}
 use Rattle.ssm_frames.specs.declared.frame.Frame.{Frame}
@@ -25,9 +25,6 @@ stands_reply h b request answer stands is = ap (λ c. reply c request) (sym (bri
 pub stored_unless : (h : List BrickEvent) (b : BrickValue) (s : Kept) (full : Bool) → StandsFor 1 h b → is_full b.kept s ≡ full → stored_in h s ≡ (if full then h else happened.Stored s ∷ h)
 stored_unless h b s full stands is =
     ap (λ c. if c then h else happened.Stored s ∷ h) (ap (λ kept. is_full kept s) (sym (stands_for_all 1 h b stands)) ∙ is)
-
-pub stands_same : (h g : List BrickEvent) (b : BrickValue) → h ≡ g → StandsFor 1 h b → StandsFor 1 g b
-stands_same h g b same stands = subst (λ x. StandsFor 1 x b) same stands
 
 -- a request leaves a brick its number
 pub answered_number : (b : BrickValue) (request : Frame) → (answered b request).number ≡ b.number

@@ -63,6 +63,47 @@ stored_for brick b h (Absent m l u c j s) n k v i is = absurd (cc)
 stored_for brick b h (BrickFull m l u c j s t) n k v i is = absurd (cc)
 stored_for brick b h (Swept m c j s) n k v i is = absurd (cc)
 
+-- a BrickFull answers a Put of its nonce, key and version, for which there was no room
+pub record FullFor (h : List BrickEvent) (request : Frame) (n : Version) (k : SessionKey) (v : Version) (entries bytes : ℕ) : Type 0 where
+  pub expiry : Moment
+  pub value : List ℕ
+  pub request_is : request ≡ Put n k v expiry value
+  pub full : is_full (all_held h) (put_value k v expiry value) ≡ true
+  pub heard_is : heard h request ≡ h
+  pub entries_are : length (all_held h) ≡ entries
+  pub bytes_are : bytes_of (all_held h) ≡ bytes
+
+pub full_for : (brick b : BrickNo) (h : List BrickEvent) (request : Frame) (n : Version) (k : SessionKey) (v : Version) (i entries bytes : ℕ) → reply (brick_after brick h) request ≡ Some (BrickFull n k v b i entries bytes)
+    → FullFor h request n k v entries bytes
+full_for brick b h (Put m l u d x) n k v i entries bytes is = go (is_full (all_held h) (put_value l u d x)) refl is
+  where
+    go : (full : Bool) → is_full (all_held h) (put_value l u d x) ≡ full → put_answer brick h m l u full ≡ Some (BrickFull n k v b i entries bytes) → FullFor h (Put m l u d x) n k v entries bytes
+    go false full e = absurd (cc)
+    go true full e =
+        let nonce : m ≡ n = cc in
+        let key : l ≡ k = cc in
+        let version : u ≡ v = cc in
+        record {
+          expiry = d;
+          value = x;
+          request_is = λ j. Put (nonce j) (key j) (version j) d x;
+          full = (λ j. is_full (all_held h) (put_value (sym key j) (sym version j) d x)) ∙ full;
+          heard_is = ap (λ c. if c then h else happened.Stored (put_value l u d x) ∷ h) full;
+          entries_are = cc;
+          bytes_are = cc;
+        }
+full_for brick b h (Get m l u) n k v i entries bytes is = go (kept_under l u (all_held h)) is
+  where
+    go : (kept : Option Kept) → get_answer brick h m l u kept ≡ Some (BrickFull n k v b i entries bytes) → FullFor h (Get m l u) n k v entries bytes
+    go None e = absurd (cc)
+    go (Some s) e = absurd (cc)
+full_for brick b h (Sweep m moment) n k v i entries bytes is = absurd (cc)
+full_for brick b h (Stored m l u c j) n k v i entries bytes is = absurd (cc)
+full_for brick b h (Found m l u c j d x) n k v i entries bytes is = absurd (cc)
+full_for brick b h (Absent m l u c j s) n k v i entries bytes is = absurd (cc)
+full_for brick b h (BrickFull m l u c j s t) n k v i entries bytes is = absurd (cc)
+full_for brick b h (Swept m c j s) n k v i entries bytes is = absurd (cc)
+
 -- a Found answers a Get, and gives what is held
 pub record FoundFor (h : List BrickEvent) (request : Frame) (n : Version) (k : SessionKey) (v : Version) (value : List ℕ) : Type 0 where
   pub request_is : request ≡ Get n k v

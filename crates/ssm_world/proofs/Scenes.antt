@@ -29,12 +29,12 @@ use Rattle.ssm_world.specs.declared.event.WorldEvent.{WorldEvent}
 use Rattle.ssm_world.specs.declared.event.WorldEvent.TheVariants.{Read}
 use Rattle.ssm_world.specs.Facts.{AllStored, frame_nonce}
 use Rattle.ssm_world.specs.Worlds.{WorldValue, new_world, nonce_of, history, with_new_call, is_new, bricks_of, are_distinct, may_read, brick_after, after}
-use Rattle.ssm_world.specs.Sound.{asked_of, untold, WasSent, WasAsked, Grows, WasMade, RepliesSince, WasWritten, IsSound}
+use Rattle.ssm_world.specs.Sound.{asked_of, untold, WasSent, Grows, WasMade, RepliesSince, WasWritten, IsSound}
 use Rattle.ssm_world.specs.Traces.{all_told}
 use Rattle.ssm_world.specs.Claims.{kept_for, ReadOrder, begun, read_world, ReadAfter}
 use Rattle.ssm_world.proofs.CallAsks.{asked_nonce, one_ask}
 use Rattle.ssm_world.proofs.Asks.{asked_none}
-use Rattle.ssm_world.proofs.Growing.{ask_of_call, asked_stays}
+use Rattle.ssm_world.proofs.Growing.{WasAsked, ask_of_call, asked_stays}
 use Rattle.ssm_world.proofs.Histories.{stored_behind, held_was_stored}
 use Rattle.ssm_world.proofs.Holding.{cookie_of, answer_cookie, Holds, holder_holds, kept_of, written_is}
 use Rattle.ssm_world.proofs.Lists.{get_new, none_passes}

@@ -1,4 +1,5 @@
--- What the laws of worlds speak of: acknowledged cookies, what their holders keep, and what reads answer.
+-- What the laws of worlds speak of: acknowledged cookies, what their holders keep, what reads answer, and why
+-- writes are missed.
 use Rattle.std.specs.Prelude.{◌≡◌, ℕ, ◌+◌, ◌<◌, ◌≤◌, true, false, All, List, [], ◌∷◌, ◌++◌, length, take, filter_map, slice_get, Option, Some, Result, Ok, Err}
 use Rattle.crash_base.specs.declared.numbers.BrickNo.{BrickNo}
 use Rattle.crash_base.specs.declared.numbers.Moment.{Moment}
@@ -12,7 +13,8 @@ use Rattle.ssm_frames.specs.declared.frame.TheConstants.{SWEEP_GRACE}
 use Rattle.brick_store.specs.declared.event.BrickEvent.{BrickEvent}
 use Rattle.brick_store.specs.declared.event.BrickEvent.TheVariants as happened
 use Rattle.brick_store.specs.Bricks.{put_value}
-use Rattle.brick_store.specs.History.{held, incarnation_after}
+use Rattle.brick_store.specs.History.{all_held, held, incarnation_after}
+use Rattle.brick_store.specs.Kept.{bytes_of, is_full}
 use Rattle.ssm_stub.specs.declared.cause.Cause.{Cause}
 use Rattle.ssm_stub.specs.declared.cause.Cause.TheVariants as cause
 use Rattle.ssm_stub.specs.declared.cause.BrickCause.{BrickCause}
@@ -23,16 +25,18 @@ use Rattle.ssm_stub.specs.declared.read_call.ReadRefusal.{ReadRefusal}
 use Rattle.ssm_stub.specs.declared.read_call.ReadRefusal.TheVariants.{Expired, Lost, OutOfMemory}
 use Rattle.ssm_stub.specs.declared.reply.ReadReply.{ReadReply}
 use Rattle.ssm_stub.specs.declared.reply.ReadReply.TheVariants as answer
-use Rattle.ssm_stub.specs.declared.reply.WriteReply.TheVariants.{Stored}
+use Rattle.ssm_stub.specs.declared.reply.WriteReply.{WriteReply}
+use Rattle.ssm_stub.specs.declared.reply.WriteReply.TheVariants.{Stored, Full}
 use Rattle.ssm_stub.specs.Ears.{ear_after}
 use Rattle.ssm_stub.specs.Hearing.{EndsIn, told_to}
-use Rattle.ssm_stub.specs.Writes.{WriteState, put_lawful, holder_by, write_answer, write_start, write_machine}
+use Rattle.ssm_stub.specs.Turns.{none_asked}
+use Rattle.ssm_stub.specs.Writes.{WriteState, put_lawful, holder_by, cause_by, with_brick, write_answer, write_start, write_machine}
 use Rattle.ssm_stub.specs.Reads.{ReadState, get_lawful, read_start, read_machine}
 use Rattle.ssm_world.specs.declared.call.Call.TheVariants as call
 use Rattle.ssm_world.specs.declared.event.WorldEvent.{WorldEvent}
 use Rattle.ssm_world.specs.declared.event.WorldEvent.TheVariants.{Write, Read}
 use Rattle.ssm_world.specs.Worlds.{WorldValue, new_world, history, may_write, may_read, step, after}
-use Rattle.ssm_world.specs.Facts.{has_late_sweep, WasStored}
+use Rattle.ssm_world.specs.Facts.{has_late_sweep, WasStored, WasSweptAt}
 use Rattle.ssm_world.specs.Traces.{all_told}
 
 -- a write of this value answered Ok with this cookie
@@ -55,13 +59,14 @@ pub record Keeps (w : WorldValue) (holder : Holder) (s : Kept) : Type 0 where
   pub stored : WasStored events holder.incarnation s
   pub holds : incarnation_after 1 events ≡ holder.incarnation → has_late_sweep s.expiry stored.later ≡ false → held events s.key s.version ≡ Some s
 
--- A holder has neither crashed since it stored the value nor been swept late: it has the incarnation that
--- the cookie names, and no sweep of it was past the lease and the grace.
-pub record IsIntact (w : WorldValue) (holder : Holder) (expiry : Moment) : Type 0 where
+-- A holder has neither crashed nor been swept late since it stored the value: it has the incarnation that the
+-- cookie names, and no sweep after a store of the value was past the lease and the grace. What was swept before
+-- counts for nothing.
+pub record IsIntact (w : WorldValue) (holder : Holder) (s : Kept) : Type 0 where
   pub events : List BrickEvent
   pub history_is : history w holder.brick ≡ Some events
   pub uncrashed : incarnation_after 1 events ≡ holder.incarnation
-  pub unswept : has_late_sweep expiry events ≡ false
+  pub unswept : (stored : WasStored events holder.incarnation s) → has_late_sweep s.expiry stored.later ≡ false
 
 -- A holder has crashed since it stored the value, and has since had the incarnation that it told, which is
 -- greater than the cookie's.
@@ -74,13 +79,17 @@ pub record HasCrashed (w : WorldValue) (holder : Holder) (s : Kept) (incarnation
   pub greater : holder.incarnation < incarnation
   pub reached : incarnation ≤ incarnation_after 1 events
 
--- a holder was swept at this moment, which is past the lease and the grace
-pub record WasSwept (w : WorldValue) (holder : Holder) (expiry moment : Moment) : Type 0 where
+-- A holder was swept past the lease and the grace of a value that it had stored before, in the incarnation that
+-- the cookie names; and in this incarnation it was swept at the moment that it tells, which is as late or later.
+pub record WasSwept (w : WorldValue) (holder : Holder) (s : Kept) (told : Moment) : Type 0 where
   pub events : List BrickEvent
   pub history_is : history w holder.brick ≡ Some events
-  pub place : ℕ
-  pub sweep : slice_get events place ≡ Some (happened.Sweep moment)
-  pub late : expiry.0 + SWEEP_GRACE < moment.0
+  pub moment : Moment
+  pub sweep : WasSweptAt events holder.incarnation moment
+  pub stored : WasStored sweep.earlier holder.incarnation s
+  pub late : s.expiry.0 + SWEEP_GRACE < moment.0
+  pub told_sweep : WasSweptAt events holder.incarnation told
+  pub told_late : moment.0 ≤ told.0
 
 -- a read as it is asked for: with this nonce, at this moment, of this cookie
 pub record ReadOrder : Type 0 where
@@ -96,7 +105,7 @@ HeardAs order holder told outcome =
 -- Why a holder did not give this value to a read that was told this of it: the link was silent to the
 -- read's send, or to its receiving; or 64 frames came that are no lawful reply; or the holder told that
 -- it has another incarnation, and has crashed since it stored the value; or it told that it was swept
--- past the lease and the grace, and was.
+-- past the lease and the grace, and was since it stored the value.
 abbrev pub IsLost : WorldValue → ReadOrder → Kept → Holder → List Told → Cause → Type 0
 IsLost w order s holder told cause.Silent = HeardAs order holder told outcome.Silent
 IsLost w order s holder told cause.Strayed = HeardAs order holder told outcome.Strayed
@@ -104,7 +113,7 @@ IsLost w order s holder told (cause.Full entries bytes) = ⊥
 IsLost w order s holder told (cause.Crashed incarnation) =
     HeardAs order holder told (outcome.Answered (answer.Crashed incarnation)) × HasCrashed w holder s incarnation
 IsLost w order s holder told (cause.Swept moment) =
-    HeardAs order holder told (outcome.Answered (answer.Swept moment)) × WasSwept w holder order.cookie.expiry moment
+    HeardAs order holder told (outcome.Answered (answer.Swept moment)) × WasSwept w holder s moment
 
 -- each holder has its cause, in order, by what the read was told of it
 abbrev pub AreLost : WorldValue → ReadOrder → Kept → (Holder → List Told) → List Holder → List BrickCause → Type 0
@@ -207,3 +216,52 @@ pub record NamesWhoStored (bricks : ℕ) (events : List WorldEvent) (cookie : Co
   pub stored : All (λ (holder : Holder). EndsIn (put_lawful order.nonce order.key holder.brick) (told_to_write_of (after (new_world bricks) earlier) order later holder.brick) (outcome.Answered (Stored holder.incarnation))) cookie.bricks
   pub none_left : (brick : BrickNo) (incarnation : ℕ) → EndsIn (put_lawful order.nonce order.key brick) (told_to_write_of (after (new_world bricks) earlier) order later brick) (outcome.Answered (Stored incarnation))
       → stored_by order (told_to_write_of (after (new_world bricks) earlier) order later) brick ≡ Some (record { brick = brick; incarnation = incarnation })
+
+-- the brick with its cause, where what the write was told of it gives one
+abbrev pub missed_by : WriteOrder → (BrickNo → List Told) → BrickNo → Option BrickCause
+missed_by order told brick =
+    with_brick brick (cause_by (ear_after (put_lawful order.nonce order.key brick) (told brick)))
+
+-- A brick had no room for a value when it was to keep it, and so many values then, of so many bytes in all.
+pub record HadNoRoom (w : WorldValue) (brick : BrickNo) (s : Kept) (entries bytes : ℕ) : Type 0 where
+  pub earlier : List BrickEvent
+  pub later : List BrickEvent
+  pub history_is : history w brick ≡ Some (later ++ earlier)
+  pub full : is_full (all_held earlier) s ≡ true
+  pub entries_are : length (all_held earlier) ≡ entries
+  pub bytes_are : bytes_of (all_held earlier) ≡ bytes
+
+-- what a write asks its bricks to keep
+abbrev pub kept_by : WriteOrder → Kept
+kept_by order = put_value order.key order.nonce order.expiry order.value
+
+-- What the write was told of a brick ends in this outcome.
+abbrev pub EndsAs : WriteOrder → BrickNo → List Told → Outcome WriteReply → Type 0
+EndsAs order brick told outcome = EndsIn (put_lawful order.nonce order.key brick) told outcome
+
+-- Why a brick did not store the value of a write that was told this of it: the link was silent to the write's
+-- send, or to its receiving; or 64 frames came that are no lawful reply; or the brick told that it is full, and
+-- had no room for the value.
+abbrev pub IsMissed : WorldValue → WriteOrder → BrickNo → List Told → Cause → Type 0
+IsMissed w order brick told cause.Silent = EndsAs order brick told outcome.Silent
+IsMissed w order brick told cause.Strayed = EndsAs order brick told outcome.Strayed
+IsMissed w order brick told (cause.Full entries bytes) =
+    EndsAs order brick told (outcome.Answered (Full entries bytes))
+    × HadNoRoom w brick (kept_by order) entries bytes
+IsMissed w order brick told (cause.Crashed incarnation) = ⊥
+IsMissed w order brick told (cause.Swept moment) = ⊥
+
+-- Why the write at a place was missed in a world that these events made of a new one: it began among them; fewer
+-- than `least` of its bricks told it a lawful Stored since; and each other brick has its cause, in asked order.
+pub record WasMissed (bricks : ℕ) (events : List WorldEvent) (place : ℕ) (write : WriteState) (causes : List BrickCause) : Type 0 where
+  pub earlier : List WorldEvent
+  pub order : WriteOrder
+  pub later : List WorldEvent
+  pub parts : events ≡ earlier ++ write_event order ∷ later
+  pub may_begin : may_write (after (new_world bricks) earlier) order.nonce order.bricks order.least ≡ true
+  pub place_is : place ≡ length (after (new_world bricks) earlier).calls
+  pub order_is : record write { asks = none_asked order.bricks } ≡ write_state order
+  pub few : length (filter_map (stored_by order (told_to_write_of (after (new_world bricks) earlier) order later)) order.bricks) < order.least
+  pub causes_are : causes ≡ filter_map (missed_by order (told_to_write_of (after (new_world bricks) earlier) order later)) order.bricks
+  pub all_heard : length (filter_map (stored_by order (told_to_write_of (after (new_world bricks) earlier) order later)) order.bricks) + length causes ≡ length order.bricks
+  pub each : All (λ (c : BrickCause). IsMissed (after (new_world bricks) events) order c.brick (told_to_write_of (after (new_world bricks) earlier) order later c.brick) c.cause) causes

@@ -10,6 +10,10 @@ use Rattle.brick_store.specs.declared.event.BrickEvent.{BrickEvent}
 use Rattle.brick_store.specs.declared.event.BrickEvent.TheVariants.{Stored, Sweep, Crash}
 use Rattle.brick_store.specs.History.{incarnation_after}
 use Rattle.brick_store.specs.Kept.{is_late}
+use Rattle.crash_base.specs.Same.{same_version}
+use Rattle.ssm_world.specs.declared.event.WorldEvent.{WorldEvent}
+use Rattle.ssm_world.specs.declared.event.WorldEvent.TheVariants.{Write, Read, Send, Deliver, Hear, Hush}
+use Rattle.ssm_world.specs.declared.event.WorldEvent.TheVariants as happens
 
 -- whether this is a sweep that is late for an expiry
 abbrev pub is_late_sweep : Moment → BrickEvent → Bool
@@ -34,6 +38,24 @@ pub record WasStored (h : List BrickEvent) (incarnation : ℕ) (s : Kept) : Type
   pub later : List BrickEvent
   pub parts : h ≡ later ++ Stored s ∷ earlier
   pub incarnation_is : incarnation_after 1 earlier ≡ incarnation
+
+-- A brick was swept at this moment in this incarnation: these events came before, and those after.
+pub record WasSweptAt (h : List BrickEvent) (incarnation : ℕ) (moment : Moment) : Type 0 where
+  pub earlier : List BrickEvent
+  pub later : List BrickEvent
+  pub parts : h ≡ later ++ Sweep moment ∷ earlier
+  pub incarnation_is : incarnation_after 1 earlier ≡ incarnation
+
+-- whether a call begins with this nonce by an event, where it may
+abbrev pub begins : Version → WorldEvent → Bool
+begins nonce (Write its key value expiry bricks least) = same_version its nonce
+begins nonce (Read its moment cookie) = same_version its nonce
+begins nonce (Send call silent is_sent) = false
+begins nonce (Deliver packet) = false
+begins nonce (Hear call packet) = false
+begins nonce (Hush call) = false
+begins nonce (happens.Crash brick) = false
+begins nonce (happens.Sweep brick moment) = false
 
 -- the nonce of a frame
 abbrev pub frame_nonce : Frame → Version

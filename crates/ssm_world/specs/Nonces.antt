@@ -1,28 +1,28 @@
--- The order of nonces, by which the calls inside a world know most of them to be new: no public clause cites it.
-use Rattle.std.specs.Prelude.{◌≡◌, ◌==◌, ◌&&◌, ◌||◌, nat_lt, Bool, true, false, if◌then◌else◌, List, Option, Some, None}
+-- The ordered set of nonces by which a world finds a nonce to be new: no public clause cites it.
+use Rattle.std.specs.Prelude.{◌≡◌, Bool, List}
+use Rattle.std.specs.BTreeSet.{BTreeSet, contains}
 use Rattle.std.specs.List.{list_any}
+use Rattle.std.specs.declared.cmp.Ordering.{Ordering}
 use Rattle.crash_base.specs.declared.numbers.Version.{Version}
 use Rattle.crash_base.specs.Same.{same_version}
 use Rattle.ssm_world.specs.declared.call.Call.{Call}
+use Rattle.ssm_world.specs.declared.ordered_nonces.Nonce.{Nonce}
+use Rattle.ssm_world.specs.contracts.ordered_nonces.NonceOrd.TheImpl as nonce_ord
 use Rattle.ssm_world.specs.Worlds.{nonce_of}
 
--- whether a version comes before another: by boot, in a boot by node, and of a node by serial
-abbrev pub is_before : Version → Version → Bool
-is_before a b =
-    nat_lt a.boot b.boot
-    || ((a.boot == b.boot) && (nat_lt a.node b.node || ((a.node == b.node) && nat_lt a.serial b.serial)))
+-- the order of nonces: by node, of a node by boot, and of a boot by serial
+abbrev pub nonce_order : Nonce → Nonce → Ordering
+nonce_order = (nonce_ord.ghosts).cmp
 
--- whether a version comes after the latest one, if there is one
-abbrev pub is_past : Option Version → Version → Bool
-is_past None version = true
-is_past (Some latest) version = is_before latest version
+-- a version as a nonce
+abbrev pub key_of : Version → Nonce
+key_of version = record { node = version.node; boot = version.boot; serial = version.serial }
 
--- the latest version after one more
-abbrev pub latest_of : Option Version → Version → Option Version
-latest_of latest version = if is_past latest version then Some version else latest
+-- whether a version is among these nonces
+abbrev pub is_among : BTreeSet Nonce → Version → Bool
+is_among nonces version = contains nonce_order nonces (key_of version)
 
--- no nonce of these calls comes after the latest one
-abbrev pub NoneIsPast : Option Version → List Call → Type 0
-NoneIsPast latest calls =
-    (nonce : Version) → is_past latest nonce ≡ true
-    → list_any (λ (c : Call). same_version (nonce_of c) nonce) calls ≡ false
+-- these nonces are just those of these calls
+abbrev pub AreNonces : BTreeSet Nonce → List Call → Type 0
+AreNonces nonces calls =
+    (version : Version) → is_among nonces version ≡ list_any (λ (c : Call). same_version (nonce_of c) version) calls

@@ -35,10 +35,6 @@ abbrev pub WasSent : WorldValue → BrickNo → Frame → Type 0
 WasSent w brick frame =
     (i : ℕ) × (slice_get w.packets i ≡ Some (record { brick = brick; frame = frame }))
 
--- this request is the ask of a call
-abbrev pub WasAsked : WorldValue → Frame → Type 0
-WasAsked w frame = (i : ℕ) × (c : Call) × (slice_get w.calls i ≡ Some c) × (ask_of c ≡ frame)
-
 -- The later world has all that the earlier one has: each packet; each call, which began as it did, whatever
 -- it has heard; and the history of each brick, behind newer events.
 pub record Grows (w v : WorldValue) : Type 0 where

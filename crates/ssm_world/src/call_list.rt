@@ -6,69 +6,34 @@ ghost use Rattle.crash_base.specs.Same.{same_version};
 ghost use Rattle.ssm_stub.specs.Runs.{told_of};
 ghost use Rattle.ssm_world.specs.declared.call.Call.{Call};
 ghost use Rattle.ssm_world.specs.Worlds.{nonce_of, ask_of, next_of, hear};
-ghost use Rattle.ssm_world.specs.Nonces.{is_before, is_past, latest_of};
 
 use crate::call::Call;
 use crate::nonced_call::NoncedCall;
+use crate::ordered_nonces::{Nonce, add, is_among};
 use crash_base::{OutOfMemory, Version};
 use ssm_frames::Frame;
 use ssm_stub::{StubEvent, StubNext};
 use std::alloc::Global;
+use std::collections::BTreeSet;
 use std::marker::Model;
 
-/// All calls, the first first, and the latest of their nonces.
+/// All calls, the first first, and their nonces.
 #[derive(Drop)]
 pub(crate) struct CallList {
     calls: Vec<NoncedCall>,
-    latest: Option<Version>,
+    nonces: BTreeSet<Nonce>,
 }
 
 impl Model for CallList {
     ghost use Rattle.std.specs.Prelude.{List};
     ghost use Rattle.ssm_world.specs.declared.call.Call.{Call};
-    ghost use Rattle.ssm_world.specs.Nonces.{NoneIsPast};
+    ghost use Rattle.ssm_world.specs.Nonces.{AreNonces};
 
     ghost Value = { List Call };
 
     ghost view = { λ l. l.calls.items };
 
-    ghost invariant = { λ l. NoneIsPast l.latest l.calls.items };
-}
-
-/// Whether a version comes before another: by boot, in a boot by node, and of a node by serial.
-fn is_before(a: Version, b: Version) -> bool
-    ensures { result ≡ is_before a b }
-{
-    a.boot < b.boot
-        || (a.boot == b.boot && (a.node < b.node || (a.node == b.node && a.serial < b.serial)))
-}
-
-/// Whether a version comes after the latest one, if there is one.
-fn is_past(latest: Option<Version>, version: Version) -> bool
-    ensures { result ≡ is_past latest version }
-{
-    match latest {
-        None => true,
-        Some(latest) => is_before(latest, version),
-    }
-}
-
-/// The latest version after one more.
-fn latest_of(latest: Option<Version>, version: Version) -> Option<Version>
-    ensures { result ≡ latest_of latest version }
-{
-    if is_past(latest, version) {
-        Some(version)
-    } else {
-        latest
-    }
-}
-
-/// Whether a call has this nonce.
-fn is_used(calls: &[NoncedCall], nonce: Version) -> bool
-    ensures { result ≡ list_any (λ (c : Call). same_version (nonce_of c) nonce) calls.now }
-{
-    calls.iter().any(|call| call.has_nonce(nonce))
+    ghost invariant = { λ l. AreNonces l.nonces l.calls.items };
 }
 
 impl CallList {
@@ -78,7 +43,7 @@ impl CallList {
     {
         CallList {
             calls: Vec::new(alloc),
-            latest: None,
+            nonces: BTreeSet::new(alloc),
         }
     }
 
@@ -111,18 +76,14 @@ impl CallList {
         }
     }
 
-    /// Whether no call has this nonce. It takes no memory. It looks at one nonce where this one comes after
-    /// those of all calls, and else at each call's.
+    /// Whether no call has this nonce. It takes no memory. Its cost is the logarithm of the number of calls.
     pub(crate) fn is_new(&self, nonce: Version) -> bool
         ensures { result ≡ not (list_any (λ (c : Call). same_version (nonce_of c) nonce) self.now) }
     {
-        if is_past(self.latest, nonce) {
-            return true;
-        }
-        !is_used(&self.calls, nonce)
+        !is_among(&self.nonces, nonce)
     }
 
-    /// The ask of the call of this number.
+    /// A copy of the ask of the call of this number.
     pub(crate) fn ask(&self, alloc: Global, call: u64) -> Result<Frame, OutOfMemory>
         requires { call < length self.now }
         ensures { IfOk result (λ frame. (c : Call) → slice_get self.now call ≡ Some c → frame ≡ ask_of c) }
@@ -151,9 +112,9 @@ impl CallList {
         ensures ok { OnOk result (self.new ≡ self.old ++ call ∷ []) }
         ensures err { OnErr result (self.new ≡ self.old) }
     {
-        let nonce = call.nonce();
-        self.calls.push(call)?;
-        self.latest = latest_of(self.latest, nonce);
+        self.calls.reserve(1)?;
+        add(&mut self.nonces, call.nonce())?;
+        self.calls.push_reserved(call);
         Ok(())
     }
 }

@@ -1,8 +1,8 @@
 //! What holds of every world. Each law is the contract of a function that does nothing: a caller that
 //! needs the law calls the function.
 
-ghost use Rattle.std.specs.Prelude.{◌≡◌, ◌≢◌, ◌⊎◌, ℕ, List, length, true, false, slice_get, Some, Result, Ok, Err};
-ghost use Rattle.std.specs.List.{fold};
+ghost use Rattle.std.specs.Prelude.{◌≡◌, ◌≢◌, ◌⊎◌, ℕ, List, true, false, slice_get, Some, Result, Err};
+ghost use Rattle.std.specs.List.{fold, list_any};
 ghost use Rattle.crash_base.specs.declared.numbers.BrickNo.{BrickNo};
 ghost use Rattle.crash_base.specs.declared.numbers.Moment.{Moment};
 ghost use Rattle.crash_base.specs.declared.numbers.SessionKey.{SessionKey};
@@ -25,16 +25,17 @@ ghost use Rattle.ssm_stub.specs.declared.cause.Cause.TheVariants as why;
 ghost use Rattle.ssm_stub.specs.declared.read_call.ReadRefusal.{ReadRefusal};
 ghost use Rattle.ssm_stub.specs.declared.read_call.ReadRefusal.TheVariants.{Lost};
 ghost use Rattle.ssm_stub.specs.declared.write_call.WriteRefusal.{WriteRefusal};
+ghost use Rattle.ssm_stub.specs.declared.write_call.WriteRefusal.TheVariants.{Missed};
 ghost use Rattle.ssm_stub.specs.Reads.{ReadState, read_answer};
 ghost use Rattle.ssm_stub.specs.Writes.{WriteState, write_answer, write_next};
 ghost use Rattle.ssm_world.specs.declared.call.Call.{Call};
 ghost use Rattle.ssm_world.specs.declared.call.Call.TheVariants as kind;
 ghost use Rattle.ssm_world.specs.declared.event.WorldEvent.{WorldEvent};
-ghost use Rattle.ssm_world.specs.Worlds.{WorldValue, hear, may_be_asked, bricks_of, new_world, step, may_happen, after};
+ghost use Rattle.ssm_world.specs.Worlds.{WorldValue, hear, is_new, may_be_asked, bricks_of, new_world, step, may_happen, after};
 ghost use Rattle.ssm_world.specs.Traces.{all_told};
-ghost use Rattle.ssm_world.specs.Facts.{frame_nonce};
+ghost use Rattle.ssm_world.specs.Facts.{begins, frame_nonce};
 ghost use Rattle.ssm_world.specs.Sound.{IsSound, RepliesSince, Grows};
-ghost use Rattle.ssm_world.specs.Claims.{IsAcknowledged, NamesWhoStored, kept_for, Keeps, IsIntact, HeardAs, IsRight, ReadOrder, ReadAfter, read_world, told_since};
+ghost use Rattle.ssm_world.specs.Claims.{IsAcknowledged, NamesWhoStored, kept_for, Keeps, IsIntact, HeardAs, IsRight, ReadOrder, ReadAfter, WasMissed, read_world, told_since};
 
 use ssm_stub::{an_outcome_of_a_get_has_its_events, each_hears_its_own};
 use stub_laws::answers_stay;
@@ -47,6 +48,14 @@ pub fn events_that_may_not_happen_change_nothing()
 /// An event that may happen changes the world.
 pub fn events_that_may_happen_change_the_world()
     ensures { (w : WorldValue) (event : WorldEvent) → may_happen w event ≡ true → step w event ≢ w }
+{}
+
+/// A nonce that no call has stays new until a write or a read begins with it, whatever else happens and in
+/// whatever order other nonces begin: so each nonce that was drawn is new until its call begins. It refuses
+/// that a nonce counts as used once a later one began.
+pub fn nonces_stay_new()
+    ensures { (w : WorldValue) (events : List WorldEvent) (nonce : Version)
+        → is_new w nonce ≡ true → list_any (begins nonce) events ≡ false → is_new (after w events) nonce ≡ true }
 {}
 
 /// Worlds only grow: a later world has each packet and each call of an earlier one, and the history of each
@@ -133,6 +142,18 @@ pub fn acknowledged_cookies_name_who_stored()
         → NamesWhoStored bricks events cookie value }
 {}
 
+/// A write that is missed has its causes: fewer than `least` of its bricks told it a lawful Stored, and each
+/// other brick has its cause, in asked order. A cause is Silent only where the link was silent to this write's
+/// send to the brick or to its receiving from it, Strayed only where this write was given 64 frames of the brick
+/// that are no lawful reply, and Full only where the brick told this write so and had no room for the value.
+/// It refuses a cause that is told of a brick that stored the value, or that another call met.
+pub fn missed_writes_have_causes()
+    ensures { (bricks : ℕ) (events : List WorldEvent) (place : ℕ) (write : WriteState) (causes : List BrickCause)
+        → slice_get (after (new_world bricks) events).calls place ≡ Some (kind.Write write)
+        → write_answer write ≡ Some (Err (Missed causes))
+        → WasMissed bricks events place write causes }
+{}
+
 /// An acknowledged cookie names 1 to 16 distinct bricks, so a read of it may begin with any new nonce.
 pub fn acknowledged_cookies_may_be_read()
     ensures asked { (bricks : ℕ) (events : List WorldEvent) (cookie : Cookie) (value : List ℕ)
@@ -166,7 +187,7 @@ pub fn reads_answer_what_was_written()
         (causes : List BrickCause) (place : ℕ) (holder : Holder) (cause : BrickCause)
         → ReadAfter (after (new_world bricks) earlier) order value later read → read_answer read ≡ Some (Err (Lost causes))
         → slice_get order.cookie.bricks place ≡ Some holder → slice_get causes place ≡ Some cause
-        → IsIntact (read_world (after (new_world bricks) earlier) order later) holder order.cookie.expiry
+        → IsIntact (read_world (after (new_world bricks) earlier) order later) holder (kept_for order.cookie value)
         → (cause.cause ≡ why.Silent) ⊎ (cause.cause ≡ why.Strayed) }
 {
     each_hears_its_own();
@@ -181,7 +202,7 @@ pub fn holders_answer_found()
         (place packet : ℕ) (holder : Holder) (frame : Frame)
         → ReadAfter (after (new_world bricks) earlier) order value later read
         → slice_get order.cookie.bricks place ≡ Some holder
-        → IsIntact (read_world (after (new_world bricks) earlier) order later) holder order.cookie.expiry
+        → IsIntact (read_world (after (new_world bricks) earlier) order later) holder (kept_for order.cookie value)
         → slice_get (read_world (after (new_world bricks) earlier) order later).packets packet
         ≡ Some (record { brick = holder.brick; frame = frame })
         → is_request frame ≡ false → frame_nonce frame ≡ order.nonce
@@ -190,7 +211,7 @@ pub fn holders_answer_found()
         (place : ℕ) (ask : Ask Holder ReadReply) (outcome : Outcome ReadReply)
         → ReadAfter (after (new_world bricks) earlier) order value later read
         → slice_get read.asks place ≡ Some ask → ask.ear ≡ Heard outcome
-        → IsIntact (read_world (after (new_world bricks) earlier) order later) ask.who order.cookie.expiry
+        → IsIntact (read_world (after (new_world bricks) earlier) order later) ask.who (kept_for order.cookie value)
         → HeardAs order ask.who (told_since (after (new_world bricks) earlier) order later ask.who) outcome
         × ((outcome ≡ ended.Answered (answer.Found value))
         ⊎ ((outcome ≡ ended.Silent) ⊎ (outcome ≡ ended.Strayed))) }

@@ -26,6 +26,8 @@
 //!   `acknowledged_cookies_may_be_read`: an acknowledged cookie names the first bricks of its write that
 //!   stored, as the events told the write; it stays acknowledged whatever follows; and its 1 to 16 holders
 //!   are distinct, so a read of it may begin.
+//! - `missed_writes_have_causes`: where a write is missed, too few bricks told it that they stored the value, and
+//!   each other has its cause, which is right by what the events told this write and by the brick's history.
 //! - `reads_answer_what_was_written`: a read of a cookie that was acknowledged before answers the
 //!   acknowledged value, or that the cookie has expired, or the cause of each holder, which is right by the
 //!   holder's history and by what the events told this read.
@@ -34,13 +36,15 @@
 //! - `worlds_only_grow` and `answers_stay_in_later_worlds`: a later world has all packets of an earlier one,
 //!   longer histories, and its calls, which have heard besides what the events since told them, and whose
 //!   answers stay.
+//! - `nonces_stay_new`: a nonce that no call has is new until a call begins with it, in whatever order nonces
+//!   were drawn and begin.
 //! - `events_that_may_not_happen_change_nothing`, and `events_that_may_happen_change_the_world`.
 //!
 //! A `World` is always one that some events made (`IsMade`, which `World::is_made` hands out), so these hold
 //! of it. The calls are those of `ssm_stub`, and the bricks those of `brick_store`; a world keeps
 //! beside each brick the list of what happened to it. An event looks at one call, and copies the frame that
-//! it is about. A write and a read that begin look at the latest nonce alone where theirs comes after it,
-//! and else at each call's (`World::is_new`). A crash and a sweep visit each value of their brick.
+//! it is about. A write and a read that begin look their nonce up in an ordered set, so nonces may begin in any
+//! order (`World::is_new`). A crash and a sweep visit each value of their brick.
 #![tactic(auto)]
 
 mod asking;
@@ -52,6 +56,7 @@ mod laws;
 mod logged_brick;
 mod logged_bricks;
 mod nonced_call;
+mod ordered_nonces;
 mod world;
 mod world_state;
 
@@ -62,7 +67,8 @@ pub use laws::{
     acknowledged_cookies_may_be_read, acknowledged_cookies_name_who_stored,
     acknowledged_cookies_stay_acknowledged, acknowledged_values_are_held,
     answers_stay_in_later_worlds, events_that_may_happen_change_the_world,
-    events_that_may_not_happen_change_nothing, holders_answer_found, one_value_per_version,
-    reads_answer_what_was_written, worlds_are_sound, worlds_only_grow,
+    events_that_may_not_happen_change_nothing, holders_answer_found, missed_writes_have_causes,
+    nonces_stay_new, one_value_per_version, reads_answer_what_was_written, worlds_are_sound,
+    worlds_only_grow,
 };
 pub use world::World;

@@ -1,7 +1,6 @@
 //! A call with its nonce.
 
 ghost use Rattle.std.specs.Prelude.{◌≡◌, Some, IfOk, OnOk, OnErr};
-ghost use Rattle.crash_base.specs.Same.{same_version};
 ghost use Rattle.ssm_frames.specs.Reading.{decode_of};
 ghost use Rattle.ssm_stub.specs.Runs.{told_of};
 ghost use Rattle.ssm_stub.specs.Writes.{write_start};
@@ -10,9 +9,7 @@ ghost use Rattle.ssm_world.specs.declared.call.Call.TheVariants as call;
 ghost use Rattle.ssm_world.specs.Worlds.{nonce_of, ask_of, next_of, hear};
 
 use crate::call::Call;
-use crash_base::{
-    FrameBytes, Moment, OutOfMemory, SessionBytes, SessionKey, Version, is_same_version,
-};
+use crash_base::{FrameBytes, Moment, OutOfMemory, SessionBytes, SessionKey, Version};
 use session_cookie::Cookie;
 use ssm_frames::{Frame, decode};
 use ssm_stub::{BrickList, ReadCall, StubEvent, StubNext, WriteCall};
@@ -107,13 +104,6 @@ impl NoncedCall {
         ensures { result ≡ nonce_of self.now }
     {
         self.nonce
-    }
-
-    /// Whether it has this nonce. It takes no memory.
-    pub(crate) fn has_nonce(&self, nonce: Version) -> bool
-        ensures { result ≡ same_version (nonce_of self.now) nonce }
-    {
-        is_same_version(self.nonce, nonce)
     }
 
     /// What it wants next. It takes no memory.

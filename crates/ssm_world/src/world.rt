@@ -49,9 +49,7 @@ impl World {
         let _ = &self.state;
     }
 
-    /// Whether no call has this nonce. It takes no memory. Where this nonce comes after those of all calls,
-    /// by boot, in a boot by node, and of a node by serial, it looks at the latest one alone, and else at
-    /// each call's.
+    /// Whether no call has this nonce. It takes no memory. Its cost is the logarithm of the number of calls.
     pub fn is_new(&self, nonce: Version) -> bool
         ensures { result ≡ is_new self.now nonce }
     {

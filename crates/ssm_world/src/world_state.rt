@@ -1,6 +1,6 @@
 //! Bricks, packets and calls, and what each event makes of them.
 
-ghost use Rattle.std.specs.Prelude.{◌≡◌, ◌+◌, ◌<◌, ◌≤◌, ◌∷◌, ◌++◌, [], true, is_some, ℕ, List, length, map, slice_get, slice_set, Some, None, OnOk, OnErr, IfOk, option_map, not, if◌then◌else◌};
+ghost use Rattle.std.specs.Prelude.{◌≡◌, ◌<◌, true, is_some, List, length, slice_get, Some, None, OnOk, OnErr, IfOk, option_map, if◌then◌else◌};
 ghost use Rattle.brick_store.specs.declared.event.BrickEvent.{BrickEvent};
 ghost use Rattle.brick_store.specs.History.{all_held, incarnation_after};
 ghost use Rattle.ssm_stub.specs.declared.event.StubEvent.{StubEvent};
@@ -11,7 +11,7 @@ ghost use Rattle.ssm_stub.specs.Writes.{write_start};
 ghost use Rattle.ssm_world.specs.declared.call.Call.{Call};
 ghost use Rattle.ssm_world.specs.declared.call.Call.TheVariants as call;
 ghost use Rattle.ssm_world.specs.declared.event.WorldEvent.TheVariants.{Write, Read, Deliver};
-ghost use Rattle.ssm_world.specs.Worlds.{new_world, history, is_new, nonce_of, ask_of, next_of, hear, same_brick, are_distinct, may_be_asked, bricks_of, told_by_send, told_by_packet, sent, came, hushed, delivered, crashed, swept, step, told_if, told_by_hush, may_write, may_read, may_crash, may_happen};
+ghost use Rattle.ssm_world.specs.Worlds.{new_world, history, is_new, next_of, may_be_asked, told_by_send, told_by_packet, sent, came, hushed, delivered, crashed, swept, step, told_if, told_by_hush, may_write, may_read, may_crash, may_happen};
 
 use crate::asking::{may_be_asked, may_be_read};
 use crate::call::Call;
@@ -127,8 +127,7 @@ impl WorldState {
         self.calls.next_of(call)
     }
 
-    /// Whether no call has this nonce. It takes no memory. It looks at one nonce where this one comes after
-    /// those of all calls, and else at each call's.
+    /// Whether no call has this nonce. It takes no memory. Its cost is the logarithm of the number of calls.
     pub(crate) fn is_new(&self, nonce: Version) -> bool
         ensures { result ≡ is_new self.now nonce }
     {

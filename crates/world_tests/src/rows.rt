@@ -9,7 +9,7 @@ use std::alloc::Global;
 use std::process::Abort;
 
 /// Each row: the number of bricks, the events, and the words that are wanted, with `|` between them.
-const ROWS: [&str; 15] = [
+const ROWS: [&str; 16] = [
     "1|write 0 1 1;send 0;deliver 0;deliver 0;hear 0 1;tell 0;crash 1;read 1 0;send 1;deliver 3;hear 1 2;tell 1;hear 1 4;tell 1|ok 1.1 waits lost 1:crashed(2)",
     "1|write 0 1 1;write 0 1 1;tell 0;tell 1|waits",
     "2|write 0 3 1 2;write 1 1 1 1;write 2 0 1;tell 0|",
@@ -18,6 +18,7 @@ const ROWS: [&str; 15] = [
     "3|write 0 2 1 2 3;send 0;send 0;send 0;deliver 0;deliver 1;hear 0 3;hear 0 4;tell 0;crash 1;read 1 0;send 1;deliver 5;hear 1 6;send 1;deliver 7;hear 1 8;tell 1|ok 1.1 2.1 found a",
     "1|write 0 1 1;send 0;deliver 0;hear 0 1;sweep 1 1860000;read 1 0;send 1;deliver 2;hear 1 3;tell 1|found a",
     "1|write 0 1 1;send 0;deliver 0;hear 0 1;sweep 1 1860001;read 1 0;send 1;deliver 2;hear 1 3;tell 1|lost 1:swept(1860001)",
+    "1|sweep 1 1900000;write 0 1 1;send 0;deliver 0;hear 0 1;read 1 0;send 1;deliver 2;hear 1 3;tell 1;sweep 1 1870000;read 2 0;send 2;deliver 4;hear 2 5;tell 2|found a lost 1:swept(1900000)",
     "1|write 0 1 1;send 0;deliver 0;hear 0 1;read 1 0;send 1;hush 1;tell 1|lost 1:silent",
     "1|write 0 1 1;send 0;deliver 0;hear 0 1;read 1 0 1800000;tell 1;read 2 0 1800001;tell 2;send 2;tell 2;packets|waits expired 1800001 1800000 expired 1800001 1800000 2",
     "1|write 0 1 1;send 0;deliver 0;write 1 1 1;send 1;hear 1 1 63;tell 1;hear 1 1;tell 1;deliver 2;hear 1 3;tell 1|waits missed 1:strayed missed 1:strayed",

@@ -1,0 +1,175 @@
+-- Why a write of a world was missed.
+use Rattle.std.proofs.Common.{◌≡◌, ℕ, ◌+◌, ◌<◌, Bool, true, false, List, [], ◌∷◌, ◌++◌, length, map, take, filter_map, All, Option, Some, None, Err, refl, sym, ap, ◌∙◌, subst, arith}
+use Rattle.std.specs.Prelude.{slice_get, option_map, nat_le}
+use Rattle.std.proofs.lemmas.Bool.Decides.{nat_tests}
+use Rattle.std.proofs.lemmas.Option.{slice_get-map}
+use Rattle.crash_base.specs.declared.numbers.BrickNo.{BrickNo}
+use Rattle.session_cookie.specs.declared.cookie.Cookie.{Cookie}
+use Rattle.session_cookie.specs.declared.cookie.Holder.{Holder}
+use Rattle.ssm_frames.specs.declared.frame.Frame.{Frame}
+use Rattle.ssm_frames.specs.declared.frame.Frame.TheVariants.{Put, BrickFull}
+use Rattle.brick_store.specs.Kept.{is_full}
+use Rattle.brick_store.specs.Bricks.{put_value}
+use Rattle.brick_store.specs.History.{all_held}
+use Rattle.ssm_stub.specs.declared.ask.Ask.{Ask}
+use Rattle.ssm_stub.specs.declared.cause.BrickCause.{BrickCause}
+use Rattle.ssm_stub.specs.declared.cause.Cause.{Cause}
+use Rattle.ssm_stub.specs.declared.cause.Cause.TheVariants as cause
+use Rattle.ssm_stub.specs.declared.ear.Ear.{Ear}
+use Rattle.ssm_stub.specs.declared.ear.Ear.TheVariants.{Open, Heard}
+use Rattle.ssm_stub.specs.declared.ear.Outcome.{Outcome}
+use Rattle.ssm_stub.specs.declared.ear.Outcome.TheVariants as outcome
+use Rattle.ssm_stub.specs.declared.event.Told.{Told}
+use Rattle.ssm_stub.specs.declared.reply.WriteReply.{WriteReply}
+use Rattle.ssm_stub.specs.declared.reply.WriteReply.TheVariants as put
+use Rattle.ssm_stub.specs.declared.write_call.WriteRefusal.TheVariants.{Missed}
+use Rattle.ssm_stub.specs.Ears.{ear_after}
+use Rattle.ssm_stub.specs.Runs.{after as run}
+use Rattle.ssm_stub.specs.Turns.{is_open, none_asked, turn_after_asks}
+use Rattle.ssm_stub.specs.Writes.{WriteState, put_lawful, holder_of, cause_by, cause_of, with_brick, write_answer, write_machine}
+use Rattle.ssm_stub.proofs.ByEvents.{ask_by, Heard as HeardBy, heard_by_events}
+use Rattle.ssm_stub.proofs.HearingEnds.{heard_so}
+use Rattle.ssm_stub.proofs.OwnEvents.{write_asking}
+use Rattle.ssm_stub.proofs.Searching.{all_heard}
+use Rattle.ssm_stub.proofs.WriteOutcomes.{filter_map_map, all_found}
+use Rattle.ssm_world.specs.declared.call.Call.TheVariants as call
+use Rattle.ssm_world.specs.declared.event.Packet.{Packet}
+use Rattle.ssm_world.specs.declared.event.WorldEvent.{WorldEvent}
+use Rattle.ssm_world.specs.Worlds.{WorldValue, new_world, are_distinct, after}
+use Rattle.ssm_world.specs.Sound.{WasSent, WasMade, IsSound, RepliesSince, WriteIsSound}
+use Rattle.ssm_world.specs.Claims.{WriteOrder, write_state, told_to_write, told_to_write_of, stored_by, missed_by, kept_by, HadNoRoom, EndsAs, IsMissed, WasMissed}
+use Rattle.ssm_world.proofs.CallAsks.{one_ask}
+use Rattle.ssm_world.proofs.Growing.{WasAsked, ask_of_call}
+use Rattle.ssm_world.proofs.Lawful.{lawful_full}
+use Rattle.ssm_world.proofs.Origins.{Origin, Story, story, run_keeps}
+use Rattle.ssm_world.proofs.Replying.{FullFor, full_for}
+use Rattle.ssm_world.proofs.Steps.{world_is_sound, world_replies}
+use Rattle.ssm_world.proofs.Tests.{both}
+use Rattle.ssm_world.proofs.Tracing.{bricks_differ}
+use Rattle.std.proofs.Common.{zero, suc, if◌then◌else◌, Ok}
+use Rattle.std.specs.List.{cons_option}
+use Rattle.ssm_stub.specs.declared.ask.Turn.{Turn}
+use Rattle.ssm_stub.specs.Writes.{holder_by, missed_unless}
+use Rattle.ssm_stub.specs.declared.ear.Outcome.TheVariants.{Answered, Silent, Strayed}
+use Rattle.ssm_stub.specs.declared.reply.WriteReply.TheVariants.{Stored, Full}
+
+pub missed_parts : (enough : Bool) (made : Cookie) (turn : Option (Turn BrickNo)) (all causes : List BrickCause) → (if enough then Some (Ok made) else missed_unless turn all) ≡ Some (Err (Missed causes)) → (enough ≡ false) × (turn ≡ None) × (causes ≡ all)
+missed_parts true made turn all causes h = absurd cc
+missed_parts false made (Some t) all causes h = absurd cc
+missed_parts false made None all causes h = (refl, refl, cc)
+
+-- each that was heard stored the value or has a cause
+one_each : (brick : BrickNo) (ear : Ear WriteReply) (holders : List Holder) (causes : List BrickCause) (n : ℕ) → is_open (record { who = brick; ear = ear }) ≡ false → length holders + length causes ≡ n → length (cons_option (holder_by brick ear) holders) + length (cons_option (with_brick brick (cause_by ear)) causes) ≡ suc n
+one_each brick (Open stage) holders causes n h k = absurd cc
+one_each brick (Heard (Answered (Stored incarnation))) holders causes n h k = omega arith
+one_each brick (Heard (Answered (Full entries bytes))) holders causes n h k = omega arith
+one_each brick (Heard Silent) holders causes n h k = omega arith
+one_each brick (Heard Strayed) holders causes n h k = omega arith
+
+pub stored_or_missed : (ear_of : BrickNo → Ear WriteReply) (bricks : List BrickNo) → ((i : ℕ) (b : BrickNo) → slice_get bricks i ≡ Some b → is_open (record { who = b; ear = ear_of b }) ≡ false) → length (filter_map (λ b. holder_by b (ear_of b)) bricks) + length (filter_map (λ b. with_brick b (cause_by (ear_of b))) bricks) ≡ length bricks
+stored_or_missed ear_of [] h = refl
+stored_or_missed ear_of (b ∷ bricks) h =
+    one_each b (ear_of b) (filter_map (λ x. holder_by x (ear_of x)) bricks) (filter_map (λ x. with_brick x (cause_by (ear_of x))) bricks) (length bricks) (h zero b refl) (stored_or_missed ear_of bricks (λ i x here. h (suc i) x here))
+
+-- a brick that told a write that it is full had no room for its value
+no_room : (n : ℕ) (w : WorldValue) (k : ℕ) (s : WriteState) (value : List ℕ) (i : ℕ) (a : Ask BrickNo WriteReply) (entries bytes : ℕ) → IsSound w → RepliesSince (new_world n) w → slice_get w.calls k ≡ Some (call.Write s)
+    → s.ask ≡ Put s.nonce s.key s.nonce s.expiry value → slice_get s.asks i ≡ Some a → a.ear ≡ Heard (outcome.Answered (put.Full entries bytes))
+    → HadNoRoom w a.who (put_value s.key s.nonce s.expiry value) entries bytes
+no_room n w k s value i a entries bytes sound replies there ask_is asked ear =
+    let called : WriteIsSound w s = sound.calls k (call.Write s) there in
+    let came : (frame : Frame) × WasSent w a.who frame × (put_lawful s.nonce s.key a.who frame ≡ Some (put.Full entries bytes)) = called.replies i a (put.Full entries bytes) asked ear in
+    let full : (j : ℕ) × (came.0 ≡ BrickFull s.nonce s.key s.nonce a.who j entries bytes) = lawful_full s.nonce s.key a.who came.0 entries bytes came.2 in
+    let p : Packet = record { brick = a.who; frame = BrickFull s.nonce s.key s.nonce a.who full.0 entries bytes } in
+    let was : slice_get w.packets came.1.0 ≡ Some p = came.1.1 ∙ ap (λ f. Some (record { brick = a.who; frame = f })) full.1 in
+    let made : WasMade (new_world n) w p = replies.each came.1.0 p (omega arith) was refl in
+    let request : WasAsked w made.request = ask_of_call w a.who made.request (sound.requests made.was_sent.0 (record { brick = a.who; frame = made.request }) made.was_sent.1 made.asks) in
+    let for : FullFor made.earlier made.request s.nonce s.key s.nonce entries bytes = full_for a.who a.who made.earlier made.request s.nonce s.key s.nonce full.0 entries bytes made.reply_is in
+    let A : Frame → Type 0 = λ f. WasAsked w f in
+    let one : Put s.nonce s.key s.nonce for.expiry for.value ≡ Put s.nonce s.key s.nonce s.expiry value = one_ask w _ _ sound (subst A for.request_is request) (k, call.Write s, there, ask_is) refl in
+    let expiry : for.expiry ≡ s.expiry = cc in
+    let value_is : for.value ≡ value = cc in
+    record {
+      earlier = made.earlier;
+      later = made.later;
+      history_is = made.history_is ∙ ap (λ g. Some (made.later ++ g)) for.heard_is;
+      full = (λ l. is_full (all_held made.earlier) (put_value s.key s.nonce (sym expiry l) (sym value_is l))) ∙ for.full;
+      entries_are = for.entries_are;
+      bytes_are = for.bytes_are;
+    }
+
+-- a brick of a write with its cause
+pub record Missing (w : WorldValue) (order : WriteOrder) (told : BrickNo → List Told) (brick : BrickNo) (c : BrickCause) : Type 0 where
+  pub brick_is : brick ≡ c.brick
+  pub why : IsMissed w order brick (told brick) c.cause
+
+missing_as : (w : WorldValue) (order : WriteOrder) (told : BrickNo → List Told) (brick : BrickNo) (why : Cause) (c : BrickCause) → Some (record { brick = brick; cause = why }) ≡ Some c → IsMissed w order brick (told brick) why
+    → Missing w order told brick c
+missing_as w order told brick why c e is =
+    let same : record { brick = brick; cause = why } ≡ c = cc in
+    let P : BrickCause → Type 0 = λ x. Missing w order told brick x in
+    subst P same (record { brick_is = refl; why = is })
+
+missing : (w : WorldValue) (order : WriteOrder) (told : BrickNo → List Told) (brick : BrickNo) (ear : Ear WriteReply) (c : BrickCause) → with_brick brick (cause_by ear) ≡ Some c
+    → ((o : Outcome WriteReply) → ear ≡ Heard o → EndsAs order brick (told brick) o)
+    → ((entries bytes : ℕ) → ear ≡ Heard (outcome.Answered (put.Full entries bytes)) → HadNoRoom w brick (kept_by order) entries bytes)
+    → Missing w order told brick c
+missing w order told brick (Open stage) c e ends full = absurd (cc)
+missing w order told brick (Heard (outcome.Answered (put.Stored i))) c e ends full = absurd (cc)
+missing w order told brick (Heard (outcome.Answered (put.Full entries bytes))) c e ends full =
+    missing_as w order told brick (cause.Full entries bytes) c e (ends (outcome.Answered (put.Full entries bytes)) refl, full entries bytes refl)
+missing w order told brick (Heard outcome.Silent) c e ends full = missing_as w order told brick cause.Silent c e (ends outcome.Silent refl)
+missing w order told brick (Heard outcome.Strayed) c e ends full = missing_as w order told brick cause.Strayed c e (ends outcome.Strayed refl)
+
+fewer : (least n : ℕ) → nat_le least n ≡ false → n < least
+fewer least n h = grind (arith, nat_tests)
+
+pub missed_for : (n : ℕ) (events : List WorldEvent) (place : ℕ) (s : WriteState) (causes : List BrickCause) → slice_get (after (new_world n) events).calls place ≡ Some (call.Write s) → write_answer s ≡ Some (Err (Missed causes))
+    → WasMissed n events place s causes
+missed_for n events place s causes there answers =
+    let v : WorldValue = after (new_world n) events in
+    let t : Story n events place s = story n events place s there in
+    let o : Origin (new_world n) events place = t.began in
+    let order : WriteOrder = o.order in
+    let w : WorldValue = after (new_world n) o.earlier in
+    let start : WriteState = write_state order in
+    let all : List Told = told_to_write w order o.later in
+    let told : BrickNo → List Told = told_to_write_of w order o.later in
+    let mk : BrickNo → Ask BrickNo WriteReply = ask_by (λ (b : BrickNo). b) (put_lawful order.nonce order.key) told in
+    let asks : List (Ask BrickNo WriteReply) = map mk order.bricks in
+    let distinct : are_distinct order.bricks ≡ true = (both _ _ (both _ _ (both _ _ o.may_begin).0).1).1 in
+    let heard : HeardBy (λ (b : BrickNo). b) (put_lawful order.nonce order.key) told order.bricks (run write_machine start all).asks =
+    heard_by_events write_machine (λ (r : WriteState). r.asks) (λ (b : BrickNo). b) (λ (r : WriteState). put_lawful r.nonce r.key) (λ (r : WriteState). turn_after_asks r.asks) write_asking all start order.bricks told (λ b. refl) refl (bricks_differ order.bricks distinct) t.fitting in
+    let state : s ≡ record start { asks = asks } = t.is ∙ run_keeps all start ∙ ap (λ a. record start { asks = a }) heard.are in
+    let answered : write_answer (record start { asks = asks }) ≡ Some (Err (Missed causes)) = ap write_answer (sym state) ∙ answers in
+    let holders : List Holder = filter_map holder_of asks in
+    let made : Cookie = record { key = order.key; version = order.nonce; expiry = order.expiry; bricks = take order.least holders } in
+    let parts : (nat_le order.least (length holders) ≡ false) × (turn_after_asks asks ≡ None) × (causes ≡ filter_map cause_of asks) =
+    missed_parts (nat_le order.least (length holders)) made (turn_after_asks asks) (filter_map cause_of asks) causes answered in
+    let stored : List Holder = filter_map (stored_by order told) order.bricks in
+    let holders_are : holders ≡ stored = filter_map_map holder_of mk order.bricks in
+    let causes_are : causes ≡ filter_map (missed_by order told) order.bricks = parts.2 ∙ filter_map_map cause_of mk order.bricks in
+    let ear_of : BrickNo → Ear WriteReply = λ b. ear_after (put_lawful order.nonce order.key b) (told b) in
+    let at : (i : ℕ) (b : BrickNo) → slice_get order.bricks i ≡ Some b → slice_get asks i ≡ Some (mk b) = λ i b here. slice_get-map mk order.bricks i ∙ ap (option_map mk) here in
+    let value_is : s.ask ≡ Put s.nonce s.key s.nonce s.expiry order.value = ap (λ (r : WriteState). r.ask) state ∙ sym (ap (λ (r : WriteState). Put r.nonce r.key r.nonce r.expiry order.value) state) in
+    let Q : BrickCause → Type 0 = λ c. IsMissed v order c.brick (told c.brick) c.cause in
+    let each : (i : ℕ) (b : BrickNo) (c : BrickCause) → slice_get order.bricks i ≡ Some b → missed_by order told b ≡ Some c → Q c = λ i b c here e.
+    let room : (entries bytes : ℕ) → ear_of b ≡ Heard (outcome.Answered (put.Full entries bytes)) → HadNoRoom v b (kept_by order) entries bytes = λ entries bytes is.
+    let K : WriteState → Type 0 = λ r. HadNoRoom v b (put_value r.key r.nonce r.expiry order.value) entries bytes in
+    subst K state (no_room n v place s order.value i (mk b) entries bytes (world_is_sound n events) (world_replies n events) there value_is (ap (λ (r : WriteState). slice_get r.asks i) state ∙ at i b here) is) in
+    let its : Missing v order told b c = missing v order told b (ear_of b) c e (λ out is. heard_so (put_lawful order.nonce order.key b) b (told b) out (heard.fitting i b here) is) room in
+    let P : BrickNo → Type 0 = λ x. IsMissed v order x (told x) c.cause in
+    subst P its.brick_is its.why in
+    let All_of : List BrickCause → Type 0 = All Q in
+    record {
+      earlier = o.earlier;
+      order = order;
+      later = o.later;
+      parts = o.parts;
+      may_begin = o.may_begin;
+      place_is = o.place_is;
+      order_is = ap (λ (r : WriteState). record r { asks = none_asked order.bricks }) state;
+      few = fewer order.least (length stored) (ap (λ hs. nat_le order.least (length hs)) (sym holders_are) ∙ parts.0);
+      causes_are = causes_are;
+      all_heard = ap (λ cs. length stored + length cs) causes_are ∙ stored_or_missed ear_of order.bricks (λ i b here. all_heard asks parts.1 i (mk b) (at i b here));
+      each = subst All_of (sym causes_are) (all_found (missed_by order told) Q order.bricks each);
+    }
