@@ -1,123 +1,121 @@
 //! The keeper that a command hands back: as it was, where the command has no use for it, and ready for another run.
 
-use crate::expecting::{Want, want_of};
 use crate::keepers::{BackwardKeeper, ListKeeper, TestKeeper};
-use crate::keeping::{Keeping, expect_kept_rows, expect_run, keeper_of, keeping_of};
 use crate::running::{Case, SURE};
+use crate::table::{Keeping, Want, expect_rows, expect_run, keeper_of, keeping_of, want_of};
+use crate::words::times;
 use outside::MapKeeper;
+use std::alloc::Global;
 use std::process::Abort;
-use std::test::Fail;
 
 /// Descriptors that have groups, that are refused, and none at all.
 const GROUPS: &str =
-    "0 0 00000003/40 7 61/|1|0|0 0 00000003/40 7 61/|0||A 0/|[[component]]/name = \"A\"/
-0 1 -/|0|0|0 1 -/|10|descriptors refused/||= 1
-0 0 ffffffff/|0|0|0 0 ffffffff/|0|||";
+    "0 0 00000003;40 7 61;|1|0|0 0 00000003;40 7 61;|0||A 0;|[[component]];name = \"A\";
+0 1 -;|0|0|0 1 -;|10|descriptors refused;||= 1
+0 0 ffffffff;|0|0|0 0 ffffffff;|0|||";
 
 #[test]
-fn groups_leave_the_keeper(rt: HostRuntime) -> Result<(), Fail> {
-    expect_kept_rows::<MapKeeper>(&rt, "groups", "", GROUPS)?;
-    let long = "/".repeat(rt.alloc(), 1_048_577)?;
-    let row = format!(in rt.alloc(); "40 7 61/|1|0|40 7 61/|8|line 1 too long/||{long}")?;
-    expect_kept_rows::<MapKeeper>(&rt, "groups", "", &row)
+fn groups_leave_the_keeper(rt: HostRuntime) {
+    expect_rows::<MapKeeper>(&rt, rt.alloc(), "groups", "", GROUPS);
+    let long = times(&rt, rt.alloc(), ";", 1_048_577);
+    let row = format!(in rt.alloc(); "40 7 61;|1|0|40 7 61;|8|line 1 too long;||{long}").expect(
+        &rt, "a row",
+    );
+    expect_rows::<MapKeeper>(&rt, rt.alloc(), "groups", "", &row);
 }
 
 /// What words that spell no command should do, whatever the keeper is.
 const USAGE: Want<'static> = Want {
     status: 2,
-    reported: "usage: crash drive | groups | workload NUMBER COUNT | serve PORT FILE KEYFILE WORKERS/",
+    reported: "usage: crash drive | groups | workload NUMBER COUNT | serve PORT FILE KEYFILE WORKERS;",
     written: "",
 };
 
 /// A keeper of whose calls none is made.
 const UNCALLED: Keeping<'static> = Keeping {
-    given: "0 0 00000003/40 7 61/",
+    given: "0 0 00000003;40 7 61;",
     failing: 1,
     calls: 0,
-    kept: "0 0 00000003/40 7 61/",
+    kept: "0 0 00000003;40 7 61;",
 };
 
 /// Asserts that words which spell no command leave the keeper.
-fn expect_no_command(rt: &(impl Abort + AllocGlobal), words: &[&str]) -> Result<(), Fail> {
+fn expect_no_command(rt: &impl Abort, alloc: Global, words: &[&str]) {
     let case = Case {
         row: "words that spell no command",
         words,
-        text: b"table\n",
+        text: "table;",
         outside: SURE,
     };
-    let keeper = keeper_of::<MapKeeper>(rt.alloc(), UNCALLED)?;
-    expect_run(rt, case, USAGE, UNCALLED, keeper)?;
-    Ok(())
+    let keeper = keeper_of::<MapKeeper>(rt, alloc, UNCALLED);
+    expect_run(rt, alloc, case, USAGE, UNCALLED, keeper);
 }
 
+/// The program takes the last two before it looks for a command.
 #[test]
-fn other_words_leave_the_keeper(rt: HostRuntime) -> Result<(), Fail> {
-    expect_no_command(&rt, &[])?;
-    expect_no_command(&rt, &["Drive"])?;
-    expect_no_command(&rt, &["drive", "x"])?;
-    expect_no_command(&rt, &["workload"])
+fn other_words_leave_the_keeper(rt: HostRuntime) {
+    expect_no_command(&rt, rt.alloc(), &[]);
+    expect_no_command(&rt, rt.alloc(), &["Drive"]);
+    expect_no_command(&rt, rt.alloc(), &["drive", "x"]);
+    expect_no_command(&rt, rt.alloc(), &["workload"]);
+    expect_no_command(&rt, rt.alloc(), &["--version"]);
+    expect_no_command(&rt, rt.alloc(), &["--help"]);
 }
 
 /// Five runs over one keeper: one that ends at a refused line, two of other deployments, one of two boots, and one that
 /// starts none. The calls are those of all runs by then.
-const RUNS: &str = "|0|3|0 0 00000001/40 7 61/|3|line 7/|c1 committed 0/|\
-component A/owns A 40/begin c1/enter c1 A/put c1 40 7 61/commit c1/commit c1
-|0|6|0 0 00000002/3 1 62/40 7 61/|0||40 7 61/c1 committed 0/3 1 62/40 7 61/|\
-component B/owns B 3/table/begin c1/enter c1 B/put c1 3 1 62/commit c1/table
-|0|8|0 0 00000003/3 1 62/40 7 61/|0||c1 committed 0/3 1 62/40 7 61/|begin c1/commit c1/table
-|0|12|0 0 00000005/3 1 62/40 7 61/|0||boot 5/3 1 62/40 7 61/|reopen/table
-|0|12|0 0 00000005/3 1 62/40 7 61/|0|||component A/owns A 40/";
+const RUNS: &str = "|0|3|0 0 00000001;40 7 61;|3|line 7;|c1 committed 0;|\
+component A;owns A 40;begin c1;enter c1 A;put c1 40 7 61;commit c1;commit c1
+|0|6|0 0 00000002;3 1 62;40 7 61;|0||40 7 61;c1 committed 0;3 1 62;40 7 61;|\
+component B;owns B 3;table;begin c1;enter c1 B;put c1 3 1 62;commit c1;table
+|0|8|0 0 00000003;3 1 62;40 7 61;|0||c1 committed 0;3 1 62;40 7 61;|begin c1;commit c1;table
+|0|12|0 0 00000005;3 1 62;40 7 61;|0||boot 5;3 1 62;40 7 61;|reopen;table
+|0|12|0 0 00000005;3 1 62;40 7 61;|0|||component A;owns A 40;";
+
+/// Runs over one keeper whose call fails: the boot that is not started takes no number, nor does the commit leave rows.
+const FAILING_RUNS: &str = "|3|3|0 0 00000001;|0||c1 keeper failed;|\
+component A;owns A 40;begin c1;enter c1 A;put c1 40 7 61;commit c1
+|3|6|0 0 00000002;40 7 61;|0||c1 committed 0;40 7 61;|\
+component A;owns A 40;begin c1;enter c1 A;put c1 40 7 61;commit c1;table";
+
+/// The same where the second start fails.
+const FAILING_STARTS: &str = "40 7 61;|4|2|0 0 00000001;40 7 61;|0||40 7 61;|table
+|4|4|0 0 00000001;40 7 61;|6|keeper failed;||table
+|4|6|0 0 00000002;40 7 61;|0||40 7 61;c1 committed 0;0 commit 2:9223372036854775809 writes 0;|\
+table;begin c1;commit c1;journal";
 
 /// Does one of these runs, and hands the keeper back.
-fn expect_next_run<K: TestKeeper>(
-    rt: &(impl Abort + AllocGlobal),
-    row: &str,
-    keeper: K,
-) -> Result<K, Fail> {
-    let (want, text) = row.rsplit_once('|').ok_or("no bar")?;
-    let (keeping, want) = keeping_of(want)?;
-    let text = text.replace(rt.alloc(), '/', "\n")?;
+fn expect_next_run<K: TestKeeper>(rt: &impl Abort, alloc: Global, row: &str, keeper: K) -> K {
+    let (want, text) = row.rsplit_once('|').expect(rt, row);
+    let (keeping, want) = keeping_of(rt, want);
     let case = Case {
         row,
         words: &["drive"],
-        text: text.as_bytes(),
+        text,
         outside: SURE,
     };
-    expect_run(rt, case, want_of(want)?, keeping, keeper)
+    expect_run(rt, alloc, case, want_of(rt, want), keeping, keeper)
 }
 
 /// Does these runs over a keeper of this kind.
-fn expect_runs<K: TestKeeper>(rt: &(impl Abort + AllocGlobal), rows: &str) -> Result<(), Fail> {
-    let (keeping, _) = keeping_of(rows)?;
-    let mut keeper = keeper_of::<K>(rt.alloc(), keeping)?;
+fn expect_runs<K: TestKeeper>(rt: &impl Abort, alloc: Global, rows: &str) {
+    let (keeping, _) = keeping_of(rt, rows);
+    let mut keeper = keeper_of::<K>(rt, alloc, keeping);
     for row in rows.split('\n') {
-        keeper = expect_next_run(rt, row, keeper)?;
+        keeper = expect_next_run(rt, alloc, row, keeper);
     }
-    Ok(())
-}
-
-/// Runs over one keeper whose call fails: the boot that is not started takes no number, nor does the commit leave rows.
-const FAILING_RUNS: &str = "|3|3|0 0 00000001/|0||c1 keeper failed/|\
-component A/owns A 40/begin c1/enter c1 A/put c1 40 7 61/commit c1
-|3|6|0 0 00000002/40 7 61/|0||c1 committed 0/40 7 61/|\
-component A/owns A 40/begin c1/enter c1 A/put c1 40 7 61/commit c1/table";
-
-/// The same where the second start fails.
-const FAILING_STARTS: &str = "40 7 61/|4|2|0 0 00000001/40 7 61/|0||40 7 61/|table
-|4|4|0 0 00000001/40 7 61/|6|keeper failed/||table
-|4|6|0 0 00000002/40 7 61/|0||40 7 61/c1 committed 0/0 commit 2:9223372036854775809 writes 0/|\
-table/begin c1/commit c1/journal";
-
-#[test]
-fn a_keeper_is_for_many_runs(rt: HostRuntime) -> Result<(), Fail> {
-    expect_runs::<MapKeeper>(&rt, RUNS)?;
-    expect_runs::<MapKeeper>(&rt, FAILING_RUNS)?;
-    expect_runs::<MapKeeper>(&rt, FAILING_STARTS)
 }
 
 #[test]
-fn a_keeper_that_tells_nothing_is_for_many_runs(rt: HostRuntime) -> Result<(), Fail> {
-    expect_runs::<ListKeeper>(&rt, RUNS)?;
-    expect_runs::<ListKeeper>(&rt, FAILING_STARTS)?;
-    expect_runs::<BackwardKeeper>(&rt, RUNS)
+fn a_keeper_is_for_many_runs(rt: HostRuntime) {
+    expect_runs::<MapKeeper>(&rt, rt.alloc(), RUNS);
+    expect_runs::<MapKeeper>(&rt, rt.alloc(), FAILING_RUNS);
+    expect_runs::<MapKeeper>(&rt, rt.alloc(), FAILING_STARTS);
+}
+
+#[test]
+fn a_keeper_that_tells_nothing_is_for_many_runs(rt: HostRuntime) {
+    expect_runs::<ListKeeper>(&rt, rt.alloc(), RUNS);
+    expect_runs::<ListKeeper>(&rt, rt.alloc(), FAILING_STARTS);
+    expect_runs::<BackwardKeeper>(&rt, rt.alloc(), RUNS);
 }

@@ -6,34 +6,32 @@ use crate::running::one_call;
 use crash_base::{OutOfMemory, RowList, RowWrite, WriteList, copied_rows};
 use outside::{CallList, Keeper, KeeperFault, MapKeeper};
 use std::alloc::Global;
-use std::test::Fail;
+use std::process::Abort;
 
 /// What a test asks of a keeper.
 pub trait TestKeeper: Keeper + Drop {
     /// A keeper of these rows, of whose calls the one of this number fails, 0 for none.
-    fn made(alloc: Global, rows: RowList, failing: u64) -> Result<Self, Fail>;
+    fn made(rt: &impl Abort, alloc: Global, rows: RowList, failing: u64) -> Self;
 
     /// How many calls were made.
     fn calls(&self) -> u64;
 
     /// The rows in order of id, copied.
-    fn rows(&self, alloc: Global) -> Result<RowList, Fail>;
+    fn rows(&self, rt: &impl Abort, alloc: Global) -> RowList;
 }
 
 impl TestKeeper for MapKeeper {
-    fn made(alloc: Global, rows: RowList, failing: u64) -> Result<MapKeeper, Fail> {
-        let calls = one_call(alloc, failing)?;
-        let keeper = MapKeeper::new(alloc, rows, calls)?;
-        Ok(keeper)
+    fn made(rt: &impl Abort, alloc: Global, rows: RowList, failing: u64) -> MapKeeper {
+        let calls = one_call(rt, alloc, failing);
+        MapKeeper::new(alloc, rows, calls).expect(rt, "a keeper")
     }
 
     fn calls(&self) -> u64 {
         self.calls()
     }
 
-    fn rows(&self, alloc: Global) -> Result<RowList, Fail> {
-        let rows = self.rows(alloc)?;
-        Ok(rows)
+    fn rows(&self, rt: &impl Abort, alloc: Global) -> RowList {
+        self.rows(alloc).expect(rt, "rows")
     }
 }
 
@@ -98,24 +96,23 @@ impl Keeper for ListKeeper {
 }
 
 impl TestKeeper for ListKeeper {
-    fn made(_alloc: Global, rows: RowList, failing: u64) -> Result<ListKeeper, Fail> {
-        Ok(ListKeeper {
+    fn made(_rt: &impl Abort, _alloc: Global, rows: RowList, failing: u64) -> ListKeeper {
+        ListKeeper {
             rows: rows.into_vec(),
             failing,
             calls: 0,
             faults: 0,
-        })
+        }
     }
 
     fn calls(&self) -> u64 {
         self.calls
     }
 
-    fn rows(&self, alloc: Global) -> Result<RowList, Fail> {
-        let copies = copied_rows(alloc, &self.rows)?;
-        let ordered = MapKeeper::new(alloc, copies, CallList::new(alloc))?;
-        let rows = ordered.rows(alloc)?;
-        Ok(rows)
+    fn rows(&self, rt: &impl Abort, alloc: Global) -> RowList {
+        let copies = copied_rows(alloc, &self.rows).expect(rt, "rows");
+        let ordered = MapKeeper::new(alloc, copies, CallList::new(alloc)).expect(rt, "rows");
+        ordered.rows(alloc).expect(rt, "rows")
     }
 }
 
@@ -143,16 +140,17 @@ impl Keeper for BackwardKeeper {
 }
 
 impl TestKeeper for BackwardKeeper {
-    fn made(alloc: Global, rows: RowList, failing: u64) -> Result<BackwardKeeper, Fail> {
-        let list = ListKeeper::made(alloc, rows, failing)?;
-        Ok(BackwardKeeper { list })
+    fn made(rt: &impl Abort, alloc: Global, rows: RowList, failing: u64) -> BackwardKeeper {
+        BackwardKeeper {
+            list: ListKeeper::made(rt, alloc, rows, failing),
+        }
     }
 
     fn calls(&self) -> u64 {
         self.list.calls
     }
 
-    fn rows(&self, alloc: Global) -> Result<RowList, Fail> {
-        self.list.rows(alloc)
+    fn rows(&self, rt: &impl Abort, alloc: Global) -> RowList {
+        self.list.rows(rt, alloc)
     }
 }

@@ -1,136 +1,127 @@
 //! What commits hand to the keeper, and what is left where it fails.
 
 use crate::keepers::{BackwardKeeper, ListKeeper};
-use crate::keeping::{expect_driven, expect_kept_over, expect_kept_rows};
-use crate::running::{Outside, SURE};
-use crate::scenarios::OPEN_CALL;
+use crate::running::{Case, Outside, SURE};
+use crate::table::{expect_driven, expect_kept, expect_rows};
 use outside::MapKeeper;
+use std::alloc::Global;
 use std::process::Abort;
-use std::test::Fail;
 
 /// Three customers buy, and the keeper fails at its fourth call, which is the commit of the second one: of its rows
 /// none is left, and it alone is told so. The first has bought two things.
-const PURCHASES: &str = "|4|5|0 0 00000001/40 1 61/40 3 63/40 4 64/|\
-0||c1 committed 0/c2 keeper failed/c3 committed 1/40 1 61/40 3 63/40 4 64/|\
-component A/owns A 40/\
-begin c1/enter c1 A/put c1 40 1 61/put c1 40 4 64/commit c1/\
-begin c2/enter c2 A/put c2 40 2 62/commit c2/\
-begin c3/enter c3 A/put c3 40 3 63/commit c3/table";
+const PURCHASES: &str = "|4|5|0 0 00000001;40 1 61;40 3 63;40 4 64;|\
+0||c1 committed 0;c2 keeper failed;c3 committed 1;40 1 61;40 3 63;40 4 64;|\
+component A;owns A 40;\
+begin c1;enter c1 A;put c1 40 1 61;put c1 40 4 64;commit c1;\
+begin c2;enter c2 A;put c2 40 2 62;commit c2;\
+begin c3;enter c3 A;put c3 40 3 63;commit c3;table";
 
 #[test]
-fn a_purchase_fails_between_two_others(rt: HostRuntime) -> Result<(), Fail> {
-    expect_driven(&rt, "", PURCHASES)?;
-    expect_kept_rows::<ListKeeper>(&rt, "drive", "", PURCHASES)?;
-    expect_kept_rows::<BackwardKeeper>(&rt, "drive", "", PURCHASES)
+fn a_purchase_fails_between_two_others(rt: HostRuntime) {
+    expect_driven(&rt, rt.alloc(), "", PURCHASES);
+    expect_rows::<ListKeeper>(&rt, rt.alloc(), "drive", "", PURCHASES);
+    expect_rows::<BackwardKeeper>(&rt, rt.alloc(), "drive", "", PURCHASES);
 }
 
 /// The component A with a table.
-const ALONE: &str = "component A/owns A 40/";
+const ALONE: &str = "component A;owns A 40;";
 
 /// A commit with rows is one call, however many these are, and one without rows is none.
-const CALLS: &str = "|0|2|0 0 00000001/|0||c1 committed 0/|begin c1/commit c1
-|0|2|0 0 00000001/|0||c1 row none/c1 list 0/c1 committed 0/|\
-begin c1/enter c1 A/read c1 40 7/list c1 40/commit c1
-|0|3|0 0 00000001/40 7 62/|0||c1 committed 0/|begin c1/enter c1 A/put c1 40 7 61/put c1 40 7 62/commit c1
-|0|3|0 0 00000001/40 7 62/40 8 61/|0||c1 committed 0/|begin c1/enter c1 A/put c1 40 8 61/put c1 40 7 62/commit c1
-|0|4|0 0 00000001/40 7 62/|0||c1 committed 0/c2 committed 1/|\
-begin c1/enter c1 A/put c1 40 7 61/commit c1/begin c2/enter c2 A/put c2 40 7 62/commit c2
-|0|3|0 0 00000001/40 0 -/|0||c1 committed 0/|begin c1/enter c1 A/put c1 40 0 -/commit c1";
+const CALLS: &str = "|0|2|0 0 00000001;|0||c1 committed 0;|begin c1;commit c1
+|0|2|0 0 00000001;|0||c1 row none;c1 list 0;c1 committed 0;|\
+begin c1;enter c1 A;read c1 40 7;list c1 40;commit c1
+|0|3|0 0 00000001;40 7 62;|0||c1 committed 0;|begin c1;enter c1 A;put c1 40 7 61;put c1 40 7 62;commit c1
+|0|3|0 0 00000001;40 7 62;40 8 61;|0||c1 committed 0;|begin c1;enter c1 A;put c1 40 8 61;put c1 40 7 62;commit c1
+|0|4|0 0 00000001;40 7 62;|0||c1 committed 0;c2 committed 1;|\
+begin c1;enter c1 A;put c1 40 7 61;commit c1;begin c2;enter c2 A;put c2 40 7 62;commit c2
+|0|3|0 0 00000001;40 0 -;|0||c1 committed 0;|begin c1;enter c1 A;put c1 40 0 -;commit c1";
 
 /// No other line is a call of the keeper, so what a call puts is not kept before it commits.
-const NO_CALLS: &str = "|3|2|0 0 00000001/|0||c1 committed 0/|begin c1/enter c1 A/commit c1
-|3|2|0 0 00000001/|0||c1 row 61/|begin c1/enter c1 A/put c1 40 7 61/read c1 40 7/exit c1
-|3|2|0 0 00000001/|0|||begin c1/enter c1 A/put c1 40 7 61/drop c1/table
-|3|2|0 0 00000001/|0||down 0/up 1/down 2/up 3/0 down group 0/1 up group 0/2 down app/3 up app/|\
-reboot A/down app/up app/table/journal
-|3|2|0 0 00000001/|3|line 6/||begin c1/enter c1 A/put c1 40 7 61/commit c2";
+const NO_CALLS: &str = "|3|2|0 0 00000001;|0||c1 committed 0;|begin c1;enter c1 A;commit c1
+|3|2|0 0 00000001;|0||c1 row 61;|begin c1;enter c1 A;put c1 40 7 61;read c1 40 7;exit c1
+|3|2|0 0 00000001;|0|||begin c1;enter c1 A;put c1 40 7 61;drop c1;table
+|3|2|0 0 00000001;|0||down 0;up 1;down 2;up 3;0 down group 0;1 up group 0;2 down app;3 up app;|\
+reboot A;down app;up app;table;journal
+|3|2|0 0 00000001;|3|line 6;||begin c1;enter c1 A;put c1 40 7 61;commit c2";
 
 /// A commit that the boot refuses is no call either, though that would fail.
 const REFUSED: &str =
-    "|3|2|0 0 00000001/|0||c1 full 0 0/|limit 0 0/begin c1/enter c1 A/put c1 40 7 61/commit c1
-|3|2|0 0 00000001/|0||down 0/up 1/c1 revoked group 0 had 0 now 1/|\
-begin c1/enter c1 A/put c1 40 7 61/reboot A/commit c1
-|4|3|0 0 00000001/40 7 62/|0||c2 committed 0/c1 conflict row 40 7 at 0 newest 1/|\
-begin c1/enter c1 A/put c1 40 7 61/begin c2/enter c2 A/put c2 40 7 62/commit c2/commit c1
-|4|3|0 0 00000001/40 7 61/|0||c1 committed 0/c1 already 0/|\
-begin c1/enter c1 A/put c1 40 7 61/commit c1/begin c1/enter c1 A/put c1 40 7 62/commit c1";
-
-#[test]
-fn commits_with_rows_call_the_keeper(rt: HostRuntime) -> Result<(), Fail> {
-    expect_driven(&rt, ALONE, CALLS)?;
-    expect_driven(&rt, ALONE, NO_CALLS)?;
-    expect_driven(&rt, ALONE, REFUSED)
-}
+    "|3|2|0 0 00000001;|0||c1 full 0 0;|limit 0 0;begin c1;enter c1 A;put c1 40 7 61;commit c1
+|3|2|0 0 00000001;|0||down 0;up 1;c1 revoked group 0 had 0 now 1;|\
+begin c1;enter c1 A;put c1 40 7 61;reboot A;commit c1
+|4|3|0 0 00000001;40 7 62;|0||c2 committed 0;c1 conflict row 40 7 at 0 newest 1;|\
+begin c1;enter c1 A;put c1 40 7 61;begin c2;enter c2 A;put c2 40 7 62;commit c2;commit c1
+|4|3|0 0 00000001;40 7 61;|0||c1 committed 0;c1 already 0;|\
+begin c1;enter c1 A;put c1 40 7 61;commit c1;begin c1;enter c1 A;put c1 40 7 62;commit c1";
 
 /// The call has ended, and its caller makes the same request again. It left no row, entry or conflict, and took no
 /// place.
-const AFTER_FAULTS: &str = "|3|4|0 0 00000001/40 7 61/|\
-0||c1 keeper failed/c1 committed 0/c1 already 0/40 7 61/0 commit 1:9223372036854775809 writes 1/|\
-begin c1/enter c1 A/put c1 40 7 61/commit c1/begin c1/enter c1 A/put c1 40 7 61/commit c1/\
-begin c1/commit c1/table/journal
-|3|3|0 0 00000001/|3|line 7/|c1 keeper failed/|begin c1/enter c1 A/put c1 40 7 61/commit c1/commit c1
-|3|3|0 0 00000001/|0||c1 keeper failed/|begin c1/enter c1 A/put c1 40 7 61/commit c1/table/journal
-|3|3|0 0 00000001/|0||c1 keeper failed/c1 row none/c1 list 0/c1 committed 0/|\
-begin c1/enter c1 A/put c1 40 7 61/commit c1/begin c1/enter c1 A/read c1 40 7/list c1 40/commit c1
-|3|4|0 0 00000001/40 7 62/|0||c1 keeper failed/c2 committed 0/40 7 62/|\
-begin c1/begin c2/enter c1 A/enter c2 A/put c1 40 7 61/put c2 40 7 62/commit c1/commit c2/table
-|3|3|0 0 00000001/|0||c2 row none/c2 list 0/c1 keeper failed/c2 row none/c2 committed 0/|\
-begin c1/begin c2/enter c1 A/enter c2 A/put c1 40 7 61/read c2 40 7/list c2 40/commit c1/read c2 40 7/commit c2
-|3|4|0 0 00000001/40 8 62/|0||c1 keeper failed/c2 committed 0/c3 full 1 1/|\
-limit 1 100/begin c1/enter c1 A/put c1 40 7 6161/commit c1/begin c2/enter c2 A/put c2 40 8 62/commit c2/\
-begin c3/commit c3
-|3|4|0 0 00000001/40 8 6262/|0||c1 keeper failed/c2 committed 0/c3 full 1 2/|\
-limit 100 2/begin c1/enter c1 A/put c1 40 7 6161/commit c1/begin c2/enter c2 A/put c2 40 8 6262/commit c2/\
-begin c3/enter c3 A/put c3 40 9 63/commit c3
-|4|4|0 0 00000001/40 7 61/|0||c1 committed 0/c2 keeper failed/40 7 61/|\
-begin c1/enter c1 A/put c1 40 7 61/commit c1/begin c2/enter c2 A/put c2 40 8 62/put c2 40 7 62/commit c2/table
-|3|6|0 0 00000002/40 7 62/|0||c1 keeper failed/boot 2/c1 row none/c1 committed 0/40 7 62/|\
-begin c1/enter c1 A/put c1 40 7 61/commit c1/reopen/begin c1/enter c1 A/read c1 40 7/put c1 40 7 62/commit c1/table
-|3|3|0 0 00000001/|0||c1 keeper failed/down 0/up 1/c2 committed 2/|\
-begin c1/enter c1 A/put c1 40 7 61/commit c1/reboot A/begin c2/commit c2";
+const AFTER_FAULTS: &str = "|3|4|0 0 00000001;40 7 61;|\
+0||c1 keeper failed;c1 committed 0;c1 already 0;40 7 61;0 commit 1:9223372036854775809 writes 1;|\
+begin c1;enter c1 A;put c1 40 7 61;commit c1;begin c1;enter c1 A;put c1 40 7 61;commit c1;\
+begin c1;commit c1;table;journal
+|3|3|0 0 00000001;|3|line 7;|c1 keeper failed;|begin c1;enter c1 A;put c1 40 7 61;commit c1;commit c1
+|3|3|0 0 00000001;|0||c1 keeper failed;|begin c1;enter c1 A;put c1 40 7 61;commit c1;table;journal
+|3|3|0 0 00000001;|0||c1 keeper failed;c1 row none;c1 list 0;c1 committed 0;|\
+begin c1;enter c1 A;put c1 40 7 61;commit c1;begin c1;enter c1 A;read c1 40 7;list c1 40;commit c1
+|3|4|0 0 00000001;40 7 62;|0||c1 keeper failed;c2 committed 0;40 7 62;|\
+begin c1;begin c2;enter c1 A;enter c2 A;put c1 40 7 61;put c2 40 7 62;commit c1;commit c2;table
+|3|3|0 0 00000001;|0||c2 row none;c2 list 0;c1 keeper failed;c2 row none;c2 committed 0;|\
+begin c1;begin c2;enter c1 A;enter c2 A;put c1 40 7 61;read c2 40 7;list c2 40;commit c1;read c2 40 7;commit c2
+|3|4|0 0 00000001;40 8 62;|0||c1 keeper failed;c2 committed 0;c3 full 1 1;|\
+limit 1 100;begin c1;enter c1 A;put c1 40 7 6161;commit c1;begin c2;enter c2 A;put c2 40 8 62;commit c2;\
+begin c3;commit c3
+|3|4|0 0 00000001;40 8 6262;|0||c1 keeper failed;c2 committed 0;c3 full 1 2;|\
+limit 100 2;begin c1;enter c1 A;put c1 40 7 6161;commit c1;begin c2;enter c2 A;put c2 40 8 6262;commit c2;\
+begin c3;enter c3 A;put c3 40 9 63;commit c3
+|4|4|0 0 00000001;40 7 61;|0||c1 committed 0;c2 keeper failed;40 7 61;|\
+begin c1;enter c1 A;put c1 40 7 61;commit c1;begin c2;enter c2 A;put c2 40 8 62;put c2 40 7 62;commit c2;table
+|3|6|0 0 00000002;40 7 62;|0||c1 keeper failed;boot 2;c1 row none;c1 committed 0;40 7 62;|\
+begin c1;enter c1 A;put c1 40 7 61;commit c1;reopen;begin c1;enter c1 A;read c1 40 7;put c1 40 7 62;commit c1;table
+|3|3|0 0 00000001;|0||c1 keeper failed;down 0;up 1;c2 committed 2;|\
+begin c1;enter c1 A;put c1 40 7 61;commit c1;reboot A;begin c2;commit c2";
 
 #[test]
-fn a_commit_that_is_not_kept_leaves_nothing(rt: HostRuntime) -> Result<(), Fail> {
-    expect_driven(&rt, ALONE, AFTER_FAULTS)
+fn commits_with_rows_call_the_keeper(rt: HostRuntime) {
+    expect_driven(&rt, rt.alloc(), ALONE, CALLS);
+    expect_driven(&rt, rt.alloc(), ALONE, NO_CALLS);
+    expect_driven(&rt, rt.alloc(), ALONE, REFUSED);
+    expect_driven(&rt, rt.alloc(), ALONE, AFTER_FAULTS);
 }
 
 /// A commit of 16 rows, over four of them that are there: all are kept, or none.
-fn expect_sixteen(rt: &(impl Abort + AllocGlobal), failing: &str, want: &str) -> Result<(), Fail> {
-    let mut text = "component A/owns A 40/begin c1/enter c1 A/".to_string(rt.alloc())?;
-    for key in 1..=16 {
-        let put = format!(in rt.alloc(); "put c1 40 {key} 62/")?;
-        text.push_str(&put)?;
-    }
-    let row = format!(in rt.alloc();
-        "40 1 61/40 5 61/40 11 61/40 16 61/|{failing}|3|{want}|{text}commit c1"
-    )?;
-    expect_driven(rt, "", &row)
-}
+const SIXTEEN: &str = "40 1 61;40 5 61;40 11 61;40 16 61;|0|3|\
+0 0 00000001;40 1 62;40 2 62;40 3 62;40 4 62;40 5 62;40 6 62;40 7 62;40 8 62;40 9 62;\
+40 10 62;40 11 62;40 12 62;40 13 62;40 14 62;40 15 62;40 16 62;|0||c1 committed 0;|TEXT
+40 1 61;40 5 61;40 11 61;40 16 61;|3|3|0 0 00000001;40 1 61;40 5 61;40 11 61;40 16 61;|0||c1 keeper failed;|TEXT";
 
 #[test]
-fn all_rows_of_a_commit_are_kept_or_none(rt: HostRuntime) -> Result<(), Fail> {
-    expect_sixteen(
-        &rt,
-        "0",
-        "0 0 00000001/40 1 62/40 2 62/40 3 62/40 4 62/40 5 62/40 6 62/40 7 62/40 8 62/40 9 62/\
-40 10 62/40 11 62/40 12 62/40 13 62/40 14 62/40 15 62/40 16 62/|0||c1 committed 0/",
-    )?;
-    expect_sixteen(
-        &rt,
-        "3",
-        "0 0 00000001/40 1 61/40 5 61/40 11 61/40 16 61/|0||c1 keeper failed/",
-    )
+fn all_rows_of_a_commit_are_kept_or_none(rt: HostRuntime) {
+    let mut text = "begin c1;enter c1 A;"
+        .to_string(rt.alloc())
+        .expect(&rt, "a text");
+    for key in 1..=16 {
+        let put = format!(in rt.alloc(); "put c1 40 {key} 62;").expect(&rt, "a put");
+        text.push_str(&put).expect(&rt, "a text");
+    }
+    text.push_str("commit c1").expect(&rt, "a text");
+    let rows = SIXTEEN
+        .replace(rt.alloc(), "TEXT", &text)
+        .expect(&rt, "rows");
+    expect_driven(&rt, rt.alloc(), ALONE, &rows);
 }
 
-/// Asserts what a run over this outside leaves of its keeper.
-fn expect_outside(
-    rt: &(impl Abort + AllocGlobal),
-    outside: Outside,
-    want: &str,
-    text: &str,
-) -> Result<(), Fail> {
-    let text = [OPEN_CALL, text].as_slice().concat(rt.alloc())?;
-    expect_kept_over::<MapKeeper>(rt, want, "drive", &text, outside, want)
+/// Asserts what a run over this outside leaves of its keeper, and shows what it wants where it does not.
+fn expect_outside(rt: &impl Abort, alloc: Global, outside: Outside, want: &str, text: &str) {
+    let first = "component A;owns A 40;begin c1;enter c1 A;put c1 40 7 61;commit c1;";
+    let text = [first, text].as_slice().concat(alloc).expect(rt, want);
+    let case = Case {
+        row: want,
+        words: &["drive"],
+        text: &text,
+        outside,
+    };
+    expect_kept::<MapKeeper>(rt, alloc, case, want);
 }
 
 /// The number of a write that fails.
@@ -143,38 +134,24 @@ fn failing_write(failing_write: u64) -> Outside {
 
 /// What a call writes is kept before its commit is answered, and the next boot is started before that is told.
 #[test]
-fn rows_are_kept_before_a_commit_is_answered(rt: HostRuntime) -> Result<(), Fail> {
-    expect_outside(
-        &rt,
-        failing_write(1),
-        "|0|3|0 0 00000001/40 7 61/|5|write failed/|",
-        "put c1 40 7 61/commit c1/begin c1",
-    )?;
-    expect_outside(
-        &rt,
-        failing_write(1),
-        "|3|3|0 0 00000001/|5|write failed/|",
-        "put c1 40 7 61/commit c1/begin c1",
-    )?;
-    expect_outside(
-        &rt,
-        failing_write(2),
-        "|0|5|0 0 00000002/40 7 61/|5|write failed/|c1 committed 0/",
-        "put c1 40 7 61/commit c1/reopen/begin c1",
-    )
+fn rows_are_kept_before_a_commit_is_answered(rt: HostRuntime) {
+    let first = failing_write(1);
+    let want = "|0|3|0 0 00000001;40 7 61;|5|write failed;|";
+    expect_outside(&rt, rt.alloc(), first, want, "begin c1");
+    let want = "|3|3|0 0 00000001;|5|write failed;|";
+    expect_outside(&rt, rt.alloc(), first, want, "begin c1");
+    let want = "|0|5|0 0 00000002;40 7 61;|5|write failed;|c1 committed 0;";
+    expect_outside(&rt, rt.alloc(), failing_write(2), want, "reopen;begin c1");
 }
 
 /// A scenario whose input fails after the lines before.
 #[test]
-fn a_failed_read_leaves_the_rows_of_the_lines_before_it(rt: HostRuntime) -> Result<(), Fail> {
+fn a_failed_read_leaves_the_rows_of_the_lines_before_it(rt: HostRuntime) {
     let outside = Outside {
         failing_read: 2,
         ..SURE
     };
-    expect_outside(
-        &rt,
-        outside,
-        "|0|3|0 0 00000001/40 7 61/|4|read failed/|c1 committed 0/",
-        "put c1 40 7 61/commit c1/begin c1/enter c1 A/put c1 40 8 62/commit c1",
-    )
+    let want = "|0|3|0 0 00000001;40 7 61;|4|read failed;|c1 committed 0;";
+    let text = "begin c1;enter c1 A;put c1 40 8 62;commit c1";
+    expect_outside(&rt, rt.alloc(), outside, want, text);
 }

@@ -1,10 +1,11 @@
-//! Runs a command over an outside in memory.
+//! Runs a command over an outside in memory and a keeper.
 
-use crash_base::{InputBytes, Items, RowList, WordText};
+use crate::words::lines;
+use crash_base::{InputBytes, Items, WordText};
 use drive_engine::run_command;
-use outside::{BytesSink, BytesSource, CallList, Keeper, SizeList, SureKeeper};
+use outside::{BytesSink, BytesSource, CallList, Keeper, SizeList};
 use std::alloc::Global;
-use std::test::Fail;
+use std::process::Abort;
 
 /// The status of a command, and what it wrote and reported.
 #[derive(Drop)]
@@ -36,96 +37,65 @@ pub const SURE: Outside = Outside {
 pub struct Case<'a> {
     pub row: &'a str,
     pub words: &'a [&'a str],
-    pub text: &'a [u8],
+    pub text: &'a str,
     pub outside: Outside,
 }
 
 /// A list of one call.
-pub fn one_call(alloc: Global, call: u64) -> Result<CallList, Fail> {
+pub fn one_call(rt: &impl Abort, alloc: Global, call: u64) -> CallList {
     let mut calls = CallList::new(alloc);
-    calls.push(call)?;
-    Ok(calls)
+    calls.push(call).expect(rt, "a call");
+    calls
 }
 
 /// The size of each piece that is read of a text.
-fn pieces_of(alloc: Global, text: &[u8], piece: u64) -> Result<SizeList, Fail> {
+fn pieces_of(rt: &impl Abort, alloc: Global, text: &str, piece: u64) -> SizeList {
     let mut pieces = SizeList::new(alloc);
     if piece > 0 {
-        for _ in text {
-            pieces.push(piece)?;
+        for _ in text.as_bytes() {
+            pieces.push(piece).expect(rt, "a piece");
         }
     }
-    Ok(pieces)
+    pieces
 }
 
 /// A text in memory.
-fn source_of(alloc: Global, text: &[u8], outside: Outside) -> Result<BytesSource, Fail> {
-    let pieces = pieces_of(alloc, text, outside.piece)?;
-    let calls = one_call(alloc, outside.failing_read)?;
-    Ok(BytesSource::new(InputBytes::copied(alloc, text)?, pieces, calls))
+fn source_of(rt: &impl Abort, alloc: Global, case: Case) -> BytesSource {
+    let text = lines(rt, alloc, case.text);
+    let pieces = pieces_of(rt, alloc, &text, case.outside.piece);
+    let calls = one_call(rt, alloc, case.outside.failing_read);
+    let bytes = InputBytes::copied(alloc, text.as_bytes()).expect(rt, "a text");
+    BytesSource::new(bytes, pieces, calls)
 }
 
 /// Room for so many bytes.
-fn sink_of(alloc: Global, room: u64, call: u64) -> Result<BytesSink, Fail> {
-    Ok(BytesSink::new(alloc, room, one_call(alloc, call)?)?)
-}
-
-/// Nothing was written yet.
-fn nothing_ran(alloc: Global, outside: Outside) -> Result<Ran, Fail> {
-    let out = sink_of(alloc, 65_536, outside.failing_write)?;
-    let errors = sink_of(alloc, 256, outside.failing_report)?;
-    Ok(Ran {
-        status: 0,
-        out,
-        errors,
-    })
+fn sink_of(rt: &impl Abort, alloc: Global, room: u64, call: u64) -> BytesSink {
+    let calls = one_call(rt, alloc, call);
+    BytesSink::new(alloc, room, calls).expect(rt, "room")
 }
 
 /// The words of a command line.
-pub fn words_of(alloc: Global, words: &[&str]) -> Result<Items<WordText>, Fail> {
+fn words_of(rt: &impl Abort, alloc: Global, words: &[&str]) -> Items<WordText> {
     let mut all = Items::new(alloc);
     for word in words {
-        all.push(WordText::copied(alloc, word.as_bytes())?)?;
+        let word = WordText::copied(alloc, word.as_bytes()).expect(rt, "a word");
+        all.push(word).expect(rt, "a word");
     }
-    Ok(all)
+    all
 }
 
-/// Runs a command over its input and a keeper, and notes its status.
-fn run_words<K: Keeper + Drop>(
-    alloc: Global,
-    words: &[WordText],
-    input: &mut BytesSource,
-    ran: &mut Ran,
-    keeper: K,
-) -> K {
-    let (status, keeper) = run_command(alloc, words, input, &mut ran.out, &mut ran.errors, keeper);
-    ran.status = status;
-    keeper
-}
-
-/// Runs a command over its input and a keeper.
-fn run_over<K: Keeper + Drop>(
-    alloc: Global,
-    words: &[&str],
-    input: &mut BytesSource,
-    ran: &mut Ran,
-    keeper: K,
-) -> Result<K, Fail> {
-    let words = words_of(alloc, words)?;
-    Ok(run_words(alloc, words.as_slice(), input, ran, keeper))
-}
-
-/// Runs a command over a text in memory and a keeper, and hands the keeper back.
-pub fn run_with<K: Keeper + Drop>(alloc: Global, case: Case, keeper: K) -> Result<(Ran, K), Fail> {
-    let mut input = source_of(alloc, case.text, case.outside)?;
-    let mut ran = nothing_ran(alloc, case.outside)?;
-    let keeper = run_over(alloc, case.words, &mut input, &mut ran, keeper)?;
-    Ok((ran, keeper))
-}
-
-/// Runs a command over a text in memory, and a keeper that holds no rows and never fails.
-pub fn run(alloc: Global, case: Case) -> Result<Ran, Fail> {
-    let keeper = SureKeeper::new(RowList::new(alloc));
-    let (ran, _) = run_with(alloc, case, keeper)?;
-    Ok(ran)
+/// Runs a command, and hands the keeper back.
+pub fn run<K: Keeper + Drop>(rt: &impl Abort, alloc: Global, case: Case, keeper: K) -> (Ran, K) {
+    let words = words_of(rt, alloc, case.words);
+    let mut input = source_of(rt, alloc, case);
+    let mut out = sink_of(rt, alloc, 65_536, case.outside.failing_write);
+    let mut errors = sink_of(rt, alloc, 256, case.outside.failing_report);
+    let words = words.as_slice();
+    let (status, keeper) = run_command(alloc, words, &mut input, &mut out, &mut errors, keeper);
+    let ran = Ran {
+        status,
+        out,
+        errors,
+    };
+    (ran, keeper)
 }

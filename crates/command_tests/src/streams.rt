@@ -1,55 +1,60 @@
 //! How the outside is read and written: in pieces of every size, and with each call failing in turn.
 
-use crate::expecting::{Want, expect_over, part, want_of};
-use crate::running::{Outside, SURE};
+use crate::running::{Case, Outside, SURE, run};
+use crate::table::{Want, expect_ran, want_of};
+use crate::words::{cut, number, times};
+use crash_base::RowList;
+use drive_engine::MAX_SCENARIO_BYTES;
+use outside::SureKeeper;
+use std::alloc::Global;
 use std::process::Abort;
-use std::test::Fail;
 
 /// The first scenario that a newcomer runs.
-const FIRST: &str = "component A/owns A 40/begin c1/enter c1 A/put c1 40 7 6162/commit c1/table/";
+const FIRST: &str = "component A;owns A 40;begin c1;enter c1 A;put c1 40 7 6162;commit c1;table;";
 
 /// The same without its last line feed.
 const WITHOUT_FEED: &str =
-    "component A/owns A 40/begin c1/enter c1 A/put c1 40 7 6162/commit c1/table";
+    "component A;owns A 40;begin c1;enter c1 A;put c1 40 7 6162;commit c1;table";
 
 /// A descriptor text of one component.
-const ONE: &str = "[[component]]/name = \"A\"/";
+const ONE: &str = "[[component]];name = \"A\";";
 
 /// A descriptor text of one group.
-const PAIR: &str = "[[component]]/name = \"A\"/hard = [\"B\"]/[[component]]/name = \"B\"/";
+const PAIR: &str = "[[component]];name = \"A\";hard = [\"B\"];[[component]];name = \"B\";";
 
-/// A number that ends at a space, and the rest.
-fn number(text: &str) -> Result<(u64, &str), Fail> {
-    let (digits, rest) = text.split_once(' ').ok_or("no space")?;
-    Ok((digits.parse()?, rest))
+/// Asserts what a command does over an outside.
+fn expect_case(rt: &impl Abort, alloc: Global, case: Case, want: Want) {
+    let keeper = SureKeeper::new(RowList::new(alloc));
+    let (ran, _) = run(rt, alloc, case, keeper);
+    expect_ran(rt, alloc, &ran, want, case.row);
 }
 
-/// The size of the pieces that are read, and the numbers of the read, the write and the report that fail.
-fn outside_of(text: &str) -> Result<Outside, Fail> {
-    let (piece, rest) = number(text)?;
-    let (failing_read, rest) = number(rest)?;
-    let (failing_write, rest) = number(rest)?;
-    Ok(Outside {
-        piece,
-        failing_read,
-        failing_write,
-        failing_report: rest.parse()?,
-    })
-}
-
-/// Rows `OUTSIDE|STATUS|REPORTED|WRITTEN` of a command over one text. The outside is the size of the pieces that
-/// are read, 0 for all at once, and the numbers of the read, the write and the report that fail, 0 for none.
-fn expect_outsides(
-    rt: &(impl Abort + AllocGlobal),
-    word: &str,
-    text: &str,
-    rows: &str,
-) -> Result<(), Fail> {
-    for row in rows.split('\n') {
-        let (outside, want) = part(row)?;
-        expect_over(rt, row, word, text, outside_of(outside)?, want_of(want)?)?;
+/// The size of the pieces that are read, 0 for all at once, and the numbers of the read, the write and the report that
+/// fail, 0 for none.
+fn outside_of(rt: &impl Abort, text: &str) -> Outside {
+    let (piece, rest) = cut(rt, text, ' ');
+    let (failing_read, rest) = cut(rt, rest, ' ');
+    let (failing_write, failing_report) = cut(rt, rest, ' ');
+    Outside {
+        piece: number(rt, piece),
+        failing_read: number(rt, failing_read),
+        failing_write: number(rt, failing_write),
+        failing_report: number(rt, failing_report),
     }
-    Ok(())
+}
+
+/// Rows `OUTSIDE|STATUS|REPORTED|WRITTEN` of a command over one text.
+fn expect_outsides(rt: &impl Abort, alloc: Global, word: &str, text: &str, rows: &str) {
+    for row in rows.split('\n') {
+        let (outside, want) = cut(rt, row, '|');
+        let case = Case {
+            row,
+            words: &[word],
+            text,
+            outside: outside_of(rt, outside),
+        };
+        expect_case(rt, alloc, case, want_of(rt, want));
+    }
 }
 
 /// What is written of `FIRST` once so many bytes of it were read: its commit ends at 69, and it ends at 75.
@@ -57,23 +62,21 @@ fn written_by(bytes: u64) -> &'static str {
     if bytes < 69 {
         ""
     } else if bytes < 75 {
-        "c1 committed 0/"
+        "c1 committed 0;"
     } else {
-        "c1 committed 0/40 7 6162/"
+        "c1 committed 0;40 7 6162;"
     }
 }
 
 /// Asserts what `FIRST` has written when one of so many reads of this size fails, whichever it is.
-fn expect_failed_reads(
-    rt: &(impl Abort + AllocGlobal),
-    piece: u64,
-    reads: u64,
-) -> Result<(), Fail> {
+fn expect_failed_reads(rt: &impl Abort, alloc: Global, piece: u64, reads: u64) {
     for failing_read in 1..=reads {
-        let row = format!(in rt.alloc(); "read {failing_read} of {piece} bytes fails")?;
+        let row = format!(in alloc; "read {failing_read} of {piece} bytes fails").expect(
+            rt, "a row",
+        );
         let want = Want {
             status: 4,
-            reported: "read failed/",
+            reported: "read failed;",
             written: written_by((failing_read - 1).saturating_mul(piece)),
         };
         let outside = Outside {
@@ -81,9 +84,14 @@ fn expect_failed_reads(
             failing_read,
             ..SURE
         };
-        expect_over(rt, &row, "drive", FIRST, outside, want)?;
+        let case = Case {
+            row: &row,
+            words: &["drive"],
+            text: FIRST,
+            outside,
+        };
+        expect_case(rt, alloc, case, want);
     }
-    Ok(())
 }
 
 /// Sizes of pieces, each with the number of reads that `FIRST` takes so, of which the last finds the end.
@@ -98,95 +106,86 @@ const READS: &str = "1 76
 100 2";
 
 #[test]
-fn a_failed_read_leaves_the_lines_before_it(rt: HostRuntime) -> Result<(), Fail> {
+fn a_failed_read_leaves_the_lines_before_it(rt: HostRuntime) {
     for row in READS.split('\n') {
-        let (piece, reads) = number(row)?;
-        expect_failed_reads(&rt, piece, reads.parse()?)?;
+        let (piece, reads) = cut(&rt, row, ' ');
+        expect_failed_reads(&rt, rt.alloc(), number(&rt, piece), number(&rt, reads));
     }
-    Ok(())
 }
 
 /// The last line has no line feed, and is not done before the end was read. A line that is too long ends the
 /// scenario before the next read.
-const LAST_READS: &str = "0 2 0 0|4|read failed/|c1 committed 0/
-1 75 0 0|4|read failed/|c1 committed 0/
-0 3 0 0|0||c1 committed 0/40 7 6162/";
+const LAST_READS: &str = "0 2 0 0|4|read failed;|c1 committed 0;
+1 75 0 0|4|read failed;|c1 committed 0;
+0 3 0 0|0||c1 committed 0;40 7 6162;";
 
-const LONG_READS: &str = "1 8193 0 0|4|read failed/|
-1 8194 0 0|8|line 1 too long/|";
+const LONG_READS: &str = "1 8193 0 0|4|read failed;|
+1 8194 0 0|8|line 1 too long;|";
 
 #[test]
-fn a_line_has_an_end(rt: HostRuntime) -> Result<(), Fail> {
-    expect_outsides(&rt, "drive", WITHOUT_FEED, LAST_READS)?;
-    let long = "#".repeat(rt.alloc(), 8200)?;
-    expect_outsides(&rt, "drive", &long, LONG_READS)
+fn a_line_has_an_end(rt: HostRuntime) {
+    expect_outsides(&rt, rt.alloc(), "drive", WITHOUT_FEED, LAST_READS);
+    let long = times(&rt, rt.alloc(), "#", 8200);
+    expect_outsides(&rt, rt.alloc(), "drive", &long, LONG_READS);
 }
 
 /// Five reads of descriptors, of which the last finds the end.
-const DESCRIPTOR_READS: &str = "8 1 0 0|4|read failed/|
-8 2 0 0|4|read failed/|
-8 3 0 0|4|read failed/|
-8 4 0 0|4|read failed/|
-8 5 0 0|4|read failed/|
-8 6 0 0|0||A 0/";
-
-#[test]
-fn a_failed_read_of_descriptors_ends_in_4(rt: HostRuntime) -> Result<(), Fail> {
-    expect_outsides(&rt, "groups", ONE, DESCRIPTOR_READS)
-}
+const DESCRIPTOR_READS: &str = "8 1 0 0|4|read failed;|
+8 2 0 0|4|read failed;|
+8 3 0 0|4|read failed;|
+8 4 0 0|4|read failed;|
+8 5 0 0|4|read failed;|
+8 6 0 0|0||A 0;";
 
 /// Two writes of a transcript.
-const WRITES: &str = "0 0 1 0|5|write failed/|
-1 0 1 0|5|write failed/|
-0 0 2 0|5|write failed/|c1 committed 0/
-10 0 2 0|5|write failed/|c1 committed 0/
-0 0 3 0|0||c1 committed 0/40 7 6162/";
+const WRITES: &str = "0 0 1 0|5|write failed;|
+1 0 1 0|5|write failed;|
+0 0 2 0|5|write failed;|c1 committed 0;
+10 0 2 0|5|write failed;|c1 committed 0;
+0 0 3 0|0||c1 committed 0;40 7 6162;";
 
 /// One write of groups.
-const GROUP_WRITES: &str = "0 0 1 0|5|write failed/|
-0 0 2 0|0||A 0/";
-
-#[test]
-fn a_failed_write_ends_in_5(rt: HostRuntime) -> Result<(), Fail> {
-    expect_outsides(&rt, "drive", FIRST, WRITES)?;
-    expect_outsides(&rt, "groups", ONE, GROUP_WRITES)
-}
+const GROUP_WRITES: &str = "0 0 1 0|5|write failed;|
+0 0 2 0|0||A 0;";
 
 /// One report after a failed read, after a failed write, and none at the end.
 const REPORTS: &str = "16 1 0 1|4||
-0 0 2 1|5||c1 committed 0/
-0 0 0 1|0||c1 committed 0/40 7 6162/";
+0 0 2 1|5||c1 committed 0;
+0 0 0 1|0||c1 committed 0;40 7 6162;";
 
 #[test]
-fn a_failed_report_changes_no_status(rt: HostRuntime) -> Result<(), Fail> {
-    expect_outsides(&rt, "drive", FIRST, REPORTS)?;
-    expect_outsides(&rt, "drive", "begin c0", "0 0 0 1|3||")?;
-    expect_outsides(&rt, "groups", ONE, "0 0 1 1|5||")?;
-    expect_outsides(&rt, "groups", "= 1", "0 0 0 1|10||")
+fn each_call_of_the_outside_fails_in_turn(rt: HostRuntime) {
+    expect_outsides(&rt, rt.alloc(), "groups", ONE, DESCRIPTOR_READS);
+    expect_outsides(&rt, rt.alloc(), "drive", FIRST, WRITES);
+    expect_outsides(&rt, rt.alloc(), "groups", ONE, GROUP_WRITES);
+    expect_outsides(&rt, rt.alloc(), "drive", FIRST, REPORTS);
+    expect_outsides(&rt, rt.alloc(), "drive", "begin c0", "0 0 0 1|3||");
+    expect_outsides(&rt, rt.alloc(), "groups", ONE, "0 0 1 1|5||");
+    expect_outsides(&rt, rt.alloc(), "groups", "= 1", "0 0 0 1|10||");
 }
 
 /// Asserts what a command writes, whose text is read in pieces of each size.
-fn expect_in_pieces(
-    rt: &(impl Abort + AllocGlobal),
-    word: &str,
-    text: &str,
-    written: &str,
-) -> Result<(), Fail> {
-    let want = Want {
-        status: 0,
-        reported: "",
-        written,
-    };
+fn expect_in_pieces(rt: &impl Abort, alloc: Global, word: &str, text: &str, want: &str) {
     for piece in 1..text.len() as u64 + 1 {
-        let row = format!(in rt.alloc(); "{word} in pieces of {piece}")?;
-        expect_over(rt, &row, word, text, Outside { piece, ..SURE }, want)?;
+        let row = format!(in alloc; "{piece} 0 0 0|0||{want}").expect(rt, want);
+        expect_outsides(rt, alloc, word, text, &row);
     }
-    Ok(())
 }
 
 #[test]
-fn pieces_change_nothing(rt: HostRuntime) -> Result<(), Fail> {
-    expect_in_pieces(&rt, "drive", FIRST, "c1 committed 0/40 7 6162/")?;
-    expect_in_pieces(&rt, "drive", WITHOUT_FEED, "c1 committed 0/40 7 6162/")?;
-    expect_in_pieces(&rt, "groups", PAIR, "A 0/B 0/")
+fn pieces_change_nothing(rt: HostRuntime) {
+    expect_in_pieces(&rt, rt.alloc(), "drive", FIRST, "c1 committed 0;40 7 6162;");
+    expect_in_pieces(
+        &rt,
+        rt.alloc(),
+        "drive",
+        WITHOUT_FEED,
+        "c1 committed 0;40 7 6162;",
+    );
+    expect_in_pieces(&rt, rt.alloc(), "groups", PAIR, "A 0;B 0;");
+}
+
+#[test]
+fn a_scenario_has_its_length(rt: HostRuntime) {
+    assert_eq!(&rt; MAX_SCENARIO_BYTES, 4_294_967_295);
 }

@@ -142,10 +142,12 @@ fn play(rt: &impl Abort, alloc: Global, by_calls: bool) -> String {
 
 #[test]
 fn the_largest_value_is_written_and_found(rt: HostRuntime) {
-    let digits = "ab".repeat(rt.alloc(), MAX_SESSION_BYTES).expect(&rt, "digits");
-    let want = format!(in rt.alloc(); "version 0 bricks 2 3 1:2/0 2:5/0 3:5/0 found {digits}").expect(
-        &rt, "words",
-    );
+    let digits = "ab"
+        .repeat(rt.alloc(), MAX_SESSION_BYTES)
+        .expect(&rt, "digits");
+    let want = format!(in rt.alloc();
+        "version 0 bricks 2 3 1:2/0 2:5/0 3:5/0 found {digits}"
+    ).expect(&rt, "words");
     let by_calls = play(&rt, rt.alloc(), true);
     expect_words(&rt, &by_calls, &want, "by calls");
     let by_steps = play(&rt, rt.alloc(), false);
