@@ -25,3 +25,5 @@ pub mod Written
 pub mod WrittenRows
 pub mod LeftRows
 pub mod SessionsKept
+pub mod Reaching
+pub mod Journals

@@ -113,7 +113,7 @@ accepted_is_done call parts rows accepted =
     subst (λ p. IsSome (run_of p (steps_of call) rows)) (sym accepted.0) (call_is_done call rows accepted.1)
 
 -- what a call that follows a program to its end has marked and written is what its run gives
-abbrev FollowRule : Type 0
+abbrev pub FollowRule : Type 0
 FollowRule = (parts : Parts) (asks : List Answer → Next) (rows : List RowWrite) (answers : List Answer) (call : Call) (d : DoneText)
     → IsSome (run_of parts asks rows) → Follows asks rows answers call → asks answers ≡ next.Done d
     → run_of parts asks rows ≡ Some (record { marks = call.marks; writes = call.writes; done = d })

@@ -13,3 +13,4 @@ pub mod Meant
 pub mod Written
 pub mod Sessions
 pub mod Offered
+pub mod Reached

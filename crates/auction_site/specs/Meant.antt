@@ -1,8 +1,11 @@
 -- Commits of actions: how they are made, and what they mean.
-use Rattle.std.specs.Prelude.{◌≡◌, List, Some}
+use Rattle.std.specs.Prelude.{◌≡◌, ℕ, List, take, slice_get, Some}
 use Rattle.crash_base.specs.declared.rows.RowWrite.{RowWrite}
 use Rattle.journal_model.specs.declared.entry.ActionEntry.{ActionEntry}
 use Rattle.journal_model.specs.declared.entry.CommitEntry.{CommitEntry}
+use Rattle.journal_model.specs.declared.entry.Entry.{Entry}
+use Rattle.journal_model.specs.declared.entry.Entry.TheVariants.{Commit, Down, Up}
+use Rattle.journal_model.specs.Rows.{rows_after}
 use Rattle.call_ticket.specs.Runs.{Makes}
 use Rattle.auction_calls.specs.declared.action.ActionCall.{ActionCall}
 use Rattle.auction_calls.specs.Texts.{Spells}
@@ -28,3 +31,13 @@ pub record Means (rows : List RowWrite) (entry : CommitEntry) (action : ActionEn
 -- A commit is meant over these rows: where it has an action, it is what the site means by the call of the text.
 abbrev pub IsMeant : List RowWrite → CommitEntry → Type 0
 IsMeant rows entry = (action : ActionEntry) → entry.action ≡ Some action → Means rows entry action
+
+-- an entry is meant over these rows: a commit is, and the begin and the end of a reboot mean nothing
+abbrev pub IsMeantEntry : List RowWrite → Entry → Type 0
+IsMeantEntry rows (Commit entry) = IsMeant rows entry
+IsMeantEntry rows (Down scope) = Unit {0}
+IsMeantEntry rows (Up scope) = Unit {0}
+
+-- A journal is meant over a base: each of its entries is, over the rows that those before it leave.
+pub record AreMeant (base : List RowWrite) (es : List Entry) : Type 0 where
+  pub each : (i : ℕ) (e : Entry) → slice_get es i ≡ Some e → IsMeantEntry (rows_after base (take i es)) e

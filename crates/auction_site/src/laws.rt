@@ -1,11 +1,13 @@
 //! Laws of the sixteen actions. Each is the contract of a function that does nothing: a caller that
 //! needs the law calls the function.
 
-ghost use Rattle.std.specs.Prelude.{◌≡◌, List, Some, true};
+ghost use Rattle.std.specs.Prelude.{◌≡◌, ◌≤◌, List, [], ◌∷◌, ◌++◌, length, Some, None, true};
 ghost use Rattle.crash_base.specs.declared.rows.RowWrite.{RowWrite};
+ghost use Rattle.crash_base.specs.declared.scope.Scope.{Scope};
 ghost use Rattle.journal_model.specs.declared.entry.ActionEntry.{ActionEntry};
 ghost use Rattle.journal_model.specs.declared.entry.CommitEntry.{CommitEntry};
 ghost use Rattle.journal_model.specs.declared.entry.Entry.{Entry};
+ghost use Rattle.journal_model.specs.declared.entry.Entry.TheVariants.{Commit, Down, Up};
 ghost use Rattle.journal_model.specs.declared.entry.Mark.{Mark};
 ghost use Rattle.journal_model.specs.Calls.{Call, entry_of};
 ghost use Rattle.journal_model.specs.Legal.{IsCurrent};
@@ -21,9 +23,10 @@ ghost use Rattle.auction_calls.specs.Calls.{is_call};
 ghost use Rattle.auction_calls.specs.Texts.{Spells};
 ghost use Rattle.auction_rows.specs.Parts.{site_parts};
 ghost use Rattle.auction_site.specs.Actions.{site, plan_of, through_of, steps_of};
-ghost use Rattle.auction_site.specs.Meant.{IsMade, IsMeant};
+ghost use Rattle.auction_site.specs.Meant.{IsMade, IsMeant, AreMeant};
 
 use call_ticket::calls_follow;
+use journal_model::snapshots_stay;
 
 /// The plan of each call comes to what the site means by the call. This holds over any rows, also over such
 /// as no action writes.
@@ -56,3 +59,31 @@ pub fn commits_are_meant()
     ensures { (base : List RowWrite) (es : List Entry) (entry : CommitEntry) → IsCurrent base es entry →
         IsMade (snapshot base es entry.at.0) entry → IsMeant (rows_after base es) entry }
 {}
+
+/// A journal without entries is meant. It stays so by the begin and the end of a reboot, by a commit without an action,
+/// and by one that is current and that its action made over the rows at its begin. So it does by the current commit of
+/// a call that followed the steps of an action over these rows until they were done, also where it listed a table: the
+/// mark of a table keeps no value, so that from marks alone nothing follows of what was listed. A call that follows its
+/// steps over the rows at its begin still does when the journal has grown.
+pub fn journals_stay_meant()
+    ensures empty { (base : List RowWrite) → AreMeant base [] }
+    ensures down { (base : List RowWrite) (es : List Entry) (scope : Scope) →
+        AreMeant base es → AreMeant base (es ++ Down scope ∷ []) }
+    ensures up { (base : List RowWrite) (es : List Entry) (scope : Scope) →
+        AreMeant base es → AreMeant base (es ++ Up scope ∷ []) }
+    ensures plain { (base : List RowWrite) (es : List Entry) (entry : CommitEntry) → entry.action ≡ None →
+        AreMeant base es → AreMeant base (es ++ Commit entry ∷ []) }
+    ensures made { (base : List RowWrite) (es : List Entry) (entry : CommitEntry) → IsCurrent base es entry →
+        IsMade (snapshot base es entry.at.0) entry → AreMeant base es → AreMeant base (es ++ Commit entry ∷ []) }
+    ensures followed { (base : List RowWrite) (es : List Entry) (call : ActionCall) (answers : List Answer) (making : Call)
+        (action : ActionEntry) → Spells action.text call →
+        Follows (steps_of call) (snapshot base es making.at.0) answers making →
+        steps_of call answers ≡ next.Done action.done → IsCurrent base es (entry_of making (Some action)) →
+        AreMeant base es → AreMeant base (es ++ Commit (entry_of making (Some action)) ∷ []) }
+    ensures held { (base : List RowWrite) (es more : List Entry) (call : ActionCall) (answers : List Answer)
+        (making : Call) → making.at.0 ≤ length es → Follows (steps_of call) (snapshot base es making.at.0) answers making →
+        Follows (steps_of call) (snapshot base (es ++ more) making.at.0) answers making }
+{
+    calls_follow();
+    snapshots_stay();
+}

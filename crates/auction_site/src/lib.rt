@@ -22,12 +22,13 @@
 //! | `Numbers` | the numbers of the rows that a page lists |
 //! | `Pieces`, `Planned` | the plan of each action |
 //! | `Actions` | `meaning` of an action and `site` of a call; `plan_of`, its plan; `steps_of`, its steps |
-//! | `Meant` | which commits an action made, and which are what the site means |
+//! | `Meant` | which commits an action made, and which commits and journals are what the site means |
 //! | `Coherent` | `IsCoherent`: the items, the bids and the counter of items fit together |
 //! | `Accepted` | when signing in and each action that writes are accepted, in the words of its users |
 //! | `Done` | `IsOver`: what an item is after its auction |
 //! | `Sessions` | whose the session is after an answer |
 //! | `Offered` | what an offer leaves in the rows |
+//! | `Reached` | which components an action may enter, and which tables it may read, list and put |
 //! | `Written` | what writes spell |
 //!
 //! | Law | What it says |
@@ -36,12 +37,14 @@
 //! | `calls_run_as_the_site` | the run of a call keeps the rules and limits of calls, and writes and answers just that |
 //! | `followed_calls_are_made` | a call that follows the steps of an action to their end has made its entry |
 //! | `commits_are_meant` | a current commit that an action made over the rows at its begin is what the site means by its call over the rows just before it |
+//! | `journals_stay_meant` | a journal in which each commit with an action is meant stays so by each entry |
 //! | `actions_keep_rows_coherent` | the empty list of rows is coherent, and each call leaves coherent rows coherent |
 //! | `low_bids_are_exact` | over coherent rows, a bid on another's running item is answered as too low exactly where it is below the start or some bid is of no less |
 //! | `closing_sells_to_the_greatest_bid` | over coherent rows, the close of an item sells it to the bidder of the greatest bid, where that is of at least a cent |
 //! | `actions_are_accepted` | signing in and each action that writes are accepted exactly where they may be |
 //! | `actions_leave_their_rows` | what comes of an action is read back from the rows that it leaves |
 //! | `actions_go_through_their_components` | which component a bid, a purchase, a close and feedback enter right after Web |
+//! | `actions_stay_within_their_reach` | no step of a call enters, reads, lists or puts what its action may not |
 //! | `what_was_done_is_refused` | a second feedback of one side is refused, what is tried on an item whose auction is over, and a bid of no more than the last |
 //! | `who_registers_signs_in` | over the rows that registering leaves the password signs in; the rows have no more of it than its digest |
 //! | `sessions_are_of_users` | whose the session is after each action, and that a refusal leaves it |
@@ -63,12 +66,13 @@ pub use coherence_laws::{
     actions_keep_rows_coherent, closing_sells_to_the_greatest_bid, low_bids_are_exact,
 };
 pub use laws::{
-    calls_run_as_the_site, commits_are_meant, followed_calls_are_made, plans_come_to_the_site,
+    calls_run_as_the_site, commits_are_meant, followed_calls_are_made, journals_stay_meant,
+    plans_come_to_the_site,
 };
 pub use limits::{CATEGORY_EDITOR, HOUR, LAST_BID, LAST_FEEDBACK, LAST_NUMBER, PAGE_ITEMS};
 pub use row_laws::actions_leave_their_rows;
 pub use shop_laws::{
-    actions_are_accepted, actions_go_through_their_components, limits_are,
-    only_buying_is_not_repeated, sessions_are_of_users, what_was_done_is_refused,
+    actions_are_accepted, actions_go_through_their_components, actions_stay_within_their_reach,
+    limits_are, only_buying_is_not_repeated, sessions_are_of_users, what_was_done_is_refused,
     who_registers_signs_in, writes_are_rows,
 };

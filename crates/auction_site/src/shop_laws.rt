@@ -33,6 +33,7 @@ ghost use Rattle.auction_site.specs.Coherent.{row_at};
 ghost use Rattle.auction_site.specs.Done.{IsOver};
 ghost use Rattle.auction_site.specs.Outcomes.{registered, category_added, offered, bid_made, bought, closed, after_close, feedback_given, signed_in, sold_to, with_bid, with_given};
 ghost use Rattle.call_ticket.specs.Repeated.{may_repeat};
+ghost use Rattle.auction_site.specs.Reached.{reach_of, stays_within};
 ghost use Rattle.auction_site.specs.Sessions.{SetsSession, leaves_session};
 ghost use Rattle.auction_site.specs.Accepted.{Counts, MayRegister, MaySignIn, MayAddCategory, MaySell, MayBid, MayBuy, MayClose, MayGiveFeedback};
 ghost use Rattle.auction_site.specs.Written.{HaveBytes, SpellsARow};
@@ -162,6 +163,13 @@ pub fn actions_go_through_their_components()
         steps_of call (Entered ∷ []) ≡ next.Enter (record { 0 = 6 }) 0 }
     ensures feedback { (call : ActionCall) (item : ℕ) (good : Bool) (text : List ℕ) → call.action ≡ Feedback item good text →
         steps_of call (Entered ∷ []) ≡ next.Enter (record { 0 = 7 }) 0 }
+{}
+
+/// Each step of a call, after whatever answers, enters a component, or reads, lists or puts a row of a table, that the
+/// action may (`reach_of`, which has them for each action), and no other.
+pub fn actions_stay_within_their_reach()
+    ensures { (call : ActionCall) (answers : List Answer) →
+        stays_within (reach_of call.action) (steps_of call answers) ≡ true }
 {}
 
 /// A purchase enters a component by a method that may not be called again, right after Web, and no other action
