@@ -52,7 +52,7 @@ cookie_before s turn t key cookie sound leads is = by_kind (is_write turn) refl
         let kept : Some one.cookie ≡ Some cookie = sym (kept_cookie s t key one.cookie one.cookies_are) ∙ is in
         inr (record { value = value; text = text; turn_is = turn_is ∙ ap (λ n. Does (lines.Write n value) text) same; by = one; cookie_is = cc })
 
-    written : (k : ℕ) (value text : List ℕ) → turn ≡ Does (lines.Write k value) text → Acknowledged s k value t text ⊎ Unacknowledged s k t text → (cookie_of s key ≡ Some cookie) ⊎ MadeCookie s turn t key cookie
+    written : (k : ℕ) (value text : List ℕ) → turn ≡ Does (lines.Write k value) text → Acknowledged s k value t text ⊎ Unacknowledged s k value t text → (cookie_of s key ≡ Some cookie) ⊎ MadeCookie s turn t key cookie
     written k value text turn_is (inl by) = acknowledged k value text (k == key) refl turn_is by
     written k value text turn_is (inr none) = inl (sym (same_cookie s t key none.cookies_are) ∙ is)
 

@@ -22,7 +22,6 @@ use Rattle.ssm_stub.specs.declared.event.Told.{Told}
 use Rattle.ssm_stub.specs.declared.event.Told.TheVariants as told
 use Rattle.ssm_stub.specs.declared.read_call.ReadRefusal.{ReadRefusal}
 use Rattle.ssm_stub.specs.declared.write_call.WriteRefusal.{WriteRefusal}
-use Rattle.ssm_stub.specs.declared.reply.ReadReply.{ReadReply}
 use Rattle.ssm_stub.specs.declared.reply.WriteReply.{WriteReply}
 use Rattle.ssm_stub.specs.Runs.{fits}
 use Rattle.ssm_stub.specs.Turns.{turn_after_asks, next_unless}
@@ -401,27 +400,9 @@ pub record WriteGone (s : WriteState) (n : ℕ) (v : StoreState) : Type 0 where
   pub answers : write_answer end ≡ Some answer
   pub over : write_next end ≡ next.Ended
 
--- A read after it has gone on: it has its answer, and is the same but for what it was told.
-pub record ReadGone (s : ReadState) (n : ℕ) (v : StoreState) : Type 0 where
-  pub end : ReadState
-  pub there : slice_get v.world.calls n ≡ Some (call.Read end)
-  pub moment_is : end.moment ≡ s.moment
-  pub nonce_is : end.nonce ≡ s.nonce
-  pub key_is : end.key ≡ s.key
-  pub version_is : end.version ≡ s.version
-  pub expiry_is : end.expiry ≡ s.expiry
-  pub asked_are : asked_of end.asks ≡ asked_of s.asks
-  pub answer : Result (List ℕ) ReadRefusal
-  pub answers : read_answer end ≡ Some answer
-  pub over : read_next end ≡ next.Ended
-
 write_in : Call → WriteState → WriteState
 write_in (call.Write s) other = s
 write_in (call.Read s) other = other
-
-read_in : Call → ReadState → ReadState
-read_in (call.Write s) other = other
-read_in (call.Read s) other = s
 
 pub write_gone : (st : StoreState) (n : ℕ) (s : WriteState) → IsMade st.world → LanesAreOf st → slice_get st.world.calls n ≡ Some (call.Write s) → WriteGone s n (gone_on st n)
 unfolding write_in
@@ -446,27 +427,3 @@ write_gone st n s made lanes there =
             over = over;
           }
       go (call.Read end) at same over = absurd (cc)
-
-pub read_gone : (st : StoreState) (n : ℕ) (s : ReadState) → IsMade st.world → LanesAreOf st → slice_get st.world.calls n ≡ Some (call.Read s) → ReadGone s n (gone_on st n)
-unfolding read_in
-read_gone st n s made lanes there =
-    let gone : Gone st n (call.Read s) (gone_on st n) = goes_on st n (call.Read s) made lanes there in
-    go gone.end gone.there gone.same gone.over where
-      go : (d : Call) → slice_get (gone_on st n).world.calls n ≡ Some d → untold d ≡ untold (call.Read s) → next_of d ≡ next.Ended → ReadGone s n (gone_on st n)
-      go (call.Write end) at same over = absurd (cc)
-      go (call.Read end) at same over =
-          let one : read_in (untold (call.Read end)) s ≡ read_in (untold (call.Read s)) s = ap (λ c. read_in c s) same in
-          let has : (answer : Result (List ℕ) ReadRefusal) × (read_answer end ≡ Some answer) = read_ends end over in
-          record {
-            end = end;
-            there = at;
-            moment_is = ap (λ (x : ReadState). x.moment) one;
-            nonce_is = ap (λ (x : ReadState). x.nonce) one;
-            key_is = ap (λ (x : ReadState). x.key) one;
-            version_is = ap (λ (x : ReadState). x.version) one;
-            expiry_is = ap (λ (x : ReadState). x.expiry) one;
-            asked_are = sym (asked_none ReadReply (asked_of end.asks)) ∙ ap (λ (x : ReadState). asked_of x.asks) one ∙ asked_none ReadReply (asked_of s.asks);
-            answer = has.0;
-            answers = has.1;
-            over = over;
-          }

@@ -28,7 +28,3 @@ heard_first st call place packet brick old new lane first less here number there
 pub turns_end : (n : ℕ) (st : StoreState) (call : ℕ) → turn_of st call (slice_get st.world.calls call) ≡ st → turns n st call ≡ st
 turns_end zero st call ended = refl
 turns_end (suc n) st call ended = ap (λ (s : StoreState). turns n s call) ended ∙ turns_end n st call ended
-
--- one turn of those that are left
-pub turns_one : (n left : ℕ) (st : StoreState) (call : ℕ) → n ≡ suc left → turns left (turn_of st call (slice_get st.world.calls call)) call ≡ turns n st call
-turns_one n left st call is = rw is refl

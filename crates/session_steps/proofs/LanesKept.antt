@@ -319,6 +319,3 @@ set_up_sound setup boot = go setup.counts where
 
 pub all_sound : (setup : SetupState) (boot : ℕ) (turns : List SessionTurn) (t : SessionsState) (st : StoreState) → Lead (set_up setup boot) turns t → t.store ≡ Some st → StoreIsSound st
 all_sound setup boot turns t st lead is = store_sound t st (lead_keeps (set_up setup boot) t turns (set_up_sound setup boot) lead) is
-
-pub lanes_led : (setup : SetupState) (boot : ℕ) (turns : List SessionTurn) (t : SessionsState) (st : StoreState) → Lead (set_up setup boot) turns t → t.store ≡ Some st → LanesAreOf st
-lanes_led setup boot turns t st lead is = (all_sound setup boot turns t st lead is).lanes

@@ -1,5 +1,5 @@
 -- The nonce that is drawn next is new while boots rise.
-use Rattle.std.proofs.Common.{◌≡◌, ◌⊎◌, inl, inr, ℕ, ◌+◌, ◌-◌, ◌^◌, ◌<◌, min, Bool, true, false, not, List, [], ◌∷◌, Option, Some, None, refl, sym, ap, ◌∙◌, subst, arith}
+use Rattle.std.proofs.Common.{◌≡◌, ◌⊎◌, inl, inr, ℕ, ◌+◌, ◌-◌, ◌^◌, ◌<◌, ◌≤◌, min, Bool, true, false, not, List, [], ◌∷◌, Option, Some, None, refl, sym, ap, ◌∙◌, subst, arith}
 use Rattle.std.specs.List.{list_any}
 use Rattle.crash_base.specs.declared.numbers.Version.{Version}
 use Rattle.crash_base.specs.Same.{same_version}
@@ -100,21 +100,26 @@ none_had : (counts : Option BrickCounts) (version : Version) → HasHad (store_o
 none_had None version had = had
 none_had (Some c) version had = let clash : None ≡ Some had.1 = had.2 in cc
 
--- the nonce that is drawn next is new, while serials are left
-pub nonce_new : (setup : SetupState) (boot : ℕ) (turns : List SessionTurn) (u : SessionsState) (st : StoreState) → BootsRise boot turns → Lead (set_up setup boot) turns u → u.store ≡ Some st → u.serial < 2 ^ 64 - 1 → is_new st.world (nonce u) ≡ true
-nonce_new setup boot turns u st rises leads store_is left = go (list_any (λ (c : Call). same_version (nonce_of c) (nonce u)) st.world.calls) refl
+-- a nonce that is still to be drawn
+abbrev pub at_serial : SessionsState → ℕ → Version
+at_serial u serial = record (nonce u) { serial = serial }
+
+-- is new, while serials are left
+pub nonce_new : (setup : SetupState) (boot : ℕ) (turns : List SessionTurn) (u : SessionsState) (st : StoreState) (serial : ℕ) → BootsRise boot turns → Lead (set_up setup boot) turns u → u.store ≡ Some st → u.serial < 2 ^ 64 - 1 → u.serial ≤ serial
+    → is_new st.world (at_serial u serial) ≡ true
+nonce_new setup boot turns u st serial rises leads store_is left still = go (list_any (λ (c : Call). same_version (nonce_of c) (at_serial u serial)) st.world.calls) refl
   where
     earlier : AreEarlier u
     earlier = turns_earlier turns (set_up setup boot) u (set_up_sound setup boot) rises leads (λ version had. absurd (none_had setup.counts version had))
 
-    clashes : IsEarlier (nonce u) u → ⊥
+    clashes : IsEarlier (at_serial u serial) u → ⊥
     clashes (inl less) = omega (arith, less)
-    clashes (inr (same, inl less)) = omega (arith, less)
+    clashes (inr (same, inl less)) = omega (arith, less, still)
     clashes (inr (same, inr last)) = omega (arith, last, left)
 
-    had : PassesAt (λ (c : Call). same_version (nonce_of c) (nonce u)) st.world.calls → ⊥
-    had found = clashes (earlier (nonce u) (subst (λ o. HasHad o (nonce u)) (sym store_is) (found.place, found.item, found.there, version_is (nonce_of found.item) (nonce u) found.passes)))
+    had : PassesAt (λ (c : Call). same_version (nonce_of c) (at_serial u serial)) st.world.calls → ⊥
+    had found = clashes (earlier (at_serial u serial) (subst (λ o. HasHad o (at_serial u serial)) (sym store_is) (found.place, found.item, found.there, version_is (nonce_of found.item) (at_serial u serial) found.passes)))
 
-    go : (b : Bool) → list_any (λ (c : Call). same_version (nonce_of c) (nonce u)) st.world.calls ≡ b → not b ≡ true
+    go : (b : Bool) → list_any (λ (c : Call). same_version (nonce_of c) (at_serial u serial)) st.world.calls ≡ b → not b ≡ true
     go false is = refl
-    go true is = absurd (had (any_passes (λ (c : Call). same_version (nonce_of c) (nonce u)) st.world.calls is))
+    go true is = absurd (had (any_passes (λ (c : Call). same_version (nonce_of c) (at_serial u serial)) st.world.calls is))

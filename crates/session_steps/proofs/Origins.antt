@@ -42,7 +42,7 @@ acknowledged_line s key value t text sound a = record {
 
 -- a write line that was done was acknowledged, or was not
 pub write_told : StayLaw → (setup : SetupState) (boot : ℕ) (before : List SessionTurn) (s t : SessionsState) (key : ℕ) (value text : List ℕ) → Lead (set_up setup boot) before s
-    → session_line s (lines.Write key value) ≡ Done t text → IsAcknowledged s key t text ⊎ IsUnacknowledged s key t text
+    → session_line s (lines.Write key value) ≡ Done t text → IsAcknowledged s key t text ⊎ IsUnacknowledged s key value t text
 write_told stay setup boot before s t key value text leads is = go (write_ends s key value t text sound is)
   where
     start : SessionsState
@@ -54,7 +54,7 @@ write_told stay setup boot before s t key value text leads is = go (write_ends s
     d : WriteDone s key value t text
     d = write_done s key value t text is
 
-    go : Acknowledged s key value t text ⊎ Unacknowledged s key t text → IsAcknowledged s key t text ⊎ IsUnacknowledged s key t text
+    go : Acknowledged s key value t text ⊎ Unacknowledged s key value t text → IsAcknowledged s key t text ⊎ IsUnacknowledged s key value t text
     go (inl a) = inl (acknowledged_line s key value t text (one_turn_keeps s t (Does (lines.Write key value) text) sound is) a)
     go (inr none) = inr (record {
       same = λ other. same_cookie s t other none.cookies_are;

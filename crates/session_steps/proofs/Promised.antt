@@ -104,7 +104,7 @@ acknowledged_write stay setup boot before s t key value text cookie leads is has
     sound_s : SoundIfAny s.store
     sound_s = lead_keeps (set_up setup boot) s before (set_up_sound setup boot) leads
 
-    go : Acknowledged s key value t text ⊎ Unacknowledged s key t text → (a : Acknowledged s key value t text) × (a.cookie ≡ cookie)
+    go : Acknowledged s key value t text ⊎ Unacknowledged s key value t text → (a : Acknowledged s key value t text) × (a.cookie ≡ cookie)
     go (inl a) = let one : Some a.cookie ≡ Some cookie = sym (kept_cookie s t key a.cookie a.cookies_are) ∙ has in (a, cc)
     go (inr none) =
         let kept : IsKept s key cookie = turns_keep stay before (set_up setup boot) s (set_up_sound setup boot) (set_up_kept setup boot) leads key cookie (sym (same_cookie s t key none.cookies_are) ∙ has) in

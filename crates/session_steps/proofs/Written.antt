@@ -1,27 +1,32 @@
 -- What a write line leaves that was done: the cookie with which its value is acknowledged, or the cookies as they were.
-use Rattle.std.proofs.Common.{◌≡◌, ◌⊎◌, inl, inr, ℕ, ◌<◌, true, nat_lt, List, length, take, arith, Some, Ok, sym, ap, ◌∙◌}
-use Rattle.std.specs.Prelude.{slice_set, nat_le}
+use Rattle.std.proofs.Common.{◌≡◌, ◌⊎◌, inl, inr, ℕ, ◌<◌, true, nat_lt, List, length, take, arith, Some, Ok, Err, sym, ap, ◌∙◌}
+use Rattle.std.specs.Prelude.{slice_get, slice_set, nat_le}
 use Rattle.std.specs.List.{filter_map}
 use Rattle.std.proofs.lemmas.List.{length-take-le}
 use Rattle.std.proofs.lemmas.Bool.Decides.{nat_tests}
 use Rattle.scenario_text.specs.Answer.{Done}
+use Rattle.scenario_text.specs.declared.session_line.SessionLine.TheVariants as lines
 use Rattle.session_cookie.specs.declared.cookie.Cookie.{Cookie}
 use Rattle.session_cookie.specs.declared.cookie.Holder.{Holder}
 use Rattle.ssm_frames.specs.declared.frame.Frame.TheVariants.{Put}
 use Rattle.send_windows.specs.Facts.{open_count}
+use Rattle.ssm_stub.specs.declared.write_call.WriteRefusal.TheVariants as missing
+use Rattle.ssm_stub.specs.Turns.{none_asked}
 use Rattle.ssm_stub.specs.Writes.{WriteState, write_start, write_answer, holder_of}
 use Rattle.ssm_world.specs.declared.call.Call.TheVariants as call
-use Rattle.ssm_world.specs.Claims.{IsAcknowledged}
+use Rattle.ssm_world.specs.Claims.{IsAcknowledged, WriteOrder, write_state, WasMissed as WasMissedInWorld}
+use Rattle.ssm_world.specs.Worlds.{WorldValue, new_world, after, IsMade}
 use Rattle.ssm_world.proofs.Holding.{answer_cookie}
-use Rattle.session_steps.specs.Promise.{SaysWhy}
+use Rattle.ssm_world.proofs.Missing.{missed_for}
+use Rattle.session_steps.specs.Promise.{Does, SaysWhy, WasMissed}
 use Rattle.session_steps.specs.Sessions.{SessionsState, with_store, drawn, nonce, session_key, expiry, padded, spent_by, write_line}
 use Rattle.session_steps.specs.Store.{StoreState}
 use Rattle.session_steps.specs.Texts.{version_text}
 use Rattle.session_steps.proofs.Calls.{bricks_of_write, write_ended, write_may}
 use Rattle.session_steps.proofs.Ending.{WriteGone}
-use Rattle.session_steps.proofs.LanesKept.{StoreIsSound, SoundIfAny}
+use Rattle.session_steps.proofs.LanesKept.{StoreIsSound, SoundIfAny, one_turn_keeps}
 use Rattle.session_steps.proofs.TurnsMade.{sound_of}
-use Rattle.session_steps.proofs.Lines.{passes_of, store_after_write, HasAnswered, WriteDone, write_done, IsAcknowledgedAs, written_by}
+use Rattle.session_steps.proofs.Lines.{passes_of, store_after_write, HasAnswered, WriteDone, write_done, IsAcknowledgedAs, IsMissed, written_by}
 
 -- A write line was done, and its value is acknowledged with a cookie.
 pub record Acknowledged (s : SessionsState) (key : ℕ) (value : List ℕ) (t : SessionsState) (text : List ℕ) : Type 0 where
@@ -37,9 +42,9 @@ pub record Acknowledged (s : SessionsState) (key : ℕ) (value : List ℕ) (t : 
   pub text_is : text ≡ version_text key cookie
 
 -- A write line was done, and its value is not acknowledged: the windows were full, or too few bricks stored it.
-pub record Unacknowledged (s : SessionsState) (key : ℕ) (t : SessionsState) (text : List ℕ) : Type 0 where
+pub record Unacknowledged (s : SessionsState) (key : ℕ) (value : List ℕ) (t : SessionsState) (text : List ℕ) : Type 0 where
   pub cookies_are : t.cookies ≡ s.cookies
-  pub says : SaysWhy s key text
+  pub says : SaysWhy s key value t text
 
 taken_count : (n : ℕ) (holders : List Holder) → nat_le n (length holders) ≡ true → length (take n holders) ≡ n
 taken_count n holders enough = length-take-le n holders (grind (arith, nat_tests))
@@ -78,15 +83,53 @@ acknowledged_by s key value st t text store_is sound a ok =
       text_is = ok.text_is;
     }
 
+-- the write of the line was missed in the world of the bricks
+missed_by : (s : SessionsState) (key : ℕ) (value : List ℕ) (st : StoreState) (t : SessionsState) (text : List ℕ) → s.store ≡ Some st → StoreIsSound st → (a : HasAnswered s key value st t text)
+    → IsMissed (with_store (drawn s) (spent_by a.write (passes_of s st) (store_after_write s key value st))) key a.answer t text → SoundIfAny t.store → WasMissed s key value t text
+missed_by s key value st t text store_is sound a missed after_sound =
+    let start : WriteState = write_start (bricks_of_write s st) st.windows.wq (nonce s) (session_key key) value (expiry s) in
+    let n : ℕ = length st.world.calls in
+    let gone : WriteGone start n (store_after_write s key value st) = write_ended s key value st sound (write_may s key value st (call.Write a.write) a.there) in
+    let one : Some (call.Write gone.end) ≡ Some (call.Write a.write) = sym gone.there ∙ a.there in
+    let same : gone.end ≡ a.write = cc in
+    let answers : write_answer gone.end ≡ Some (Err (missing.Missed missed.causes)) = ap write_answer same ∙ a.answers ∙ ap (λ x. Some x) missed.answer_is in
+    let later : StoreState = spent_by a.write (passes_of s st) (store_after_write s key value st) in
+    let later_is : t.store ≡ Some later = ap (λ (x : SessionsState). x.store) missed.state_is in
+    let made : IsMade later.world = (sound_of t.store later later_is after_sound).made in
+    let there : slice_get (after (new_world made.bricks) made.events).calls n ≡ Some (call.Write gone.end) = ap (λ (w : WorldValue). slice_get w.calls n) (sym made.made) ∙ gone.there in
+    let why : WasMissedInWorld made.bricks made.events n gone.end missed.causes = missed_for made.bricks made.events n gone.end missed.causes there answers in
+    let order : WriteOrder = why.order in
+    let its : write_state order ≡ record (gone.end) { asks = none_asked order.bricks } = sym why.order_is in
+    let nonce_is : order.nonce ≡ nonce s = ap (λ (r : WriteState). r.nonce) its ∙ gone.nonce_is in
+    let key_is : order.key ≡ session_key key = ap (λ (r : WriteState). r.key) its ∙ gone.key_is in
+    let expiry_is : order.expiry ≡ expiry s = ap (λ (r : WriteState). r.expiry) its ∙ gone.expiry_is in
+    let least_is : order.least ≡ st.windows.wq = ap (λ (r : WriteState). r.least) its ∙ gone.least_is in
+    let puts : Put order.nonce order.key order.nonce order.expiry order.value ≡ Put (nonce s) (session_key key) (nonce s) (expiry s) value = ap (λ (r : WriteState). r.ask) its ∙ gone.ask_is in
+    let value_is : order.value ≡ value = cc in
+    record {
+      before = st;
+      before_is = store_is;
+      later = later;
+      later_is = later_is;
+      bricks = made.bricks;
+      events = made.events;
+      made = made.made;
+      write = gone.end;
+      causes = missed.causes;
+      missed = why;
+      order_is = λ l. record { nonce = nonce_is l; key = key_is l; value = value_is l; expiry = expiry_is l; bricks = order.bricks; least = least_is l };
+      text_is = missed.text_is;
+    }
+
 is_less : (a b : ℕ) → nat_lt a b ≡ true → a < b
 is_less a b is = grind (arith, nat_tests)
 
 -- how a write line ends that was done
 pub write_ends : (s : SessionsState) (key : ℕ) (value : List ℕ) (t : SessionsState) (text : List ℕ) → SoundIfAny s.store → write_line s key value ≡ Done t text
-    → Acknowledged s key value t text ⊎ Unacknowledged s key t text
+    → Acknowledged s key value t text ⊎ Unacknowledged s key value t text
 write_ends s key value t text sound is = go (write_done s key value t text is)
   where
-    go : WriteDone s key value t text → Acknowledged s key value t text ⊎ Unacknowledged s key t text
+    go : WriteDone s key value t text → Acknowledged s key value t text ⊎ Unacknowledged s key value t text
     go d = elim d.by [
       | inl over ↦ inr (record {
         cookies_are = ap (λ (x : SessionsState). x.cookies) over.state_is;
@@ -99,6 +142,6 @@ write_ends s key value t text sound is = go (write_done s key value t text is)
       })
       | inr a ↦ elim (written_by (with_store (drawn s) (spent_by a.write (passes_of s d.store) (store_after_write s key value d.store))) key a.answer t text a.done) [
         | inl ok ↦ inl (acknowledged_by s key value d.store t text d.store_is (sound_of s.store d.store d.store_is sound) a ok)
-        | inr missed ↦ inr (record { cookies_are = ap (λ (x : SessionsState). x.cookies) missed.state_is; says = inr (missed.causes, missed.text_is) })
+        | inr missed ↦ inr (record { cookies_are = ap (λ (x : SessionsState). x.cookies) missed.state_is; says = inr (missed_by s key value d.store t text d.store_is (sound_of s.store d.store d.store_is sound) a missed (one_turn_keeps s t (Does (lines.Write key value) text) sound is)) })
       ]
     ]

@@ -14,7 +14,10 @@ use Rattle.ssm_stub.specs.declared.cause.BrickCause.{BrickCause}
 use Rattle.ssm_stub.specs.declared.cause.Cause.{Cause}
 use Rattle.ssm_stub.specs.declared.cause.Cause.TheVariants as cause
 use Rattle.ssm_stub.specs.declared.ear.TheConstants.{MAX_STRAYS}
-use Rattle.ssm_world.specs.Worlds.{bricks_of, may_be_asked}
+use Rattle.ssm_stub.specs.Writes.{WriteState}
+use Rattle.ssm_world.specs.declared.event.WorldEvent.{WorldEvent}
+use Rattle.ssm_world.specs.Claims.{WasMissed as WasMissedInWorld}
+use Rattle.ssm_world.specs.Worlds.{new_world, after, bricks_of, may_be_asked}
 use Rattle.session_steps.specs.Lanes.{LaneState, lane_at}
 use Rattle.session_steps.specs.Sessions.{SessionsState, session_line, reopened, nonce, session_key, cookie_of, expiry}
 use Rattle.session_steps.specs.Setup.{SetupState, set_up}
@@ -217,17 +220,33 @@ pub record WasFull (s : SessionsState) (key : ℕ) (text : List ℕ) : Type 0 wh
   pub few_open : open_count store.windows.facts < store.windows.wq
   pub text_is : text ≡ overload_text key (full_facts store.windows.facts)
 
--- what a write line writes that is not acknowledged: that too few windows were open, or that too few bricks stored the
+-- Too few bricks stored a value, and a write line told why: its write, with the nonce that the line drew, was missed in the
+-- world of the bricks with these causes.
+pub record WasMissed (s : SessionsState) (key : ℕ) (value : List ℕ) (t : SessionsState) (text : List ℕ) : Type 0 where
+  pub before : StoreState
+  pub before_is : s.store ≡ Some before
+  pub later : StoreState
+  pub later_is : t.store ≡ Some later
+  pub bricks : ℕ
+  pub events : List WorldEvent
+  pub made : later.world ≡ after (new_world bricks) events
+  pub write : WriteState
+  pub causes : List BrickCause
+  pub missed : WasMissedInWorld bricks events (length before.world.calls) write causes
+  pub order_is : missed.order ≡ record { nonce = nonce s; key = session_key key; value = value; expiry = expiry s; bricks = missed.order.bricks; least = before.windows.wq }
+  pub text_is : text ≡ missed_text key causes
+
+-- what a write line writes that is not acknowledged: that too few windows were open, or why too few bricks stored the
 -- value
-abbrev pub SaysWhy : SessionsState → ℕ → List ℕ → Type 0
-SaysWhy s key text = WasFull s key text ⊎ ((causes : List BrickCause) × (text ≡ missed_text key causes))
+abbrev pub SaysWhy : SessionsState → ℕ → List ℕ → SessionsState → List ℕ → Type 0
+SaysWhy s key value t text = WasFull s key text ⊎ WasMissed s key value t text
 
 -- A write line that was done and not acknowledged: each key has the cookie that it had, none of which has the nonce
 -- that the write drew as its version, and the line wrote why.
-pub record IsUnacknowledged (s : SessionsState) (key : ℕ) (t : SessionsState) (text : List ℕ) : Type 0 where
+pub record IsUnacknowledged (s : SessionsState) (key : ℕ) (value : List ℕ) (t : SessionsState) (text : List ℕ) : Type 0 where
   pub same : (other : ℕ) → cookie_of t other ≡ cookie_of s other
   pub unlike : (other : ℕ) (cookie : Cookie) → cookie_of t other ≡ Some cookie → cookie.version ≡ nonce s → ⊥
-  pub says : SaysWhy s key text
+  pub says : SaysWhy s key value t text
 
 -- A cookie of a key comes from turns: one among them is a write line that was acknowledged with it.
 pub record ComesFrom (s : SessionsState) (turns : List SessionTurn) (u : SessionsState) (key : ℕ) (cookie : Cookie) : Type 0 where

@@ -1,13 +1,15 @@
 //! What holds of the sessions of every scenario. Each law is the contract of a function that does nothing: a caller
 //! that needs the law calls the function.
 
-ghost use Rattle.std.specs.Prelude.{◌≡◌, ◌⊎◌, ◌<◌, ◌≤◌, ◌-◌, ◌^◌, ℕ, List, true, false, slice_get, Some};
+ghost use Rattle.std.specs.Prelude.{◌≡◌, ◌≢◌, ◌⊎◌, ◌↔◌, ◌<◌, ◌≤◌, ◌-◌, ◌^◌, ℕ, List, true, false, codes, slice_get, Some};
 ghost use Rattle.scenario_text.specs.Answer.{Refused, Done};
 ghost use Rattle.scenario_text.specs.declared.session_line.SessionLine.TheVariants as lines;
 ghost use Rattle.session_cookie.specs.declared.cookie.Cookie.{Cookie};
 ghost use Rattle.session_cookie.specs.declared.cookie.Holder.{Holder};
+ghost use Rattle.session_cookie.specs.Text.{HasForm, HasNoForm, IsTextOf, Spells, SpellsNoBytes, tag_of};
 ghost use Rattle.ssm_stub.specs.declared.cause.BrickCause.{BrickCause};
 ghost use Rattle.ssm_world.specs.Worlds.{is_new, may_be_asked, bricks_of, IsMade};
+ghost use Rattle.session_steps.specs.Present.{presented_text};
 ghost use Rattle.session_steps.specs.Promise.{SessionTurn, Lead, CanServe, FindsValue, IsLost, IsRight, IsAcknowledged, IsUnacknowledged, ComesFrom, BootsRise, FetchedWrite, IsOfWrite, fetch_of, HasCrashedOrWasUnheard, NoneSweptLate};
 ghost use Rattle.session_steps.specs.Rule.{result_by_rule};
 ghost use Rattle.session_steps.specs.Sessions.{SessionsState, nonce, cookie_of, expiry, fetched_text, session_line};
@@ -27,12 +29,13 @@ pub fn sessions_are_worlds()
 
 /// A write line that is done is acknowledged or not. Where it is, the key's cookie has the nonce that the write drew as
 /// its version and expires a lease later, and the line writes the version. Where it is not, no cookie changes, none has
-/// that version, and the line writes which windows are full, or why too few bricks stored the value.
+/// that version, and the line writes which windows are full, or why too few bricks stored the value: the causes with which
+/// this very write was missed in the world of the bricks. It refuses causes that the write did not meet.
 pub fn writes_say_whether_they_are_acknowledged()
     ensures { (setup : SetupState) (boot : ℕ) (before : List SessionTurn) (s t : SessionsState)
         (key : ℕ) (value text : List ℕ)
         → Lead (set_up setup boot) before s → session_line s (lines.Write key value) ≡ Done t text
-        → IsAcknowledged s key t text ⊎ IsUnacknowledged s key t text }
+        → IsAcknowledged s key t text ⊎ IsUnacknowledged s key value t text }
 {
     acknowledged_cookies_stay_acknowledged();
 }
@@ -54,12 +57,30 @@ pub fn writes_with_new_nonces_are_done()
     taken_passes_are_lawful();
 }
 
-/// While each boot that starts has a greater number than the one before, and serials are left, no call has had the nonce
-/// that the next write or fetch draws.
+/// While each boot that starts has a greater number than the one before, and serials are left, no call has had a nonce
+/// that is still to be drawn in this boot: neither that of the next write or fetch, nor one of a later serial, in whatever
+/// order their calls begin.
 pub fn nonces_stay_new()
-    ensures { (setup : SetupState) (boot : ℕ) (turns : List SessionTurn) (u : SessionsState) (st : StoreState)
+    ensures { (setup : SetupState) (boot : ℕ) (turns : List SessionTurn) (u : SessionsState) (st : StoreState) (serial : ℕ)
         → BootsRise boot turns → Lead (set_up setup boot) turns u → u.store ≡ Some st → u.serial < 2 ^ 64 - 1
-        → is_new st.world (nonce u) ≡ true }
+        → u.serial ≤ serial → is_new st.world (record (nonce u) { serial = serial }) ≡ true }
+{}
+
+/// A text that is presented is written as `ok` exactly where it is the text of a cookie under the key of the service, as
+/// `notbase64` exactly where it spells no bytes, as `form` exactly where it spells bytes that are no cookie's fields and
+/// a tag, and as `tag` exactly where it spells fields and a tag, and the tag is not that of the fields under the key. It
+/// refuses a text that is taken under another key, and one whose fault is told by the wrong word.
+pub fn presented_texts_are_told_apart()
+    ensures ok { (key text : List ℕ)
+        → (presented_text key text ≡ codes "cookie ok\n") ↔ ((cookie : Cookie) × IsTextOf key cookie text) }
+    ensures notbase64 { (key text : List ℕ)
+        → (presented_text key text ≡ codes "cookie notbase64\n") ↔ SpellsNoBytes text }
+    ensures form { (key text : List ℕ)
+        → (presented_text key text ≡ codes "cookie form\n") ↔ ((bytes : List ℕ) × Spells text bytes × HasNoForm bytes) }
+    ensures tag { (key text : List ℕ)
+        → (presented_text key text ≡ codes "cookie tag\n")
+        ↔ ((bytes : List ℕ) × Spells text bytes × (cookie : Cookie) × (tag : List ℕ) × HasForm bytes cookie tag
+        × (tag ≢ tag_of key cookie)) }
 {}
 
 /// Each cookie of a key comes from a write line that was acknowledged with it.

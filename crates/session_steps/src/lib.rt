@@ -22,9 +22,9 @@
 //! the packets that wait in a lane are replies of its brick. So a call ends within 66 turns for each brick that it asks,
 //! and has its answer then; no line is refused after it has changed something.
 //!
-//! A line costs what its turns do, of which there is one for each ask and one for each reply that it hears. It does not
-//! cost more after more lines, but that a write or a fetch looks at all calls where its nonce is not after theirs. The
-//! packets and the calls of all lines are kept.
+//! A line costs what its turns do, of which there is one for each ask and one for each reply that it hears. After more
+//! lines a write and a fetch cost more by the logarithm of their number, since their nonce is looked up among those of all
+//! calls. The packets and the calls of all lines are kept.
 #![tactic(auto)]
 
 mod fetching;
@@ -41,8 +41,8 @@ mod writing;
 pub use laws::{
     cookies_come_from_writes, fetches_answer_by_the_rule, fetches_answer_what_was_written,
     fetches_lose_only_where_all_have, fetches_read_back, fetches_with_new_nonces_are_done,
-    nonces_stay_new, sessions_are_worlds, sessions_stand, writes_say_whether_they_are_acknowledged,
-    writes_with_new_nonces_are_done,
+    nonces_stay_new, presented_texts_are_told_apart, sessions_are_worlds, sessions_stand,
+    writes_say_whether_they_are_acknowledged, writes_with_new_nonces_are_done,
 };
 pub use sessions::{LEASE, MAX_MOMENT, NODE, Sessions};
 pub use setup::{BrickCounts, DEFAULT_KEY_BYTES, LEAST_KEY_BYTES, MOST_KEY_BYTES, Setup};

@@ -89,8 +89,7 @@ impl Sessions {
 
     /// A line about sessions. It visits each brick a few times; a write and a fetch cost what their turns do, of which
     /// there are at most 66 for each brick that is asked, and a sweep and a crash visit each value of the brick. What a
-    /// line costs does not grow with the number of lines, but for a write or a fetch in a boot that is not after all
-    /// boots before.
+    /// write or a fetch costs grows with the logarithm of the number of writes and fetches before.
     ///
     /// # Errors
     /// Out of memory, after which the present moment is 0, and no bricks and no cookies are left.
