@@ -194,11 +194,13 @@ impl ActionProgram {
         ActionProgram { call }
     }
 
-    /// The call.
-    pub fn call(&self) -> &ActionCall
+    /// The call, as the text of its commit is made of it (`action_text`). It is lent, so that a refused commit, which
+    /// drops the text and the answer, can be tried again.
+    pub fn call(&self) -> &CheckedCall
         ensures value { result.now ≡ self.now }
         ensures in_ranges { is_call self.now ≡ true }
     {
-        self.call.call()
+        self.call.call();
+        &self.call
     }
 }

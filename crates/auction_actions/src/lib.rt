@@ -37,9 +37,11 @@
 //!
 //! Each read and each write takes at most three steps, with the enter and the exit of the table's owner. At most
 //! four more lead into Web and what the action goes through, and out again; the last step is `Next::Done`. Each
-//! step calls `next` once, which decodes again the rows that were read so far, and after the last read makes the
-//! outcome again. A run of n reads of rows and m writes decodes at most 3 n (n + 1) / 2 + 3 n (m + 1) rows. That of
-//! Categories, which lists a table, decodes each of its rows at its last two steps.
+//! step calls `next` once. Where the plan decides the step, `next` decodes again the rows that were read so far, and
+//! after the last read makes the outcome again: at the enter of a table's owner, at the access, and at the steps that
+//! leave the home, of which there are three at most. An enter of the home and an exit of another owner decode none. So
+//! a run of n reads of rows and m writes decodes at most n (n + 2 m + 2) rows. That of Categories, which lists a table,
+//! decodes each of its rows at its last two steps.
 #![tactic(auto)]
 
 mod bids;
