@@ -26,27 +26,27 @@ event present present|present present
 event present k1.AZ_az+/=09|present k1.AZ_az+/=09
 event present !\"$%&'()*,:;<>?@[\\]^`{}~\t\x00\x7f|present !\"$%&'()*,:;<>?@[\\]^`{}~\t\x00\x7f
 event lose 2 5|lose 2 5
-event lose 0 18446744073709551615|lose 0 18446744073709551615
+event lose 1 18446744073709551615|lose 1 18446744073709551615
 event lose 18446744073709551615 0|lose 18446744073709551615 0
 event mute 2 5|mute 2 5
-event mute 0 18446744073709551615|mute 0 18446744073709551615
+event mute 1 18446744073709551615|mute 1 18446744073709551615
 event mute 18446744073709551615 0|mute 18446744073709551615 0
 event repeat 2 5|repeat 2 5
-event repeat 0 18446744073709551615|repeat 0 18446744073709551615
+event repeat 1 18446744073709551615|repeat 1 18446744073709551615
 event repeat 18446744073709551615 0|repeat 18446744073709551615 0
-event crash 0|crash 0
+event crash 1|crash 1
 event crash 18446744073709551615|crash 18446744073709551615
-event sweep 0|sweep 0
+event sweep 1|sweep 1
 event sweep 18446744073709551615|sweep 18446744073709551615
 event sweep_at 2 5|sweep 2 5
-event sweep_at 0 18446744073709551615|sweep 0 18446744073709551615
+event sweep_at 1 18446744073709551615|sweep 1 18446744073709551615
 event sweep_at 18446744073709551615 0|sweep 18446744073709551615 0
-event values 0|values 0
+event values 1|values 1
 event values 18446744073709551615|values 18446744073709551615
 event windows|windows
-event hold 0|hold 0
+event hold 1|hold 1
 event hold 18446744073709551615|hold 18446744073709551615
-event free 0 answered|free 0 answered
+event free 1 answered|free 1 answered
 event free 1 silent|free 1 silent
 event free 18446744073709551615 silent|free 18446744073709551615 silent";
 
@@ -77,6 +77,15 @@ const NUMBERS: &str =
 #[test]
 fn refuses_other_numbers(rt: HostRuntime) {
     expect_refused(&rt, rt.alloc(), NUMBERS);
+}
+
+/// Bricks are numbered from 1 on.
+const BRICKS: &str =
+    "lose 0 1/mute 0 1/repeat 0 1/crash 0/sweep 0/sweep 0 1/values 0/hold 0/free 0 answered/free 0 silent";
+
+#[test]
+fn refuses_brick_0(rt: HostRuntime) {
+    expect_refused(&rt, rt.alloc(), BRICKS);
 }
 
 const KEYS: &str =

@@ -20,7 +20,7 @@ groups: reads descriptors in TOML from standard input and writes each component 
 workload, serve: not built yet\n";
 
 /// What `--version` writes.
-const VERSION: &str = "crash 0.1.0\n";
+const VERSION: &str = "crash 0.2.0\n";
 
 /// Writes texts one after another.
 fn write_texts<T: Sink>(out: &mut T, texts: &[&str]) -> Result<(), Failed> {

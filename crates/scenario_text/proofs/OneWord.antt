@@ -15,8 +15,8 @@ use borrow.Author.Tests.{tests}
 use Rattle.crash_base.proofs.Options.{then_some, map_some}
 use Rattle.crash_base.specs.declared.names.TheConstants.{MAX_NAME_BYTES}
 use Rattle.crash_base.specs.Names.{is_name, is_name_byte}
-use Rattle.scenario_text.specs.Fields.{name_of, digits_from, decimal_number, lettered_number}
-use Rattle.scenario_text.specs.FieldSpelling.{IsWithin, IsNumber, IsName, IsNameByte}
+use Rattle.scenario_text.specs.Fields.{name_of, digits_from, decimal_number, brick_number, lettered_number}
+use Rattle.scenario_text.specs.FieldSpelling.{IsWithin, IsNumber, IsBrick, IsName, IsNameByte}
 
 -- the number that digits go on to
 abbrev read : ℕ → List ℕ → ℕ
@@ -103,6 +103,23 @@ number_read n h =
 -- they are digits only
 pub decimal_digits : (n : ℕ) → IsNumber n → all_ascii_digits (decimal n) ≡ true
 decimal_digits n h = digits_decimal own n h
+
+-- a word that says a brick is its digits
+pub brick_spelled : (word : List ℕ) (n : ℕ) → brick_number word ≡ Some n → (word ≡ decimal n) × IsBrick n
+brick_spelled word n h =
+    let f : ℕ → Option ℕ = λ m. cond (nat_le 1 m) (Some m) None in
+    let (m, e, k) = then_some f (decimal_number word) n h in
+    let g = cond_some (nat_le 1 m) m n k in
+    let d = number_spelled word m e in
+    let same : m ≡ n = g.1 in
+    let low : 1 ≤ n = grind (arith, nat_tests) in
+    (d.0 ∙ ap decimal same, (low, rw (← same) d.1))
+
+-- and its digits say it
+pub brick_read : (n : ℕ) → IsBrick n → brick_number (decimal n) ≡ Some n
+brick_read n (low, small) =
+    let some : nat_le 1 n ≡ true = grind (arith, nat_tests) in
+    rw (number_read n small, some) refl
 
 -- a word that says a lettered number is the letter and that number
 pub lettered_spelled : (letter highest : ℕ) (word : List ℕ) (c : ℕ) → lettered_number letter highest word ≡ Some c → (word ≡ letter ∷ decimal c) × IsWithin 1 highest c

@@ -8,11 +8,11 @@ use Rattle.crash_base.specs.Names.{is_name_byte}
 use Rattle.scenario_text.specs.declared.line.TheConstants.{MAX_CALLER}
 use Rattle.scenario_text.specs.declared.session_line.TheConstants.{MAX_KEY}
 use Rattle.scenario_text.specs.declared.session_line.Freed.{Freed}
-use Rattle.scenario_text.specs.Fields.{name_of, decimal_number, caller_number, key_number, hex_bytes, presented_text, freed_of}
+use Rattle.scenario_text.specs.Fields.{name_of, decimal_number, brick_number, caller_number, key_number, hex_bytes, presented_text, freed_of}
 use Rattle.scenario_text.specs.Texts.{hex_text}
-use Rattle.scenario_text.specs.FieldSpelling.{IsName, IsNumber, IsCaller, IsSessionKey, IsPresented, AreBytes, caller_word, key_word, freed_word}
+use Rattle.scenario_text.specs.FieldSpelling.{IsName, IsNumber, IsBrick, IsCaller, IsSessionKey, IsPresented, AreBytes, caller_word, key_word, freed_word}
 use Rattle.scenario_text.specs.Words.{one_word, two_words, three_words, four_words}
-use Rattle.scenario_text.proofs.OneWord.{number_read, number_spelled, decimal_digits, lettered_read, lettered_spelled, is_name_read, name_read, name_spelled}
+use Rattle.scenario_text.proofs.OneWord.{number_read, number_spelled, brick_read, brick_spelled, decimal_digits, lettered_read, lettered_spelled, is_name_read, name_read, name_spelled}
 use Rattle.scenario_text.proofs.Splits.{is_whole, whole_more, digits_whole, name_whole}
 use Rattle.scenario_text.proofs.SessionWords.{presented_read, presented_spelled, presented_whole, freed_read, freed_spelled, freed_whole}
 use Rattle.scenario_text.proofs.Hexadecimal.{hex_spelled, hex_read, hex_whole}
@@ -32,6 +32,9 @@ named_whole name h = name_whole name (and_parts _ (list_all is_name_byte name) (
 pub number_whole : (n : ℕ) → IsNumber n → is_whole (decimal n) ≡ true
 number_whole n h = digits_whole (decimal n) (decimal_digits n h)
 
+pub brick_whole : (n : ℕ) → IsBrick n → is_whole (decimal n) ≡ true
+brick_whole n (low, small) = number_whole n small
+
 pub caller_whole : (c : ℕ) → IsCaller c → is_whole (caller_word c) ≡ true
 caller_whole c (low, high) = whole_more 99 (decimal c) refl (number_whole c (omega arith))
 
@@ -43,6 +46,9 @@ names = record { says = name_of; word = λ n. n; IsIn = IsName; spelled = name_s
 
 abbrev pub numbers : Kind ℕ
 numbers = record { says = decimal_number; word = decimal; IsIn = IsNumber; spelled = number_spelled; read = number_read; whole = number_whole }
+
+abbrev pub bricks : Kind ℕ
+bricks = record { says = brick_number; word = decimal; IsIn = IsBrick; spelled = brick_spelled; read = brick_read; whole = brick_whole }
 
 abbrev pub callers : Kind ℕ
 callers = record { says = caller_number; word = caller_word; IsIn = IsCaller; spelled = lettered_spelled 99 MAX_CALLER; read = lettered_read 99 MAX_CALLER (omega arith); whole = caller_whole }

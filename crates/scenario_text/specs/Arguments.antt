@@ -2,7 +2,7 @@
 use Rattle.std.specs.Prelude.{ℕ, List, Option, option_and_then}
 use Rattle.std.specs.Option.{option_zip}
 use Rattle.scenario_text.specs.declared.session_line.Freed.{Freed}
-use Rattle.scenario_text.specs.Fields.{name_of, decimal_number, caller_number, key_number, hex_bytes, presented_text, freed_of}
+use Rattle.scenario_text.specs.Fields.{name_of, decimal_number, brick_number, caller_number, key_number, hex_bytes, presented_text, freed_of}
 use Rattle.scenario_text.specs.Words.{one_word, two_words, three_words}
 
 -- the name that is the only word
@@ -66,10 +66,19 @@ abbrev pub key_and_bytes : List (List ℕ) → Option (ℕ × List ℕ)
 key_and_bytes words =
     option_and_then (λ w. option_zip (key_number w.0) (hex_bytes w.1)) (two_words words)
 
--- two words, a number and how a pass is spent
-abbrev pub number_and_freed : List (List ℕ) → Option (ℕ × Freed)
-number_and_freed words =
-    option_and_then (λ w. option_zip (decimal_number w.0) (freed_of w.1)) (two_words words)
+-- the brick that is the only word
+abbrev pub one_brick : List (List ℕ) → Option ℕ
+one_brick words = option_and_then brick_number (one_word words)
+
+-- two words, a brick and a number
+abbrev pub brick_and_number : List (List ℕ) → Option (ℕ × ℕ)
+brick_and_number words =
+    option_and_then (λ w. option_zip (brick_number w.0) (decimal_number w.1)) (two_words words)
+
+-- two words, a brick and how a pass is spent
+abbrev pub brick_and_freed : List (List ℕ) → Option (ℕ × Freed)
+brick_and_freed words =
+    option_and_then (λ w. option_zip (brick_number w.0) (freed_of w.1)) (two_words words)
 
 -- three words, a number each
 abbrev pub three_numbers : List (List ℕ) → Option (ℕ × (ℕ × ℕ))

@@ -23,6 +23,10 @@ IsName name = IsWithin 1 MAX_NAME_BYTES (length name) × All IsNameByte name
 abbrev pub IsNumber : ℕ → Type 0
 IsNumber n = n < 2 ^ 64
 
+-- what the number of a brick may be
+abbrev pub IsBrick : ℕ → Type 0
+IsBrick brick = (1 ≤ brick) × IsNumber brick
+
 -- what the number of a caller may be
 abbrev pub IsCaller : ℕ → Type 0
 IsCaller caller = IsWithin 1 MAX_CALLER caller

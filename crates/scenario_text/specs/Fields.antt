@@ -29,6 +29,11 @@ decimal_number word =
     then None
     else digits_from 0 word
 
+-- the number of a brick, from 1 on
+abbrev pub brick_number : List ℕ → Option ℕ
+brick_number word =
+    option_and_then (λ n. if nat_le 1 n then Some n else None) (decimal_number word)
+
 -- a letter, and a number from 1 to a highest one
 abbrev pub lettered_number : ℕ → ℕ → List ℕ → Option ℕ
 lettered_number letter highest [] = None

@@ -4,7 +4,7 @@ use Rattle.std.specs.Fmt.{decimal}
 use Rattle.scenario_text.specs.declared.session_line.SessionLine.{SessionLine}
 use Rattle.scenario_text.specs.declared.session_line.SessionLine.TheVariants.{Now, Write, Fetch, Cookie, Present, Lose, Mute, Repeat, Crash, Sweep, SweepAt, Values, Windows, Hold, Free}
 use Rattle.scenario_text.specs.Texts.{hex_text}
-use Rattle.scenario_text.specs.FieldSpelling.{IsNumber, IsSessionKey, AreBytes, IsPresented, key_word, freed_word}
+use Rattle.scenario_text.specs.FieldSpelling.{IsNumber, IsBrick, IsSessionKey, AreBytes, IsPresented, key_word, freed_word}
 
 -- the numbers, bytes and text of a line about sessions are in their ranges
 abbrev pub IsSessionInRange : SessionLine → Type 0
@@ -13,16 +13,16 @@ IsSessionInRange (Write key bytes) = IsSessionKey key × AreBytes bytes
 IsSessionInRange (Fetch key) = IsSessionKey key
 IsSessionInRange (Cookie key) = IsSessionKey key
 IsSessionInRange (Present text) = IsPresented text
-IsSessionInRange (Lose brick count) = IsNumber brick × IsNumber count
-IsSessionInRange (Mute brick count) = IsNumber brick × IsNumber count
-IsSessionInRange (Repeat brick index) = IsNumber brick × IsNumber index
-IsSessionInRange (Crash brick) = IsNumber brick
-IsSessionInRange (Sweep brick) = IsNumber brick
-IsSessionInRange (SweepAt brick moment) = IsNumber brick × IsNumber moment
-IsSessionInRange (Values brick) = IsNumber brick
+IsSessionInRange (Lose brick count) = IsBrick brick × IsNumber count
+IsSessionInRange (Mute brick count) = IsBrick brick × IsNumber count
+IsSessionInRange (Repeat brick index) = IsBrick brick × IsNumber index
+IsSessionInRange (Crash brick) = IsBrick brick
+IsSessionInRange (Sweep brick) = IsBrick brick
+IsSessionInRange (SweepAt brick moment) = IsBrick brick × IsNumber moment
+IsSessionInRange (Values brick) = IsBrick brick
 IsSessionInRange Windows = Unit {0}
-IsSessionInRange (Hold brick) = IsNumber brick
-IsSessionInRange (Free brick freed) = IsNumber brick
+IsSessionInRange (Hold brick) = IsBrick brick
+IsSessionInRange (Free brick freed) = IsBrick brick
 
 -- the words of a line about sessions
 abbrev pub words_of_session_line : SessionLine → List (List ℕ)

@@ -1,11 +1,12 @@
 //! What the words after a first one say together, or None where they do not say it.
 
 ghost use Rattle.std.specs.Prelude.{◌≡◌, IfOk};
-ghost use Rattle.scenario_text.specs.Arguments.{one_name, one_number, one_caller, one_key, one_bytes, one_text, two_names, two_numbers, name_and_number, caller_and_name, caller_and_number, key_and_bytes, number_and_freed, caller_and_two_numbers, three_numbers};
+ghost use Rattle.scenario_text.specs.Arguments.{one_name, one_number, one_caller, one_key, one_bytes, one_text, two_names, two_numbers, name_and_number, caller_and_name, caller_and_number, key_and_bytes, one_brick, brick_and_number, brick_and_freed, caller_and_two_numbers, three_numbers};
 ghost use Rattle.scenario_text.specs.Words.{words_after};
 
 use crate::fields::{
-    caller_number, decimal_number, freed_of, hex_bytes, key_number, name_of, presented_text,
+    brick_number, caller_number, decimal_number, freed_of, hex_bytes, key_number, name_of,
+    presented_text,
 };
 use crate::line::HexBytes;
 use crate::session_line::Freed;
@@ -142,12 +143,27 @@ pub fn key_and_bytes(alloc: Global, left: &[u8]) -> Result<Option<(u64, HexBytes
     Ok(key_number(key).zip(bytes))
 }
 
-/// Two words, a number and how a pass is spent.
-pub fn number_and_freed(left: &[u8]) -> Option<(u64, Freed)>
-    ensures { result ≡ number_and_freed (words_after left.now) }
+/// The brick that is the only word.
+pub fn one_brick(left: &[u8]) -> Option<u64>
+    ensures { result ≡ one_brick (words_after left.now) }
 {
-    let (number, freed) = two_words(left)?;
-    decimal_number(number).zip(freed_of(freed))
+    brick_number(one_word(left)?)
+}
+
+/// Two words, a brick and a number.
+pub fn brick_and_number(left: &[u8]) -> Option<(u64, u64)>
+    ensures { result ≡ brick_and_number (words_after left.now) }
+{
+    let (brick, number) = two_words(left)?;
+    brick_number(brick).zip(decimal_number(number))
+}
+
+/// Two words, a brick and how a pass is spent.
+pub fn brick_and_freed(left: &[u8]) -> Option<(u64, Freed)>
+    ensures { result ≡ brick_and_freed (words_after left.now) }
+{
+    let (brick, freed) = two_words(left)?;
+    brick_number(brick).zip(freed_of(freed))
 }
 
 /// Three words, a number each.

@@ -3,7 +3,7 @@
 ghost use Rattle.std.specs.Prelude.{◌≡◌, ◌<◌, ◌≤◌, ◌*◌, length, IfOk, IfSome, Option};
 ghost use Rattle.std.specs.Option.{option_map};
 ghost use Rattle.std.specs.List.{list_all};
-ghost use Rattle.scenario_text.specs.Fields.{name_of, decimal_number, lettered_number, caller_number, key_number, hex_digit, hex_byte, bytes_of_digits, hex_bytes, is_presented_byte, presented_text, freed_of};
+ghost use Rattle.scenario_text.specs.Fields.{name_of, decimal_number, brick_number, lettered_number, caller_number, key_number, hex_digit, hex_byte, bytes_of_digits, hex_bytes, is_presented_byte, presented_text, freed_of};
 
 use crate::line::{HexBytes, MAX_CALLER, MAX_HEX_BYTES};
 use crate::session_line::{Freed, MAX_KEY};
@@ -39,6 +39,14 @@ pub fn decimal_number(word: &[u8]) -> Option<u64>
         n = 10 * n + digit;
     }
     Some(n)
+}
+
+/// The number of a brick, from 1 on.
+pub fn brick_number(word: &[u8]) -> Option<u64>
+    ensures { result ≡ brick_number word.now }
+{
+    let n = decimal_number(word)?;
+    if 1 <= n { Some(n) } else { None }
 }
 
 /// A letter, and a number from 1 to a highest one.

@@ -32,10 +32,10 @@
 //! fetch k1
 //! cookie k1
 //! present a-cookie
-//! lose 0 1
+//! lose 1 1
 //! mute 1 2
 //! repeat 2 1
-//! crash 0
+//! crash 1
 //! sweep 1
 //! sweep 2 900
 //! values 1
@@ -49,11 +49,12 @@
 //! `ended_line` takes the first line that has ended off a text, and `read_line` answers which line it
 //! spells. Words are separated by single spaces. A name is 1 to 32 letters, digits or `_`; a caller
 //! is `c` and a number from 1 to 65,535 (`MAX_CALLER`), and a session key is `k` and a number from 1
-//! to 65,535 (`MAX_KEY`); numbers are decimal without leading zeros, and below 2^64; bytes are in
-//! lower case hexadecimal, at most 4,000 (`MAX_HEX_BYTES`), and `-` where there are none. The text of
-//! `present` is one word that is not empty, of ASCII without spaces and carriage returns. A pass is
-//! freed as `answered` or as `silent`. An empty line passes, and so does a comment: `#` and then ASCII
-//! without a carriage return. A line has at most 8,192 bytes (`MAX_LINE_BYTES`).
+//! to 65,535 (`MAX_KEY`); numbers are decimal without leading zeros, and below 2^64, and a brick is a
+//! number from 1 on; bytes are in lower case hexadecimal, at most 4,000 (`MAX_HEX_BYTES`), and `-` where
+//! there are none. The text of `present` is one word that is not empty, of ASCII without spaces and
+//! carriage returns. A pass is freed as `answered` or as `silent`. An empty line passes, and so does a
+//! comment: `#` and then ASCII without a carriage return. A line has at most 8,192 bytes
+//! (`MAX_LINE_BYTES`).
 //!
 //! `read_line` is exact: it answers `line_of` of the text. `spelling_law` says that this is a line
 //! exactly where the text is the words of that line, with its numbers, names, bytes and text in

@@ -5,7 +5,7 @@ ghost use Rattle.scenario_text.specs.SessionReading.{session_line, sweep_line};
 ghost use Rattle.scenario_text.specs.Words.{words_after};
 
 use crate::arguments::{
-    key_and_bytes, number_and_freed, one_key, one_number, one_text, two_numbers,
+    brick_and_freed, brick_and_number, key_and_bytes, one_brick, one_key, one_number, one_text,
 };
 use crate::session_line::SessionLine;
 use crate::words::no_words;
@@ -16,8 +16,8 @@ use std::alloc::Global;
 fn sweep_line(left: &[u8]) -> Option<SessionLine>
     ensures { result ≡ sweep_line (words_after left.now) }
 {
-    let at_moment = two_numbers(left).map(|(brick, moment)| SessionLine::SweepAt(brick, moment));
-    one_number(left).map(SessionLine::Sweep).or(at_moment)
+    let at = brick_and_number(left).map(|(brick, moment)| SessionLine::SweepAt(brick, moment));
+    one_brick(left).map(SessionLine::Sweep).or(at)
 }
 
 /// The line about sessions that a first word and the words after it spell.
@@ -39,23 +39,23 @@ pub fn session_line(
     } else if first == b"present".as_slice() {
         Ok(one_text(alloc, left)?.map(SessionLine::Present))
     } else if first == b"lose".as_slice() {
-        Ok(two_numbers(left).map(|(brick, count)| SessionLine::Lose(brick, count)))
+        Ok(brick_and_number(left).map(|(brick, count)| SessionLine::Lose(brick, count)))
     } else if first == b"mute".as_slice() {
-        Ok(two_numbers(left).map(|(brick, count)| SessionLine::Mute(brick, count)))
+        Ok(brick_and_number(left).map(|(brick, count)| SessionLine::Mute(brick, count)))
     } else if first == b"repeat".as_slice() {
-        Ok(two_numbers(left).map(|(brick, index)| SessionLine::Repeat(brick, index)))
+        Ok(brick_and_number(left).map(|(brick, index)| SessionLine::Repeat(brick, index)))
     } else if first == b"crash".as_slice() {
-        Ok(one_number(left).map(SessionLine::Crash))
+        Ok(one_brick(left).map(SessionLine::Crash))
     } else if first == b"sweep".as_slice() {
         Ok(sweep_line(left))
     } else if first == b"values".as_slice() {
-        Ok(one_number(left).map(SessionLine::Values))
+        Ok(one_brick(left).map(SessionLine::Values))
     } else if first == b"windows".as_slice() {
         Ok(no_words(left).map(|()| SessionLine::Windows))
     } else if first == b"hold".as_slice() {
-        Ok(one_number(left).map(SessionLine::Hold))
+        Ok(one_brick(left).map(SessionLine::Hold))
     } else if first == b"free".as_slice() {
-        Ok(number_and_freed(left).map(|(brick, freed)| SessionLine::Free(brick, freed)))
+        Ok(brick_and_freed(left).map(|(brick, freed)| SessionLine::Free(brick, freed)))
     } else {
         Ok(None)
     }
