@@ -1,5 +1,5 @@
 -- The order in which a commit is refused.
-use Rattle.std.proofs.Common.{◌≡◌, ◌↔◌, List, [], ◌∷◌, Option, Some, None, option_map, refl, subst}
+use Rattle.std.proofs.Common.{◌≡◌, ◌↔◌, [], ◌∷◌, Option, Some, None, option_map, refl, subst}
 use Rattle.crash_base.specs.declared.numbers.Place.{Place}
 use Rattle.crash_base.specs.Refusals.{first_of}
 use Rattle.journal_model.specs.declared.conflict.Conflict.{Conflict}

@@ -46,12 +46,12 @@ pub bad_past : (rows : List RowWrite) (i : ℕ) (r : RowWrite) → i < length ro
 bad_past rows i r within here good = bad_turn rows i r within here ∙ ap (λ b. if b then Some r.id else first_bad_after (take (i + 1) rows) (drop (i + 1) rows)) good
 
 -- the first of good rows is good, and so are those after it
-good_first : (id : RowId) (later : Option RowId) (bad : Bool) → (if bad then Some id else later) ≡ None → (bad ≡ false) × (later ≡ None)
+pub good_first : (id : RowId) (later : Option RowId) (bad : Bool) → (if bad then Some id else later) ≡ None → (bad ≡ false) × (later ≡ None)
 good_first id later false good = (refl, good)
 good_first id later true good = cc
 
 -- a good row is short, and one of the boot's number has 4 bytes
-short_if_good : (earlier : List RowWrite) (r : RowWrite) → is_bad earlier r ≡ false → length r.bytes ≤ MAX_ROW_BYTES
+pub short_if_good : (earlier : List RowWrite) (r : RowWrite) → is_bad earlier r ≡ false → length r.bytes ≤ MAX_ROW_BYTES
 short_if_good earlier r good = grind (arith, nat_tests)
 
 four_if_good : (earlier : List RowWrite) (r : RowWrite) → is_bad earlier r ≡ false → same_id r.id boot_id ≡ true → length r.bytes ≡ 4

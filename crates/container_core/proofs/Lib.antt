@@ -5,3 +5,4 @@ pub mod Opening
 pub mod GoodRows
 pub mod Starting
 pub mod Prefixes
+pub mod Loadable

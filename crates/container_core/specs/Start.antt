@@ -1,5 +1,5 @@
 -- How a container is started from the rows of its keeper.
-use Rattle.std.specs.Prelude.{◌≡◌, ℕ, ◌+◌, ◌-◌, ◌^◌, ◌<◌, nat_lt, ◌==◌, ◌&&◌, ◌||◌, ◌⊎◌, not, Bool, if◌then◌else◌, List, [], ◌∷◌, ◌++◌, length, Option, Some, None, IfSome}
+use Rattle.std.specs.Prelude.{◌≡◌, ℕ, ◌+◌, ◌-◌, ◌^◌, ◌<◌, ◌≤◌, nat_lt, ◌==◌, ◌&&◌, ◌||◌, ◌⊎◌, not, Bool, if◌then◌else◌, List, [], ◌∷◌, ◌++◌, length, Option, Some, None, IfSome, All, slice_get}
 use Rattle.std.specs.Int.{to_be_bytes, w32}
 use Rattle.std.specs.List.{list_any}
 use Rattle.crash_base.specs.declared.row_id.RowId.{RowId}
@@ -48,6 +48,27 @@ first_bad_after earlier (r ∷ rs) =
 -- the id of the first row that may not be loaded
 abbrev pub first_bad : List RowWrite → Option RowId
 first_bad rows = first_bad_after [] rows
+
+-- a row that may be loaded beside others: it is not too long, and of the service's own table only that of a boot's number
+pub record IsLoadable (r : RowWrite) : Type 0 where
+  pub short : length r.bytes ≤ MAX_ROW_BYTES
+  pub key : r.id.table ≡ SERVICE_TABLE → r.id.key ≡ 0
+  pub number : r.id.table ≡ SERVICE_TABLE → length r.bytes ≡ 4
+
+-- Rows that may be loaded: each by itself, and no two of one id.
+pub record AreLoadable (rows : List RowWrite) : Type 0 where
+  pub each : All IsLoadable rows
+  pub apart : (i j : ℕ) (a b : RowWrite) → slice_get rows i ≡ Some a → slice_get rows j ≡ Some b → a.id ≡ b.id → i ≡ j
+
+-- The id is that of the first row that may not be loaded: those before it may, and with it they may not.
+pub record IsFirstBad (rows : List RowWrite) (id : RowId) : Type 0 where
+  pub before : List RowWrite
+  pub row : RowWrite
+  pub after : List RowWrite
+  pub parts : rows ≡ before ++ row ∷ after
+  pub is : row.id ≡ id
+  pub good : AreLoadable before
+  pub bad : ¬ AreLoadable (before ++ row ∷ [])
 
 -- the number that bytes hold, and 0 where there are none
 abbrev pub number_in : Option (List ℕ) → ℕ

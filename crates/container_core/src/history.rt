@@ -1,6 +1,6 @@
 //! What happened to a container: its start, its entries, and the marks between them.
 
-ghost use Rattle.std.specs.Prelude.{◌≡◌, ◌≤◌, ◌+◌, [], ◌∷◌, ◌++◌, length, if◌then◌else◌, false, IfOk, OnOk, OnErr};
+ghost use Rattle.std.specs.Prelude.{◌≡◌, ◌≤◌, ◌<◌, ◌+◌, ◌^◌, [], ◌∷◌, ◌++◌, length, if◌then◌else◌, false, IfOk, OnOk, OnErr};
 ghost use Rattle.container_core.specs.History.{HistoryValue, has_stop, mark_at};
 ghost use Rattle.container_core.specs.declared.history.MarkedEvent.TheVariants as marked;
 
@@ -110,9 +110,10 @@ impl History {
         self.stopped
     }
 
-    /// The number of marks.
+    /// The number of marks. Each has memory, so they are below 2^63.
     pub(crate) fn len(&self) -> u64
-        ensures { result ≡ length self.now.marks }
+        ensures value { result ≡ length self.now.marks }
+        ensures few { result < 2 ^ 63 }
     {
         self.marks.len() as u64
     }

@@ -13,9 +13,11 @@
 //! let keeper = container.into_keeper();
 //! ```
 //!
-//! `Container::boot` lends the boot, through which calls enter components, read and put rows. What a container adds is
-//! the keeper and the history: its start, its entries, a mark for each commit whose keeper failed, and one for the first
-//! `stop`. Each call that may change a container says that its history has grown.
+//! Calls enter components, read, list and put rows through the container, which passes them on to its boot and is as it was
+//! after each; `Container::as_boot` lends the boot for what it tells of them. What a container adds is the keeper and the
+//! history: its start, its entries, a mark for each commit whose keeper failed, and one for the first `stop`. Each call
+//! that takes a container by `&mut` says that its history has grown, so a ticket that fits goes on to fit
+//! (`histories_grow`).
 #![tactic(auto)]
 
 mod container;
@@ -33,5 +35,5 @@ pub use boot_core::{
 };
 pub use container::Container;
 pub use history::{Event, HistoryMark, MarkedEvent};
-pub use laws::{histories_grow, keepers_hold_the_rows};
+pub use laws::{good_rows_are_apart, histories_grow, keepers_hold_the_rows};
 pub use start::{StartFail, start_boot};

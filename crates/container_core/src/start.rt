@@ -60,7 +60,7 @@ fn boot_row(alloc: Global, number: u32) -> Result<RowWrite, OutOfMemory>
 /// The parts of a container that is opened, but for its keeper.
 #[derive(Drop)]
 pub(crate) struct Opened {
-    pub(crate) boot: Boot,
+    pub(crate) boot: Box<Boot>,
     pub(crate) history: History,
 }
 
@@ -104,10 +104,10 @@ fn raising(alloc: Global, number: u32) -> Result<WriteList, OutOfMemory>
 /// A boot without history.
 fn begin(alloc: Global, start: Start) -> Result<Opened, OutOfMemory>
     requires { All IsShortWrite start.base }
-    ensures { IfOk result (λ o. (o.boot ≡ new_boot start) × (o.history.marks ≡ [])) }
+    ensures { IfOk result (λ o. (o.boot.value ≡ new_boot start) × (o.history.marks ≡ [])) }
 {
-    let boot = Boot::start(alloc, start)?;
     let history = History::new(alloc)?;
+    let boot = Box::new(alloc, Boot::start(alloc, start)?)?;
     Ok(Opened { boot, history })
 }
 
@@ -120,7 +120,7 @@ fn prepare(
 ) -> Result<Prepared, StartRefusal>
     ensures { MatchResult result
         (λ p. (first_bad rows ≡ None) × (last_boot rows < greatest_boot)
-        × (p.opened.boot ≡ new_boot (start_over deployment limits rows))
+        × (p.opened.boot.value ≡ new_boot (start_over deployment limits rows))
         × (p.opened.history.marks ≡ [])
         × (p.writes ≡ boot_row (last_boot rows + 1) ∷ []))
         (λ refusal. IsUnfit refusal rows) }
@@ -146,7 +146,7 @@ pub(crate) fn open<K: Keeper>(
     keeper: &mut K,
 ) -> Result<Opened, StartRefusal>
     ensures opens { MatchResult result
-        (λ o. IsOpened deployment limits (K.told keeper.old) o.boot (K.told keeper.new)
+        (λ o. IsOpened deployment limits (K.told keeper.old) o.boot.value (K.told keeper.new)
         × (o.history.marks ≡ []))
         (λ refusal. IsRefusedStart refusal (K.told keeper.old) (K.told keeper.new)) }
     ensures failed { result ≡ Err StartRefusal.KeeperFailed
@@ -183,7 +183,7 @@ pub fn start_boot<K: Keeper>(
     ensures count { K.faults keeper.old ≤ K.faults keeper.new }
 {
     match open(alloc, deployment, limits, keeper) {
-        Ok(opened) => Ok(opened.boot),
+        Ok(opened) => Ok(Box::into_inner(opened.boot)),
         Err(refusal) => Err(refusal),
     }
 }

@@ -6,9 +6,9 @@ use crate::fixtures::{LIMITS, request, shop};
 use crate::keepers::{add_kept, failing_keeper};
 use crate::starts::{add_boot, add_calls};
 use crate::steps::{add_commit, do_steps};
-use crate::words::{add_named, add_pair, cut, expect_words, number};
-use container_core::{Container, Ticket};
-use crash_base::{GroupNo, RequestNo, RowList, Scope, WorkerNo};
+use crate::words::{add_named, add_pair, add_word, cut, expect_words, number};
+use container_core::{Binding, Container, Ticket};
+use crash_base::{ComponentName, GroupNo, RequestNo, RowList, Scope, WorkerNo};
 use outside::{Keeper, MapKeeper};
 use std::alloc::Global;
 use std::process::Abort;
@@ -37,7 +37,7 @@ pub fn call<K: Keeper + Drop>(
     steps: &str,
 ) {
     let mut ticket = begin(rt, alloc, container, request);
-    do_steps(rt, alloc, words, container.boot(), &mut ticket, steps);
+    do_steps(rt, alloc, words, container, &mut ticket, steps);
     let answer = container.commit(alloc, ticket, None);
     add_commit(rt, words, answer);
 }
@@ -66,8 +66,23 @@ fn give_up<K: Keeper + Drop>(
     container: &mut Container<K>,
 ) {
     let mut ticket = begin(rt, alloc, container, request(80));
-    do_steps(rt, alloc, words, container.boot(), &mut ticket, "e");
+    do_steps(rt, alloc, words, container, &mut ticket, "e");
     container.abandon(ticket);
+}
+
+/// Adds how often the stock was rebooted, or the place of the Down that keeps it down.
+fn find_stock<K: Keeper + Drop>(
+    rt: &impl Abort,
+    alloc: Global,
+    words: &mut String,
+    container: &Container<K>,
+) {
+    let name = ComponentName::copied(alloc, b"stock").expect(rt, "a name");
+    match container.find(&name) {
+        Some(Binding::Live { generation, .. }) => add_named(rt, words, "live", generation),
+        Some(Binding::Sentinel { down, .. }) => add_named(rt, words, "sentinel", down.0),
+        None => add_word(rt, words, "unknown"),
+    }
 }
 
 /// Reboots group 1, with a call in between that cannot enter it.
@@ -82,8 +97,10 @@ fn reboot<K: Keeper + Drop>(
         Err(_) => panic!(rt; "the reboot is refused"),
     };
     give_up(rt, alloc, words, container);
-    assert!(rt; container.boot().is_undone(down));
+    find_stock(rt, alloc, words, container);
+    assert!(rt; container.is_undone(down));
     let up = container.end_reboot(down);
+    find_stock(rt, alloc, words, container);
     add_pair(rt, words, down.0, "-", up.0);
 }
 
@@ -134,7 +151,7 @@ fn reopen<K: Keeper + Drop>(
 ) -> Container<K> {
     match container.reopen(alloc) {
         Ok(container) => {
-            add_boot(rt, alloc, words, container.boot());
+            add_boot(rt, alloc, words, &container);
             container
         }
         Err(_) => panic!(rt; "the container is not started again"),
@@ -148,7 +165,8 @@ const HISTORIES: &str =
     "0|stop;stop;70:e p3.7=a;stop;71:e r3.7|70:e r3.7 p3.7=c;70:e p3.8=b;stop|!2 !2 0 !3 !3 a 1 !4 boot2 0.0=00000002 3.7=61 a 0 .2 already0 .2 !3 6/0 0.0=00000002 3.7=63
 3|70:e p3.7=a;70:e p3.7=b;stop;71:e|70:e r3.7|keeper_failed .2 0 .3 !4 1 !5 boot2 0.0=00000002 3.7=62 b 0 .2 6/1 0.0=00000002 3.7=62
 4|70:e p3.7=a;70:e p3.7=b;71:e r3.7;stop;72:e p3.7=c|70:e r3.7|0 .2 already0 .2 a 1 .3 !4 keeper_failed !5 boot2 0.0=00000002 3.7=61 a 0 .2 6/1 0.0=00000002 3.7=61
-0|reboot;70:e p3.7=a|reboot;stop|down0 0-1 .3 2 .4 boot2 0.0=00000002 3.7=61 down0 0-1 .3 !4 5/0 0.0=00000002 3.7=61";
+0|reboot;70:e p3.7=a|reboot;stop|down0 sentinel0 live1 0-1 .3 2 .4 boot2 0.0=00000002 3.7=61 down0 sentinel0 live1 0-1 .3 !4 5/0 0.0=00000002 3.7=61
+0|70:e p3.7=a p3.8=b x;71:c e p3.8=c p3.6=d l x c|70:e l|left 0 .2 live 3.6=64 3.7=61 3.8=63 left live 1 .3 boot2 0.0=00000002 3.6=64 3.7=61 3.8=63 3.6=64 3.7=61 3.8=63 0 .2 6/0 0.0=00000002 3.6=64 3.7=61 3.8=63";
 
 fn expect_history(rt: &impl Abort, alloc: Global, row: &str) {
     let (failing, text) = cut(rt, row, '|');

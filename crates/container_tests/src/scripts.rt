@@ -88,9 +88,9 @@ fn expect_container<K: Keeper + Drop>(
 ) {
     let mut words = String::new(alloc);
     let mut want = String::new(alloc);
-    add_named(rt, &mut words, "", u64::from(container.boot().number()));
+    add_named(rt, &mut words, "", u64::from(container.boot()));
     add_named(rt, &mut words, "", container.events());
-    add_rows(rt, alloc, &mut words, container.boot());
+    add_rows(rt, alloc, &mut words, container);
     add_named(rt, &mut want, "", expected.boot);
     add_named(rt, &mut want, "", expected.events);
     add_expected(rt, &mut want, expected);
@@ -140,7 +140,7 @@ fn commit<K: Keeper + Drop>(
 ) {
     let mut words = String::new(alloc);
     let mut want = String::new(alloc);
-    let place = container.boot().journal().len();
+    let place = container.journal().len();
     let request = request(expected.events);
     call(rt, alloc, &mut words, container, request, steps);
     if expected.commit(rt, steps) {

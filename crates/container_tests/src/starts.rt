@@ -5,7 +5,7 @@ use crate::keepers::{GivenKeeper, add_kept, failing_keeper};
 use crate::words::{
     add_id, add_named, add_pair, add_row, add_word, byte, cut, expect_words, id, number,
 };
-use container_core::{Boot, Container, StartFail, StartRefusal};
+use container_core::{Container, StartFail, StartRefusal};
 use crash_base::{Place, RowBytes, RowList, RowWrite};
 use outside::{Keeper, MapKeeper};
 use std::alloc::Global;
@@ -42,19 +42,29 @@ pub fn add_start_refusal(rt: &impl Abort, words: &mut String, refusal: StartRefu
     }
 }
 
-/// Adds the current rows of a boot, in order of id.
-pub fn add_rows(rt: &impl Abort, alloc: Global, words: &mut String, boot: &Boot) {
-    let at = Place(boot.journal().len());
-    let rows = boot.rows().all_at(alloc, at).expect(rt, "the rows");
+/// Adds the current rows of a container, in order of id.
+pub fn add_rows<K: Keeper + Drop>(
+    rt: &impl Abort,
+    alloc: Global,
+    words: &mut String,
+    container: &Container<K>,
+) {
+    let at = Place(container.journal().len());
+    let rows = container.rows().all_at(alloc, at).expect(rt, "the rows");
     for row in rows.as_slice() {
         add_row(rt, words, row);
     }
 }
 
-/// Adds the number of a boot, and its current rows.
-pub fn add_boot(rt: &impl Abort, alloc: Global, words: &mut String, boot: &Boot) {
-    add_named(rt, words, "boot", u64::from(boot.number()));
-    add_rows(rt, alloc, words, boot);
+/// Adds the number of a container's boot, and its current rows.
+pub fn add_boot<K: Keeper + Drop>(
+    rt: &impl Abort,
+    alloc: Global,
+    words: &mut String,
+    container: &Container<K>,
+) {
+    add_named(rt, words, "boot", u64::from(container.boot()));
+    add_rows(rt, alloc, words, container);
 }
 
 /// Starts a container and adds its boot, or why there is none. The keeper is handed back in each case.
@@ -62,7 +72,7 @@ fn add_start<K: Keeper + Drop>(rt: &impl Abort, alloc: Global, words: &mut Strin
     let deployment = shop(rt, alloc);
     match Container::start(alloc, deployment, keeper, LIMITS) {
         Ok(container) => {
-            add_boot(rt, alloc, words, container.boot());
+            add_boot(rt, alloc, words, &container);
             container.into_keeper()
         }
         Err(StartFail { refusal, keeper }) => {

@@ -1,4 +1,4 @@
-use Rattle.std.proofs.Common.{◌≡◌, length, ap, ◌∙◌, arith}
+use Rattle.std.proofs.Common.{◌≡◌, length, ap, arith}
 use Rattle.container_core.specs.Container.{ContainerValue}
 use Rattle.container_core.specs.History.{laid}
 use Rattle.container_core.proofs.Laid.{count_is}
@@ -6,7 +6,6 @@ use Rattle.container_core.proofs.container.Container.events.Goals as goal
 
 pub returns : goal.returns
 returns g c =
-    let here : length (laid 0 c.self.inside.boot.entries c.self.inside.history.marks) ≡ length c.args.self.now.since = ap (λ (v : ContainerValue). length v.since) c.self.view_is in
-    let entries : c.len-entries.result ≡ length c.self.inside.boot.entries = c.len-entries.ensures ∙ ap length c.journal.ensures.entries in
-    let all = count_is 0 c.self.inside.boot.entries c.self.inside.history.marks c.self.invariant.marked in
-    omega (arith, here, entries, all, c.len.ensures, c.saturating_add.ensures, c.saturating_add-2.ensures)
+    let here : length (laid 0 c.self.inside.boot.value.entries c.self.inside.history.marks) ≡ length c.args.self.now.since = ap (λ (v : ContainerValue). length v.since) c.self.view_is in
+    let all = count_is 0 c.self.inside.boot.value.entries c.self.inside.history.marks c.self.invariant.marked in
+    omega (arith, here, all, c.entry_count.ensures.value, c.len.ensures.value)
