@@ -7,9 +7,10 @@ ghost use Rattle.send_windows.specs.Passes.{AreUnheard};
 
 use crate::causes::{add_read, add_windows, add_written};
 use crate::stepping::{bricks_of, step_out, step_read, step_to_answer};
+use crate::windows::opened;
 use crate::words::{expect_words, key};
 use crash_base::{BrickNo, MAX_SESSION_BYTES, Moment, SessionBytes, Version};
-use link_memory::ScriptLink;
+use link_memory::{MAX_LINK_BRICKS, ScriptLink};
 use send_windows::{PassList, PassMark, Windows};
 use session_cookie::Cookie;
 use ssm_stub::{ReadCall, WriteCall, read, settle, write};
@@ -112,23 +113,46 @@ fn spend(rt: &impl Abort, windows: &mut Windows, passes: PassList) {
     windows.spend(passes);
 }
 
-/// Writes and reads in one of the two ways over three bricks, the first of which loses its first reply.
+/// Takes passes, writes in one of the two ways, and spends the passes.
+fn write_one(
+    rt: &impl Abort,
+    alloc: Global,
+    words: &mut String,
+    link: &mut ScriptLink,
+    windows: &mut Windows,
+    by_calls: bool,
+) -> Option<Cookie> {
+    match windows.take(alloc, 0) {
+        Ok(passes) => {
+            let mut passes = passes;
+            let kept = if by_calls {
+                write_by_calls(rt, alloc, words, link, &mut passes)
+            } else {
+                write_by_steps(rt, alloc, words, link, &mut passes)
+            };
+            spend(rt, windows, passes);
+            kept
+        }
+        Err(_) => panic!(rt; "passes"),
+    }
+}
+
+/// A link of so many bricks, the first of which loses its first reply.
+fn losing_link(rt: &impl Abort, alloc: Global, bricks: u16) -> ScriptLink {
+    assert!(rt; 1 <= bricks && bricks <= MAX_LINK_BRICKS);
+    let mut link = ScriptLink::new(alloc, bricks).expect(rt, "a link");
+    let first = BrickNo(1);
+    assert!(rt; 1 <= first.0 && first.0 as usize <= link.bricks());
+    link.lose(first, 1);
+    link
+}
+
+/// Writes and reads in one of the two ways over three bricks.
 fn play(rt: &impl Abort, alloc: Global, by_calls: bool) -> String {
     let mut words = String::new(alloc);
-    let mut link = ScriptLink::new(alloc, 3).expect(rt, "a link");
-    let mut windows = Windows::new(alloc, 3, 3, 2, true).expect(rt, "windows");
-    assert!(rt; link.bricks() == 3);
-    link.lose(BrickNo(1), 1);
-    let mut passes = match windows.take(alloc, 0) {
-        Ok(passes) => passes,
-        Err(_) => panic!(rt; "passes"),
-    };
-    let kept = if by_calls {
-        write_by_calls(rt, alloc, &mut words, &mut link, &mut passes)
-    } else {
-        write_by_steps(rt, alloc, &mut words, &mut link, &mut passes)
-    };
-    spend(rt, &mut windows, passes);
+    let mut link = losing_link(rt, alloc, 3);
+    let mut windows = opened(rt, alloc, "open 3 3 2");
+    let kept = write_one(rt, alloc, &mut words, &mut link, &mut windows, by_calls);
     add_windows(rt, &mut words, windows.facts());
     let cookie = kept.expect(rt, "a cookie");
     if by_calls {

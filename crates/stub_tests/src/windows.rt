@@ -160,7 +160,7 @@ fn call_times(
 }
 
 /// The windows that a first call opens.
-fn opened(rt: &impl Abort, alloc: Global, call: &str) -> Windows {
+pub fn opened(rt: &impl Abort, alloc: Global, call: &str) -> Windows {
     let bricks = small(rt, word(rt, call, 1));
     let w = small(rt, word(rt, call, 2));
     let wq = small(rt, word(rt, call, 3));
