@@ -1,8 +1,8 @@
 //! Whether rows are coherent, by plain code of its own.
 
-use crate::blocks::{change, rows_of};
 use crate::driver::row_at;
 use crate::shop::SHOP;
+use crate::tables::{change, rows_of};
 use auction_rows::{AuctionRow, BidRow, CounterRow, ItemRow, TableRow, decode_row};
 use crash_base::{RowId, RowWrite};
 use std::alloc::Global;

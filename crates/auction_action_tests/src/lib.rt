@@ -1,15 +1,13 @@
 //! Tests of the sixteen actions of the auction, each run as a program over rows in memory.
 //!
-//! Most tests go through blocks of lines: a call, the rows in which the shop differs from the one that the test names,
-//! and then what is wanted: the answer, the rows that are put, and the session. What a program did is put into the same
-//! lines, and these are compared. A block that fails is shown whole. The lines that are wanted were worked out by hand
-//! from the formats of rows and pages, and the digests outside.
+//! Most tests go through tables of rows: a call, the rows in which the shop differs from the one that the test names, and
+//! then what is wanted: the answer, the rows that are put, and the session. What a program did is put into the same words,
+//! and these are compared. A row that fails is shown whole. What is wanted was worked out by hand from the formats of rows
+//! and pages, and the digests outside.
 #![tactic(auto)]
 
 #[cfg(test)]
 mod bid_cases;
-#[cfg(test)]
-mod blocks;
 #[cfg(test)]
 mod calls;
 #[cfg(test)]
@@ -40,6 +38,8 @@ mod sequence;
 mod shop;
 #[cfg(test)]
 mod steps;
+#[cfg(test)]
+mod tables;
 #[cfg(test)]
 mod user_cases;
 #[cfg(test)]

@@ -1,7 +1,7 @@
 //! Whole pages, byte by byte.
 
-use crate::blocks::driven_by;
 use crate::shop::SHOP;
+use crate::tables::driven_by;
 use crate::words::text_of;
 use std::alloc::Global;
 use std::process::Abort;
@@ -36,9 +36,9 @@ fn expect_page(rt: &impl Abort, alloc: Global, call: &str, want: &str, len: usiz
 
 #[test]
 fn pages_have_their_bytes(rt: HostRuntime) {
-    expect_page(&rt, rt.alloc(), "call 0 1000 home", HOME, 120);
-    expect_page(&rt, rt.alloc(), "call 0 1000 item 99", NOT_THERE, 60);
-    let sold = "call 0 1000 item 2
-with 4.2 item sold 2 1 100 500 250 3 2 5000 3 none Salt & <Pepper> \"S'P\"";
+    expect_page(&rt, rt.alloc(), "0 1000 home", HOME, 120);
+    expect_page(&rt, rt.alloc(), "0 1000 item 99", NOT_THERE, 60);
+    let sold =
+        "0 1000 item 2|with 4.2 item sold 2 1 100 500 250 3 2 5000 3 none Salt & <Pepper> \"S'P\"";
     expect_page(&rt, rt.alloc(), sold, ITEM, 189);
 }

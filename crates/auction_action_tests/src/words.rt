@@ -6,9 +6,9 @@ use std::alloc::Global;
 use std::fmt::Write;
 use std::process::Abort;
 
-/// Asserts that these words were found, and shows the block where they were not.
-pub fn expect_words(rt: &impl Abort, found: &str, want: &str, block: &str) {
-    assert_eq!(rt; found.trim(), want.trim(), "{block}");
+/// Asserts that these words were found, and shows the row where they were not.
+pub fn expect_words(rt: &impl Abort, found: &str, want: &str, row: &str) {
+    assert_eq!(rt; found.trim(), want.trim(), "{row}");
 }
 
 /// The parts of a text before a mark and after it.
@@ -72,8 +72,8 @@ pub fn text_of<'a>(rt: &impl Abort, bytes: &'a [u8]) -> &'a str {
     std::str::from_utf8(bytes).expect(rt, "a text")
 }
 
-/// Ends a line: the space after its last word becomes a line feed.
-pub fn end_line(rt: &impl Abort, words: &mut String) {
+/// Ends a part: the space after its last word becomes a bar.
+pub fn end_part(rt: &impl Abort, words: &mut String) {
     words.pop();
-    words.push('\n').expect(rt, "a line");
+    words.push('|').expect(rt, "a part");
 }

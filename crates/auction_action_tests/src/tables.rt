@@ -1,15 +1,15 @@
-//! Blocks of lines, each a call and what comes of it.
+//! Tables of rows, each a call and what comes of it.
 //!
-//! `call USER NOW ACTION ..` is followed by lines `with ID ROW ..` and `gone ID`, which say in what the shop differs; a
-//! row is in words, or its bytes follow the word `bytes` in hexadecimal. The rest is what is wanted: `is STATUS
-//! HEADING`, then `line HTML` for each line of the page after its heading, `put ID ROW ..` for each row that is put, in
-//! order, and `session HEX` where the session is set.
+//! A row is `USER NOW ACTION ..`, and then has its parts after bars: first `with ID ROW ..` and `gone ID`, which say in what
+//! the shop differs; a row of the shop is in words, or its bytes follow the word `bytes` in hexadecimal. The rest is what is
+//! wanted: `is STATUS HEADING`, then `line HTML` for each line of the page after its heading, `put ID ROW ..` for each row
+//! that is put, in order, and `session HEX` where the session is set.
 
 use crate::calls::program_of;
 use crate::driver::{Driven, drive, put_row};
 use crate::row_words::add_row_words;
 use crate::rows_read::{id_of, read_row};
-use crate::words::{add_hex, add_word, cut, end_line, expect_words, first_word, text_of};
+use crate::words::{add_hex, add_word, end_part, expect_words, first_word, text_of};
 use crash_base::{RowId, RowWrite};
 use journal_model::SessionChange;
 use std::alloc::Global;
@@ -32,29 +32,28 @@ pub fn rows_of(rt: &impl Abort, alloc: Global, lines: &str) -> Vec<RowWrite> {
     rows
 }
 
-/// Changes the rows as a line says.
-pub fn change(rt: &impl Abort, alloc: Global, rows: &mut Vec<RowWrite>, line: &str) {
-    match first_word(line) {
+/// Changes the rows as a part says.
+pub fn change(rt: &impl Abort, alloc: Global, rows: &mut Vec<RowWrite>, part: &str) {
+    match first_word(part) {
         ("with", row) => put_row(rt, rows, read_row(rt, alloc, row)),
         ("gone", id) => remove_row(rows, id_of(rt, id)),
-        _ => None.expect(rt, line),
+        _ => None.expect(rt, part),
     }
 }
 
-/// The call of a block, and what it does to the rows that lines spell and the block changes.
+/// What the call of a row does to the rows that lines spell and the row changes.
 pub fn driven_by(rt: &impl Abort, alloc: Global, rows: &str, given: &str) -> Driven {
-    let (call, changes) = given.split_once('\n').unwrap_or((given, ""));
+    let (call, changes) = given.split_once('|').unwrap_or((given, ""));
     let mut rows = rows_of(rt, alloc, rows);
-    for line in changes.split('\n').filter(|line| !line.is_empty()) {
-        change(rt, alloc, &mut rows, line);
+    for part in changes.split('|').filter(|part| !part.is_empty()) {
+        change(rt, alloc, &mut rows, part);
     }
-    let call = call.strip_prefix("call ").expect(rt, call);
     drive(rt, alloc, &program_of(rt, alloc, call), &mut rows)
 }
 
-fn add_line(rt: &impl Abort, words: &mut String, line: &str) {
+fn add_part(rt: &impl Abort, words: &mut String, line: &str) {
     add_word(rt, words, line);
-    end_line(rt, words);
+    end_part(rt, words);
 }
 
 /// Adds the heading of a page, which is its title too, and its other lines.
@@ -64,10 +63,10 @@ fn add_page(rt: &impl Abort, words: &mut String, page: &str) {
     let (heading, lines) = rest.split_once("</h1>\n").expect(rt, page);
     assert!(rt; title == heading, "{page}");
     assert!(rt; lines.is_empty() || lines.ends_with('\n'), "{page}");
-    add_line(rt, words, heading);
+    add_part(rt, words, heading);
     for line in lines.split_terminator('\n') {
         add_word(rt, words, "line");
-        add_line(rt, words, line);
+        add_part(rt, words, line);
     }
 }
 
@@ -76,19 +75,19 @@ fn add_put(rt: &impl Abort, alloc: Global, words: &mut String, row: &RowWrite) {
     let key = row.id.key;
     write!(words, "put {table}.{key} ").expect(rt, "a put");
     add_row_words(rt, alloc, words, row);
-    end_line(rt, words);
+    end_part(rt, words);
 }
 
 fn add_session(rt: &impl Abort, words: &mut String, session: &SessionChange) {
     if let SessionChange::Set(value) = session {
         add_word(rt, words, "session");
         add_hex(rt, words, value.as_slice());
-        end_line(rt, words);
+        end_part(rt, words);
     }
 }
 
-/// What a program did, in lines.
-fn lines_of(rt: &impl Abort, alloc: Global, driven: &Driven) -> String {
+/// What a program did, in parts.
+fn parts_of(rt: &impl Abort, alloc: Global, driven: &Driven) -> String {
     let mut words = String::new(alloc);
     let status = driven.done.status;
     write!(words, "{status} ").expect(rt, "a status");
@@ -97,27 +96,28 @@ fn lines_of(rt: &impl Abort, alloc: Global, driven: &Driven) -> String {
         add_put(rt, alloc, &mut words, row);
     }
     add_session(rt, &mut words, &driven.done.session);
+    words.pop();
     words
 }
 
-fn expect_block(rt: &impl Abort, alloc: Global, rows: &str, block: &str) {
-    let (given, want) = block.split_once("\nis ").expect(rt, block);
+fn expect_row(rt: &impl Abort, alloc: Global, rows: &str, row: &str) {
+    let (given, want) = row.split_once("|is ").expect(rt, row);
     let driven = driven_by(rt, alloc, rows, given);
-    expect_words(rt, &lines_of(rt, alloc, &driven), want, block);
+    expect_words(rt, &parts_of(rt, alloc, &driven), want, row);
 }
 
-/// Asserts what comes of the call of each block, over the rows that lines spell.
-pub fn expect_blocks(rt: &impl Abort, alloc: Global, rows: &str, blocks: &str) {
-    for block in blocks.split("\n\n") {
-        expect_block(rt, alloc, rows, block);
+/// Asserts what comes of the call of each row of a table, over the rows that lines spell.
+pub fn expect_table(rt: &impl Abort, alloc: Global, rows: &str, table: &str) {
+    for row in table.split('\n') {
+        expect_row(rt, alloc, rows, row);
     }
 }
 
-/// Asserts the steps of the call of each block: they come after a bar.
-pub fn expect_steps(rt: &impl Abort, alloc: Global, rows: &str, blocks: &str) {
-    for block in blocks.split("\n\n") {
-        let (given, want) = cut(rt, block, '|');
+/// Asserts the steps of the call of each row of a table: they are its last part.
+pub fn expect_steps(rt: &impl Abort, alloc: Global, rows: &str, table: &str) {
+    for row in table.split('\n') {
+        let (given, want) = row.rsplit_once('|').expect(rt, row);
         let driven = driven_by(rt, alloc, rows, given);
-        expect_words(rt, &driven.steps, want, block);
+        expect_words(rt, &driven.steps, want, row);
     }
 }
