@@ -1,6 +1,5 @@
 -- Journals stay meant by each entry.
-use Rattle.std.specs.Prelude.{IsSome}
-use Rattle.std.proofs.Common.{◌≡◌, ◌≤◌, ℕ, List, [], ◌∷◌, ◌++◌, length, Option, Some, None, sym, subst, ◌∙◌}
+use Rattle.std.proofs.Common.{◌≡◌, ◌≤◌, ℕ, List, [], ◌∷◌, ◌++◌, length, Some, None, sym, subst, ◌∙◌}
 use Rattle.std.proofs.lemmas.Option.{none-some}
 use Rattle.crash_base.specs.declared.rows.RowWrite.{RowWrite}
 use Rattle.crash_base.specs.declared.scope.Scope.{Scope}
@@ -19,7 +18,7 @@ use Rattle.call_ticket.specs.Following.{Follows}
 use Rattle.auction_calls.specs.declared.action.ActionCall.{ActionCall}
 use Rattle.auction_calls.specs.Texts.{Spells}
 use Rattle.auction_site.specs.Actions.{steps_of}
-use Rattle.auction_site.specs.Meant.{IsMade, IsMeant, IsMeantEntry, AreMeant}
+use Rattle.auction_site.specs.Meant.{IsMade, IsMeantEntry, AreMeant}
 use Rattle.auction_site.proofs.Meaning.{FollowRule, commit_is_meant, followed_is_made}
 
 pub none_meant : (base : List RowWrite) → AreMeant base []

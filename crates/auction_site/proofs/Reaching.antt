@@ -1,6 +1,6 @@
 -- Each step of a call stays within the reach of its action.
-use Rattle.std.proofs.Common.{◌≡◌, ℕ, ◌+◌, ◌-◌, ◌*◌, ◌==◌, ◌&&◌, ◌||◌, nat_le, nat_lt, min, not, Bool, true, false, cond, List, [], ◌∷◌, Option, Some, None, refl, ap, sym, subst, slice_get, arith}
-use Rattle.std.specs.List.{list_all, list_any}
+use Rattle.std.proofs.Common.{◌≡◌, ℕ, ◌+◌, ◌-◌, ◌*◌, ◌==◌, ◌&&◌, ◌||◌, nat_le, nat_lt, min, not, Bool, true, false, cond, List, [], ◌∷◌, Option, Some, None, refl, subst, slice_get, arith}
+use Rattle.std.specs.List.{list_all}
 use Rattle.std.specs.Prelude.{bytes_eq}
 use Rattle.std.proofs.lemmas.Bool.{and_parts}
 use Rattle.std.proofs.lemmas.Bool.Decides.{nat_tests}
@@ -22,7 +22,7 @@ use Rattle.action_plans.specs.declared.plan.Through.{Through}
 use Rattle.action_plans.specs.declared.plan.Want.{Want}
 use Rattle.action_plans.specs.declared.plan.Want.TheVariants as want
 use Rattle.action_plans.specs.Plans.{Plan, Asks, Refuses, Gives, ◌>>=◌, walk, wanted}
-use Rattle.action_plans.specs.Steps.{enter_count, exit_count, put_count, home_depth, enter_home, is_away, is_home, has_just_entered, access_in, reading, table_of, putting, wanting, program_of, reads_in}
+use Rattle.action_plans.specs.Steps.{enter_count, exit_count, put_count, home_depth, enter_home, is_away, is_home, has_just_entered, access_in, putting, wanting, program_of, reads_in}
 use Rattle.auction_calls.specs.declared.action.Action.{Action}
 use Rattle.auction_calls.specs.declared.action.Action.TheVariants as action
 use Rattle.auction_calls.specs.declared.action.ActionCall.{ActionCall}
@@ -36,10 +36,10 @@ use Rattle.auction_site.specs.declared.limits.TheConstants.{LAST_NUMBER, LAST_BI
 use Rattle.auction_site.specs.Actions.{planned, plan_of, through_of, steps_of, offer_of}
 use Rattle.auction_site.specs.Answers.{not_there, sign_in_first, no_more_numbers, name_taken, wrong_password, not_allowed, bad_buy_now, no_such_category}
 use Rattle.auction_site.specs.Numbers.{count_up, count_down}
-use Rattle.auction_site.specs.Outcomes.{Offer, digest_of, categories_shown, category_shown, user_items_shown, registered, category_added, offered, bid_made, bought, closed, feedback_given}
+use Rattle.auction_site.specs.Outcomes.{digest_of, categories_shown, category_shown, user_items_shown, registered, category_added, offered, bid_made, bought, closed, feedback_given}
 use Rattle.auction_site.specs.Pieces.{row_answer, refuses_if, refuses_by, decoded, decoded_or, asks_row_or, none_decoded, asks_no_row, count_decoded, asks_counter, asks_table, asks_each}
 use Rattle.auction_site.specs.Planned.{register_plan, sign_in_plan, category_link_plan, categories_plan, add_category_plan, entry_link_plan, browse_plan, show_item_plan, show_user_plan, own_item_link_plan, show_own_items_plan, sell_plan, bid_plan, buy_plan, close_plan, give_feedback_plan}
-use Rattle.auction_site.specs.Reached.{Reach, is_among, stays_within, reach_of, web_alone}
+use Rattle.auction_site.specs.Reached.{Reach, is_among, stays_within, reach_of}
 use Rattle.auction_site.specs.Rules.{sells_too_low}
 use Rattle.page_text.specs.declared.page_line.PageLine.{PageLine}
 
