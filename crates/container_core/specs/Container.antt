@@ -40,8 +40,8 @@ with_entry_event c e = record c { boot = with_entry c.boot e; since = c.since ++
 abbrev pub HoldsRows : Option KeeperTold → BootValue → Type 0
 HoldsRows told boot = IfSome told (λ t. t.rows ≡ rows_after boot.start.base boot.entries)
 
--- How the parts of a container agree: the marks are laid between the entries, at most one is of a stop, and the keeper holds
--- the rows.
+-- How the parts of a container agree: the marks are laid between the entries, at most one is of a stop, and the keeper
+-- holds the rows.
 pub record PartsAgree (boot : BootValue) (marks : List HistoryMark) (told : Option KeeperTold) : Type 0 where
   pub marked : AreLaid 0 marks (length boot.entries)
   pub stops : stop_count marks ≤ 1
@@ -53,8 +53,8 @@ pub record HasGrownBy (old new : ContainerValue) : Type 0 where
   pub more : List Event
   pub since : new.since ≡ old.since ++ more
 
--- What a refused commit leaves: the boot as it was, and its history too, but for the mark of a keeper that failed. Where
--- neither a keeper failed nor memory ran out, all else of the container is as it was.
+-- What a refused commit leaves: the boot as it was, and its history too, but for the mark of a keeper that failed.
+-- Where neither a keeper failed nor memory ran out, all else of the container is as it was.
 abbrev pub RefusalLeaves : CommitRefusal → Call → ContainerValue → ContainerValue → Type 0
 RefusalLeaves commits.KeeperFailed call old new =
     (new.boot ≡ old.boot) × (new.since ≡ old.since ++ KeeperFailed call.request ∷ [])

@@ -49,7 +49,8 @@ first_bad_after earlier (r ∷ rs) =
 abbrev pub first_bad : List RowWrite → Option RowId
 first_bad rows = first_bad_after [] rows
 
--- a row that may be loaded beside others: it is not too long, and of the service's own table only that of a boot's number
+-- a row that may be loaded beside others: it is not too long, and of the service's own table only that of a boot's
+-- number
 pub record IsLoadable (r : RowWrite) : Type 0 where
   pub short : length r.bytes ≤ MAX_ROW_BYTES
   pub key : r.id.table ≡ SERVICE_TABLE → r.id.key ≡ 0
@@ -96,8 +97,8 @@ start_over parts limits rows = record {
 abbrev pub AreGiven : List RowWrite → Option KeeperTold → Type 0
 AreGiven rows told = IfSome told (λ t. (rows ≡ t.rows) × AreOrdered rows)
 
--- A boot was opened: over the rows that the keeper gave, none of which is bad, with the next number, which the keeper holds
--- now.
+-- A boot was opened: over the rows that the keeper gave, none of which is bad, with the next number, which the keeper
+-- holds now.
 pub record IsOpened (parts : Parts) (limits : JournalLimits) (old : Option KeeperTold) (opened : BootValue) (new : Option KeeperTold) : Type 0 where
   pub rows : List RowWrite
   pub given : AreGiven rows old
@@ -111,8 +112,8 @@ pub record IsStarted (parts : Parts) (limits : JournalLimits) (told : Option Kee
   pub opened : IsOpened parts limits told c.boot c.told
   pub since : c.since ≡ []
 
--- Rows that no container is started over: one is bad, or the number of the last boot is the greatest; or memory ran out,
--- which is answered only where neither is so.
+-- Rows that no container is started over: one is bad, or the number of the last boot is the greatest; or memory ran
+-- out, which is answered only where neither is so.
 abbrev pub IsUnfit : StartRefusal → List RowWrite → Type 0
 IsUnfit KeeperFailed rows = ⊥
 IsUnfit (BadRow id) rows = first_bad rows ≡ Some id

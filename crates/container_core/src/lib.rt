@@ -1,9 +1,9 @@
 //! The container: a boot over the rows of its keeper, and the history of both.
 //!
 //! A container is started over the rows that its keeper gives, and hands the writes of each commit to the keeper before
-//! the commit is answered, whole or not at all. So a container that is started over the same keeper later finds just the
-//! rows that this one was started over, with the number of its boot and the writes of the commits that were answered put
-//! over them:
+//! the commit is answered, whole or not at all. So a container that is started over the same keeper later finds just
+//! the rows that this one was started over, with the number of its boot and the writes of the commits that were
+//! answered put over them:
 //!
 //! ```text
 //! let mut container = Container::start(alloc, deployment, keeper, limits)?;
@@ -13,10 +13,10 @@
 //! let keeper = container.into_keeper();
 //! ```
 //!
-//! Calls enter components, read, list and put rows through the container, which passes them on to its boot and is as it was
-//! after each; `Container::as_boot` lends the boot for what it tells of them. What a container adds is the keeper and the
-//! history: its start, its entries, a mark for each commit whose keeper failed, and one for the first `stop`. Each call
-//! that takes a container by `&mut` says that its history has grown, so a ticket that fits goes on to fit
+//! Calls enter components, read, list and put rows through the container, which passes them on to its boot and is as it
+//! was after each; `Container::as_boot` lends the boot for what it tells of them. What a container adds is the keeper
+//! and the history: its start, its entries, a mark for each commit whose keeper failed, and one for the first `stop`.
+//! Each call that takes a container by `&mut` says that its history has grown, so a ticket that fits goes on to fit
 //! (`histories_grow`).
 #![tactic(auto)]
 

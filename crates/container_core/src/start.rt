@@ -64,8 +64,8 @@ pub(crate) struct Opened {
     pub(crate) history: History,
 }
 
-/// A boot over rows that were loaded, and the write that raises the number of the boot. Once these are made, a start takes
-/// no more memory of its own.
+/// A boot over rows that were loaded, and the write that raises the number of the boot. Once these are made, a start
+/// takes no more memory of its own.
 #[derive(Drop)]
 struct Prepared {
     opened: Opened,

@@ -104,8 +104,8 @@ fn reboot<K: Keeper + Drop>(
     add_pair(rt, words, down.0, "-", up.0);
 }
 
-/// Does what a line says: `stop`, `reboot`, or a call, of which it has the number of the request and the steps. Adds what
-/// it answers, and the number of the events.
+/// Does what a line says: `stop`, `reboot`, or a call, of which it has the number of the request and the steps. Adds
+/// what it answers, and the number of the events.
 fn do_line<K: Keeper + Drop>(
     rt: &impl Abort,
     alloc: Global,
@@ -158,9 +158,9 @@ fn reopen<K: Keeper + Drop>(
     }
 }
 
-/// The number of the call of the keeper that fails; the lines before the container is started again; those after that; and
-/// what all of them answer, each with the number of the events, with the boot in between. At the end stand the calls of the
-/// keeper, its faults and its rows.
+/// The number of the call of the keeper that fails; the lines before the container is started again; those after that;
+/// and what all of them answer, each with the number of the events, with the boot in between. At the end stand the
+/// calls of the keeper, its faults and its rows.
 const HISTORIES: &str =
     "0|stop;stop;70:e p3.7=a;stop;71:e r3.7|70:e r3.7 p3.7=c;70:e p3.8=b;stop|!2 !2 0 !3 !3 a 1 !4 boot2 0.0=00000002 3.7=61 a 0 .2 already0 .2 !3 6/0 0.0=00000002 3.7=63
 3|70:e p3.7=a;70:e p3.7=b;stop;71:e|70:e r3.7|keeper_failed .2 0 .3 !4 1 !5 boot2 0.0=00000002 3.7=62 b 0 .2 6/1 0.0=00000002 3.7=62

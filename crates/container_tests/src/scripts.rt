@@ -130,7 +130,8 @@ fn started<K: Keeper + Drop>(
     }
 }
 
-/// Makes a call of these steps, and asserts what its commit answers. The commits of a boot have the places 0, 1 and so on.
+/// Makes a call of these steps, and asserts what its commit answers. The commits of a boot have the places 0, 1 and so
+/// on.
 fn commit<K: Keeper + Drop>(
     rt: &impl Abort,
     alloc: Global,

@@ -1,7 +1,7 @@
 //! Steps of a call as texts, and how it ends.
 //!
-//! A step is a word: `e` enters component 1, `x` leaves it, `r3.7` reads a row, `l` lists table 3, `p3.7=a` puts a row, and
-//! `c` asks whether the call may go on.
+//! A step is a word: `e` enters component 1, `x` leaves it, `r3.7` reads a row, `l` lists table 3, `p3.7=a` puts a row,
+//! and `c` asks whether the call may go on.
 
 ghost use Rattle.boot_core.specs.Fits.{FitsIn};
 
