@@ -11,8 +11,8 @@ use Rattle.brick_store.specs.declared.kept.Kept.{Kept}
 use Rattle.brick_store.specs.declared.kept_map.Pair.{Pair}
 use Rattle.brick_store.specs.declared.kept_map.Lease.{Lease}
 use Rattle.brick_store.specs.Kept.{kept_under, with_kept}
-use Rattle.brick_store.specs.Pairs.{pair_order, pair_of, kept_at, kept_in}
-use Rattle.brick_store.proofs.KeptOrder.{pair_exact, is_eq-kept_order, query}
+use Rattle.brick_store.specs.Pairs.{pair_of, kept_at, kept_in}
+use Rattle.brick_store.proofs.KeptOrder.{pair_order, pair_exact, is_eq-kept_order, query}
 
 abbrev Entry : Type 0
 Entry = Pair × Lease

@@ -6,13 +6,6 @@ use Rattle.brick_store.specs.declared.kept.TheConstants.{MAX_BRICK_VALUES, MAX_B
 use Rattle.brick_store.specs.Kept.{kept_under, with_kept, bytes_of, size_of, is_full, AreInOrder}
 use Rattle.brick_store.proofs.Keeping.{weight, bytes_with, count_with}
 
-full_tests : (values bytes : ℕ) → (nat_lt MAX_BRICK_VALUES values || nat_lt MAX_BRICK_BYTES bytes) ≡ false → (values ≤ MAX_BRICK_VALUES) × (bytes ≤ MAX_BRICK_BYTES)
-full_tests values bytes room = grind (arith, nat_tests)
-
--- where there is room, a put passes no limit
-pub has_room : (s : Kept) (ts : List Kept) → is_full ts s ≡ false → (length (with_kept s ts) ≤ MAX_BRICK_VALUES) × (bytes_of (with_kept s ts) ≤ MAX_BRICK_BYTES)
-has_room s ts room = full_tests (length (with_kept s ts)) (bytes_of (with_kept s ts)) room
-
 -- a value under a new key and version has no room exactly at a limit
 pub full_new : (s : Kept) (ts : List Kept) → AreInOrder ts → kept_under s.key s.version ts ≡ None
     → is_full ts s ≡ (nat_le MAX_BRICK_VALUES (length ts) || nat_lt MAX_BRICK_BYTES (bytes_of ts + length s.value))

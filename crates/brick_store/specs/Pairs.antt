@@ -1,16 +1,10 @@
 -- Kept values at the pairs of an ordered map.
 use Rattle.std.specs.Prelude.{List, map}
-use Rattle.std.specs.declared.cmp.Ordering.{Ordering}
 use Rattle.crash_base.specs.declared.numbers.SessionKey.{SessionKey}
 use Rattle.crash_base.specs.declared.numbers.Version.{Version}
 use Rattle.brick_store.specs.declared.kept.Kept.{Kept}
 use Rattle.brick_store.specs.declared.kept_map.Pair.{Pair}
 use Rattle.brick_store.specs.declared.kept_map.Lease.{Lease}
-use Rattle.brick_store.specs.contracts.kept_map.PairOrd.TheImpl as pair_ord
-
--- the order of pairs: by key, and of one key by version
-abbrev pub pair_order : Pair → Pair → Ordering
-pair_order = (pair_ord.ghosts).cmp
 
 -- the pair of a key and a version
 abbrev pub pair_of : SessionKey → Version → Pair

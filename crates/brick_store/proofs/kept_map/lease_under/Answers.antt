@@ -4,7 +4,8 @@ use Rattle.std.specs.Option.{option_copied}
 use Rattle.std.specs.BTreeMap.{get}
 use Rattle.brick_store.specs.declared.kept.Kept.{Kept}
 use Rattle.brick_store.specs.declared.kept_map.Lease.{Lease}
-use Rattle.brick_store.specs.Pairs.{pair_order, pair_of, kept_at}
+use Rattle.brick_store.specs.Pairs.{pair_of, kept_at}
+use Rattle.brick_store.proofs.KeptOrder.{pair_order}
 use Rattle.brick_store.proofs.Leases.{kept_in-found}
 use Rattle.brick_store.proofs.kept_map.lease_under.Goals as goal
 

@@ -1,7 +1,8 @@
 use Rattle.std.proofs.Common.{◌∙◌, ap}
 use Rattle.std.specs.BTreeMap.{insert_entry}
 use Rattle.brick_store.specs.declared.kept_map.Lease.{Lease}
-use Rattle.brick_store.specs.Pairs.{pair_order, pair_of, kept_in}
+use Rattle.brick_store.specs.Pairs.{pair_of, kept_in}
+use Rattle.brick_store.proofs.KeptOrder.{pair_order}
 use Rattle.brick_store.proofs.Leases.{kept_in-put}
 use Rattle.brick_store.proofs.kept_map.put_lease.Goals as goal
 
