@@ -14,7 +14,7 @@ use Rattle.brick_store.specs.Bricks.{BrickValue, new_brick, put_value, answered,
 use Rattle.brick_store.specs.Kept.{is_full, with_kept}
 use Rattle.brick_store.specs.Standing.{StandsFor, heard}
 use Rattle.outside.specs.declared.link.LinkEvent.{LinkEvent}
-use Rattle.outside.specs.declared.link.LinkEvent.TheVariants.{Sends, SendsInSilence, Gets, HearsSilence, Wants}
+use Rattle.outside.specs.declared.link.LinkEvent.TheVariants.{Sends, SendsInSilence, Gets, HearsSilence, WantsToSend, WantsToReceive}
 use Rattle.outside.specs.Faults.{counted}
 use Rattle.link_memory.specs.Lane.{LaneValue, new_lane, with_reply_if, reached, asked, given, silent}
 use Rattle.link_memory.specs.Script.{ScriptValue, new_link, lane_of, on_lane, more_unknown, hushed_by, ScriptMakes}
@@ -111,7 +111,8 @@ module _ (law : (first : ℕ) (h : List BrickEvent) (b : BrickValue) (request : 
   event_stands old new (SendsInSilence to frame) histories stand (none, fit, is) = (let P : ScriptValue → Type 0 = λ l. AllStand histories l in subst P (sym is) (hushed_stands old to histories stand))
   event_stands old new (Gets from frame) histories stand (gives, few, is) = (let P : ScriptValue → Type 0 = λ l. AllStand histories l in subst P (sym is) (unchanged_stands (record old { got = counted old.got }) from given histories (λ lane. refl) stand))
   event_stands old new (HearsSilence from) histories stand (quiet, fit, is) = (let P : ScriptValue → Type 0 = λ l. AllStand histories l in subst P (sym is) (hushed_stands old from histories stand))
-  event_stands old new (Wants brick) histories stand is = (let P : ScriptValue → Type 0 = λ l. AllStand histories l in subst P (sym is) stand)
+  event_stands old new (WantsToSend brick frame) histories stand is = (let P : ScriptValue → Type 0 = λ l. AllStand histories l in subst P (sym is) stand)
+  event_stands old new (WantsToReceive brick) histories stand is = (let P : ScriptValue → Type 0 = λ l. AllStand histories l in subst P (sym is) stand)
 
 -- a lane of a new link
 new_lane_at : (bricks number : ℕ) (lane : LaneValue) → lane_of (new_link bricks) number ≡ Some lane → lane ≡ new_lane number

@@ -8,7 +8,7 @@ use Rattle.std.proofs.lemmas.List.Elements.{All-nil, All-push}
 use Rattle.std.proofs.lemmas.Option.{get_or_from_slice_get}
 use Rattle.crash_base.specs.declared.numbers.BrickNo.{BrickNo}
 use Rattle.outside.specs.declared.link.LinkEvent.{LinkEvent}
-use Rattle.outside.specs.declared.link.LinkEvent.TheVariants.{Gets, Wants}
+use Rattle.outside.specs.declared.link.LinkEvent.TheVariants.{Gets, WantsToReceive}
 use Rattle.outside.specs.Link.{Made}
 use Rattle.outside.specs.Faults.{counted}
 use Rattle.send_windows.specs.declared.pass.Pass.{Pass}
@@ -194,7 +194,7 @@ module _ (lawful : Frame → Option WriteReply) (brick : BrickNo) (old : ScriptV
     leaves = by_call f.wanted;
   }
     where
-      by_call : (f.call ≡ Wants brick) ⊎ ((bytes : List ℕ) × IsTrue (takes_memory bytes) × (f.call ≡ Gets brick bytes)) → Kept came.taken came.rest new
+      by_call : (f.call ≡ WantsToReceive brick) ⊎ ((bytes : List ℕ) × IsTrue (takes_memory bytes) × (f.call ≡ Gets brick bytes)) → Kept came.taken came.rest new
       by_call (inl want) =
           let M : LinkEvent → Type 0 = λ call. ScriptMakes reached call new in
           let same : new ≡ reached = subst M want f.made in

@@ -46,10 +46,6 @@ hear_left lawful (suc missing) (a ∷ asks) link =
     with_ask a.who (heard_rest (lawful a.who) a.who a.ear link).heard
     (hear_left lawful (missing_after a.ear (heard_rest (lawful a.who) a.who a.ear link).heard (suc missing)) asks (heard_rest (lawful a.who) a.who a.ear link).link)
 
-hear_nothing : (lawful : BrickNo → Frame → Option WriteReply) (missing : ℕ) (link : ScriptValue) → hear_left lawful missing [] link ≡ record { heard = []; link = link }
-hear_nothing lawful zero link = refl
-hear_nothing lawful (suc missing) link = refl
-
 -- what is still asked and heard
 abbrev finish : (BrickNo → Frame → Option WriteReply) → List ℕ → ℕ → Asks → ScriptValue → Over Asks
 finish lawful ask zero asks link = record { heard = asks; link = link }

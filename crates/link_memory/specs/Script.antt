@@ -5,7 +5,7 @@ use Rattle.std.specs.Option.{option_map, option_map_or}
 use Rattle.crash_base.specs.declared.numbers.BrickNo.{BrickNo}
 use Rattle.ssm_frames.specs.declared.frame.Frame.{Frame}
 use Rattle.outside.specs.declared.link.LinkEvent.{LinkEvent}
-use Rattle.outside.specs.declared.link.LinkEvent.TheVariants.{Sends, SendsInSilence, Gets, HearsSilence, Wants}
+use Rattle.outside.specs.declared.link.LinkEvent.TheVariants.{Sends, SendsInSilence, Gets, HearsSilence, WantsToSend, WantsToReceive}
 use Rattle.outside.specs.Faults.{counted}
 use Rattle.outside.specs.Link.{Tally}
 use Rattle.link_memory.specs.Lane.{LaneValue, new_lane, asked, given, silent, IsFirst}
@@ -108,4 +108,5 @@ ScriptMakes old (Gets from frame) new =
     Gives frame (lane_of old from.0) × (old.got < 2 ^ 64) × (new ≡ given_by from old)
 ScriptMakes old (HearsSilence from) new =
     IsQuiet (lane_of old from.0) × SilencesFit old from × (new ≡ hushed_by from old)
-ScriptMakes old (Wants brick) new = new ≡ old
+ScriptMakes old (WantsToSend brick frame) new = new ≡ old
+ScriptMakes old (WantsToReceive brick) new = new ≡ old

@@ -6,7 +6,7 @@ use Rattle.ssm_frames.specs.Reading.{decode_of}
 use Rattle.brick_store.specs.declared.event.BrickEvent.{BrickEvent}
 use Rattle.brick_store.specs.Standing.{StandsFor, heard}
 use Rattle.outside.specs.declared.link.LinkEvent.{LinkEvent}
-use Rattle.outside.specs.declared.link.LinkEvent.TheVariants.{Sends, SendsInSilence, Gets, HearsSilence, Wants}
+use Rattle.outside.specs.declared.link.LinkEvent.TheVariants.{Sends, SendsInSilence, Gets, HearsSilence, WantsToSend, WantsToReceive}
 use Rattle.link_memory.specs.Lane.{LaneValue}
 use Rattle.link_memory.specs.Script.{ScriptValue, lane_of}
 
@@ -43,4 +43,5 @@ histories_after link (Sends to frame) histories =
 histories_after link (SendsInSilence to frame) histories = histories
 histories_after link (Gets from frame) histories = histories
 histories_after link (HearsSilence from) histories = histories
-histories_after link (Wants brick) histories = histories
+histories_after link (WantsToSend brick frame) histories = histories
+histories_after link (WantsToReceive brick) histories = histories

@@ -8,7 +8,7 @@ use Rattle.ssm_frames.specs.declared.frame.Frame.{Frame}
 use Rattle.ssm_frames.specs.Reading.{decode_of}
 use Rattle.brick_store.specs.Bricks.{answered, reply}
 use Rattle.outside.specs.declared.link.LinkEvent.{LinkEvent}
-use Rattle.outside.specs.declared.link.LinkEvent.TheVariants.{Sends, SendsInSilence, Gets, HearsSilence, Wants}
+use Rattle.outside.specs.declared.link.LinkEvent.TheVariants.{Sends, SendsInSilence, Gets, HearsSilence, WantsToSend, WantsToReceive}
 use Rattle.outside.specs.Faults.{counted, NeverFalls, Rose}
 use Rattle.outside.specs.Link.{Tallied, is_silence_of, is_frame}
 use Rattle.link_memory.specs.Lane.{LaneValue, with_reply_if, reached, asked, given, silent}
@@ -178,8 +178,17 @@ script_tallies old new (Gets from frame) (gives, fits, is) =
 script_tallies old new (HearsSilence from) (quiet, fit, is) =
     (let P : ScriptValue → Type 0 = λ s. Tallied (HearsSilence from) (script_tally old) (script_tally s) in
     subst P (sym is) (silence_tallied old from (HearsSilence from) fit refl (λ number h. eqb-true from.0 number h)))
-script_tallies old new (Wants brick) is =
-    (let P : ScriptValue → Type 0 = λ s. Tallied (Wants brick) (script_tally old) (script_tally s) in subst P (sym is) (record {
+script_tallies old new (WantsToSend brick frame) is =
+    (let P : ScriptValue → Type 0 = λ s. Tallied (WantsToSend brick frame) (script_tally old) (script_tally s) in subst P (sym is) (record {
+      silences_never_fall = λ n. same (silences_of old n) (silences_of old n) refl;
+      hushed_never_falls = same old.hushed old.hushed refl;
+      got_never_falls = same old.got old.got refl;
+      silence_rises = λ n h. absurd cc;
+      hushed_rises = λ h. absurd cc;
+      got_rises = λ h. absurd cc;
+    }))
+script_tallies old new (WantsToReceive brick) is =
+    (let P : ScriptValue → Type 0 = λ s. Tallied (WantsToReceive brick) (script_tally old) (script_tally s) in subst P (sym is) (record {
       silences_never_fall = λ n. same (silences_of old n) (silences_of old n) refl;
       hushed_never_falls = same old.hushed old.hushed refl;
       got_never_falls = same old.got old.got refl;

@@ -2,7 +2,7 @@
 use Rattle.std.specs.Prelude.{◌≡◌, ℕ, ◌==◌, Bool, true, false, IsTrue, List, [], ◌∷◌}
 use Rattle.crash_base.specs.declared.numbers.BrickNo.{BrickNo}
 use Rattle.outside.specs.declared.link.LinkEvent.{LinkEvent}
-use Rattle.outside.specs.declared.link.LinkEvent.TheVariants.{Sends, SendsInSilence, Gets, HearsSilence, Wants}
+use Rattle.outside.specs.declared.link.LinkEvent.TheVariants.{Sends, SendsInSilence, Gets, HearsSilence, WantsToSend, WantsToReceive}
 use Rattle.outside.specs.declared.link.Sent.{Sent}
 use Rattle.outside.specs.declared.link.Sent.TheVariants.{Done, Silent, OutOfMemory}
 use Rattle.outside.specs.declared.link.Received.{Received}
@@ -13,13 +13,13 @@ use Rattle.outside.specs.Faults.{NeverFalls, Rose}
 abbrev pub send_event : BrickNo → List ℕ → Sent → LinkEvent
 send_event to frame Done = Sends to frame
 send_event to frame Silent = SendsInSilence to frame
-send_event to frame OutOfMemory = Wants to
+send_event to frame OutOfMemory = WantsToSend to frame
 
 -- a receive and its answer as an event
 abbrev pub receive_event : BrickNo → List ℕ → Received → LinkEvent
 receive_event from frame Got = Gets from frame
 receive_event from frame NoneCame = HearsSilence from
-receive_event from frame NoRoom = Wants from
+receive_event from frame NoRoom = WantsToReceive from
 
 -- whether the brick of this number was silent in an event
 abbrev pub is_silence_of : ℕ → LinkEvent → Bool
@@ -27,7 +27,8 @@ is_silence_of brick (Sends to frame) = false
 is_silence_of brick (SendsInSilence to frame) = to.0 == brick
 is_silence_of brick (Gets from frame) = false
 is_silence_of brick (HearsSilence from) = from.0 == brick
-is_silence_of brick (Wants from) = false
+is_silence_of brick (WantsToSend to frame) = false
+is_silence_of brick (WantsToReceive from) = false
 
 -- whether a brick was silent in an event
 abbrev pub is_silence : LinkEvent → Bool
@@ -35,7 +36,8 @@ is_silence (Sends to frame) = false
 is_silence (SendsInSilence to frame) = true
 is_silence (Gets from frame) = false
 is_silence (HearsSilence from) = true
-is_silence (Wants from) = false
+is_silence (WantsToSend to frame) = false
+is_silence (WantsToReceive from) = false
 
 -- whether a frame came in an event
 abbrev pub is_frame : LinkEvent → Bool
@@ -43,7 +45,8 @@ is_frame (Sends to frame) = false
 is_frame (SendsInSilence to frame) = false
 is_frame (Gets from frame) = true
 is_frame (HearsSilence from) = false
-is_frame (Wants from) = false
+is_frame (WantsToSend to frame) = false
+is_frame (WantsToReceive from) = false
 
 -- What a link has counted: the silences of each brick by its number, those of all bricks, and the
 -- frames that came.

@@ -43,8 +43,10 @@ pub enum LinkEvent {
     Gets(BrickNo, FrameBytes),
     /// A receive from a brick was answered Silent.
     HearsSilence(BrickNo),
-    /// A send to a brick, or a receive from it, was answered OutOfMemory.
-    Wants(BrickNo),
+    /// A send of this frame to a brick was answered OutOfMemory.
+    WantsToSend(BrickNo, FrameBytes),
+    /// A receive from a brick was answered OutOfMemory.
+    WantsToReceive(BrickNo),
 }
 
 /// What a link has counted, each number up to 2^64 - 1.

@@ -6,7 +6,7 @@ use Rattle.std.proofs.lemmas.List.Elements.{All-head, All-tail}
 use Rattle.std.proofs.lemmas.List.Sums.{sum_by-cons}
 use Rattle.crash_base.specs.declared.numbers.BrickNo.{BrickNo}
 use Rattle.outside.specs.declared.link.LinkEvent.{LinkEvent}
-use Rattle.outside.specs.declared.link.LinkEvent.TheVariants.{Sends, SendsInSilence, Gets, HearsSilence, Wants}
+use Rattle.outside.specs.declared.link.LinkEvent.TheVariants.{Sends, SendsInSilence, Gets, HearsSilence, WantsToSend, WantsToReceive}
 use Rattle.outside.specs.Link.{is_silence, is_silence_of, is_frame}
 use Rattle.ssm_frames.specs.declared.frame.Frame.{Frame}
 use Rattle.ssm_stub.specs.declared.ear.Outcome.TheVariants.{Silent, Strayed}
@@ -66,7 +66,8 @@ is_frame_of brick (Sends to frame) = false
 is_frame_of brick (SendsInSilence to frame) = false
 is_frame_of brick (Gets from frame) = from.0 == brick
 is_frame_of brick (HearsSilence from) = false
-is_frame_of brick (Wants from) = false
+is_frame_of brick (WantsToSend to frame) = false
+is_frame_of brick (WantsToReceive from) = false
 
 never : (k : ℕ) (t : Told → Bool) (b : Bool) (told : Told) → t told ≡ false → weight k t (if b then Some told else None) ≡ 0
 unfolding weight
@@ -84,7 +85,8 @@ hush_about brick (Sends to frame) = never 1 is_hush (to.0 == brick.0) Sent refl
 hush_about brick (SendsInSilence to frame) = always 1 is_hush (to.0 == brick.0) NoneCame refl
 hush_about brick (Gets from frame) = never 1 is_hush (from.0 == brick.0) _ refl
 hush_about brick (HearsSilence from) = always 1 is_hush (from.0 == brick.0) NoneCame refl
-hush_about brick (Wants from) = refl
+hush_about brick (WantsToSend to frame) = refl
+hush_about brick (WantsToReceive from) = refl
 
 came_about : (brick : BrickNo) (event : LinkEvent) → weight 1 is_came (about brick event) ≡ cond (is_frame_of brick.0 event) 1 0
 unfolding weight is_came is_frame_of
@@ -92,7 +94,8 @@ came_about brick (Sends to frame) = never 1 is_came (to.0 == brick.0) Sent refl
 came_about brick (SendsInSilence to frame) = never 1 is_came (to.0 == brick.0) NoneCame refl
 came_about brick (Gets from frame) = always 1 is_came (from.0 == brick.0) _ refl
 came_about brick (HearsSilence from) = never 1 is_came (from.0 == brick.0) NoneCame refl
-came_about brick (Wants from) = refl
+came_about brick (WantsToSend to frame) = refl
+came_about brick (WantsToReceive from) = refl
 
 all_counted : (t : Told → Bool) (l : LinkEvent → Bool) (brick : BrickNo) → ((event : LinkEvent) → weight 1 t (about brick event) ≡ cond (l event) 1 0) → (calls : List LinkEvent) → many 1 t (all_about brick calls) ≡ many 1 l calls
 unfolding many
@@ -179,14 +182,16 @@ silence_inside n (Sends to frame) h = cc
 silence_inside n (SendsInSilence to frame) h = refl
 silence_inside n (Gets from frame) h = cc
 silence_inside n (HearsSilence from) h = refl
-silence_inside n (Wants from) h = cc
+silence_inside n (WantsToSend to frame) h = cc
+silence_inside n (WantsToReceive from) h = cc
 
 silence_alone : (n m : ℕ) (e : LinkEvent) → is_silence_of n e ≡ true → is_silence_of m e ≡ true → n ≡ m
 silence_alone n m (Sends to frame) h k = absurd cc
 silence_alone n m (SendsInSilence to frame) h k = sym (eqb-true to.0 n h) ∙ eqb-true to.0 m k
 silence_alone n m (Gets from frame) h k = absurd cc
 silence_alone n m (HearsSilence from) h k = sym (eqb-true from.0 n h) ∙ eqb-true from.0 m k
-silence_alone n m (Wants from) h k = absurd cc
+silence_alone n m (WantsToSend to frame) h k = absurd cc
+silence_alone n m (WantsToReceive from) h k = absurd cc
 
 frame_inside : (n : ℕ) (e : LinkEvent) → is_frame_of n e ≡ true → is_frame e ≡ true
 unfolding is_frame_of
@@ -194,7 +199,8 @@ frame_inside n (Sends to frame) h = cc
 frame_inside n (SendsInSilence to frame) h = cc
 frame_inside n (Gets from frame) h = refl
 frame_inside n (HearsSilence from) h = cc
-frame_inside n (Wants from) h = cc
+frame_inside n (WantsToSend to frame) h = cc
+frame_inside n (WantsToReceive from) h = cc
 
 frame_alone : (n m : ℕ) (e : LinkEvent) → is_frame_of n e ≡ true → is_frame_of m e ≡ true → n ≡ m
 unfolding is_frame_of
@@ -202,7 +208,8 @@ frame_alone n m (Sends to frame) h k = absurd cc
 frame_alone n m (SendsInSilence to frame) h k = absurd cc
 frame_alone n m (Gets from frame) h k = sym (eqb-true from.0 n h) ∙ eqb-true from.0 m k
 frame_alone n m (HearsSilence from) h k = absurd cc
-frame_alone n m (Wants from) h k = absurd cc
+frame_alone n m (WantsToSend to frame) h k = absurd cc
+frame_alone n m (WantsToReceive from) h k = absurd cc
 
 -- the silences of several bricks are among all silences
 pub silences_within : {X : Type 0} (number : X → ℕ) (xs : List X) → Distinct number xs → (calls : List LinkEvent) → total (λ x. many 1 (is_silence_of (number x)) calls) xs ≤ count_by is_silence calls

@@ -18,6 +18,7 @@ use Rattle.ssm_stub.specs.declared.read_call.ReadRefusal.{ReadRefusal}
 use Rattle.ssm_stub.specs.Runs.{told_of, calls, after, Fits}
 use Rattle.ssm_stub.specs.Reads.{ReadState, get_lawful, read_answer_of, read_start, read_ask, read_answer, turn_of_read, read_machine, hear_read}
 use Rattle.ssm_stub.specs.Hearing.{AllDiffer, all_about, ear_machine, told_to}
+use Rattle.ssm_stub.specs.Turns.{none_asked}
 use Rattle.ssm_stub.specs.Ends.{ReadEnds}
 use Rattle.ssm_stub.proofs.OwnEvents.{read_asking}
 use Rattle.ssm_stub.proofs.LinkTelling.{calls_tell}
@@ -67,3 +68,19 @@ read_facts makes now nonce cookie old new answer differ ends =
 pub read_facts-calls : {L : Type 0} (makes : L → LinkEvent → L → Type 0) (now : Moment) (nonce : Version) (cookie : Cookie) (old new : L) (answer : Result (List ℕ) ReadRefusal) (differ : AllDiffer (map (λ (h : Holder). h.brick.0) cookie.bricks)) (ends : ReadEnds makes (read_start now nonce cookie) old new answer) → (read_facts makes now nonce cookie old new answer differ ends).calls_made ≡ calls read_machine (encode_of (read_ask (read_start now nonce cookie))) (read_start now nonce cookie) ends.events
 unfolding read_facts
 read_facts-calls makes now nonce cookie old new answer differ ends = refl
+
+-- the same of a run alone: the answer over what each holder's brick is told
+pub record ReadTold (events : List Told) (holders : List Holder) (s : ReadState) (answer : Result (List ℕ) ReadRefusal) : Type 0 where
+  pub answers : read_answer_of s.moment s.expiry (map (ask_by (λ (h : Holder). h.brick) (get_lawful s.nonce s.key s.version s.expiry) (told_to read_machine s events)) holders) ≡ Some answer
+  pub in_order : InOrder (map (ask_by (λ (h : Holder). h.brick) (get_lawful s.nonce s.key s.version s.expiry) (told_to read_machine s events)) holders)
+  pub fitting : (i : ℕ) (h : Holder) → slice_get holders i ≡ Some h → Fits (ear_machine h.brick (get_lawful s.nonce s.key s.version s.expiry h)) (Open Unasked) (told_to read_machine s events h.brick)
+
+pub read_told : (events : List Told) (holders : List Holder) (s : ReadState) (answer : Result (List ℕ) ReadRefusal) → s.asks ≡ none_asked holders → AllDiffer (map (λ (h : Holder). h.brick.0) holders) → Fits read_machine s events → read_answer (after read_machine s events) ≡ Some answer → ReadTold events holders s answer
+read_told events holders s answer begins differ fitting answers =
+    let heard : Heard (λ (h : Holder). h.brick) (get_lawful s.nonce s.key s.version s.expiry) (told_to read_machine s events) holders (after read_machine s events).asks =
+    heard_by_events read_machine (λ (t : ReadState). t.asks) (λ (h : Holder). h.brick) (λ (t : ReadState). get_lawful t.nonce t.key t.version t.expiry) turn_of_read read_asking events s holders (told_to read_machine s events) (λ b. refl) begins differ fitting in
+    record {
+      answers = ap (read_answer_of s.moment s.expiry) (sym heard.are) ∙ (sym (ap read_answer (read_stays events s)) ∙ answers);
+      in_order = subst InOrder heard.are (run_in_order events s fitting (subst InOrder (sym begins) (started_in_order holders)));
+      fitting = heard.fitting;
+    }

@@ -6,6 +6,7 @@ use Rattle.std.proofs.lemmas.List.Elements.{All-nil, All-cons}
 use Rattle.std.proofs.lemmas.Option.{slice_get-map}
 use Rattle.crash_base.specs.declared.numbers.Moment.{Moment}
 use Rattle.crash_base.specs.declared.numbers.Version.{Version}
+use Rattle.crash_base.specs.declared.numbers.BrickNo.{BrickNo}
 use Rattle.outside.specs.declared.link.LinkEvent.{LinkEvent}
 use Rattle.session_cookie.specs.declared.cookie.Cookie.{Cookie}
 use Rattle.session_cookie.specs.declared.cookie.Holder.{Holder}
@@ -27,13 +28,14 @@ use Rattle.ssm_stub.specs.declared.read_call.ReadRefusal.TheVariants.{Expired, L
 use Rattle.ssm_stub.specs.Turns.{is_open, turn_in_order}
 use Rattle.ssm_stub.specs.Runs.{Fits}
 use Rattle.ssm_stub.specs.Writes.{with_brick}
-use Rattle.ssm_stub.specs.Reads.{found_in, found_or, loss_by, loss_of, lost_unless}
+use Rattle.ssm_stub.specs.Reads.{read_answer_of, found_in, found_or, loss_by, loss_of, lost_unless}
 use Rattle.ssm_stub.specs.Hearing.{all_about, EndsIn, ear_machine}
-use Rattle.ssm_stub.specs.Outcomes.{IsGetCause, HaveCauses, IsLost, IsRead}
+use Rattle.ssm_stub.specs.Outcomes.{IsGetCause, HaveCausesBy, IsReadBy, IsLost, IsRead}
 use Rattle.ssm_stub.proofs.HearingEnds.{heard_so, untold_so}
 use Rattle.ssm_stub.proofs.Searching.{all_heard_in_order}
 use Rattle.ssm_stub.proofs.ReadOrder.{is_lost, AreFresh, InOrder, found_behind, lost_not_found, found_first, none_found}
-use Rattle.ssm_stub.proofs.ReadFacts.{ReadFacts, lawful_of, holder_ask}
+use Rattle.ssm_stub.proofs.ByEvents.{ask_by}
+use Rattle.ssm_stub.proofs.ReadFacts.{ReadFacts, lawful_of}
 
 -- its cause, where it has one
 pub record Caused (lawful : Frame → Option ReadReply) (events : List Told) (ear : Ear ReadReply) : Type 0 where
@@ -72,50 +74,38 @@ heard_lost who (Heard (Answered (Swept moment))) asks h none = refl
 heard_lost who (Heard Silent) asks h none = refl
 heard_lost who (Heard Strayed) asks h none = refl
 
-module _ (nonce : Version) (cookie : Cookie) (calls : List LinkEvent) where
+module _ (lawful : Holder → Frame → Option ReadReply) (told : BrickNo → List Told) where
   abbrev ask_of : Holder → Ask Holder ReadReply
-  ask_of = holder_ask nonce cookie calls
+  ask_of = ask_by (λ (h : Holder). h.brick) lawful told
 
   abbrev Fitting : List Holder → Type 0
-  Fitting holders = (i : ℕ) (h : Holder) → slice_get holders i ≡ Some h → Fits (ear_machine h.brick (lawful_of nonce cookie h)) (Open Unasked) (all_about h.brick calls)
+  Fitting holders = (i : ℕ) (h : Holder) → slice_get holders i ≡ Some h → Fits (ear_machine h.brick (lawful h)) (Open Unasked) (told h.brick)
 
-  first_caused : (holder : Holder) (holders : List Holder) → Fitting (holder ∷ holders) → is_lost (ask_of holder).ear ≡ true → Caused (lawful_of nonce cookie holder) (all_about holder.brick calls) (ask_of holder).ear
+  first_caused : (holder : Holder) (holders : List Holder) → Fitting (holder ∷ holders) → is_lost (ask_of holder).ear ≡ true → Caused (lawful holder) (told holder.brick) (ask_of holder).ear
   first_caused holder holders fitting lost =
-      caused_by (lawful_of nonce cookie holder) (all_about holder.brick calls) (ask_of holder).ear lost
-      (λ o is. heard_so (lawful_of nonce cookie holder) holder.brick (all_about holder.brick calls) o (fitting zero holder refl) is)
+      caused_by (lawful holder) (told holder.brick) (ask_of holder).ear lost
+      (λ o is. heard_so (lawful holder) holder.brick (told holder.brick) o (fitting zero holder refl) is)
 
   -- where all are heard and none gave the value, each has its cause
-  pub all_caused : (holders : List Holder) → Fitting holders → ((i : ℕ) (h : Holder) → slice_get holders i ≡ Some h → is_open (ask_of h) ≡ false) → found_in (map ask_of holders) ≡ None → HaveCauses (lawful_of nonce cookie) calls holders (filter_map loss_of (map ask_of holders))
+  pub all_caused : (holders : List Holder) → Fitting holders → ((i : ℕ) (h : Holder) → slice_get holders i ≡ Some h → is_open (ask_of h) ≡ false) → found_in (map ask_of holders) ≡ None → HaveCausesBy lawful told holders (filter_map loss_of (map ask_of holders))
   all_caused [] fitting heard none = tt
   all_caused (holder ∷ holders) fitting heard none =
       let asks = map ask_of holders in
       let lost = heard_lost holder (ask_of holder).ear asks (heard zero holder refl) none in
       let one = first_caused holder holders fitting lost in
       let rest = all_caused holders (λ i h here. fitting (suc i) h here) (λ i h here. heard (suc i) h here) (sym (found_behind (ask_of holder) asks (lost_not_found holder (ask_of holder).ear lost)) ∙ none) in
-      let P : Option BrickCause → Type 0 = λ o. HaveCauses (lawful_of nonce cookie) calls (holder ∷ holders) (cons_option o (filter_map loss_of asks)) in
+      let P : Option BrickCause → Type 0 = λ o. HaveCausesBy lawful told (holder ∷ holders) (cons_option o (filter_map loss_of asks)) in
       subst P (sym (ap (with_brick holder.brick) one.told)) (refl, one.is, rest)
 
-  -- The holder that gave the value, with those before it, which are lost, and those behind it, which
-  -- were not asked.
-  pub record Split (holders : List Holder) (value : List ℕ) : Type 0 where
-    pub before : List Holder
-    pub holder : Holder
-    pub behind : List Holder
-    pub parts : holders ≡ before ++ holder ∷ behind
-    pub causes : List BrickCause
-    pub lost : HaveCauses (lawful_of nonce cookie) calls before causes
-    pub found : EndsIn (lawful_of nonce cookie holder) (all_about holder.brick calls) (Answered (Found value))
-    pub unasked : All (λ (h : Holder). all_about h.brick calls ≡ []) behind
-
-  fresh_untold : (holders : List Holder) → Fitting holders → AreFresh (map ask_of holders) → All (λ (h : Holder). all_about h.brick calls ≡ []) holders
+  fresh_untold : (holders : List Holder) → Fitting holders → AreFresh (map ask_of holders) → All (λ (h : Holder). told h.brick ≡ []) holders
   unfolding AreFresh
-  fresh_untold [] fitting h = All-nil (λ (x : Holder). all_about x.brick calls ≡ [])
+  fresh_untold [] fitting h = All-nil (λ (x : Holder). told x.brick ≡ [])
   fresh_untold (holder ∷ holders) fitting (first, rest) =
-      All-cons (λ (x : Holder). all_about x.brick calls ≡ []) holder holders
-      (untold_so (lawful_of nonce cookie holder) holder.brick (all_about holder.brick calls) (fitting zero holder refl) first)
+      All-cons (λ (x : Holder). told x.brick ≡ []) holder holders
+      (untold_so (lawful holder) holder.brick (told holder.brick) (fitting zero holder refl) first)
       (fresh_untold holders (λ i h here. fitting (suc i) h here) rest)
 
-  found_here : (holder : Holder) (holders : List Holder) (value : List ℕ) (ear : Ear ReadReply) → (ask_of holder).ear ≡ ear → is_lost ear ≡ false → Fitting (holder ∷ holders) → AreFresh (map ask_of holders) → found_in (record { who = holder; ear = ear } ∷ map ask_of holders) ≡ Some value → Split (holder ∷ holders) value
+  found_here : (holder : Holder) (holders : List Holder) (value : List ℕ) (ear : Ear ReadReply) → (ask_of holder).ear ≡ ear → is_lost ear ≡ false → Fitting (holder ∷ holders) → AreFresh (map ask_of holders) → found_in (record { who = holder; ear = ear } ∷ map ask_of holders) ≡ Some value → IsReadBy lawful told (holder ∷ holders) value
   unfolding is_lost
   found_here holder holders value (Open stage) is lost fitting fresh found =
       absurd (let e : None ≡ Some value = sym (none_found (map ask_of holders) fresh) ∙ (sym (found_behind (record { who = holder; ear = Open stage }) (map ask_of holders) refl) ∙ found) in cc)
@@ -129,7 +119,7 @@ module _ (nonce : Version) (cookie : Cookie) (calls : List LinkEvent) where
         parts = refl;
         causes = [];
         lost = tt;
-        found = heard_so (lawful_of nonce cookie holder) holder.brick (all_about holder.brick calls) (Answered (Found value)) (fitting zero holder refl) given;
+        found = heard_so (lawful holder) holder.brick (told holder.brick) (Answered (Found value)) (fitting zero holder refl) given;
         unasked = fresh_untold holders (λ i h here. fitting (suc i) h here) fresh;
       }
   found_here holder holders value (Heard (Answered (Crashed incarnation))) is lost fitting fresh found = absurd cc
@@ -137,7 +127,7 @@ module _ (nonce : Version) (cookie : Cookie) (calls : List LinkEvent) where
   found_here holder holders value (Heard Silent) is lost fitting fresh found = absurd cc
   found_here holder holders value (Heard Strayed) is lost fitting fresh found = absurd cc
 
-  pub split : (holders : List Holder) (value : List ℕ) → Fitting holders → InOrder (map ask_of holders) → found_in (map ask_of holders) ≡ Some value → Split holders value
+  pub split : (holders : List Holder) (value : List ℕ) → Fitting holders → InOrder (map ask_of holders) → found_in (map ask_of holders) ≡ Some value → IsReadBy lawful told holders value
   unfolding InOrder
   split [] value fitting order found = absurd cc
   split (holder ∷ holders) value fitting (inr (here, fresh)) found = found_here holder holders value (ask_of holder).ear refl here fitting fresh found
@@ -155,28 +145,35 @@ module _ (nonce : Version) (cookie : Cookie) (calls : List LinkEvent) where
         unasked = later.unasked;
       }
 
+  -- a read that was lost tells why
+  pub lost_of : (now expiry : Moment) (holders : List Holder) (causes : List BrickCause) → Fitting holders → read_answer_of now expiry (map ask_of holders) ≡ Some (Err (Lost causes)) → HaveCausesBy lawful told holders causes
+  lost_of now expiry holders causes fitting answers =
+      let asks = map ask_of holders in
+      let parts = lost_parts (nat_lt expiry.0 now.0) now expiry (found_in asks) (turn_in_order asks) (filter_map loss_of asks) causes answers in
+      let each : (i : ℕ) (h : Holder) → slice_get holders i ≡ Some h → is_open (ask_of h) ≡ false = λ i h here.
+      all_heard_in_order asks parts.1 i (ask_of h) (slice_get-map ask_of holders i ∙ ap (option_map ask_of) here) in
+      let Have : List BrickCause → Type 0 = HaveCausesBy lawful told holders in
+      subst Have (sym parts.2) (all_caused holders fitting each parts.0)
+
+  -- a value was given by a holder
+  pub found_of : (now expiry : Moment) (holders : List Holder) (value : List ℕ) → Fitting holders → InOrder (map ask_of holders) → read_answer_of now expiry (map ask_of holders) ≡ Some (Ok value) → IsReadBy lawful told holders value
+  found_of now expiry holders value fitting order answers =
+      let asks = map ask_of holders in
+      split holders value fitting order (read_parts (nat_lt expiry.0 now.0) now expiry (found_in asks) (turn_in_order asks) (filter_map loss_of asks) value answers)
+
 module _ {L : Type 0} (makes : L → LinkEvent → L → Type 0) (now : Moment) (nonce : Version) (cookie : Cookie) (old new : L) where
   -- a read that was lost tells why
   pub lost : (causes : List BrickCause) → ReadFacts makes now nonce cookie old new (Err (Lost causes)) → IsLost makes nonce cookie old new causes
-  lost causes facts =
-      let mk = holder_ask nonce cookie facts.calls_made in
-      let asks = map mk cookie.bricks in
-      let parts = lost_parts (nat_lt cookie.expiry.0 now.0) now cookie.expiry (found_in asks) (turn_in_order asks) (filter_map loss_of asks) causes facts.answers in
-      let each : (i : ℕ) (h : Holder) → slice_get cookie.bricks i ≡ Some h → is_open (mk h) ≡ false = λ i h here.
-      all_heard_in_order asks parts.1 i (mk h) (slice_get-map mk cookie.bricks i ∙ ap (option_map mk) here) in
-      let Have : List BrickCause → Type 0 = HaveCauses (lawful_of nonce cookie) facts.calls_made cookie.bricks in
-      record {
-        calls = facts.calls_made;
-        made = facts.made;
-        told = subst Have (sym parts.2) (all_caused nonce cookie facts.calls_made cookie.bricks facts.fitting each parts.0);
-      }
+  lost causes facts = record {
+    calls = facts.calls_made;
+    made = facts.made;
+    told = lost_of (lawful_of nonce cookie) (λ b. all_about b facts.calls_made) now cookie.expiry cookie.bricks causes facts.fitting facts.answers;
+  }
 
   -- a value was given by a holder
   pub read_so : (value : List ℕ) → ReadFacts makes now nonce cookie old new (Ok value) → IsRead makes nonce cookie old new value
   read_so value facts =
-      let asks = map (holder_ask nonce cookie facts.calls_made) cookie.bricks in
-      let found = read_parts (nat_lt cookie.expiry.0 now.0) now cookie.expiry (found_in asks) (turn_in_order asks) (filter_map loss_of asks) value facts.answers in
-      let s = split nonce cookie facts.calls_made cookie.bricks value facts.fitting facts.in_order found in
+      let s = found_of (lawful_of nonce cookie) (λ b. all_about b facts.calls_made) now cookie.expiry cookie.bricks value facts.fitting facts.in_order facts.answers in
       record {
         calls = facts.calls_made;
         made = facts.made;

@@ -33,7 +33,7 @@ use Rattle.ssm_stub.specs.Turns.{is_open, turn_after_asks}
 use Rattle.ssm_stub.specs.Runs.{Fits}
 use Rattle.ssm_stub.specs.Writes.{put_lawful, holder_by, holder_of, cause_by, cause_of, with_brick, missed_unless, answer_of}
 use Rattle.ssm_stub.specs.Hearing.{all_about, EndsIn, ear_machine}
-use Rattle.ssm_stub.specs.Outcomes.{stored_by, missed_by, IsPutCause, IsWritten, IsMissed}
+use Rattle.ssm_stub.specs.Outcomes.{stored_of, stored_by, missed_of, missed_by, IsPutCause, IsMissedBy, IsWritten, IsMissed}
 use Rattle.ssm_stub.proofs.HearingEnds.{heard_so}
 use Rattle.ssm_stub.proofs.ByEvents.{ask_by}
 use Rattle.ssm_stub.proofs.Searching.{all_heard}
@@ -116,6 +116,33 @@ named bricks least nonce key expiry told cookie answers fitting =
     let All-of : List Holder → Type 0 = All Q in
     subst All-of (sym bricks_are) (All-take Q least (filter_map stored_of bricks) (all_found stored_of Q bricks each))
 
+-- a write that was missed by what its bricks were told tells why
+pub missed_told : (bricks : List BrickNo) (least : ℕ) (nonce : Version) (key : SessionKey) (expiry : Moment) (about : BrickNo → List Told) (causes : List BrickCause) → answer_of least nonce key expiry (map (ask_by (λ (b : BrickNo). b) (put_lawful nonce key) about) bricks) ≡ Some (Err (Missed causes)) → ((i : ℕ) (b : BrickNo) → slice_get bricks i ≡ Some b → Fits (ear_machine b (put_lawful nonce key b)) (Open Unasked) (about b)) → IsMissedBy bricks least nonce key about causes
+missed_told bricks least nonce key expiry about causes answers fitting =
+    let mk : BrickNo → Ask BrickNo WriteReply = ask_by (λ (b : BrickNo). b) (put_lawful nonce key) about in
+    let asks = map mk bricks in
+    let stored = filter_map (stored_of nonce key about) bricks in
+    let made : Cookie = record { key = key; version = nonce; expiry = expiry; bricks = take least (filter_map holder_of asks) } in
+    let holders_are : filter_map holder_of asks ≡ stored = filter_map_map holder_of mk bricks in
+    let parts = missed_parts (nat_le least (length (filter_map holder_of asks))) made (turn_after_asks asks) (filter_map cause_of asks) causes answers in
+    let few : length stored < least = rw (sym holders_are) (leb-false least (length (filter_map holder_of asks)) parts.0) in
+    let causes_are : causes ≡ filter_map (missed_of nonce key about) bricks = parts.2 ∙ filter_map_map cause_of mk bricks in
+    let ear_of : BrickNo → Ear WriteReply = λ b. ear_after (put_lawful nonce key b) (about b) in
+    let each_heard : (i : ℕ) (b : BrickNo) → slice_get bricks i ≡ Some b → is_open (mk b) ≡ false = λ i b here.
+    all_heard asks parts.1 i (mk b) (slice_get-map mk bricks i ∙ ap (option_map mk) here) in
+    let Q : BrickCause → Type 0 = λ c. IsPutCause (put_lawful nonce key c.brick) (about c.brick) c.cause in
+    let each : (i : ℕ) (b : BrickNo) (c : BrickCause) → slice_get bricks i ≡ Some b → missed_of nonce key about b ≡ Some c → Q c = λ i b c here e.
+    let told = caused_by (put_lawful nonce key b) (about b) b (ear_of b) c e (λ o is. heard_so (put_lawful nonce key b) b (about b) o (fitting i b here) is) in
+    let P : BrickNo → Type 0 = λ x. IsPutCause (put_lawful nonce key x) (about x) c.cause in
+    subst P told.0 told.1 in
+    let All-of : List BrickCause → Type 0 = All Q in
+    record {
+      few = few;
+      causes_are = causes_are;
+      all_heard = ap (λ cs. length stored + length cs) causes_are ∙ stored_or_missed ear_of bricks each_heard;
+      told = subst All-of (sym causes_are) (all_found (missed_of nonce key about) Q bricks each);
+    }
+
 module _ {L : Type 0} (makes : L → LinkEvent → L → Type 0) (bricks : List BrickNo) (least : ℕ) (nonce : Version) (key : SessionKey) (expiry : Moment) (old new : L) where
   -- a cookie names who stored the value
   pub written : (cookie : Cookie) → WriteFacts makes bricks least nonce key expiry old new (Ok cookie) → IsWritten makes bricks least nonce key expiry old new cookie
@@ -140,43 +167,20 @@ module _ {L : Type 0} (makes : L → LinkEvent → L → Type 0) (bricks : List 
         stored = named bricks least nonce key expiry (λ b. all_about b facts.calls_made) cookie facts.answers facts.fitting;
       }
 
-  missed_answer : (causes : List BrickCause) (facts : WriteFacts makes bricks least nonce key expiry old new (Err (Missed causes))) → let asks = map (ask_by (λ (b : BrickNo). b) (put_lawful nonce key) (λ b. all_about b facts.calls_made)) bricks in (nat_le least (length (filter_map holder_of asks)) ≡ false) × (turn_after_asks asks ≡ None) × (causes ≡ filter_map cause_of asks)
-  missed_answer causes facts =
-      let asks = map (ask_by (λ (b : BrickNo). b) (put_lawful nonce key) (λ b. all_about b facts.calls_made)) bricks in
-      let made : Cookie = record { key = key; version = nonce; expiry = expiry; bricks = take least (filter_map holder_of asks) } in
-      missed_parts (nat_le least (length (filter_map holder_of asks))) made (turn_after_asks asks) (filter_map cause_of asks) causes facts.answers
-
   pub missed_are : (causes : List BrickCause) (facts : WriteFacts makes bricks least nonce key expiry old new (Err (Missed causes))) → causes ≡ filter_map (missed_by nonce key facts.calls_made) bricks
-  missed_are causes facts =
-      (missed_answer causes facts).2 ∙ filter_map_map cause_of (ask_by (λ (b : BrickNo). b) (put_lawful nonce key) (λ b. all_about b facts.calls_made)) bricks
+  missed_are causes facts = (missed_told bricks least nonce key expiry (λ b. all_about b facts.calls_made) causes facts.answers facts.fitting).causes_are
 
   -- a write that was missed tells why
   pub missed : (causes : List BrickCause) → WriteFacts makes bricks least nonce key expiry old new (Err (Missed causes)) → IsMissed makes bricks least nonce key old new causes
   missed causes facts =
-      let about : BrickNo → List Told = λ b. all_about b facts.calls_made in
-      let mk : BrickNo → Ask BrickNo WriteReply = ask_by (λ (b : BrickNo). b) (put_lawful nonce key) about in
-      let asks = map mk bricks in
-      let stored = filter_map (stored_by nonce key facts.calls_made) bricks in
-      let holders_are : filter_map holder_of asks ≡ stored = filter_map_map holder_of mk bricks in
-      let parts = missed_answer causes facts in
-      let few : length stored < least = rw (sym holders_are) (leb-false least (length (filter_map holder_of asks)) parts.0) in
-      let causes_are : causes ≡ filter_map (missed_by nonce key facts.calls_made) bricks = missed_are causes facts in
-      let ear_of : BrickNo → Ear WriteReply = λ b. ear_after (put_lawful nonce key b) (about b) in
-      let each_heard : (i : ℕ) (b : BrickNo) → slice_get bricks i ≡ Some b → is_open (mk b) ≡ false = λ i b here.
-      all_heard asks parts.1 i (mk b) (slice_get-map mk bricks i ∙ ap (option_map mk) here) in
-      let Q : BrickCause → Type 0 = λ c. IsPutCause (put_lawful nonce key c.brick) (about c.brick) c.cause in
-      let each : (i : ℕ) (b : BrickNo) (c : BrickCause) → slice_get bricks i ≡ Some b → missed_by nonce key facts.calls_made b ≡ Some c → Q c = λ i b c here e.
-      let told = caused_by (put_lawful nonce key b) (about b) b (ear_of b) c e (λ o is. heard_so (put_lawful nonce key b) b (about b) o (facts.fitting i b here) is) in
-      let P : BrickNo → Type 0 = λ x. IsPutCause (put_lawful nonce key x) (about x) c.cause in
-      subst P told.0 told.1 in
-      let All-of : List BrickCause → Type 0 = All Q in
+      let m = missed_told bricks least nonce key expiry (λ b. all_about b facts.calls_made) causes facts.answers facts.fitting in
       record {
         calls = facts.calls_made;
         made = facts.made;
-        few = few;
-        causes_are = causes_are;
-        all_heard = ap (λ cs. length stored + length cs) causes_are ∙ stored_or_missed ear_of bricks each_heard;
-        told = subst All-of (sym causes_are) (all_found (missed_by nonce key facts.calls_made) Q bricks each);
+        few = m.few;
+        causes_are = m.causes_are;
+        all_heard = m.all_heard;
+        told = m.told;
       }
 
   -- by the same calls

@@ -4,7 +4,7 @@ use Rattle.std.specs.List.{fold}
 use Rattle.std.specs.Option.{option_and_then}
 use Rattle.crash_base.specs.declared.numbers.BrickNo.{BrickNo}
 use Rattle.outside.specs.declared.link.LinkEvent.{LinkEvent}
-use Rattle.outside.specs.declared.link.LinkEvent.TheVariants.{Sends, SendsInSilence, Gets, HearsSilence, Wants}
+use Rattle.outside.specs.declared.link.LinkEvent.TheVariants.{Sends, SendsInSilence, Gets, HearsSilence, WantsToSend, WantsToReceive}
 use Rattle.ssm_frames.specs.declared.frame.Frame.{Frame}
 use Rattle.ssm_frames.specs.Reading.{decode_of}
 use Rattle.ssm_stub.specs.declared.ear.TheConstants.{MAX_STRAYS}
@@ -27,7 +27,8 @@ about brick (Sends to frame) = if to.0 == brick.0 then Some Sent else None
 about brick (SendsInSilence to frame) = if to.0 == brick.0 then Some NoneCame else None
 about brick (Gets from frame) = if from.0 == brick.0 then Some (Came (decode_of frame)) else None
 about brick (HearsSilence from) = if from.0 == brick.0 then Some NoneCame else None
-about brick (Wants other) = None
+about brick (WantsToSend to frame) = None
+about brick (WantsToReceive from) = None
 
 -- what calls of the link tell of a brick, in order
 abbrev pub all_about : BrickNo → List LinkEvent → List Told

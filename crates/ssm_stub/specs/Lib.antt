@@ -8,3 +8,4 @@ pub mod Replies
 pub mod Runs
 pub mod Turns
 pub mod Writes
+pub mod Lawful

@@ -23,15 +23,22 @@ use Rattle.ssm_stub.specs.Hearing.{EndsIn, all_about}
 use Rattle.ssm_stub.specs.Writes.{put_lawful, holder_by, cause_by, with_brick}
 use Rattle.ssm_stub.specs.Reads.{get_lawful}
 
+-- the brick as a holder, where by what bricks were told it stored the value
+abbrev pub stored_of : Version → SessionKey → (BrickNo → List Told) → BrickNo → Option Holder
+stored_of nonce key told brick = holder_by brick (ear_after (put_lawful nonce key brick) (told brick))
+
+-- the brick with its cause, where by what bricks were told it has one for not having stored the value
+abbrev pub missed_of : Version → SessionKey → (BrickNo → List Told) → BrickNo → Option BrickCause
+missed_of nonce key told brick =
+    with_brick brick (cause_by (ear_after (put_lawful nonce key brick) (told brick)))
+
 -- the brick as a holder, where by these calls it stored the value
 abbrev pub stored_by : Version → SessionKey → List LinkEvent → BrickNo → Option Holder
-stored_by nonce key calls brick =
-    holder_by brick (ear_after (put_lawful nonce key brick) (all_about brick calls))
+stored_by nonce key calls brick = stored_of nonce key (λ b. all_about b calls) brick
 
 -- the brick with its cause, where by these calls it has one for not having stored the value
 abbrev pub missed_by : Version → SessionKey → List LinkEvent → BrickNo → Option BrickCause
-missed_by nonce key calls brick =
-    with_brick brick (cause_by (ear_after (put_lawful nonce key brick) (all_about brick calls)))
+missed_by nonce key calls brick = missed_of nonce key (λ b. all_about b calls) brick
 
 -- These events are why a brick did not store a value.
 abbrev pub IsPutCause : (Frame → Option WriteReply) → List Told → Cause → Type 0
@@ -71,14 +78,38 @@ pub record IsMissed {L : Type 0} (makes : L → LinkEvent → L → Type 0) (bri
   pub all_heard : length (filter_map (stored_by nonce key calls) bricks) + length causes ≡ length bricks
   pub told : All (λ (c : BrickCause). IsPutCause (put_lawful nonce key c.brick) (all_about c.brick calls) c.cause) causes
 
--- each of these holders has its cause, in order
+-- By what the bricks of a write were told it was missed: fewer than `least` gave a lawful Stored, and each
+-- other one has its cause, in asked order.
+pub record IsMissedBy (bricks : List BrickNo) (least : ℕ) (nonce : Version) (key : SessionKey) (told_to : BrickNo → List Told) (causes : List BrickCause) : Type 0 where
+  pub few : length (filter_map (stored_of nonce key told_to) bricks) < least
+  pub causes_are : causes ≡ filter_map (missed_of nonce key told_to) bricks
+  pub all_heard : length (filter_map (stored_of nonce key told_to) bricks) + length causes ≡ length bricks
+  pub told : All (λ (c : BrickCause). IsPutCause (put_lawful nonce key c.brick) (told_to c.brick) c.cause) causes
+
+-- each of these holders has its cause by what its brick was told, in order
+abbrev pub HaveCausesBy : (Holder → Frame → Option ReadReply) → (BrickNo → List Told) → List Holder → List BrickCause → Type 0
+HaveCausesBy lawful told [] [] = Unit {0}
+HaveCausesBy lawful told [] (c ∷ causes) = ⊥
+HaveCausesBy lawful told (holder ∷ holders) [] = ⊥
+HaveCausesBy lawful told (holder ∷ holders) (c ∷ causes) =
+    (c.brick ≡ holder.brick) × IsGetCause (lawful holder) (told holder.brick) c.cause
+    × HaveCausesBy lawful told holders causes
+
+-- each of these holders has its cause by these calls, in order
 abbrev pub HaveCauses : (Holder → Frame → Option ReadReply) → List LinkEvent → List Holder → List BrickCause → Type 0
-HaveCauses lawful calls [] [] = Unit {0}
-HaveCauses lawful calls [] (c ∷ causes) = ⊥
-HaveCauses lawful calls (holder ∷ holders) [] = ⊥
-HaveCauses lawful calls (holder ∷ holders) (c ∷ causes) =
-    (c.brick ≡ holder.brick) × IsGetCause (lawful holder) (all_about holder.brick calls) c.cause
-    × HaveCauses lawful calls holders causes
+HaveCauses lawful calls holders causes = HaveCausesBy lawful (λ b. all_about b calls) holders causes
+
+-- By what the holders of a read were told one of them gave the value by a lawful Found, each holder before
+-- it has its cause, and those behind it were not asked.
+pub record IsReadBy (lawful : Holder → Frame → Option ReadReply) (told : BrickNo → List Told) (holders : List Holder) (value : List ℕ) : Type 0 where
+  pub before : List Holder
+  pub holder : Holder
+  pub behind : List Holder
+  pub parts : holders ≡ before ++ holder ∷ behind
+  pub causes : List BrickCause
+  pub lost : HaveCausesBy lawful told before causes
+  pub found : EndsIn (lawful holder) (told holder.brick) (Answered (Found value))
+  pub unasked : All (λ (h : Holder). told h.brick ≡ []) behind
 
 -- A read was lost: each holder of the cookie has its cause, in order.
 pub record IsLost {L : Type 0} (makes : L → LinkEvent → L → Type 0) (nonce : Version) (cookie : Cookie) (old new : L) (causes : List BrickCause) : Type 0 where

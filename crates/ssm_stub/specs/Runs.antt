@@ -2,7 +2,7 @@
 use Rattle.std.specs.Prelude.{◌≡◌, ◌⊎◌, ℕ, Bool, true, false, IsTrue, List, [], ◌∷◌, ◌++◌, map}
 use Rattle.std.specs.List.{fold}
 use Rattle.outside.specs.declared.link.LinkEvent.{LinkEvent}
-use Rattle.outside.specs.declared.link.LinkEvent.TheVariants.{Sends, SendsInSilence, Gets, HearsSilence, Wants}
+use Rattle.outside.specs.declared.link.LinkEvent.TheVariants.{Sends, SendsInSilence, Gets, HearsSilence, WantsToSend, WantsToReceive}
 use Rattle.outside.specs.Link.{Made}
 use Rattle.crash_base.specs.declared.numbers.BrickNo.{BrickNo}
 use Rattle.ssm_frames.specs.Reading.{decode_of, takes_memory}
@@ -53,11 +53,11 @@ call_of ask (Receive brick) (event.Frame bytes) = Gets brick bytes ∷ []
 call_of ask (Receive brick) event.Silent = HearsSilence brick ∷ []
 call_of ask Ended event = []
 
--- the call of the link that met want of memory where this was wanted
-abbrev pub want_of : StubNext → List LinkEvent
-want_of (Send brick) = Wants brick ∷ []
-want_of (Receive brick) = Wants brick ∷ []
-want_of Ended = []
+-- the call of the link, with this ask, that met want of memory where this was wanted
+abbrev pub want_of : List ℕ → StubNext → List LinkEvent
+want_of ask (Send brick) = WantsToSend brick ask ∷ []
+want_of ask (Receive brick) = WantsToReceive brick ∷ []
+want_of ask Ended = []
 
 -- the calls of the link by which the events came, in order
 abbrev pub calls : {S : Type 0} → Machine S → List ℕ → S → List StubEvent → List LinkEvent
@@ -72,18 +72,26 @@ pub record Ran {S L : Type 0} (m : Machine S) (makes : L → LinkEvent → L →
   pub made : Made makes old (calls m ask start events) new
   pub ends : end ≡ after m start (map told_of events)
 
+-- A machine made one step over a link: this event came of what it wanted, the link made the call for it and
+-- no other, and the machine was told it.
+pub record Steps {S L : Type 0} (m : Machine S) (makes : L → LinkEvent → L → Type 0) (ask : List ℕ) (start : S) (old : L) (end : S) (new : L) : Type 0 where
+  pub event : StubEvent
+  pub fitting : IsTrue (fits (m.next start) (told_of event))
+  pub made : Made makes old (call_of ask (m.next start) event) new
+  pub hears : end ≡ m.hear start (told_of event)
+
 -- A frame was to be received from a brick, and memory was wanted: the link had none; or a frame with a
 -- value came, and there was none to read it.
 pub record ReceiveFails {L : Type 0} (makes : L → LinkEvent → L → Type 0) (brick : BrickNo) (old new : L) : Type 0 where
   pub call : LinkEvent
-  pub wanted : (call ≡ Wants brick) ⊎ ((bytes : List ℕ) × IsTrue (takes_memory bytes) × (call ≡ Gets brick bytes))
+  pub wanted : (call ≡ WantsToReceive brick) ⊎ ((bytes : List ℕ) × IsTrue (takes_memory bytes) × (call ≡ Gets brick bytes))
   pub made : makes old call new
 
 -- A step broke off, since memory was wanted: the link made no call for it; or it made the call for what
 -- is wanted, and had no memory; or it made that call, and the machine had no memory for what came of it.
 pub record BreaksOff {L : Type 0} (makes : L → LinkEvent → L → Type 0) (ask : List ℕ) (next : StubNext) (old new : L) : Type 0 where
   pub last : List LinkEvent
-  pub at_most_one : (last ≡ []) ⊎ ((last ≡ want_of next) ⊎ ((event : StubEvent) × IsTrue (fits next (told_of event)) × (last ≡ call_of ask next event)))
+  pub at_most_one : (last ≡ []) ⊎ ((last ≡ want_of ask next) ⊎ ((event : StubEvent) × IsTrue (fits next (told_of event)) × (last ≡ call_of ask next event)))
   pub made : Made makes old last new
 
 -- A machine went from one state to another over a link, and then memory was wanted: a step broke off, of

@@ -1,5 +1,5 @@
 -- A write: what was heard so far, the answer over it, and what is wanted next.
-use Rattle.std.specs.Prelude.{ℕ, ◌==◌, nat_le, if◌then◌else◌, List, [], ◌∷◌, length, take, filter_map, Option, Some, None, Result, Ok, Err}
+use Rattle.std.specs.Prelude.{ℕ, ◌==◌, nat_le, if◌then◌else◌, List, [], ◌∷◌, length, map, take, filter_map, Option, Some, None, Result, Ok, Err}
 use Rattle.crash_base.specs.declared.numbers.BrickNo.{BrickNo}
 use Rattle.crash_base.specs.declared.numbers.Moment.{Moment}
 use Rattle.crash_base.specs.declared.numbers.SessionKey.{SessionKey}
@@ -11,6 +11,7 @@ use Rattle.ssm_frames.specs.declared.frame.Frame.TheVariants.{Put}
 use Rattle.send_windows.specs.declared.pass.Pass.{Pass}
 use Rattle.send_windows.specs.declared.pass.PassMark.{PassMark}
 use Rattle.send_windows.specs.declared.pass.PassMark.TheVariants as mark
+use Rattle.send_windows.specs.Passes.{with_mark}
 use Rattle.ssm_stub.specs.declared.cause.Cause.{Cause}
 use Rattle.ssm_stub.specs.declared.cause.Cause.TheVariants as cause
 use Rattle.ssm_stub.specs.declared.cause.BrickCause.{BrickCause}
@@ -142,3 +143,7 @@ pass_of ask = record { brick = ask.who; mark = mark_by ask.ear }
 abbrev pub mark_in : List (Ask BrickNo WriteReply) → BrickNo → PassMark
 mark_in [] brick = mark.Unheard
 mark_in (ask ∷ asks) brick = if ask.who.0 == brick.0 then mark_by ask.ear else mark_in asks brick
+
+-- passes by what a write heard of their bricks
+abbrev pub heard_passes : WriteState → List Pass → List Pass
+heard_passes write passes = map (λ (pass : Pass). with_mark pass (mark_in write.asks pass.brick)) passes

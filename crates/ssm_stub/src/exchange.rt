@@ -81,8 +81,8 @@ fn exchange<L: Link>(
     }
 }
 
-/// Makes the step that a write wants, and tells it what came of it.
-fn write_step<L: Link>(
+/// Makes this step, which a write wants, and tells it what came of it.
+pub(crate) fn write_once<L: Link>(
     alloc: Global,
     link: &mut L,
     call: &mut WriteCall,
@@ -123,12 +123,12 @@ pub(crate) fn write_out<L: Link>(
         if let StubNext::Ended = next {
             return Ok(());
         }
-        write_step(alloc, link, call, next, ask, &mut frame)?;
+        write_once(alloc, link, call, next, ask, &mut frame)?;
     }
 }
 
-/// Makes the step that a read wants, and tells it what came of it.
-fn read_step<L: Link>(
+/// Makes this step, which a read wants, and tells it what came of it.
+pub(crate) fn read_once<L: Link>(
     alloc: Global,
     link: &mut L,
     call: &mut ReadCall,
@@ -169,6 +169,6 @@ pub(crate) fn read_out<L: Link>(
         if let StubNext::Ended = next {
             return Ok(());
         }
-        read_step(alloc, link, call, next, ask, &mut frame)?;
+        read_once(alloc, link, call, next, ask, &mut frame)?;
     }
 }

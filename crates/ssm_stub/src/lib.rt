@@ -15,21 +15,25 @@
 //! A brick is heard until one frame is a lawful reply: it has this call's nonce, key and version and the
 //! brick's number, and is of a kind that answers (`lawful_put`, `lawful_get` in the contracts). Any other
 //! frame is a stray. The outcome of a brick is such a reply, silence, or that 64 strays came
-//! (`MAX_STRAYS`). A refusal tells each brick that did not serve with its cause (`Cause`).
+//! (`MAX_STRAYS`). A refusal tells each brick that did not serve with its cause (`Cause`). The law
+//! `lawful_replies_are_exact` says which frames are lawful replies.
 //!
-//! Each call is a machine of small steps, `WriteCall` and `ReadCall`: `next` says what it wants, `frame`
-//! gives the bytes to send, `hear` tells it what came of it, and `answer` is its answer. So a test, or a
-//! world that delivers frames in any order, steps it by hand. `write`, `settle` and `read` are the loops
-//! over any `Link`; their contracts say that the link made just the calls for the machine's events, in
-//! order, and what the answer of the last state is (`WriteEnds`, `ReadEnds`), and the same of a call
-//! that memory broke off (`WriteStops`, `ReadStops`).
+//! Each call is a machine of small steps, `WriteCall` and `ReadCall`: `next` says what it wants, `ask` and
+//! `frame` give what to send, as a frame and as bytes, `hear` and `hear_told` tell it what came of it, and
+//! `answer` is its answer. So a test, or a world that delivers frames in any order, steps it by hand.
+//! `write_step` and `read_step` make one step over any `Link`, and the law `runs_join` says that steps are
+//! runs. `write`, `settle` and `read` are the loops; their contracts say that the link made just the calls for
+//! the machine's events, in order, and what the answer of the last state is (`WriteEnds`, `ReadEnds`), and
+//! the same of a call that memory broke off (`WriteStops`, `ReadStops`).
 //!
 //! Laws say what that means, by the calls of the link alone: a cookie names the first that gave a lawful
 //! Stored (`written_cookies_name_who_stored`), a missed write and a lost read have a cause for each brick
 //! (`missed_writes_have_causes`, `lost_reads_have_causes`), a value was found
 //! (`read_values_were_found`), and causes are among what the link counts (`causes_are_counted`). What is
 //! heard of a brick is its own (`each_hears_its_own`, `calls_tell_each_its_own`), and each outcome has
-//! exactly its events (`an_outcome_of_a_put_has_its_events`, `an_outcome_of_a_get_has_its_events`).
+//! exactly its events (`an_outcome_of_a_put_has_its_events`, `an_outcome_of_a_get_has_its_events`). The same
+//! of a call that was stepped without a link is said by `a_cookie_names_who_stored`,
+//! `a_missed_write_has_causes`, `a_lost_read_has_causes` and `a_read_value_was_found`.
 //!
 //! A call keeps one entry a brick, at most 16 of them, and each step visits these a few times. The ask is
 //! encoded once, and frames are received into one buffer.
@@ -40,11 +44,15 @@ mod cause;
 mod ear;
 mod event;
 mod exchange;
+mod lawful;
 mod laws;
 mod read_call;
 mod reading;
 mod reply;
 mod settling;
+mod staying;
+mod stepping;
+mod told;
 mod write_call;
 mod writing;
 
@@ -52,6 +60,7 @@ pub use ask::{Ask, Turn};
 pub use cause::{BrickCause, Cause, CauseList};
 pub use ear::{Ear, MAX_STRAYS, Outcome, Stage};
 pub use event::{BrickList, StubEvent, StubNext, Told};
+pub use lawful::lawful_replies_are_exact;
 pub use laws::{
     a_cookie_names_who_stored, a_silence_is_told, an_answered_write_is_a_run,
     an_outcome_of_a_get_has_its_events, an_outcome_of_a_put_has_its_events,
@@ -63,5 +72,8 @@ pub use read_call::{ReadCall, ReadRefusal};
 pub use reading::read;
 pub use reply::{ReadReply, Reference, WriteReply};
 pub use settling::settle;
+pub use staying::answers_stay;
+pub use stepping::{read_step, runs_join, write_step};
+pub use told::{a_lost_read_has_causes, a_missed_write_has_causes, a_read_value_was_found};
 pub use write_call::{WriteCall, WriteRefusal};
-pub use writing::write;
+pub use writing::{bricks_of, mark_passes, write};

@@ -241,8 +241,8 @@ impl ReadCall {
         self.answer.as_ref()
     }
 
-    /// The answer; None where there is none yet. It takes no memory.
-    pub(crate) fn into_answer(self) -> Option<Result<SessionBytes, ReadRefusal>>
+    /// The answer itself, of a call that is done with; None where there is none yet. It takes no memory.
+    pub fn into_answer(self) -> Option<Result<SessionBytes, ReadRefusal>>
         ensures { result ≡ read_answer self }
     {
         self.answer
@@ -271,6 +271,17 @@ impl ReadCall {
         }
     }
 
+    /// Its ask, a Get: what is to be sent where `next` is Send. It takes no memory.
+    pub fn ask(&self) -> Frame
+        ensures { result ≡ read_ask self.now }
+    {
+        Frame::Get {
+            nonce: self.nonce,
+            key: self.key,
+            version: self.version,
+        }
+    }
+
     /// The bytes of its ask, from 1 to 4,161.
     ///
     /// # Errors
@@ -281,16 +292,14 @@ impl ReadCall {
         ensures few { IfOk result (λ bytes. length bytes ≤ MAX_FRAME_BYTES) }
         ensures back { IfOk result (λ bytes. decode_of bytes ≡ Some (read_ask self.now)) }
     {
-        let ask = Frame::Get {
-            nonce: self.nonce,
-            key: self.key,
-            version: self.version,
-        };
-        encode(alloc, &ask)
+        encode(alloc, &self.ask())
     }
 
-    /// Takes in what it is told.
-    pub(crate) fn hear_told(&mut self, alloc: Global, told: Told) -> Result<(), OutOfMemory>
+    /// Takes in what came of what `next` names, where a frame that came is read already: as `hear` does.
+    ///
+    /// # Errors
+    /// There is no memory for the answer. The call is as it was.
+    pub fn hear_told(&mut self, alloc: Global, told: Told) -> Result<(), OutOfMemory>
         ensures ok { OnOk result (self.new ≡ hear_read self.old told) }
         ensures err { OnErr result (self.new ≡ self.old) }
     {

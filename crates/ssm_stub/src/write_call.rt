@@ -268,11 +268,18 @@ impl WriteCall {
         self.answer.as_ref()
     }
 
-    /// The answer; None where there is none yet. It takes no memory.
-    pub(crate) fn into_answer(self) -> Option<Result<Cookie, WriteRefusal>>
+    /// The answer itself, of a call that is done with; None where there is none yet. It takes no memory.
+    pub fn into_answer(self) -> Option<Result<Cookie, WriteRefusal>>
         ensures { result ≡ write_answer self }
     {
         self.answer
+    }
+
+    /// Its ask, a Put: what is to be sent where `next` is Send. It takes no memory.
+    pub fn ask(&self) -> &Frame
+        ensures { result.now ≡ self.now.ask }
+    {
+        &self.ask
     }
 
     /// The bricks with what was heard of each, in asked order.
@@ -291,8 +298,9 @@ impl WriteCall {
         mark_in(&self.asks, brick)
     }
 
-    /// What it wants next, until it has its answer.
-    pub(crate) fn next_until_answer(&self) -> StubNext
+    /// What it wants next until it has its answer, and nothing then. It visits each brick twice at most,
+    /// and takes no memory.
+    pub fn next_until_answer(&self) -> StubNext
         ensures { result ≡ write_until.next self.now }
     {
         if self.answer.is_some() {
@@ -327,8 +335,11 @@ impl WriteCall {
         encode(alloc, &self.ask)
     }
 
-    /// Takes in what it is told.
-    pub(crate) fn hear_told(&mut self, alloc: Global, told: &Told) -> Result<(), OutOfMemory>
+    /// Takes in what came of what `next` names, where a frame that came is read already: as `hear` does.
+    ///
+    /// # Errors
+    /// There is no memory for the answer. The call is as it was.
+    pub fn hear_told(&mut self, alloc: Global, told: &Told) -> Result<(), OutOfMemory>
         ensures ok { OnOk result (self.new ≡ hear_write self.old told.now) }
         ensures err { OnErr result (self.new ≡ self.old) }
     {

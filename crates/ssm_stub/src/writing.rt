@@ -5,7 +5,7 @@ ghost use Rattle.crash_base.specs.declared.items.TheConstants.{MAX_FRAME_BYTES};
 ghost use Rattle.ssm_frames.specs.Spelling.{encode_of};
 ghost use Rattle.send_windows.specs.Passes.{AreUnheard, hushed};
 ghost use Rattle.ssm_stub.specs.Ends.{bricks_of, WriteEnds, WriteStops};
-ghost use Rattle.ssm_stub.specs.Writes.{mark_by, pass_of, write_start, write_answer, write_until};
+ghost use Rattle.ssm_stub.specs.Writes.{heard_passes, mark_by, pass_of, write_start, write_answer, write_until};
 
 use crate::ask::Ask;
 use crate::event::{BrickList, StubNext};
@@ -18,8 +18,11 @@ use send_windows::{Pass, PassList};
 use session_cookie::Cookie;
 use std::alloc::{AllocFailed, Global};
 
-/// The bricks of passes.
-fn bricks_of(alloc: Global, passes: &[Pass]) -> Result<BrickList, OutOfMemory>
+/// The bricks of passes, in order.
+///
+/// # Errors
+/// There is no memory.
+pub fn bricks_of(alloc: Global, passes: &[Pass]) -> Result<BrickList, OutOfMemory>
     ensures { IfOk result (λ bricks. bricks ≡ bricks_of passes.now) }
 {
     let mut bricks = Vec::with_capacity(alloc, passes.len())?;
@@ -29,8 +32,19 @@ fn bricks_of(alloc: Global, passes: &[Pass]) -> Result<BrickList, OutOfMemory>
     Ok(BrickList::from_vec(bricks))
 }
 
-/// Marks each pass by what was heard of its brick.
-fn mark_passes(passes: &mut PassList, asks: &[Ask<BrickNo, WriteReply>])
+/// Marks each pass by what a write heard of its brick: Unheard where that has no outcome, or is none of the
+/// write's. It visits each brick for each pass, and takes no memory.
+pub fn mark_passes(passes: &mut PassList, write: &WriteCall)
+    ensures { passes.new ≡ heard_passes write.now passes.old }
+{
+    for at in 0..passes.len() {
+        let brick = passes.as_slice()[at].brick;
+        passes.mark(at, write.mark(brick));
+    }
+}
+
+/// Marks each pass by what was heard of its brick, which stands at the same place.
+fn mark_each(passes: &mut PassList, asks: &[Ask<BrickNo, WriteReply>])
     requires { bricks_of passes.old ≡ map (λ ask. ask.who) asks.now }
     ensures { passes.new ≡ map pass_of asks.now }
 {
@@ -122,11 +136,11 @@ pub fn write<L: Link>(
     };
     match write_out(alloc, link, &mut begun.call, begun.ask.as_slice()) {
         Ok(()) => {
-            mark_passes(passes, begun.call.asks());
+            mark_each(passes, begun.call.asks());
             conclude_write(begun.call)
         }
         Err(OutOfMemory) => {
-            mark_passes(passes, begun.call.asks());
+            mark_each(passes, begun.call.asks());
             stop(passes)
         }
     }

@@ -25,7 +25,7 @@ use Rattle.ssm_stub.proofs.ByEvents.{ask_by}
 use Rattle.ssm_stub.proofs.HearingEnds.{so_heard}
 use Rattle.ssm_stub.proofs.WriteFacts.{told_facts}
 use Rattle.ssm_stub.proofs.WriteOutcomes.{filter_map_map, named}
-use Rattle.stub_laws.proofs.WriteSending.{sends_nothing}
+use Rattle.ssm_stub.proofs.Patience.{sends_nothing}
 use Rattle.ssm_world.specs.declared.call.Call.{Call}
 use Rattle.ssm_world.specs.declared.call.Call.TheVariants as call
 use Rattle.ssm_world.specs.declared.event.Packet.{Packet}

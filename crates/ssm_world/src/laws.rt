@@ -37,8 +37,7 @@ ghost use Rattle.ssm_world.specs.Facts.{begins, frame_nonce};
 ghost use Rattle.ssm_world.specs.Sound.{IsSound, RepliesSince, Grows};
 ghost use Rattle.ssm_world.specs.Claims.{IsAcknowledged, NamesWhoStored, kept_for, Keeps, IsIntact, HeardAs, IsRight, ReadOrder, ReadAfter, WasMissed, read_world, told_since};
 
-use ssm_stub::{an_outcome_of_a_get_has_its_events, each_hears_its_own};
-use stub_laws::answers_stay;
+use ssm_stub::{an_outcome_of_a_get_has_its_events, answers_stay, each_hears_its_own};
 
 /// An event that may not happen changes nothing.
 pub fn events_that_may_not_happen_change_nothing()

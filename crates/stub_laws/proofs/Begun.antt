@@ -23,7 +23,7 @@ use Rattle.ssm_stub.specs.Turns.{none_asked, is_unasked, is_asked, turn_with, tu
 use Rattle.ssm_stub.specs.Runs.{fits, Fits, after}
 use Rattle.ssm_stub.specs.Writes.{WriteState, put_lawful, holder_of, cause_of, missed_unless, write_answer, write_until, hear_write}
 use Rattle.ssm_stub.proofs.Places.{slice_get-set, turn_after_asks-stands, with_ear-there}
-use Rattle.stub_laws.proofs.Unasked.{none_goes, turn_place}
+use Rattle.ssm_stub.proofs.Unasked.{none_goes, turn_place}
 
 position-set : {X : Type 0} (p : X → Bool) (xs : List X) (i : ℕ) (x y : X) → slice_get xs i ≡ Some x → p y ≡ p x → position p (slice_set xs i y) ≡ position p xs
 position-set p xs i x y here same =

@@ -36,7 +36,7 @@ use Rattle.ssm_stub.proofs.ByEvents.{map_map, ask_by, Heard as HeardByEvents, he
 use Rattle.ssm_stub.proofs.HearingEnds.{heard_so, so_heard}
 use Rattle.ssm_stub.proofs.LinkTelling.{calls_tell, until-fits, until-calls}
 use Rattle.stub_laws.specs.Marks.{Tells, IsMarkOf, AreMarked}
-use Rattle.stub_laws.proofs.WriteSending.{map_id, answered_none_left}
+use Rattle.ssm_stub.proofs.Patience.{map_id, answered_none_left}
 use Rattle.stub_laws.proofs.Begun.{none_begun}
 
 -- once a frame came an asked brick has more strays than before, or its outcome
@@ -144,7 +144,7 @@ marked makes before least nonce key value expiry old new passes answer differ so
     let IsMarked : Pass → Type 0 = λ pass. IsMarkOf (put_lawful nonce key pass.brick) (all_about pass.brick made) pass.mark in
     let each : All (λ b. IsMarked (pass_of (mk b))) bricks = all_by (λ b. IsMarked (pass_of (mk b))) bricks (λ i b at.
     is_mark (put_lawful nonce key b) b (about b) (heard.fitting i b at)
-    (answered_none_left ask ends.events bricks least nonce key value expiry fitting answer some answers i (mk b) (here i b at))
+    (answered_none_left (map told_of ends.events) bricks least nonce key value expiry fitting answer some answers i (mk b) (here i b at))
     (λ strays ear. none_begun events bricks start answer refl ends.ran.fitting answers i strays (mk b) (here i b at) ear)) in
     record {
       bricks = ap bricks_of marks ∙ (map_map (λ (p : Pass). p.brick) (λ b. pass_of (mk b)) bricks ∙ map_id bricks);

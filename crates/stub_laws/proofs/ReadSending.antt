@@ -38,7 +38,7 @@ use Rattle.ssm_stub.proofs.LinkTelling.{calls_tell}
 use Rattle.ssm_stub.proofs.Places.{turn_of_read-stands}
 use Rattle.ssm_stub.proofs.ReadFacts.{lawful_of, holder_ask}
 use Rattle.stub_laws.specs.Sends.{SentFrame, sends_in, each_sent, bricks_of_holders}
-use Rattle.stub_laws.proofs.Unasked.{unasked_by, unasked_in, first_goes, first_open, heard_none, all_unasked}
+use Rattle.ssm_stub.proofs.Unasked.{unasked_by, unasked_in, first_goes, first_open, heard_none, all_unasked}
 use Rattle.stub_laws.proofs.Sending.{AsksFirst, sent_and_left}
 
 -- the bricks of a read that were not asked
@@ -59,20 +59,6 @@ read_first = λ s t y turn fresh none.
 -- what a read sent, and then what is left to be sent
 pub read_sent : (ask : List ℕ) (events : List StubEvent) (s : ReadState) → Fits read_machine s (map told_of events) → sends_in (calls read_machine ask s events) ++ each_sent ask (left_of (after read_machine s (map told_of events)).asks) ≡ each_sent ask (left_of s.asks)
 read_sent ask events s fitting = sent_and_left read_machine (λ (s : ReadState). s.asks) (λ (h : Holder). h.brick) (λ (s : ReadState). get_lawful s.nonce s.key s.version s.expiry) turn_of_read read_asking read_first ask events s fitting
-
--- nothing is wanted once there is an answer
-pub ended_by_answer : (s : ReadState) (answer : Result (List ℕ) ReadRefusal) → read_answer s ≡ Some answer → read_machine.next s ≡ Ended
-ended_by_answer s answer h = ap (λ o. wanted (λ (holder : Holder). holder.brick) (turn_unless o (turn_in_order s.asks))) h
-
-nothing_fits : (next : StubNext) (told : Told) → next ≡ Ended → IsTrue (fits next told) → ⊥
-nothing_fits (Send brick) told h fit = cc
-nothing_fits (Receive brick) told h fit = cc
-nothing_fits Ended told h fit = cc
-
--- and nothing is heard
-pub hears_nothing : (events : List Told) (s : ReadState) (answer : Result (List ℕ) ReadRefusal) → read_answer s ≡ Some answer → Fits read_machine s events → events ≡ []
-hears_nothing [] s answer h fitting = refl
-hears_nothing (told ∷ events) s answer h (fit, rest) = absurd (nothing_fits (read_machine.next s) told (ended_by_answer s answer h) fit)
 
 -- one that has a cause was heard
 caused_heard : (lawful : Frame → Option ReadReply) (events : List Told) (why : Cause) → IsGetCause lawful events why → (o : Outcome ReadReply) × (ear_after lawful events ≡ Heard o)

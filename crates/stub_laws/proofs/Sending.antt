@@ -20,18 +20,10 @@ use Rattle.ssm_stub.specs.Ears.{after_frame, heard}
 use Rattle.ssm_stub.specs.Turns.{with_ear, asks_after, wanted_of, wanted}
 use Rattle.ssm_stub.specs.Runs.{Machine, told_of, fits, Fits, call_of, calls, after}
 use Rattle.ssm_stub.proofs.OwnEvents.{Asking}
+use Rattle.ssm_stub.proofs.Patience.{frame_asked}
 use Rattle.ssm_stub.proofs.Places.{with_ear-there}
 use Rattle.stub_laws.specs.Sends.{send_in, sends_in, each_sent}
-use Rattle.stub_laws.proofs.Unasked.{unasked_by, unasked_in, none_goes}
-
--- a frame does not make a brick unasked
-stray_asked : (A : Type 0) (brick : BrickNo) (n : ℕ) (more : Bool) → unasked_by {A = A} brick (if more then Open (Asked (n + 1)) else Heard Strayed) ≡ None
-stray_asked A brick n true = refl
-stray_asked A brick n false = refl
-
-pub frame_asked : {A : Type 0} (brick : BrickNo) (n : ℕ) (reply : Option A) → unasked_by brick (after_frame (Asked n) reply) ≡ None
-frame_asked brick n (Some reply) = refl
-frame_asked {A} brick n None = stray_asked A brick n (nat_lt n (MAX_STRAYS - 1))
+use Rattle.ssm_stub.proofs.Unasked.{unasked_by, unasked_in, none_goes}
 
 -- Where one that was not asked has its turn, its brick is the first that was not, and the others follow
 -- once it was.

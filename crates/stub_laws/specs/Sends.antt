@@ -2,7 +2,7 @@
 use Rattle.std.specs.Prelude.{ℕ, List, map, filter_map, Option, Some, None}
 use Rattle.crash_base.specs.declared.numbers.BrickNo.{BrickNo}
 use Rattle.outside.specs.declared.link.LinkEvent.{LinkEvent}
-use Rattle.outside.specs.declared.link.LinkEvent.TheVariants.{Sends, SendsInSilence, Gets, HearsSilence, Wants}
+use Rattle.outside.specs.declared.link.LinkEvent.TheVariants.{Sends, SendsInSilence, Gets, HearsSilence, WantsToSend, WantsToReceive}
 use Rattle.session_cookie.specs.declared.cookie.Holder.{Holder}
 
 -- A frame that was sent, and the brick to which it went.
@@ -16,7 +16,8 @@ send_in (Sends to frame) = Some (record { to = to; frame = frame })
 send_in (SendsInSilence to frame) = Some (record { to = to; frame = frame })
 send_in (Gets from frame) = None
 send_in (HearsSilence from) = None
-send_in (Wants from) = None
+send_in (WantsToSend to frame) = None
+send_in (WantsToReceive from) = None
 
 -- what calls of the link send, in order
 abbrev pub sends_in : List LinkEvent → List SentFrame

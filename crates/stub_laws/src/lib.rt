@@ -5,16 +5,14 @@
 //! `answered_writes_asked_each_brick` and `answered_reads_asked_in_order` say so of the very calls of the
 //! link by which the answer of `ssm_stub::write` or `read` came about, and the two other laws of each run of
 //! the machines. `marks_are_of_outcomes` says that each pass is marked by what the link's calls tell of its
-//! brick, and `answers_stay` that an answer stays while the bricks that are left are heard.
+//! brick.
 #![tactic(auto)]
 
 mod asking;
 mod marking;
-mod staying;
 
 pub use asking::{
     answered_reads_asked_in_order, answered_writes_asked_each_brick, reads_send_their_ask_in_order,
     writes_send_their_ask_once,
 };
 pub use marking::marks_are_of_outcomes;
-pub use staying::answers_stay;

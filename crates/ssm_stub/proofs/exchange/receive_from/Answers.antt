@@ -1,5 +1,5 @@
 use Rattle.std.proofs.Common.{◌≡◌, ◌∙◌, ap, refl, subst, inl, inr, ℕ, IsTrue, List}
-use Rattle.outside.specs.declared.link.LinkEvent.TheVariants.{Gets, Wants}
+use Rattle.outside.specs.declared.link.LinkEvent.TheVariants.{Gets, WantsToReceive}
 use Rattle.ssm_frames.specs.Reading.{decode_of, takes_memory}
 use Rattle.ssm_stub.specs.declared.event.StubEvent.TheVariants.{Frame}
 use Rattle.ssm_stub.specs.declared.event.Told.TheVariants.{Came}
@@ -21,7 +21,7 @@ returns-in-Err-clause-want g c =
 
 pub returns-in-OutOfMemory-clause-want : goal.returns-in-OutOfMemory-clause-want
 returns-in-OutOfMemory-clause-want g c = record {
-  call = Wants c.args.brick;
+  call = WantsToReceive c.args.brick;
   wanted = inl refl;
   made = c.in-OutOfMemory.ensures;
 }

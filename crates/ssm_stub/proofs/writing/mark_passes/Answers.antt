@@ -1,24 +1,28 @@
-use Rattle.std.proofs.Common.{◌≡◌, ◌∙◌, ap, arith, get_or}
-use Rattle.std.proofs.lemmas.Option.{slice_get-get_or}
-use Rattle.crash_base.specs.declared.numbers.BrickNo.{BrickNo}
-use Rattle.ssm_stub.specs.declared.ear.Stage.TheVariants.{Unasked}
-use Rattle.ssm_stub.specs.declared.ear.Ear.TheVariants.{Open}
-use Rattle.ssm_stub.specs.declared.ask.Ask.{Ask}
-use Rattle.ssm_stub.specs.declared.reply.WriteReply.{WriteReply}
-use Rattle.send_windows.specs.Passes.{marked}
-use Rattle.ssm_stub.specs.Writes.{mark_by}
-use Rattle.ssm_stub.proofs.Marking.{marks_more, same_length}
+use Rattle.std.proofs.Common.{◌≡◌, ◌∙◌, ◌<◌, ap, sym, length, get_or, List, Some, slice_get}
+use Rattle.std.proofs.lemmas.List.{length-set}
+use Rattle.std.proofs.lemmas.List.Edits.{map_over_more}
+use Rattle.std.proofs.lemmas.Option.{slice_get-get_or, get_or_from_slice_get}
+use Rattle.std.specs.Prelude.{slice_set}
+use Rattle.send_windows.specs.declared.pass.Pass.{Pass}
+use Rattle.send_windows.specs.declared.pass.PassMark.TheVariants.{Unheard}
+use Rattle.send_windows.specs.Passes.{with_mark, marked, marked_at}
+use Rattle.ssm_stub.specs.Writes.{mark_in}
 use Rattle.ssm_stub.proofs.writing.mark_passes.Goals as goal
-
-pub mark-requires : goal.mark-requires
-mark-requires c =
-    let same = same_length c.loop-at.passes c.args.asks.now c.loop-at.invariant.same_bricks in
-    omega arith
 
 pub loop-at-preserved : goal.loop-at-preserved
 loop-at-preserved c =
-    let none : Ask BrickNo WriteReply = record { who = record { 0 = 0 }; ear = Open Unasked } in
-    let ask = get_or c.args.asks.now c.loop-at.at none in
-    let new : c.mark.new.self ≡ marked c.loop-at.passes c.loop-at.at (mark_by ask.ear) = c.mark.ensures ∙ ap (marked c.loop-at.passes c.loop-at.at) c.mark_by.ensures in
-    let more = marks_more c.loop-at.passes c.args.asks.now c.loop-at.at ask c.loop-at.invariant.same_bricks c.loop-at.invariant.marked_so_far (slice_get-get_or c.args.asks.now c.loop-at.at none c.loop-at-test.true) in
-    record { same_bricks = rw new more.bricks; marked_so_far = rw new more.so_far }
+    let none : Pass = record { brick = record { 0 = 0 }; mark = Unheard } in
+    let asks = c.args.write.now.asks in
+    let f : Pass → Pass = λ pass. with_mark pass (mark_in asks pass.brick) in
+    let xs : List Pass = c.args.passes.now in
+    let ys : List Pass = c.loop-at.passes in
+    let i = c.loop-at.at in
+    let within : i < length xs = rw (sym c.len-at-end.ensures) c.loop-at-test.true in
+    let inside : i < length ys = rw c.loop-at.invariant.as_many within in
+    let x : Pass = get_or ys i none in
+    let there : slice_get ys i ≡ Some x = slice_get-get_or ys i none inside in
+    let marks : c.mark-in-loop-at.new.self ≡ slice_set ys i (f x) = c.mark-in-loop-at.ensures ∙ (ap (marked ys i) (c.mark.ensures ∙ ap (λ (ps : List Pass). mark_in asks (get_or ps i none).brick) c.as_slice.ensures) ∙ ap (marked_at ys i (mark_in asks x.brick)) there) in
+    record {
+      as_many = ap length marks ∙ (length-set ys i (f x) ∙ c.loop-at.invariant.as_many);
+      so_far = marks ∙ map_over_more f xs ys i x within c.loop-at.invariant.so_far (sym (get_or_from_slice_get ys i x x there));
+    }

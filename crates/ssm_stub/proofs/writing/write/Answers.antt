@@ -17,12 +17,12 @@ returns-in-Err-clause-stops g c =
       marks = c.stop.ensures.marks ∙ ap (map hushed) (unheard-passes c.args.passes.now c.requires.unheard);
     }
 
-pub mark_passes-requires : goal.mark_passes-requires
-mark_passes-requires g c =
+pub mark_each-requires : goal.mark_each-requires
+mark_each-requires g c =
     let told = c.in-Ok-write_out.ensures.ok in
     sym (ap (map (λ ask. ask.who)) c.asks.ensures ∙ ran-keeps g.L.Link.makes _ (bricks_of c.args.passes.now) _ _ told.0 _ _ told.1 (ap (λ s. s.asks) c.in-Ok.ensures.call ∙ ap (λ passes. none_asked (bricks_of passes)) c.as_slice.ensures))
 
-pub mark_passes-requires-in-Err-write_out : goal.mark_passes-requires-in-Err-write_out
-mark_passes-requires-in-Err-write_out g c =
+pub mark_each-requires-in-Err-write_out : goal.mark_each-requires-in-Err-write_out
+mark_each-requires-in-Err-write_out g c =
     let told = c.in-Err-write_out.ensures.err in
     sym (ap (map (λ ask. ask.who)) c.asks-in-Err-write_out.ensures ∙ ran-keeps g.L.Link.makes _ (bricks_of c.args.passes.now) _ _ told.events _ _ told.ran (ap (λ s. s.asks) c.in-Ok.ensures.call ∙ ap (λ passes. none_asked (bricks_of passes)) c.as_slice.ensures))

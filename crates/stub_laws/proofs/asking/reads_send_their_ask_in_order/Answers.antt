@@ -5,8 +5,9 @@ use Rattle.ssm_stub.specs.Runs.{told_of, after, calls}
 use Rattle.ssm_stub.specs.Reads.{read_machine, read_start}
 use Rattle.stub_laws.specs.Sends.{bricks_of_holders, each_sent, sends_in}
 use Rattle.stub_laws.proofs.Asked.{first_sent}
-use Rattle.stub_laws.proofs.Unasked.{all_unasked}
-use Rattle.stub_laws.proofs.ReadSending.{left_of, read_sent, ended_by_answer}
+use Rattle.ssm_stub.proofs.Unasked.{all_unasked}
+use Rattle.ssm_stub.proofs.ReadEnding.{ended_by_answer}
+use Rattle.stub_laws.proofs.ReadSending.{left_of, read_sent}
 use Rattle.stub_laws.proofs.asking.reads_send_their_ask_in_order.Goals as goal
 
 pub returns-clause-first : goal.returns-clause-first

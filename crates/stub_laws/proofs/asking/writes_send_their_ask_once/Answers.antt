@@ -3,7 +3,8 @@ use Rattle.ssm_stub.specs.Runs.{told_of, after, calls}
 use Rattle.ssm_stub.specs.Writes.{write_machine, write_start}
 use Rattle.stub_laws.specs.Sends.{each_sent, sends_in}
 use Rattle.stub_laws.proofs.Asked.{first_sent}
-use Rattle.stub_laws.proofs.WriteSending.{all_bricks, left_of, write_sent, sent_at_the_answer, sent_to_the_end}
+use Rattle.ssm_stub.proofs.Patience.{all_bricks, left_of}
+use Rattle.stub_laws.proofs.WriteSending.{write_sent, sent_at_the_answer, sent_to_the_end}
 use Rattle.stub_laws.proofs.asking.writes_send_their_ask_once.Goals as goal
 
 pub returns-clause-first : goal.returns-clause-first

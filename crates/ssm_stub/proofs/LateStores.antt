@@ -26,8 +26,8 @@ use Rattle.ssm_stub.specs.Turns.{none_asked, is_unasked, is_asked, turn_at, turn
 use Rattle.ssm_stub.specs.Runs.{Machine, fits, Fits, after}
 use Rattle.ssm_stub.specs.Writes.{WriteState, put_lawful, holder_of, cause_of, missed_unless, write_answer, write_next, write_machine, hear_write}
 use Rattle.ssm_stub.proofs.Places.{with_ear-there, turn_after_asks-stands}
-use Rattle.stub_laws.proofs.Unasked.{unasked_by, none_goes, some_parts, turn_place, asked_place}
-use Rattle.stub_laws.proofs.WriteSending.{Patient, had, had_first, one_patient, none_stored}
+use Rattle.ssm_stub.proofs.Unasked.{unasked_by, none_goes, some_parts, turn_place, asked_place}
+use Rattle.ssm_stub.proofs.Patience.{Patient, had, had_first, one_patient, none_stored}
 
 -- a run in two parts
 pub fits_parts : {S : Type 0} (m : Machine S) (s : S) (first more : List Told) → Fits m s (first ++ more) → Fits m s first × Fits m (after m s first) more

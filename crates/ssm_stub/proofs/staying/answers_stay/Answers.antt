@@ -2,9 +2,9 @@ use Rattle.std.proofs.Common.{refl}
 use Rattle.ssm_stub.specs.Runs.{after}
 use Rattle.ssm_stub.specs.Reads.{read_machine, read_start}
 use Rattle.ssm_stub.specs.Writes.{write_start}
-use Rattle.stub_laws.proofs.ReadSending.{hears_nothing}
-use Rattle.stub_laws.proofs.LateStores.{answer_stays, fits_parts}
-use Rattle.stub_laws.proofs.staying.answers_stay.Goals as goal
+use Rattle.ssm_stub.proofs.ReadEnding.{hears_nothing}
+use Rattle.ssm_stub.proofs.LateStores.{answer_stays, fits_parts}
+use Rattle.ssm_stub.proofs.staying.answers_stay.Goals as goal
 
 pub returns-clause-write : goal.returns-clause-write
 returns-clause-write c = λ first more bricks least nonce key value expiry answer fitting h.
