@@ -72,7 +72,7 @@ fn add_cookie(rt: &impl Abort, words: &mut String, cookie: &Cookie) {
 }
 
 /// A copy of a cookie.
-pub fn copied(rt: &impl Abort, alloc: Global, cookie: &Cookie) -> Cookie {
+fn copied(rt: &impl Abort, alloc: Global, cookie: &Cookie) -> Cookie {
     let bricks = Vec::from_slice(alloc, cookie.bricks.as_slice()).expect(rt, "a cookie");
     Cookie {
         key: cookie.key,
