@@ -1,11 +1,8 @@
 -- Why a write of a world was missed.
-use Rattle.std.proofs.Common.{◌≡◌, ℕ, ◌+◌, ◌<◌, Bool, true, false, List, [], ◌∷◌, ◌++◌, length, map, take, filter_map, All, Option, Some, None, Err, refl, sym, ap, ◌∙◌, subst, arith}
-use Rattle.std.specs.Prelude.{slice_get, option_map, nat_le}
-use Rattle.std.proofs.lemmas.Bool.Decides.{nat_tests}
+use Rattle.std.proofs.Common.{◌≡◌, ℕ, ◌+◌, true, List, ◌++◌, map, All, Some, Err, refl, sym, ap, ◌∙◌, subst, arith}
+use Rattle.std.specs.Prelude.{slice_get, option_map}
 use Rattle.std.proofs.lemmas.Option.{slice_get-map}
 use Rattle.crash_base.specs.declared.numbers.BrickNo.{BrickNo}
-use Rattle.session_cookie.specs.declared.cookie.Cookie.{Cookie}
-use Rattle.session_cookie.specs.declared.cookie.Holder.{Holder}
 use Rattle.ssm_frames.specs.declared.frame.Frame.{Frame}
 use Rattle.ssm_frames.specs.declared.frame.Frame.TheVariants.{Put, BrickFull}
 use Rattle.brick_store.specs.Kept.{is_full}
@@ -24,20 +21,22 @@ use Rattle.ssm_stub.specs.declared.reply.WriteReply.{WriteReply}
 use Rattle.ssm_stub.specs.declared.reply.WriteReply.TheVariants as put
 use Rattle.ssm_stub.specs.declared.write_call.WriteRefusal.TheVariants.{Missed}
 use Rattle.ssm_stub.specs.Ears.{ear_after}
+use Rattle.ssm_stub.specs.Outcomes.{IsMissedBy}
 use Rattle.ssm_stub.specs.Runs.{after as run}
-use Rattle.ssm_stub.specs.Turns.{is_open, none_asked, turn_after_asks}
-use Rattle.ssm_stub.specs.Writes.{WriteState, put_lawful, holder_of, cause_by, cause_of, with_brick, write_answer, write_machine}
+use Rattle.ssm_stub.specs.Turns.{none_asked, turn_after_asks}
+use Rattle.ssm_stub.specs.Writes.{WriteState, put_lawful, cause_by, with_brick, write_answer, write_machine}
 use Rattle.ssm_stub.proofs.ByEvents.{ask_by, Heard as HeardBy, heard_by_events}
 use Rattle.ssm_stub.proofs.HearingEnds.{heard_so}
 use Rattle.ssm_stub.proofs.OwnEvents.{write_asking}
 use Rattle.ssm_stub.proofs.Searching.{all_heard}
-use Rattle.ssm_stub.proofs.WriteOutcomes.{filter_map_map, all_found}
+use Rattle.ssm_stub.proofs.WriteFacts.{told_facts}
+use Rattle.ssm_stub.proofs.WriteOutcomes.{all_found, missed_told}
 use Rattle.ssm_world.specs.declared.call.Call.TheVariants as call
 use Rattle.ssm_world.specs.declared.event.Packet.{Packet}
 use Rattle.ssm_world.specs.declared.event.WorldEvent.{WorldEvent}
 use Rattle.ssm_world.specs.Worlds.{WorldValue, new_world, are_distinct, after}
 use Rattle.ssm_world.specs.Sound.{WasSent, WasMade, IsSound, RepliesSince, WriteIsSound}
-use Rattle.ssm_world.specs.Claims.{WriteOrder, write_state, told_to_write, told_to_write_of, stored_by, missed_by, kept_by, HadNoRoom, EndsAs, IsMissed, WasMissed}
+use Rattle.ssm_world.specs.Claims.{WriteOrder, write_state, told_to_write, told_to_write_of, missed_by, kept_by, HadNoRoom, EndsAs, IsMissed, WasMissed}
 use Rattle.ssm_world.proofs.CallAsks.{one_ask}
 use Rattle.ssm_world.proofs.Growing.{WasAsked, ask_of_call}
 use Rattle.ssm_world.proofs.Lawful.{lawful_full}
@@ -46,30 +45,6 @@ use Rattle.ssm_world.proofs.Replying.{FullFor, full_for}
 use Rattle.ssm_world.proofs.Steps.{world_is_sound, world_replies}
 use Rattle.ssm_world.proofs.Tests.{both}
 use Rattle.ssm_world.proofs.Tracing.{bricks_differ}
-use Rattle.std.proofs.Common.{zero, suc, if◌then◌else◌, Ok}
-use Rattle.std.specs.List.{cons_option}
-use Rattle.ssm_stub.specs.declared.ask.Turn.{Turn}
-use Rattle.ssm_stub.specs.Writes.{holder_by, missed_unless}
-use Rattle.ssm_stub.specs.declared.ear.Outcome.TheVariants.{Answered, Silent, Strayed}
-use Rattle.ssm_stub.specs.declared.reply.WriteReply.TheVariants.{Stored, Full}
-
-pub missed_parts : (enough : Bool) (made : Cookie) (turn : Option (Turn BrickNo)) (all causes : List BrickCause) → (if enough then Some (Ok made) else missed_unless turn all) ≡ Some (Err (Missed causes)) → (enough ≡ false) × (turn ≡ None) × (causes ≡ all)
-missed_parts true made turn all causes h = absurd cc
-missed_parts false made (Some t) all causes h = absurd cc
-missed_parts false made None all causes h = (refl, refl, cc)
-
--- each that was heard stored the value or has a cause
-one_each : (brick : BrickNo) (ear : Ear WriteReply) (holders : List Holder) (causes : List BrickCause) (n : ℕ) → is_open (record { who = brick; ear = ear }) ≡ false → length holders + length causes ≡ n → length (cons_option (holder_by brick ear) holders) + length (cons_option (with_brick brick (cause_by ear)) causes) ≡ suc n
-one_each brick (Open stage) holders causes n h k = absurd cc
-one_each brick (Heard (Answered (Stored incarnation))) holders causes n h k = omega arith
-one_each brick (Heard (Answered (Full entries bytes))) holders causes n h k = omega arith
-one_each brick (Heard Silent) holders causes n h k = omega arith
-one_each brick (Heard Strayed) holders causes n h k = omega arith
-
-pub stored_or_missed : (ear_of : BrickNo → Ear WriteReply) (bricks : List BrickNo) → ((i : ℕ) (b : BrickNo) → slice_get bricks i ≡ Some b → is_open (record { who = b; ear = ear_of b }) ≡ false) → length (filter_map (λ b. holder_by b (ear_of b)) bricks) + length (filter_map (λ b. with_brick b (cause_by (ear_of b))) bricks) ≡ length bricks
-stored_or_missed ear_of [] h = refl
-stored_or_missed ear_of (b ∷ bricks) h =
-    one_each b (ear_of b) (filter_map (λ x. holder_by x (ear_of x)) bricks) (filter_map (λ x. with_brick x (cause_by (ear_of x))) bricks) (length bricks) (h zero b refl) (stored_or_missed ear_of bricks (λ i x here. h (suc i) x here))
 
 -- a brick that told a write that it is full had no room for its value
 no_room : (n : ℕ) (w : WorldValue) (k : ℕ) (s : WriteState) (value : List ℕ) (i : ℕ) (a : Ask BrickNo WriteReply) (entries bytes : ℕ) → IsSound w → RepliesSince (new_world n) w → slice_get w.calls k ≡ Some (call.Write s)
@@ -120,9 +95,6 @@ missing w order told brick (Heard (outcome.Answered (put.Full entries bytes))) c
 missing w order told brick (Heard outcome.Silent) c e ends full = missing_as w order told brick cause.Silent c e (ends outcome.Silent refl)
 missing w order told brick (Heard outcome.Strayed) c e ends full = missing_as w order told brick cause.Strayed c e (ends outcome.Strayed refl)
 
-fewer : (least n : ℕ) → nat_le least n ≡ false → n < least
-fewer least n h = grind (arith, nat_tests)
-
 pub missed_for : (n : ℕ) (events : List WorldEvent) (place : ℕ) (s : WriteState) (causes : List BrickCause) → slice_get (after (new_world n) events).calls place ≡ Some (call.Write s) → write_answer s ≡ Some (Err (Missed causes))
     → WasMissed n events place s causes
 missed_for n events place s causes there answers =
@@ -140,14 +112,8 @@ missed_for n events place s causes there answers =
     let heard : HeardBy (λ (b : BrickNo). b) (put_lawful order.nonce order.key) told order.bricks (run write_machine start all).asks =
     heard_by_events write_machine (λ (r : WriteState). r.asks) (λ (b : BrickNo). b) (λ (r : WriteState). put_lawful r.nonce r.key) (λ (r : WriteState). turn_after_asks r.asks) write_asking all start order.bricks told (λ b. refl) refl (bricks_differ order.bricks distinct) t.fitting in
     let state : s ≡ record start { asks = asks } = t.is ∙ run_keeps all start ∙ ap (λ a. record start { asks = a }) heard.are in
-    let answered : write_answer (record start { asks = asks }) ≡ Some (Err (Missed causes)) = ap write_answer (sym state) ∙ answers in
-    let holders : List Holder = filter_map holder_of asks in
-    let made : Cookie = record { key = order.key; version = order.nonce; expiry = order.expiry; bricks = take order.least holders } in
-    let parts : (nat_le order.least (length holders) ≡ false) × (turn_after_asks asks ≡ None) × (causes ≡ filter_map cause_of asks) =
-    missed_parts (nat_le order.least (length holders)) made (turn_after_asks asks) (filter_map cause_of asks) causes answered in
-    let stored : List Holder = filter_map (stored_by order told) order.bricks in
-    let holders_are : holders ≡ stored = filter_map_map holder_of mk order.bricks in
-    let causes_are : causes ≡ filter_map (missed_by order told) order.bricks = parts.2 ∙ filter_map_map cause_of mk order.bricks in
+    let facts = told_facts all order.bricks start (Err (Missed causes)) refl (bricks_differ order.bricks distinct) t.fitting (ap write_answer (sym t.is) ∙ answers) in
+    let missed : IsMissedBy order.bricks order.least order.nonce order.key told causes = missed_told order.bricks order.least order.nonce order.key order.expiry told causes facts.0 facts.1 in
     let ear_of : BrickNo → Ear WriteReply = λ b. ear_after (put_lawful order.nonce order.key b) (told b) in
     let at : (i : ℕ) (b : BrickNo) → slice_get order.bricks i ≡ Some b → slice_get asks i ≡ Some (mk b) = λ i b here. slice_get-map mk order.bricks i ∙ ap (option_map mk) here in
     let value_is : s.ask ≡ Put s.nonce s.key s.nonce s.expiry order.value = ap (λ (r : WriteState). r.ask) state ∙ sym (ap (λ (r : WriteState). Put r.nonce r.key r.nonce r.expiry order.value) state) in
@@ -168,8 +134,8 @@ missed_for n events place s causes there answers =
       may_begin = o.may_begin;
       place_is = o.place_is;
       order_is = ap (λ (r : WriteState). record r { asks = none_asked order.bricks }) state;
-      few = fewer order.least (length stored) (ap (λ hs. nat_le order.least (length hs)) (sym holders_are) ∙ parts.0);
-      causes_are = causes_are;
-      all_heard = ap (λ cs. length stored + length cs) causes_are ∙ stored_or_missed ear_of order.bricks (λ i b here. all_heard asks parts.1 i (mk b) (at i b here));
-      each = subst All_of (sym causes_are) (all_found (missed_by order told) Q order.bricks each);
+      few = missed.few;
+      causes_are = missed.causes_are;
+      all_heard = missed.all_heard;
+      each = subst All_of (sym missed.causes_are) (all_found (missed_by order told) Q order.bricks each);
     }

@@ -3,7 +3,6 @@
 ghost use Rattle.std.specs.Prelude.{◌≡◌, ◌<◌, ◌++◌, ◌∷◌, [], length, not, option_map, slice_get, slice_set, Some, IfOk, OnOk, OnErr};
 ghost use Rattle.std.specs.List.{list_any};
 ghost use Rattle.crash_base.specs.Same.{same_version};
-ghost use Rattle.ssm_stub.specs.Runs.{told_of};
 ghost use Rattle.ssm_world.specs.declared.call.Call.{Call};
 ghost use Rattle.ssm_world.specs.Worlds.{nonce_of, ask_of, next_of, hear};
 
@@ -12,7 +11,7 @@ use crate::nonced_call::NoncedCall;
 use crate::ordered_nonces::{Nonce, add, is_among};
 use crash_base::{OutOfMemory, Version};
 use ssm_frames::Frame;
-use ssm_stub::{StubEvent, StubNext};
+use ssm_stub::{StubNext, Told};
 use std::alloc::Global;
 use std::collections::BTreeSet;
 use std::marker::Model;
@@ -93,18 +92,13 @@ impl CallList {
     }
 
     /// Tells the call of this number what came. Where memory ran out, all are as they were.
-    pub(crate) fn tell(
-        &mut self,
-        alloc: Global,
-        call: u64,
-        event: StubEvent,
-    ) -> Result<(), OutOfMemory>
+    pub(crate) fn tell(&mut self, alloc: Global, call: u64, told: Told) -> Result<(), OutOfMemory>
         requires { call < length self.old }
         ensures ok { OnOk result ((c : Call) → slice_get self.old call ≡ Some c
-            → self.new ≡ slice_set self.old call (hear c (told_of event))) }
+            → self.new ≡ slice_set self.old call (hear c told)) }
         ensures err { OnErr result (self.new ≡ self.old) }
     {
-        self.calls[call as usize].hear(alloc, event)
+        self.calls[call as usize].hear(alloc, told)
     }
 
     /// One call more, the last. Where memory ran out, all are as they were.

@@ -1,18 +1,17 @@
 //! A call with its nonce.
 
-ghost use Rattle.std.specs.Prelude.{◌≡◌, Some, IfOk, OnOk, OnErr};
-ghost use Rattle.ssm_frames.specs.Reading.{decode_of};
-ghost use Rattle.ssm_stub.specs.Runs.{told_of};
+ghost use Rattle.std.specs.Prelude.{◌≡◌, IfOk, OnOk, OnErr};
 ghost use Rattle.ssm_stub.specs.Writes.{write_start};
 ghost use Rattle.ssm_stub.specs.Reads.{read_start};
 ghost use Rattle.ssm_world.specs.declared.call.Call.TheVariants as call;
 ghost use Rattle.ssm_world.specs.Worlds.{nonce_of, ask_of, next_of, hear};
 
 use crate::call::Call;
-use crash_base::{FrameBytes, Moment, OutOfMemory, SessionBytes, SessionKey, Version};
+use crate::copies::copied_frame;
+use crash_base::{Moment, OutOfMemory, SessionBytes, SessionKey, Version};
 use session_cookie::Cookie;
-use ssm_frames::{Frame, decode};
-use ssm_stub::{BrickList, ReadCall, StubEvent, StubNext, WriteCall};
+use ssm_frames::Frame;
+use ssm_stub::{BrickList, ReadCall, StubNext, Told, WriteCall};
 use std::alloc::Global;
 use std::marker::Model;
 
@@ -35,24 +34,14 @@ impl Model for NoncedCall {
     ghost invariant = { λ c. c.nonce ≡ nonce_of c.call };
 }
 
-/// The bytes of a call's ask.
-fn ask_bytes(alloc: Global, call: &Call) -> Result<FrameBytes, OutOfMemory>
-    ensures { IfOk result (λ bytes. decode_of bytes ≡ Some (ask_of call.now)) }
-{
-    match call {
-        Call::Write(write) => write.frame(alloc),
-        Call::Read(read) => read.frame(alloc),
-    }
-}
-
 /// Tells a call what came.
-fn tell(alloc: Global, call: &mut Call, event: StubEvent) -> Result<(), OutOfMemory>
-    ensures ok { OnOk result (call.new ≡ hear call.old (told_of event)) }
+fn tell(alloc: Global, call: &mut Call, told: Told) -> Result<(), OutOfMemory>
+    ensures ok { OnOk result (call.new ≡ hear call.old told) }
     ensures err { OnErr result (call.new ≡ call.old) }
 {
     match call {
-        Call::Write(write) => write.hear(alloc, event),
-        Call::Read(read) => read.hear(alloc, event),
+        Call::Write(write) => write.hear_told(alloc, &told),
+        Call::Read(read) => read.hear_told(alloc, told),
     }
 }
 
@@ -116,22 +105,24 @@ impl NoncedCall {
         }
     }
 
-    /// Its ask.
+    /// A copy of its ask.
     pub(crate) fn ask(&self, alloc: Global) -> Result<Frame, OutOfMemory>
         ensures { IfOk result (λ frame. frame ≡ ask_of self.now) }
     {
-        let bytes = ask_bytes(alloc, &self.call)?;
-        match decode(alloc, bytes.as_slice())? {
-            Some(frame) => Ok(frame),
-            None => unreachable!(),
+        match &self.call {
+            Call::Write(write) => {
+                let frame = copied_frame(alloc, write.ask())?;
+                Ok(frame)
+            }
+            Call::Read(read) => Ok(read.ask()),
         }
     }
 
     /// Takes in what came. Where memory ran out, it is as it was.
-    pub(crate) fn hear(&mut self, alloc: Global, event: StubEvent) -> Result<(), OutOfMemory>
-        ensures ok { OnOk result (self.new ≡ hear self.old (told_of event)) }
+    pub(crate) fn hear(&mut self, alloc: Global, told: Told) -> Result<(), OutOfMemory>
+        ensures ok { OnOk result (self.new ≡ hear self.old told) }
         ensures err { OnErr result (self.new ≡ self.old) }
     {
-        tell(alloc, &mut self.call, event)
+        tell(alloc, &mut self.call, told)
     }
 }

@@ -3,10 +3,8 @@
 ghost use Rattle.std.specs.Prelude.{◌≡◌, ◌<◌, true, is_some, List, length, slice_get, Some, None, OnOk, OnErr, IfOk, option_map, if◌then◌else◌};
 ghost use Rattle.brick_store.specs.declared.event.BrickEvent.{BrickEvent};
 ghost use Rattle.brick_store.specs.History.{all_held, incarnation_after};
-ghost use Rattle.ssm_stub.specs.declared.event.StubEvent.{StubEvent};
 ghost use Rattle.ssm_stub.specs.declared.event.StubNext.TheVariants as next;
 ghost use Rattle.ssm_stub.specs.declared.event.Told.TheVariants as told;
-ghost use Rattle.ssm_stub.specs.Runs.{told_of};
 ghost use Rattle.ssm_stub.specs.Writes.{write_start};
 ghost use Rattle.ssm_world.specs.declared.call.Call.{Call};
 ghost use Rattle.ssm_world.specs.declared.call.Call.TheVariants as call;
@@ -16,14 +14,14 @@ ghost use Rattle.ssm_world.specs.Worlds.{new_world, history, is_new, next_of, ma
 use crate::asking::{may_be_asked, may_be_read};
 use crate::call::Call;
 use crate::call_list::CallList;
-use crate::copies::{copied_bricks, copied_cookie, copied_value};
+use crate::copies::{copied_bricks, copied_cookie, copied_frame, copied_value};
 use crate::event::{Packet, WorldEvent};
 use crate::logged_bricks::LoggedBricks;
 use crate::nonced_call::NoncedCall;
 use crash_base::{BrickNo, Moment, OutOfMemory, SessionBytes, SessionKey, Version};
 use session_cookie::Cookie;
-use ssm_frames::{Frame, encode, is_request};
-use ssm_stub::{BrickList, StubEvent, StubNext};
+use ssm_frames::is_request;
+use ssm_stub::{BrickList, StubNext, Told};
 use std::alloc::Global;
 use std::marker::Model;
 
@@ -44,25 +42,21 @@ impl Model for WorldState {
 }
 
 /// What a call is told that sends.
-fn event_of_send(silent: bool) -> StubEvent
-    ensures { told_of result ≡ (if silent then told.Silent else told.Sent) }
+fn told_of_send(silent: bool) -> Told
+    ensures { result ≡ (if silent then told.Silent else told.Sent) }
 {
-    if silent {
-        StubEvent::Silent
-    } else {
-        StubEvent::Sent
-    }
+    if silent { Told::Silent } else { Told::Sent }
 }
 
 /// What a call that is to receive from this brick is told of the packet of this number, if it is a reply
 /// of that brick.
-fn event_of_packet(
+fn told_of_packet(
     packets: &[Packet],
     alloc: Global,
     packet: u64,
     brick: BrickNo,
-) -> Result<Option<StubEvent>, OutOfMemory>
-    ensures event { IfOk result (λ event. option_map told_of event ≡ told_by_packet (slice_get packets.now packet) (next.Receive brick)) }
+) -> Result<Option<Told>, OutOfMemory>
+    ensures told { IfOk result (λ told. told ≡ told_by_packet (slice_get packets.now packet) (next.Receive brick)) }
     ensures memory { OnErr result (is_some (told_by_packet (slice_get packets.now packet) (next.Receive brick)) ≡ true) }
 {
     if packet >= packets.len() as u64 {
@@ -72,8 +66,8 @@ fn event_of_packet(
     if found.brick.0 != brick.0 || is_request(&found.frame) {
         return Ok(None);
     }
-    let bytes = encode(alloc, &found.frame)?;
-    Ok(Some(StubEvent::Frame(bytes)))
+    let frame = copied_frame(alloc, &found.frame)?;
+    Ok(Some(Told::Came(Some(frame))))
 }
 
 /// A write of a copy of this value, at copies of these bricks, of which nothing was sent.
@@ -188,9 +182,9 @@ impl WorldState {
         match self.calls.next_of(call) {
             Some(StubNext::Send { brick }) => {
                 let frame = self.calls.ask(alloc, call)?;
-                let event = event_of_send(silent);
+                let told = told_of_send(silent);
                 self.packets.reserve(1)?;
-                self.calls.tell(alloc, call, event)?;
+                self.calls.tell(alloc, call, told)?;
                 if is_sent {
                     self.packets.push_reserved(Packet { brick, frame });
                 }
@@ -207,7 +201,7 @@ impl WorldState {
         ensures memory { OnErr result (is_some (told_if told_by_hush (slice_get self.old.calls call)) ≡ true) }
     {
         match self.calls.next_of(call) {
-            Some(StubNext::Receive { .. }) => self.calls.tell(alloc, call, StubEvent::Silent),
+            Some(StubNext::Receive { .. }) => self.calls.tell(alloc, call, Told::Silent),
             _ => Ok(()),
         }
     }
@@ -241,10 +235,10 @@ impl WorldState {
     {
         match self.calls.next_of(call) {
             Some(StubNext::Receive { brick }) => {
-                match event_of_packet(self.packets.as_slice(), alloc, packet, brick)? {
+                match told_of_packet(self.packets.as_slice(), alloc, packet, brick)? {
                     None => Ok(()),
-                    Some(event) => {
-                        self.calls.tell(alloc, call, event)?;
+                    Some(told) => {
+                        self.calls.tell(alloc, call, told)?;
                         Ok(())
                     }
                 }
