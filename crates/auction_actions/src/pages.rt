@@ -1,6 +1,7 @@
 //! Pages that no row is read for: the first page, the forms, and signing out.
 
 ghost use Rattle.std.specs.Prelude.{◌≡◌, [], ◌∷◌, ◌++◌, codes, IfOk, OnOk};
+ghost use Rattle.auction_calls.specs.declared.action.FormKind.TheVariants.{Sell};
 ghost use Rattle.auction_site.specs.Outcomes.{form_address, form_fields, form_line, form_shown, home, home_text, signed_out};
 
 use action_plans::Outcome;
@@ -68,37 +69,61 @@ fn add_field(alloc: Global, names: &mut FieldNameList, name: &[u8]) -> Result<()
     names.push(FieldText::copied(alloc, name)?)
 }
 
+/// One name.
+fn one_name(alloc: Global, name: &[u8]) -> Result<FieldNameList, OutOfMemory>
+    ensures { IfOk result (λ names. names ≡ name.now ∷ []) }
+{
+    let mut names = FieldNameList::new(alloc);
+    add_field(alloc, &mut names, name)?;
+    Ok(names)
+}
+
+/// Two names.
+fn two_names(alloc: Global, first: &[u8], second: &[u8]) -> Result<FieldNameList, OutOfMemory>
+    ensures { IfOk result (λ names. names ≡ first.now ∷ second.now ∷ []) }
+{
+    let mut names = one_name(alloc, first)?;
+    add_field(alloc, &mut names, second)?;
+    Ok(names)
+}
+
+/// Three names.
+fn three_names(
+    alloc: Global,
+    first: &[u8],
+    second: &[u8],
+    third: &[u8],
+) -> Result<FieldNameList, OutOfMemory>
+    ensures { IfOk result (λ names. names ≡ first.now ∷ second.now ∷ third.now ∷ []) }
+{
+    let mut names = two_names(alloc, first, second)?;
+    add_field(alloc, &mut names, third)?;
+    Ok(names)
+}
+
+/// The names of the fields of an offer.
+fn offer_fields(alloc: Global) -> Result<FieldNameList, OutOfMemory>
+    ensures { IfOk result (λ names. names ≡ form_fields Sell) }
+{
+    let mut names = three_names(alloc, b"title", b"category", b"start")?;
+    add_field(alloc, &mut names, b"buy_now")?;
+    add_field(alloc, &mut names, b"hours")?;
+    Ok(names)
+}
+
 /// The names of the fields of a form.
 fn form_fields(alloc: Global, kind: FormKind) -> Result<FieldNameList, OutOfMemory>
     ensures { IfOk result (λ names. names ≡ form_fields kind) }
 {
-    let mut names = FieldNameList::new(alloc);
     match kind {
-        FormKind::Register | FormKind::SignIn => {
-            add_field(alloc, &mut names, b"name")?;
-            add_field(alloc, &mut names, b"password")?;
-        }
-        FormKind::SignOut => {}
-        FormKind::Category => add_field(alloc, &mut names, b"name")?,
-        FormKind::Sell => {
-            add_field(alloc, &mut names, b"title")?;
-            add_field(alloc, &mut names, b"category")?;
-            add_field(alloc, &mut names, b"start")?;
-            add_field(alloc, &mut names, b"buy_now")?;
-            add_field(alloc, &mut names, b"hours")?;
-        }
-        FormKind::Bid => {
-            add_field(alloc, &mut names, b"item")?;
-            add_field(alloc, &mut names, b"amount")?;
-        }
-        FormKind::Buy | FormKind::Close => add_field(alloc, &mut names, b"item")?,
-        FormKind::Feedback => {
-            add_field(alloc, &mut names, b"item")?;
-            add_field(alloc, &mut names, b"good")?;
-            add_field(alloc, &mut names, b"text")?;
-        }
+        FormKind::Register | FormKind::SignIn => two_names(alloc, b"name", b"password"),
+        FormKind::SignOut => Ok(FieldNameList::new(alloc)),
+        FormKind::Category => one_name(alloc, b"name"),
+        FormKind::Sell => offer_fields(alloc),
+        FormKind::Bid => two_names(alloc, b"item", b"amount"),
+        FormKind::Buy | FormKind::Close => one_name(alloc, b"item"),
+        FormKind::Feedback => three_names(alloc, b"item", b"good", b"text"),
     }
-    Ok(names)
 }
 
 /// The line of a form, with its token.
