@@ -1,5 +1,5 @@
 -- A write stores nothing before it has asked all its bricks, and sends nothing after its answer.
-use Rattle.std.proofs.Common.{arith, ◌≡◌, ◌∙◌, ap, sym, refl, inl, inr, ◌⊎◌, ℕ, zero, suc, ◌+◌, ◌-◌, ◌≤◌, nat_lt, Bool, true, false, IsTrue, nat_le, if◌then◌else◌, List, [], ◌∷◌, length, map, take, filter_map, Option, Some, None, Result, Ok, slice_get, slice_set}
+use Rattle.std.proofs.Common.{arith, ◌≡◌, ◌∙◌, ap, sym, refl, inl, inr, ◌⊎◌, ℕ, zero, suc, ◌+◌, ◌-◌, ◌≤◌, nat_lt, Bool, true, false, IsTrue, nat_le, if◌then◌else◌, List, [], ◌∷◌, length, map, take, filter_map, Option, Some, None, Result, Ok, slice_get}
 use Rattle.std.proofs.lemmas.Bool.{leb-true}
 use Rattle.std.specs.List.{cons_option}
 use Rattle.std.specs.Option.{option_and_then}
@@ -24,7 +24,7 @@ use Rattle.ssm_stub.specs.declared.ask.Turn.{Turn}
 use Rattle.ssm_stub.specs.declared.reply.WriteReply.{WriteReply}
 use Rattle.ssm_stub.specs.declared.write_call.WriteRefusal.{WriteRefusal}
 use Rattle.ssm_stub.specs.Ears.{after_frame, heard}
-use Rattle.ssm_stub.specs.Turns.{none_asked, is_unasked, turn_after_asks, with_ear, asks_after, wanted_of, wanted}
+use Rattle.ssm_stub.specs.Turns.{none_asked, turn_after_asks, with_ear, asks_after, wanted_of, wanted}
 use Rattle.ssm_stub.specs.Runs.{fits, Fits, after}
 use Rattle.ssm_stub.specs.Writes.{WriteState, put_lawful, holder_of, cause_of, missed_unless, write_start, write_answer, write_next, write_machine, hear_write}
 use Rattle.ssm_stub.proofs.Places.{with_ear-there, turn_after_asks-stands}

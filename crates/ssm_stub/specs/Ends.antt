@@ -11,7 +11,6 @@ use Rattle.send_windows.specs.declared.pass.PassMark.TheVariants as pass_mark
 use Rattle.send_windows.specs.Passes.{hushed}
 use Rattle.ssm_stub.specs.declared.ear.Stage.TheVariants.{Asked}
 use Rattle.ssm_stub.specs.declared.ear.Outcome.{Outcome}
-use Rattle.ssm_stub.specs.declared.ear.Ear.{Ear}
 use Rattle.ssm_stub.specs.declared.ear.Ear.TheVariants.{Open, Heard}
 use Rattle.ssm_stub.specs.declared.event.StubEvent.{StubEvent}
 use Rattle.ssm_stub.specs.declared.reply.WriteReply.{WriteReply}

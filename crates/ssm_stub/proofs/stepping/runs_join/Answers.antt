@@ -1,4 +1,4 @@
-use Rattle.std.proofs.Common.{ap, sym, subst, map, List}
+use Rattle.std.proofs.Common.{subst, map, List}
 use Rattle.outside.specs.declared.link.LinkEvent.{LinkEvent}
 use Rattle.outside.specs.Link.{Made}
 use Rattle.ssm_stub.specs.Reads.{read_machine}
