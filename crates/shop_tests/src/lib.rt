@@ -16,6 +16,8 @@ mod names;
 #[cfg(test)]
 mod parts;
 #[cfg(test)]
+mod requests;
+#[cfg(test)]
 mod rows;
 #[cfg(test)]
 mod tickets;

@@ -1,0 +1,149 @@
+//! What a journal finds of its requests, beside a plain scan of its entries.
+
+ghost use Rattle.std.specs.Prelude.{◌≡◌, [], None};
+
+use commit_journal::{
+    CommitEntry, Entry, Journal, JournalLimits, MAX_ENTRIES, MarkList, TouchList,
+};
+use crash_base::{Place, RequestNo, WorkerNo, WriteList};
+use std::alloc::Global;
+use std::process::Abort;
+
+const FALLING: u64 = 65_535;
+
+const FEW: u64 = 300;
+
+fn journal_of(alloc: Global) -> Journal {
+    Journal::new(
+        alloc,
+        JournalLimits {
+            entries: MAX_ENTRIES,
+            bytes: 0,
+        },
+    )
+}
+
+/// A commit of a call that did nothing.
+fn nothing(alloc: Global, request: RequestNo) -> CommitEntry
+    ensures reads { result.reads ≡ [] }
+    ensures writes { result.writes ≡ [] }
+    ensures action { result.action ≡ None }
+{
+    CommitEntry {
+        request,
+        worker: WorkerNo(1),
+        at: Place(0),
+        touched: TouchList::new(alloc),
+        reads: MarkList::new(alloc),
+        writes: WriteList::new(alloc),
+        action: None,
+    }
+}
+
+/// Takes room for an entry. Where memory runs out, which it does only where an allocation is made to fail, the journal
+/// has to be as it was.
+fn reserve(rt: &impl Abort, journal: &mut Journal) {
+    let len = journal.len();
+    if journal.reserve(1).is_err() {
+        assert!(rt; journal.len() == len && journal.fullness().entries == len);
+        journal.reserve(1).expect(rt, "room");
+    }
+}
+
+/// Commits a call of a request that did nothing.
+fn commit(rt: &impl Abort, alloc: Global, journal: &mut Journal, request: RequestNo) {
+    journal.reserve(1).expect(rt, "room");
+    let entry = nothing(alloc, request);
+    assert!(rt; journal.full_for(1, 0).is_none());
+    let _place = journal.push(Entry::Commit(entry));
+}
+
+fn is_commit_of(entry: &Entry, request: RequestNo) -> bool {
+    match entry {
+        Entry::Commit(commit) => {
+            commit.request.boot == request.boot && commit.request.serial == request.serial
+        }
+        Entry::Down(_) | Entry::Up(_) => false,
+    }
+}
+
+/// The place of the first commit of a request.
+fn first_commit(entries: &[Entry], request: RequestNo) -> Option<u64> {
+    for (place, entry) in entries.iter().enumerate() {
+        if is_commit_of(entry, request) {
+            return Some(place as u64);
+        }
+    }
+    None
+}
+
+/// Asserts where the commit of a request is.
+fn expect_place(rt: &impl Abort, journal: &Journal, request: RequestNo, want: Option<u64>) {
+    let found = journal.commit_of(request).map(|place| place.0);
+    assert!(rt; found == want);
+}
+
+/// Asserts that the commits of all requests are those of a scan.
+fn expect_commits(rt: &impl Abort, journal: &Journal) {
+    for boot in 0..3 {
+        for serial in 0..20 {
+            let request = RequestNo { boot, serial };
+            let want = first_commit(journal.entries(), request);
+            expect_place(rt, journal, request, want);
+        }
+    }
+}
+
+#[test]
+fn commits_are_those_of_a_scan(rt: HostRuntime) {
+    let mut journal = journal_of(rt.alloc());
+    let mut number = 1u64;
+    for _ in 0..FEW {
+        number = number
+            .wrapping_mul(6_364_136_223_846_793_005)
+            .wrapping_add(1_442_695_040_888_963_407);
+        let high = number >> 33;
+        let request = RequestNo {
+            boot: (high % 3) as u32,
+            serial: high / 8 % 20,
+        };
+        reserve(&rt, &mut journal);
+        commit(&rt, rt.alloc(), &mut journal, request);
+        expect_commits(&rt, &journal);
+    }
+}
+
+/// The serial of the n-th commit, of which each is another, in an order that looks like chance.
+fn scattered(n: u64) -> u64 {
+    n.wrapping_mul(98_765) % MAX_ENTRIES
+}
+
+#[test]
+fn requests_come_in_any_order(rt: HostRuntime) {
+    let mut journal = journal_of(rt.alloc());
+    for n in 0..MAX_ENTRIES {
+        let request = RequestNo {
+            boot: 1,
+            serial: scattered(n),
+        };
+        commit(&rt, rt.alloc(), &mut journal, request);
+    }
+    for n in 0..MAX_ENTRIES {
+        let serial = scattered(n);
+        expect_place(&rt, &journal, RequestNo { boot: 1, serial }, Some(n));
+        expect_place(&rt, &journal, RequestNo { boot: 2, serial }, None);
+    }
+}
+
+#[test]
+fn requests_come_in_falling_order(rt: HostRuntime) {
+    let mut journal = journal_of(rt.alloc());
+    for n in 0..FALLING {
+        let serial = FALLING - n;
+        commit(&rt, rt.alloc(), &mut journal, RequestNo { boot: 1, serial });
+    }
+    for n in 0..FALLING {
+        let serial = FALLING - n;
+        expect_place(&rt, &journal, RequestNo { boot: 1, serial }, Some(n));
+    }
+}
