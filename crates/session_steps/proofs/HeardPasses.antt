@@ -11,10 +11,9 @@ use Rattle.ssm_stub.specs.declared.ear.Ear.TheVariants.{Open, Heard}
 use Rattle.ssm_stub.specs.declared.ear.Outcome.TheVariants.{Answered, Silent, Strayed}
 use Rattle.ssm_stub.specs.declared.reply.WriteReply.{WriteReply}
 use Rattle.ssm_stub.specs.Turns.{is_open}
-use Rattle.ssm_stub.specs.Writes.{WriteState, mark_by, mark_in}
+use Rattle.ssm_stub.specs.Writes.{WriteState, mark_by, mark_in, heard_passes}
 use Rattle.ssm_world.specs.Sound.{asked_of}
 use Rattle.ssm_world.proofs.Tests.{number_same}
-use Rattle.session_steps.specs.Sessions.{heard_passes}
 
 -- each has its outcome
 abbrev pub AllHeard : List (Ask BrickNo WriteReply) → Type 0

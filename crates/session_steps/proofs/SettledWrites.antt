@@ -21,7 +21,7 @@ use Rattle.ssm_stub.specs.declared.reply.WriteReply.{WriteReply}
 use Rattle.ssm_stub.specs.declared.write_call.WriteRefusal.{WriteRefusal}
 use Rattle.ssm_stub.specs.declared.write_call.WriteRefusal.TheVariants as missing
 use Rattle.ssm_stub.specs.Turns.{wanted, wanted_of, turn_after_asks}
-use Rattle.ssm_stub.specs.Writes.{WriteState, missed_unless, holder_of, cause_of, write_start, write_next, write_answer}
+use Rattle.ssm_stub.specs.Writes.{WriteState, missed_unless, holder_of, cause_of, write_start, write_next, write_answer, heard_passes}
 use Rattle.ssm_stub.proofs.Concluding.{none_asked-whos}
 use Rattle.ssm_stub.proofs.Searching.{all_heard}
 use Rattle.ssm_world.specs.declared.call.Call.{Call}
@@ -34,7 +34,7 @@ use Rattle.ssm_world.specs.Worlds.{WorldValue, is_new, may_write, next_of, step,
 use Rattle.ssm_world.proofs.Askable.{acknowledged_holders}
 use Rattle.ssm_world.proofs.Growing.{same_bricks}
 use Rattle.session_steps.specs.Rule.{LanesAreOf}
-use Rattle.session_steps.specs.Sessions.{SessionsState, nonce, drawn, with_store, session_key, expiry, heard_passes, spent_by, store_written, write_of, written_as, answered_write, told_write, write_line}
+use Rattle.session_steps.specs.Sessions.{SessionsState, nonce, drawn, with_store, session_key, expiry, spent_by, store_written, write_of, written_as, answered_write, told_write, write_line}
 use Rattle.session_steps.specs.Store.{StoreState, after_event, spent_as}
 use Rattle.session_steps.specs.Texts.{overload_text}
 use Rattle.session_steps.proofs.Beginning.{begins, may_begin_write}

@@ -1,4 +1,5 @@
 -- What turns add to the histories of the bricks of sessions.
+use Rattle.ssm_stub.specs.Writes.{heard_passes}
 use Rattle.std.proofs.Common.{◌≡◌, ◌⊎◌, inl, inr, ℕ, ◌-◌, ◌^◌, Bool, true, false, not, if◌then◌else◌, nat_lt, List, [], ◌∷◌, length, Option, Some, None, refl, sym, ap, ◌∙◌, subst}
 use Rattle.std.specs.Prelude.{slice_get}
 use Rattle.crash_base.specs.declared.numbers.Moment.{Moment}
@@ -23,7 +24,7 @@ use Rattle.session_steps.specs.Texts.{cookie_text, values_text, windows_text}
 use Rattle.session_steps.specs.declared.sessions.TheConstants.{MAX_MOMENT}
 use Rattle.brick_store.specs.History.{all_held, incarnation_after}
 use Rattle.session_steps.specs.Promise.{SessionTurn, Does, Boots, Makes, Lead, moment_after}
-use Rattle.session_steps.specs.Sessions.{SessionsState, with_store, drawn, nonce, brick_no, heard_passes, spent_by, write_line, fetch_line, store_read, lose_line, mute_line, repeat_line, crash_line, sweep_line, values_line, windows_line, hold_line, free_line, cookie_line, now_line, holds, with_lane_of, cookie_of, text_of_cookie, freed_pass}
+use Rattle.session_steps.specs.Sessions.{SessionsState, with_store, drawn, nonce, brick_no, spent_by, write_line, fetch_line, store_read, lose_line, mute_line, repeat_line, crash_line, sweep_line, values_line, windows_line, hold_line, free_line, cookie_line, now_line, holds, with_lane_of, cookie_of, text_of_cookie, freed_pass}
 use Rattle.session_steps.specs.Store.{StoreState, after_event, with_lane}
 use Rattle.session_steps.proofs.Bricks.{SweepsBrick, goes_crash, goes_sweep}
 use Rattle.session_steps.proofs.Calls.{CallGone, new_write, write_begins, write_may, read_gone}

@@ -1,5 +1,5 @@
 -- The sessions of a scenario, and what each line about them does and writes.
-use Rattle.std.specs.Prelude.{ℕ, suc, ◌+◌, ◌-◌, ◌^◌, min, nat_lt, not, if◌then◌else◌, List, [], ◌++◌, length, map, slice_get, slice_set, Option, Some, None, Result, Ok, Err}
+use Rattle.std.specs.Prelude.{ℕ, suc, ◌+◌, ◌-◌, ◌^◌, min, nat_lt, not, if◌then◌else◌, List, [], ◌++◌, length, slice_get, slice_set, Option, Some, None, Result, Ok, Err}
 use Rattle.std.specs.Int.{w128, to_be_bytes}
 use Rattle.std.specs.Option.{option_and_then}
 use lib.ListN.{replicate}
@@ -24,7 +24,7 @@ use Rattle.send_windows.specs.Windows.{chosen, taken, refused, after_pass, pass_
 use Rattle.send_windows.specs.declared.pass.Pass.{Pass}
 use Rattle.send_windows.specs.declared.pass.PassMark.{PassMark}
 use Rattle.send_windows.specs.declared.pass.PassMark.TheVariants as mark
-use Rattle.ssm_stub.specs.Writes.{WriteState, write_answer, mark_in}
+use Rattle.ssm_stub.specs.Writes.{WriteState, write_answer, heard_passes}
 use Rattle.ssm_stub.specs.Reads.{ReadState, read_answer}
 use Rattle.ssm_stub.specs.declared.read_call.ReadRefusal.{ReadRefusal}
 use Rattle.ssm_stub.specs.declared.read_call.ReadRefusal.TheVariants.{Expired, Lost, OutOfMemory}
@@ -103,10 +103,6 @@ abbrev pub read_of : Option Call → Option ReadState
 read_of None = None
 read_of (Some (call.Write write)) = None
 read_of (Some (call.Read read)) = Some read
-
--- passes by what a write heard of their bricks
-abbrev pub heard_passes : WriteState → List Pass → List Pass
-heard_passes write passes = map (λ (pass : Pass). with_mark pass (mark_in write.asks pass.brick)) passes
 
 -- the store after a write spent its passes
 abbrev pub spent_by : WriteState → List Pass → StoreState → StoreState

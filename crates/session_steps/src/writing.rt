@@ -5,11 +5,11 @@ ghost use Rattle.scenario_text.specs.Answer.{KeepsRefused, answer_of};
 ghost use Rattle.send_windows.specs.Facts.{open_count};
 ghost use Rattle.send_windows.specs.Windows.{KeepLimits, AreTaken, RefusedAs, chosen, taken};
 ghost use Rattle.send_windows.specs.Passes.{hushed, AreHeard};
-ghost use Rattle.ssm_stub.specs.Writes.{WriteState};
+ghost use Rattle.ssm_stub.specs.Writes.{WriteState, heard_passes};
 ghost use Rattle.ssm_world.specs.declared.call.Call.TheVariants as kind;
 ghost use Rattle.ssm_world.specs.declared.event.WorldEvent.TheVariants.{Write};
 ghost use Rattle.session_steps.specs.Kept.{IsSessions};
-ghost use Rattle.session_steps.specs.Sessions.{session_key, padded, heard_passes, told_write, write_line};
+ghost use Rattle.session_steps.specs.Sessions.{session_key, padded, told_write, write_line};
 ghost use Rattle.session_steps.specs.Store.{StoreState, after_event, spent_as, written_out};
 
 use crate::parts::Parts;
@@ -19,7 +19,7 @@ use crash_base::{Moment, OutOfMemory, SessionBytes, SessionKey, Version};
 use scenario_text::{HexBytes, LineAnswer};
 use send_windows::{Pass, PassList, TakeRefusal};
 use session_cookie::Cookie;
-use ssm_stub::{BrickList, WriteCall, WriteRefusal};
+use ssm_stub::{WriteRefusal, bricks_of, mark_passes};
 use ssm_world::{WorldEvent, copied_cookie};
 use std::alloc::Global;
 
@@ -30,27 +30,6 @@ pub(crate) struct WriteOrder {
     pub(crate) key: SessionKey,
     pub(crate) value: SessionBytes,
     pub(crate) expiry: Moment,
-}
-
-/// The bricks of passes.
-fn bricks_of(alloc: Global, passes: &[Pass]) -> Result<BrickList, OutOfMemory>
-    ensures { IfOk result (λ bricks. bricks ≡ map (λ pass. pass.brick) passes.now) }
-{
-    let mut bricks = Vec::with_capacity(alloc, passes.len())?;
-    for pass in passes {
-        bricks.push(pass.brick)?;
-    }
-    Ok(BrickList::from_vec(bricks))
-}
-
-/// Marks each pass by what a write heard of its brick.
-fn mark_passes(passes: &mut PassList, write: &WriteCall)
-    ensures { passes.new ≡ heard_passes write.now passes.old }
-{
-    for at in 0..passes.len() {
-        let brick = passes.as_slice()[at].brick;
-        passes.mark(at, write.mark(brick));
-    }
 }
 
 /// The session key of a number.

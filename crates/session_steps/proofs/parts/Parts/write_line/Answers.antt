@@ -5,12 +5,12 @@ use Rattle.send_windows.specs.Facts.{open_count}
 use Rattle.send_windows.specs.Passes.{hushed}
 use Rattle.send_windows.specs.Windows.{KeepLimits, AreTaken, chosen, taken}
 use Rattle.send_windows.specs.declared.pass.Pass.{Pass}
-use Rattle.ssm_stub.specs.Writes.{WriteState}
+use Rattle.ssm_stub.specs.Writes.{WriteState, heard_passes}
 use Rattle.ssm_world.specs.declared.call.Call.TheVariants as call
 use Rattle.ssm_world.specs.Worlds.{is_new, IsMade}
 use Rattle.session_steps.specs.Rule.{LanesAreOf}
 use Rattle.session_steps.specs.Kept.{HasSoundStore}
-use Rattle.session_steps.specs.Sessions.{SessionsState, nonce, drawn, with_store, session_key, expiry, heard_passes, store_written, told_write, write_line}
+use Rattle.session_steps.specs.Sessions.{SessionsState, nonce, drawn, with_store, session_key, expiry, store_written, told_write, write_line}
 use Rattle.session_steps.specs.Store.{StoreState, spent_as, written_out}
 use Rattle.session_steps.proofs.SettledWrites.{WriteEnds, settled_write, never_written}
 use Rattle.session_steps.proofs.parts.Parts.write_line.Goals as goal

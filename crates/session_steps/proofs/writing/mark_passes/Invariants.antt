@@ -1,9 +1,0 @@
-use Rattle.std.proofs.Common.{◌≡◌, ◌++◌, length, take, drop}
-use Rattle.session_steps.specs.Sessions.{heard_passes}
-use Rattle.session_steps.proofs.writing.mark_passes.Given as goal
-
-abbrev pub invariant-loop-at : goal.invariant-loop-at
-invariant-loop-at l = record {
-  as_many : length l.passes ≡ length l.initial.passes;
-  so_far : l.passes ≡ heard_passes l.write (take l.at l.initial.passes) ++ drop l.at l.initial.passes;
-}
