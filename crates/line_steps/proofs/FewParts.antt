@@ -11,7 +11,7 @@ use Rattle.journal_model.specs.declared.limits.TheConstants.{MAX_ENTRIES, MAX_JO
 use Rattle.scenario_text.specs.declared.line.Line.{Line}
 use Rattle.scenario_text.specs.declared.line.Line.TheVariants as lines
 use Rattle.line_steps.specs.declared.head.Head.{Head}
-use Rattle.session_steps.specs.Setup.{SetupState, bricks_step, key_step}
+use Rattle.scenario_text.specs.Setup.{SetupState, bricks_step, key_step}
 use Rattle.scenario_text.specs.Answer.{Answer, Refused, Done, refused_if, within}
 use Rattle.line_steps.specs.Head.{head_line, plain, with_parts, with_setup, with_component, component_step, reference_step, owns_step, limit_step}
 use Rattle.line_steps.specs.Tables.{table_of}

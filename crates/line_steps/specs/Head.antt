@@ -12,7 +12,7 @@ use Rattle.deployment.specs.declared.parts.Reference.{Reference}
 use Rattle.scenario_text.specs.Answer.{Answer, Refused, Done, refused_if, or_refused, within}
 use Rattle.line_steps.specs.Tables.{table_of}
 use Rattle.line_steps.specs.declared.head.Head.{Head}
-use Rattle.session_steps.specs.Setup.{SetupState, no_setup, bricks_step, key_step}
+use Rattle.scenario_text.specs.Setup.{SetupState, no_setup, bricks_step, key_step}
 
 -- no parts
 abbrev pub no_parts : Parts

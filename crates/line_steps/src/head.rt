@@ -9,8 +9,7 @@ use crate::tables::table_of;
 use boot_core::{JournalLimits, MAX_ENTRIES, MAX_JOURNAL_BYTES};
 use crash_base::{ComponentName, ComponentNo, MAX_GROUPS, OutOfMemory, is_component_name};
 use deployment::{ComponentPart, Parts, Reference, TablePart, one_call};
-use scenario_text::{Line, LineAnswer};
-use session_steps::Setup;
+use scenario_text::{Line, LineAnswer, Setup};
 use std::alloc::Global;
 
 /// What head lines have said: the parts of a deployment, the limits of the journal, and the bricks and the key of sessions.

@@ -25,13 +25,14 @@ use Rattle.session_steps.specs.Promise.{SessionTurn, Boots, Lead}
 use Rattle.session_steps.specs.Sessions.{SessionsState, session_line, reopened}
 use Rattle.deployment.specs.declared.parts.Parts.{Parts}
 use Rattle.journal_model.specs.declared.limits.TheConstants.{MAX_ENTRIES, MAX_JOURNAL_BYTES}
-use Rattle.session_steps.specs.Setup.{SetupState, HasCounts, no_setup, bricks_step, key_step, set_up}
+use Rattle.scenario_text.specs.Setup.{SetupState, HasCounts, no_setup, bricks_step, key_step}
+use Rattle.session_steps.specs.Setup.{set_up}
 use Rattle.session_steps.proofs.Leading.{lead_on}
 use Rattle.scenario_engine.specs.Engine.{Replies, target_of, opened_target, kind_of, in_head, in_boot, next_opening, reopens, line_over, line_on, step}
-use Rattle.scenario_engine.specs.Opening.{Opening, Opened, Shut, opening}
+use Rattle.scenario_engine.specs.Opening.{Opening, Opened, UnstartedBoot, opening}
 use Rattle.scenario_engine.specs.Running.{started, with_callers, with_sessions, commit_ends, with_keeper, boot_refusal, caller_commits, caller_drops, commit_step, drop_step, scope_of, goes_down, reboots, down_step, up_step, reboot_step, table_step, journal_step}
 use Rattle.scenario_engine.specs.Sessions.{AreSessionsOf, turns_by, first_start, starts_by, starts_on, turns_to, turn_on_sessions, session_turns}
-use Rattle.scenario_engine.specs.State.{RunningState, State, Heading, Running, Outcome, RefusedIn, DoneTo, NotStarted}
+use Rattle.scenario_engine.specs.State.{RunningState, State, Heading, Running, Outcome, RefusedIn, DoneTo, UnstartedIn}
 use Rattle.scenario_engine.specs.Transcript.{Turn, TooLong, RefusedAt, Unstarted, end_from, last_state, answer_to, turn_outcome}
 
 -- lines that leave the sessions as they were
@@ -96,7 +97,7 @@ abbrev LeadsOver : RunningState → Line → Outcome → Type 0
 LeadsOver r line (RefusedIn t) = t ≡ Running r
 LeadsOver r line (DoneTo t text) =
     (q : RunningState) × (t ≡ Running q) × Lead r.sessions (turns_by line t text) q.sessions
-LeadsOver r line (NotStarted t refusal) = t ≡ Running r
+LeadsOver r line (UnstartedIn t refusal) = t ≡ Running r
 
 leads_same : (r : RunningState) (line : Line) (a : Answer RunningState) → ((t : State) (text : List ℕ) → turns_by line t text ≡ []) → Leaves (SameSessions r) a → LeadsOver r line (in_boot r a)
 leads_same r line Refused none same = refl
@@ -110,7 +111,7 @@ leads_session r line (Done sessions text) is = (with_sessions r sessions, refl, 
 
 leads_reopen : (r : RunningState) (how : Opening) → LeadsOver r lines.Reopen (reopens r how)
 leads_reopen r (Opened start) = (started r.sessions start, refl, (reopened r.sessions start.boot, refl, refl))
-leads_reopen r (Shut refusal) = refl
+leads_reopen r (UnstartedBoot refusal) = refl
 
 leads_over : (r : RunningState) (line : Line) (replies : Replies) → LeadsOver r line (line_over r (kind_of line) line replies)
 unfolding table_step journal_step
@@ -167,7 +168,7 @@ counts_limit head entries bytes =
 abbrev StaysHead : Head → Line → Outcome → Type 0
 StaysHead old line (RefusedIn t) = t ≡ Heading old
 StaysHead old line (DoneTo t text) = (head : Head) × (t ≡ Heading head) × (turns_by line t text ≡ []) × KeepsCounts old head
-StaysHead old line (NotStarted t refusal) = t ≡ Heading old
+StaysHead old line (UnstartedIn t refusal) = t ≡ Heading old
 
 stays_in : (line : Line) (head : Head) (a : Answer Head) → ((t : State) (text : List ℕ) → turns_by line t text ≡ []) → Leaves (KeepsCounts head) a → StaysHead head line (in_head head a)
 stays_in line head Refused none keeps = refl
@@ -216,7 +217,7 @@ Reaches (Running r) turns t = (q : RunningState) × (t ≡ Running q) × Lead r.
 abbrev LeadsTo : State → List SessionTurn → (State → List ℕ → List SessionTurn) → Outcome → Type 0
 LeadsTo s starts turns (RefusedIn t) = Reaches s starts t
 LeadsTo s starts turns (DoneTo t text) = Reaches s (turns t text) t
-LeadsTo s starts turns (NotStarted t refusal) = Reaches s starts t
+LeadsTo s starts turns (UnstartedIn t refusal) = Reaches s starts t
 
 -- a state is itself reached by no turn
 stays : (s : State) → Reaches s [] s
@@ -226,12 +227,12 @@ stays (Running r) = (r, refl, refl)
 leads_running : (r : RunningState) (line : Line) (o : Outcome) → LeadsOver r line o → LeadsTo (Running r) [] (turns_by line) o
 leads_running r line (RefusedIn t) is = (r, is, refl)
 leads_running r line (DoneTo t text) leads = leads
-leads_running r line (NotStarted t refusal) is = (r, is, refl)
+leads_running r line (UnstartedIn t refusal) is = (r, is, refl)
 
 leads_heading : (head : Head) (line : Line) (o : Outcome) → StaysHead head line o → LeadsTo (Heading head) [] (turns_by line) o
 leads_heading head line (RefusedIn t) is = inl (head, is, refl, λ has. has)
 leads_heading head line (DoneTo t text) stays = inl stays
-leads_heading head line (NotStarted t refusal) is = inl (head, is, refl, λ has. has)
+leads_heading head line (UnstartedIn t refusal) is = inl (head, is, refl, λ has. has)
 
 leads_first : (head : Head) (start : Start) (line : Line) (o : Outcome) → LeadsOver (started (set_up head.setup 0) start) line o
     → LeadsTo (Heading head) (Boots start.boot ∷ []) (λ t text. Boots start.boot ∷ turns_by line t text) o
@@ -239,14 +240,14 @@ leads_first head start line (RefusedIn t) is =
     inr (started (set_up head.setup 0) start, is, (reopened (set_up head.setup 0) start.boot, refl, refl))
 leads_first head start line (DoneTo t text) (q, is, lead) =
     inr (q, is, (reopened (set_up head.setup 0) start.boot, refl, lead))
-leads_first head start line (NotStarted t refusal) is =
+leads_first head start line (UnstartedIn t refusal) is =
     inr (started (set_up head.setup 0) start, is, (reopened (set_up head.setup 0) start.boot, refl, refl))
 
 leads_opened : (head : Head) (how : Opening) (line : Line) (replies : Replies)
     → LeadsTo (Heading head) (first_start (Heading head) (opened_target head how)) (λ t text. first_start (Heading head) (opened_target head how) ++ turns_by line t text) (line_on (opened_target head how) line replies)
 leads_opened head (Opened start) line replies =
     leads_first head start line (line_over (started (set_up head.setup 0) start) (kind_of line) line replies) (leads_over (started (set_up head.setup 0) start) line replies)
-leads_opened head (Shut refusal) line replies = stays (Heading head)
+leads_opened head (UnstartedBoot refusal) line replies = stays (Heading head)
 
 leads_step : CountsLaw → (s : State) (line : Line) (replies : Replies)
     → LeadsTo s (first_start s (target_of s (is_event line) replies.first)) (λ t text. first_start s (target_of s (is_event line) replies.first) ++ turns_by line t text) (step s line replies)
@@ -307,13 +308,13 @@ all_lead law s n (turn ∷ turns) =
     go : (long : Bool) (o : Outcome) → LeadsTo s (starts_on s turn) (turn_on_sessions s turn) o → ((t : State) → AllLead t (session_turns t turns) (last_state (end_from t (n + 1) turns))) → AllLead s (if long then [] else (elim o [
       | RefusedIn t ↦ starts_on s turn
       | DoneTo t text ↦ turn_on_sessions s turn t text ++ session_turns t turns
-      | NotStarted t refusal ↦ starts_on s turn
+      | UnstartedIn t refusal ↦ starts_on s turn
     ])) (last_state (if long then TooLong s n else (elim o [
       | RefusedIn t ↦ RefusedAt t n
       | DoneTo t text ↦ end_from t (n + 1) turns
-      | NotStarted t refusal ↦ Unstarted t refusal
+      | UnstartedIn t refusal ↦ Unstarted t refusal
     ])))
     go true o leads later = no_lead s
     go false (RefusedIn t) leads later = lead_last s t (starts_on s turn) leads
     go false (DoneTo t text) leads later = lead_more s t (last_state (end_from t (n + 1) turns)) (turn_on_sessions s turn t text) (session_turns t turns) leads (later t)
-    go false (NotStarted t refusal) leads later = lead_last s t (starts_on s turn) leads
+    go false (UnstartedIn t refusal) leads later = lead_last s t (starts_on s turn) leads

@@ -49,7 +49,7 @@ use Rattle.line_steps.proofs.Stepping.{IsShortCall, fits_begin_step, fits_call_s
 use Rattle.line_steps.specs.Head.{no_head}
 use Rattle.scenario_engine.proofs.Keeping.{IsShortLine, Keeps, kept_boots, kept_at_end}
 use Rattle.scenario_engine.proofs.Rebooting.{undone_last}
-use Rattle.scenario_engine.specs.Opening.{StartReplies, Opening, Opened, Shut, is_spent, opening, opening_of, opening_over}
+use Rattle.scenario_engine.specs.Opening.{StartReplies, Opening, Opened, UnstartedBoot, is_spent, opening, opening_of, opening_over}
 use Rattle.scenario_engine.specs.Running.{started, with_callers, with_sessions, with_boot_entry, commit_ends, with_keeper, boot_refusal, caller_commits, caller_drops, commit_step, drop_step, scope_of, goes_down, reboots, down_step, up_step, reboot_step, table_step, journal_step, quiet_line}
 use Rattle.scenario_engine.specs.Sound.{CommitsUnrebooted, RunsSerially}
 use Rattle.scenario_engine.specs.State.{RunningState}
@@ -201,12 +201,12 @@ sound_quiet laws r (lines.Session line) short run = sound_session r (session_lin
 -- a boot opens with few components
 abbrev OpensFew : Opening → Type 0
 OpensFew (Opened start) = AreFew start.deployment
-OpensFew (Shut refusal) = Unit {0}
+OpensFew (UnstartedBoot refusal) = Unit {0}
 
 few_opening : (parts : Parts) (limits : JournalLimits) (replies : StartReplies) → AreFew parts → OpensFew (opening parts limits replies)
 few_opening parts limits replies few = given replies.rows
   where
-    kept : (rows : List RowWrite) (spent keeps : Bool) → OpensFew (if spent then Shut refusals.BootsSpent else (if keeps then Opened (start_over parts limits rows) else Shut refusals.KeeperFailed))
+    kept : (rows : List RowWrite) (spent keeps : Bool) → OpensFew (if spent then UnstartedBoot refusals.BootsSpent else (if keeps then Opened (start_over parts limits rows) else UnstartedBoot refusals.KeeperFailed))
     kept rows true keeps = tt
     kept rows false true = few
     kept rows false false = tt

@@ -8,10 +8,11 @@ use Rattle.scenario_text.specs.Line.{is_event}
 use Rattle.scenario_text.specs.Reading.{line_of}
 use Rattle.session_steps.specs.Promise.{SessionTurn, Does, Boots}
 use Rattle.session_steps.specs.Sessions.{SessionsState}
-use Rattle.session_steps.specs.Setup.{SetupState, HasCounts, set_up}
+use Rattle.scenario_text.specs.Setup.{SetupState, HasCounts}
+use Rattle.session_steps.specs.Setup.{set_up}
 use Rattle.session_steps.specs.Standing.{SessionsStand}
-use Rattle.scenario_engine.specs.Engine.{Replies, Target, TheHead, TheBoot, NoBoot, target_of}
-use Rattle.scenario_engine.specs.State.{State, Heading, Running, RefusedIn, DoneTo, NotStarted}
+use Rattle.scenario_engine.specs.Engine.{Replies, Target, TheHead, TheBoot, TheUnstarted, target_of}
+use Rattle.scenario_engine.specs.State.{State, Heading, Running, RefusedIn, DoneTo, UnstartedIn}
 use Rattle.scenario_engine.specs.Transcript.{Turn, first, end_from, last_state, turn_outcome, boots_in}
 
 -- the starts of the boot of a state, for sessions
@@ -49,7 +50,7 @@ turns_by (Session line) t text = Does line text ∷ []
 abbrev pub first_start : State → Target → List SessionTurn
 first_start (Heading head) (TheHead h) = []
 first_start (Heading head) (TheBoot r) = Boots r.boot.start.boot ∷ []
-first_start (Heading head) (NoBoot h refusal) = []
+first_start (Heading head) (TheUnstarted h refusal) = []
 first_start (Running r) target = []
 
 -- the same of a text that spells this line, or none
@@ -80,7 +81,7 @@ session_turns s (turn ∷ turns) =
     (elim (turn_outcome s turn) [
       | RefusedIn t ↦ starts_on s turn
       | DoneTo t text ↦ turn_on_sessions s turn t text ++ session_turns t turns
-      | NotStarted t refusal ↦ starts_on s turn
+      | UnstartedIn t refusal ↦ starts_on s turn
     ])
 
 -- the sessions of a state are these, of this setup: those beside its boot, or those that its head sets up

@@ -15,7 +15,7 @@ ghost use Rattle.outside.specs.Faults.{Rose};
 ghost use Rattle.session_steps.specs.Setup.{set_up};
 ghost use Rattle.scenario_engine.specs.Opening.{Opened};
 ghost use Rattle.scenario_engine.specs.Running.{started, with_callers, scope_of, drop_step, down_step, up_step, reboot_step, table_step, journal_step, quiet_line};
-ghost use Rattle.scenario_engine.specs.Telling.{Opens, IsShut, Commits, CommitsPartly};
+ghost use Rattle.scenario_engine.specs.Telling.{Opens, IsUnstarted, Commits, CommitsPartly};
 
 use boot_core::{Boot, JournalLimits, StartRefusal, Ticket};
 use container_core::start_boot;
@@ -107,7 +107,7 @@ impl Running {
         ensures opens { MatchResult result
             (λ r. (start : Start) × (r ≡ started sessions start)
             × Opens deployment limits (Opened start) (K.told keeper.old) (K.told keeper.new))
-            (λ refusal. IsShut refusal deployment limits (K.told keeper.old) (K.told keeper.new)) }
+            (λ refusal. IsUnstarted refusal deployment limits (K.told keeper.old) (K.told keeper.new)) }
         ensures failed { result ≡ Err StartRefusal.KeeperFailed
             → Rose (K.faults keeper.old) (K.faults keeper.new) }
         ensures count { K.faults keeper.old ≤ K.faults keeper.new }
@@ -128,7 +128,7 @@ impl Running {
         ensures opens { MatchResult result
             (λ r. (start : Start) × (r ≡ started (set_up head.setup 0) start)
             × Opens head.parts head.limits (Opened start) (K.told keeper.old) (K.told keeper.new))
-            (λ refusal. IsShut refusal head.parts head.limits
+            (λ refusal. IsUnstarted refusal head.parts head.limits
             (K.told keeper.old) (K.told keeper.new)) }
         ensures failed { result ≡ Err StartRefusal.KeeperFailed
             → Rose (K.faults keeper.old) (K.faults keeper.new) }
@@ -164,7 +164,7 @@ impl Running {
             (λ r. (start : Start) × (r ≡ started self.sessions start)
             × Opens self.boot.start.deployment self.boot.start.limits (Opened start)
             (K.told keeper.old) (K.told keeper.new))
-            (λ refusal. IsShut refusal self.boot.start.deployment self.boot.start.limits
+            (λ refusal. IsUnstarted refusal self.boot.start.deployment self.boot.start.limits
             (K.told keeper.old) (K.told keeper.new)) }
         ensures failed { result ≡ Err StartRefusal.KeeperFailed
             → Rose (K.faults keeper.old) (K.faults keeper.new) }

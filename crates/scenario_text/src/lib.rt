@@ -50,11 +50,10 @@
 //! spells. Words are separated by single spaces. A name is 1 to 32 letters, digits or `_`; a caller
 //! is `c` and a number from 1 to 65,535 (`MAX_CALLER`), and a session key is `k` and a number from 1
 //! to 65,535 (`MAX_KEY`); numbers are decimal without leading zeros, and below 2^64, and a brick is a
-//! number from 1 on; bytes are in lower case hexadecimal, at most 4,000 (`MAX_HEX_BYTES`), and `-` where
-//! there are none. The text of `present` is one word that is not empty, of ASCII without spaces and
-//! carriage returns. A pass is freed as `answered` or as `silent`. An empty line passes, and so does a
-//! comment: `#` and then ASCII without a carriage return. A line has at most 8,192 bytes
-//! (`MAX_LINE_BYTES`).
+//! number from 1 on; bytes are in lower case hexadecimal, at most 4,000 (`MAX_HEX_BYTES`), and `-` where there are none. The text of
+//! `present` is one word that is not empty, of ASCII without spaces and carriage returns. A pass is
+//! freed as `answered` or as `silent`. An empty line passes, and so does a comment: `#` and then ASCII
+//! without a carriage return. A line has at most 8,192 bytes (`MAX_LINE_BYTES`).
 //!
 //! `read_line` is exact: it answers `line_of` of the text. `spelling_law` says that this is a line
 //! exactly where the text is the words of that line, with its numbers, names, bytes and text in
@@ -73,6 +72,7 @@ mod line;
 mod reading;
 mod session_line;
 mod session_reading;
+mod setup;
 mod texts;
 mod words;
 
@@ -82,4 +82,5 @@ pub use laws::{lines_law, spelling_law};
 pub use line::{HexBytes, Line, MAX_CALLER, MAX_HEX_BYTES, MAX_LINE_BYTES};
 pub use reading::read_line;
 pub use session_line::{Freed, MAX_KEY, SessionLine};
+pub use setup::{BrickCounts, LEAST_KEY_BYTES, MOST_KEY_BYTES, Setup};
 pub use texts::write_hex;
