@@ -2,7 +2,6 @@
 use Rattle.std.proofs.Common.{◌≡◌, ℕ, ◌+◌, ◌≤◌, Bool, true, false, if◌then◌else◌, List, [], ◌∷◌, ◌++◌, length, Option, Some, None, refl, arith}
 use Rattle.std.specs.Prelude.{All, nat_lt}
 use Rattle.std.proofs.lemmas.List.Elements.{All-nil, All-cons, All-append}
-use Rattle.crash_base.specs.declared.rows.TheConstants.{MAX_ROW_BYTES}
 use Rattle.boot_core.specs.declared.boot.Start.{Start}
 use Rattle.boot_core.specs.Boot.{BootValue}
 use Rattle.scenario_text.specs.declared.line.Line.{Line}
@@ -10,7 +9,10 @@ use Rattle.scenario_text.specs.declared.line.Line.TheVariants as lines
 use Rattle.scenario_text.specs.declared.line.TheConstants.{MAX_LINE_BYTES}
 use Rattle.scenario_text.specs.Line.{is_event}
 use Rattle.scenario_text.specs.Reading.{line_of}
-use Rattle.scenario_text.specs.Spelling.{IsInRange}
+use Rattle.scenario_text.specs.Spelling.{IsInRange, IsCallInRange}
+use Rattle.scenario_text.specs.declared.call_line.CallLine.{CallLine}
+use Rattle.scenario_text.specs.declared.call_line.CallLine.TheVariants as calls
+use Rattle.line_steps.proofs.Stepping.{IsShortCall}
 use Rattle.scenario_text.proofs.Spelled.{line_in_range}
 use Rattle.line_steps.specs.declared.head.Head.{Head}
 use Rattle.scenario_text.specs.Answer.{Answer, Refused, Done}
@@ -33,12 +35,19 @@ LeavesTo P (UnstartedIn s refusal) = P s
 
 -- a put of a whole line
 abbrev pub IsShortLine : Line → Type 0
-IsShortLine (lines.Put c table key bytes) = length bytes ≤ MAX_ROW_BYTES
+IsShortLine (lines.Call c line) = IsShortCall line
 IsShortLine _ = Unit {0}
+
+short_call : (line : CallLine) → IsCallInRange line → IsShortCall line
+short_call (calls.Enter name) range = tt
+short_call calls.Exit range = tt
+short_call (calls.Read table key) range = tt
+short_call (calls.List table) range = tt
+short_call (calls.Put table key bytes) range = omega (arith, range.2.0)
 
 -- a line in its ranges is short
 short_line : (line : Line) → IsInRange line → IsShortLine line
-short_line (lines.Put c table key bytes) range = omega (arith, range.3.0)
+short_line (lines.Call c line) range = short_call line range.1
 short_line _ range = tt
 
 -- Each line keeps what holds of a head, and of a boot with its callers; and a boot that starts has it.

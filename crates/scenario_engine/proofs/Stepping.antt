@@ -68,26 +68,10 @@ reaches_unstarted head refusals.OutOfMemory old new h = record { replies = h.rep
 -- a line of another kind is refused in the head
 pub not_quiet : (line : Line) (head : Head) → kind_of line ≢ kinds.Quiet → head_line head line ≡ Refused
 not_quiet lines.Pass head kind = absurd (kind refl)
-not_quiet (lines.Component name) head kind = absurd (kind refl)
-not_quiet (lines.Hard from to) head kind = absurd (kind refl)
-not_quiet (lines.Soft from to) head kind = absurd (kind refl)
-not_quiet (lines.Owns name table) head kind = absurd (kind refl)
-not_quiet (lines.Limit entries bytes) head kind = absurd (kind refl)
-not_quiet (lines.Bricks bricks most least) head kind = absurd (kind refl)
-not_quiet (lines.Key bytes) head kind = absurd (kind refl)
-not_quiet (lines.Begin c) head kind = refl
-not_quiet (lines.Enter c name) head kind = refl
-not_quiet (lines.Exit c) head kind = refl
-not_quiet (lines.Read c table key) head kind = refl
-not_quiet (lines.List c table) head kind = refl
-not_quiet (lines.Put c table key bytes) head kind = refl
+not_quiet (lines.Head line) head kind = absurd (kind refl)
+not_quiet (lines.Call c line) head kind = refl
 not_quiet (lines.Commit c) head kind = refl
-not_quiet (lines.Drop c) head kind = refl
-not_quiet (lines.Down name) head kind = refl
-not_quiet (lines.Up name) head kind = refl
-not_quiet (lines.Reboot name) head kind = refl
-not_quiet lines.Table head kind = refl
-not_quiet lines.Journal head kind = refl
+not_quiet (lines.Boot line) head kind = refl
 not_quiet lines.Reopen head kind = refl
 not_quiet (lines.Session line) head kind = refl
 

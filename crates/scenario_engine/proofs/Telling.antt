@@ -30,7 +30,8 @@ use Rattle.scenario_text.specs.declared.line.Line.TheVariants as lines
 use Rattle.scenario_text.specs.declared.line.TheConstants.{MAX_LINE_BYTES}
 use Rattle.scenario_text.specs.Line.{is_event}
 use Rattle.scenario_text.specs.Reading.{line_of}
-use Rattle.line_steps.specs.declared.call_lines.CallLine.TheVariants as calls
+use Rattle.scenario_text.specs.declared.boot_line.BootLine.{BootLine}
+use Rattle.scenario_text.specs.declared.boot_line.BootLine.TheVariants as boots
 use Rattle.line_steps.specs.declared.callers.Caller.{Caller}
 use Rattle.line_steps.specs.declared.callers.Caller.TheVariants.{Absent, Live}
 use Rattle.line_steps.specs.declared.head.Head.{Head}
@@ -44,7 +45,7 @@ use Rattle.scenario_engine.specs.declared.kind.LineKind.TheVariants as kinds
 use Rattle.scenario_engine.specs.Engine.{Replies, Target, TheHead, TheBoot, TheUnstarted, opened_target, target_of, target_calls, kind_of, in_head, in_boot, next_opening, reopens, line_over, line_on, step, calls_over as calls_of_kind, calls_on, line_calls, ended_by, ends_over, ends_on, ended_boots}
 use Rattle.scenario_engine.specs.KeeperCalls.{KeeperCall, Gave, Kept, Failed, apply_calls, TellsCall, TellsCalls}
 use Rattle.scenario_engine.specs.Opening.{StartReplies, Opening, Opened, UnstartedBoot, is_spent, opening, opening_of, opening_over, calls_over_rows, start_calls, start_calls_of}
-use Rattle.scenario_engine.specs.Running.{with_callers, with_sessions, with_boot_entry, commit_ends, with_keeper, boot_refusal, keep_calls, caller_commits, caller_calls, caller_drops, commit_step, commit_calls, drop_step, scope_of, goes_down, reboots, down_step, up_step, reboot_step, table_step, journal_step, quiet_line}
+use Rattle.scenario_engine.specs.Running.{with_callers, with_sessions, with_boot_entry, commit_ends, with_keeper, boot_refusal, keep_calls, caller_commits, caller_calls, caller_drops, commit_step, commit_calls, drop_step, scope_of, goes_down, reboots, down_step, up_step, reboot_step, table_step, journal_step, boot_line, quiet_line}
 use Rattle.scenario_engine.specs.State.{RunningState, State, Heading, Running, Outcome, RefusedIn, DoneTo, UnstartedIn}
 use Rattle.scenario_engine.specs.Told.{HoldsStateRows, IsOver, IsChained, Tells}
 use Rattle.scenario_engine.specs.Transcript.{Turn, first, answer_to, turn_outcome, calls_to, turn_calls, ends_to, turn_ends, calls_from, boots_in, boots_from, end_from, last_state, RefusedAt, TooLong, Unstarted}
@@ -205,7 +206,7 @@ on_target held P (Heading head) true replies t u at told =
 -- lines that leave the rows
 
 -- the boot is of the same start, and its journal leaves the same rows
-abbrev HasSameRows : RunningState → RunningState → Type 0
+abbrev pub HasSameRows : RunningState → RunningState → Type 0
 HasSameRows old new =
     (new.boot.start ≡ old.boot.start)
     × (rows_after new.boot.start.base new.boot.entries ≡ rows_after old.boot.start.base old.boot.entries)
@@ -263,29 +264,22 @@ rows_session : (r : RunningState) (a : Answer SessionsState) → Leaves (HasSame
 rows_session r Refused = tt
 rows_session r (Done sessions text) = (refl, refl)
 
-rows_quiet : (r : RunningState) (line : Line) → Leaves (HasSameRows r) (quiet_line r line)
+rows_boot : (r : RunningState) (line : BootLine) → Leaves (HasSameRows r) (boot_line r line)
 unfolding table_step journal_step
+rows_boot r (boots.Begin c) = rows_called r (begin_step r.boot r.callers c)
+rows_boot r (boots.Drop c) = rows_drop r c
+rows_boot r (boots.Down name) = rows_down r name
+rows_boot r (boots.Up name) = rows_up r name
+rows_boot r (boots.Reboot name) = rows_reboot r name
+rows_boot r boots.Table = (refl, refl)
+rows_boot r boots.Journal = (refl, refl)
+
+pub rows_quiet : (r : RunningState) (line : Line) → Leaves (HasSameRows r) (quiet_line r line)
 rows_quiet r lines.Pass = (refl, refl)
-rows_quiet r (lines.Component name) = tt
-rows_quiet r (lines.Hard from to) = tt
-rows_quiet r (lines.Soft from to) = tt
-rows_quiet r (lines.Owns name table) = tt
-rows_quiet r (lines.Limit entries bytes) = tt
-rows_quiet r (lines.Bricks bricks most least) = tt
-rows_quiet r (lines.Key bytes) = tt
-rows_quiet r (lines.Begin c) = rows_called r (begin_step r.boot r.callers c)
-rows_quiet r (lines.Enter c name) = rows_called r (call_step r.boot r.callers c (calls.Enter name))
-rows_quiet r (lines.Exit c) = rows_called r (call_step r.boot r.callers c calls.Exit)
-rows_quiet r (lines.Read c table key) = rows_called r (call_step r.boot r.callers c (calls.Read table key))
-rows_quiet r (lines.List c table) = rows_called r (call_step r.boot r.callers c (calls.List table))
-rows_quiet r (lines.Put c table key bytes) = rows_called r (call_step r.boot r.callers c (calls.Put table key bytes))
+rows_quiet r (lines.Head line) = tt
+rows_quiet r (lines.Call c line) = rows_called r (call_step r.boot r.callers c line)
 rows_quiet r (lines.Commit c) = tt
-rows_quiet r (lines.Drop c) = rows_drop r c
-rows_quiet r (lines.Down name) = rows_down r name
-rows_quiet r (lines.Up name) = rows_up r name
-rows_quiet r (lines.Reboot name) = rows_reboot r name
-rows_quiet r lines.Table = (refl, refl)
-rows_quiet r lines.Journal = (refl, refl)
+rows_quiet r (lines.Boot line) = rows_boot r line
 rows_quiet r lines.Reopen = tt
 rows_quiet r (lines.Session line) = rows_session r (session_line r.sessions line)
 

@@ -8,7 +8,7 @@ use Rattle.scenario_text.specs.Answer.{Answer, Refused, Done}
 use Rattle.line_steps.specs.Head.{head_line}
 use Rattle.line_steps.specs.Texts.{boot_text}
 use Rattle.scenario_text.specs.declared.line.Line.{Line}
-use Rattle.scenario_text.specs.declared.line.Line.TheVariants.{Pass, Component, Hard, Soft, Owns, Limit, Bricks, Key, Begin, Enter, Exit, Read, List as ListLine, Put, Commit, Drop, Down, Up, Reboot, Table, Journal, Reopen, Session}
+use Rattle.scenario_text.specs.declared.line.Line.TheVariants as lines
 use Rattle.scenario_text.specs.Line.{is_event}
 use Rattle.session_steps.specs.Setup.{set_up}
 use Rattle.scenario_engine.specs.declared.engine.Stage.{Stage}
@@ -68,29 +68,13 @@ target_calls (Heading head) true replies = start_calls replies
 
 -- what kind a line is of: it commits the call of a caller, starts the next boot, or calls no keeper
 abbrev pub kind_of : Line → LineKind
-kind_of Pass = kinds.Quiet
-kind_of (Component name) = kinds.Quiet
-kind_of (Hard name other) = kinds.Quiet
-kind_of (Soft name other) = kinds.Quiet
-kind_of (Owns name table) = kinds.Quiet
-kind_of (Limit entries bytes) = kinds.Quiet
-kind_of (Bricks bricks most least) = kinds.Quiet
-kind_of (Key bytes) = kinds.Quiet
-kind_of (Begin caller) = kinds.Quiet
-kind_of (Enter caller name) = kinds.Quiet
-kind_of (Exit caller) = kinds.Quiet
-kind_of (Read caller table key) = kinds.Quiet
-kind_of (ListLine caller table) = kinds.Quiet
-kind_of (Put caller table key bytes) = kinds.Quiet
-kind_of (Commit caller) = kinds.Commits caller
-kind_of (Drop caller) = kinds.Quiet
-kind_of (Down name) = kinds.Quiet
-kind_of (Up name) = kinds.Quiet
-kind_of (Reboot name) = kinds.Quiet
-kind_of Table = kinds.Quiet
-kind_of Journal = kinds.Quiet
-kind_of Reopen = kinds.Reopens
-kind_of (Session line) = kinds.Quiet
+kind_of lines.Pass = kinds.Quiet
+kind_of (lines.Head line) = kinds.Quiet
+kind_of (lines.Call caller line) = kinds.Quiet
+kind_of (lines.Commit caller) = kinds.Commits caller
+kind_of (lines.Boot line) = kinds.Quiet
+kind_of lines.Reopen = kinds.Reopens
+kind_of (lines.Session line) = kinds.Quiet
 
 -- a line of the head, by its answer
 abbrev pub in_head : Head → Answer Head → Outcome

@@ -50,10 +50,15 @@
 //! spells. Words are separated by single spaces. A name is 1 to 32 letters, digits or `_`; a caller
 //! is `c` and a number from 1 to 65,535 (`MAX_CALLER`), and a session key is `k` and a number from 1
 //! to 65,535 (`MAX_KEY`); numbers are decimal without leading zeros, and below 2^64, and a brick is a
-//! number from 1 on; bytes are in lower case hexadecimal, at most 4,000 (`MAX_HEX_BYTES`), and `-` where there are none. The text of
-//! `present` is one word that is not empty, of ASCII without spaces and carriage returns. A pass is
-//! freed as `answered` or as `silent`. An empty line passes, and so does a comment: `#` and then ASCII
-//! without a carriage return. A line has at most 8,192 bytes (`MAX_LINE_BYTES`).
+//! number from 1 on; bytes are in lower case hexadecimal, at most 4,000 (`MAX_HEX_BYTES`), and `-` where
+//! there are none. The text of `present` is one word that is not empty, of ASCII without spaces and
+//! carriage returns. A pass is freed as `answered` or as `silent`. An empty line passes, and so does a
+//! comment: `#` and then ASCII without a carriage return. A line has at most 8,192 bytes
+//! (`MAX_LINE_BYTES`).
+//!
+//! A line is sorted when it is read, by what it acts on: the head, the live call of a caller, the boot,
+//! or the sessions. So a new form has its place in one of `HeadLine`, `CallLine`, `BootLine` and
+//! `SessionLine`, in its reading and in its spelling, and in what its group does.
 //!
 //! `read_line` is exact: it answers `line_of` of the text. `spelling_law` says that this is a line
 //! exactly where the text is the words of that line, with its numbers, names, bytes and text in
@@ -65,8 +70,11 @@
 
 mod answer;
 mod arguments;
+mod boot_line;
+mod call_line;
 mod cutting;
 mod fields;
+mod head_line;
 mod laws;
 mod line;
 mod reading;
@@ -77,7 +85,10 @@ mod texts;
 mod words;
 
 pub use answer::LineAnswer;
+pub use boot_line::BootLine;
+pub use call_line::CallLine;
 pub use cutting::ended_line;
+pub use head_line::HeadLine;
 pub use laws::{lines_law, spelling_law};
 pub use line::{HexBytes, Line, MAX_CALLER, MAX_HEX_BYTES, MAX_LINE_BYTES};
 pub use reading::read_line;
