@@ -2,7 +2,7 @@
 
 use crate::words::{add_bytes, add_number, add_text, add_word, cut, expect_words, number};
 use crash_base::ComponentName;
-use scenario_text::{Freed, Line, SessionLine, read_line};
+use scenario_text::{BootLine, CallLine, Freed, HeadLine, Line, SessionLine, read_line};
 use std::alloc::Global;
 use std::process::Abort;
 
@@ -77,6 +77,57 @@ fn add_session_line(rt: &impl Abort, words: &mut String, line: &SessionLine) {
     }
 }
 
+/// Adds the form of a line of the head, and what its words say.
+fn add_head_line(rt: &impl Abort, words: &mut String, line: &HeadLine) {
+    match line {
+        HeadLine::Component(name) => add_named(rt, words, "component", name.as_slice()),
+        HeadLine::Hard(name, other) => add_reference(rt, words, "hard", name, other),
+        HeadLine::Soft(name, other) => add_reference(rt, words, "soft", name, other),
+        HeadLine::Owns(name, table) => {
+            add_named(rt, words, "owns", name.as_slice());
+            add_number(rt, words, *table);
+        }
+        HeadLine::Limit(entries, bytes) => add_pair(rt, words, "limit", *entries, *bytes),
+        HeadLine::Bricks(bricks, most, least) => {
+            add_triple(rt, words, "bricks", (*bricks, *most, *least))
+        }
+        HeadLine::Key(bytes) => {
+            add_word(rt, words, "key");
+            add_bytes(rt, words, bytes.as_slice());
+        }
+    }
+}
+
+/// Adds the form of a line of a live call, its caller, and what its further words say.
+fn add_call_line(rt: &impl Abort, words: &mut String, caller: u64, line: &CallLine) {
+    match line {
+        CallLine::Enter(name) => {
+            add_numbered(rt, words, "enter", caller);
+            add_text(rt, words, " ", name.as_slice());
+        }
+        CallLine::Exit => add_numbered(rt, words, "exit", caller),
+        CallLine::Read(table, key) => add_triple(rt, words, "read", (caller, *table, *key)),
+        CallLine::List(table) => add_pair(rt, words, "list", caller, *table),
+        CallLine::Put(table, key, bytes) => {
+            add_triple(rt, words, "put", (caller, *table, *key));
+            add_bytes(rt, words, bytes.as_slice());
+        }
+    }
+}
+
+/// Adds the form of a line over the boot, and what its words say.
+fn add_boot_line(rt: &impl Abort, words: &mut String, line: &BootLine) {
+    match line {
+        BootLine::Begin(caller) => add_numbered(rt, words, "begin", *caller),
+        BootLine::Drop(caller) => add_numbered(rt, words, "drop", *caller),
+        BootLine::Down(name) => add_named(rt, words, "down", name.as_slice()),
+        BootLine::Up(name) => add_named(rt, words, "up", name.as_slice()),
+        BootLine::Reboot(name) => add_named(rt, words, "reboot", name.as_slice()),
+        BootLine::Table => add_word(rt, words, "table"),
+        BootLine::Journal => add_word(rt, words, "journal"),
+    }
+}
+
 /// Adds a line: `event` where it is one, its form, and what its words say.
 fn add_line(rt: &impl Abort, words: &mut String, line: &Line) {
     if line.is_event() {
@@ -84,40 +135,10 @@ fn add_line(rt: &impl Abort, words: &mut String, line: &Line) {
     }
     match line {
         Line::Pass => add_word(rt, words, "pass"),
-        Line::Component(name) => add_named(rt, words, "component", name.as_slice()),
-        Line::Hard(name, other) => add_reference(rt, words, "hard", name, other),
-        Line::Soft(name, other) => add_reference(rt, words, "soft", name, other),
-        Line::Owns(name, table) => {
-            add_named(rt, words, "owns", name.as_slice());
-            add_number(rt, words, *table);
-        }
-        Line::Limit(entries, bytes) => add_pair(rt, words, "limit", *entries, *bytes),
-        Line::Bricks(bricks, most, least) => {
-            add_triple(rt, words, "bricks", (*bricks, *most, *least))
-        }
-        Line::Key(bytes) => {
-            add_word(rt, words, "key");
-            add_bytes(rt, words, bytes.as_slice());
-        }
-        Line::Begin(caller) => add_numbered(rt, words, "begin", *caller),
-        Line::Enter(caller, name) => {
-            add_numbered(rt, words, "enter", *caller);
-            add_text(rt, words, " ", name.as_slice());
-        }
-        Line::Exit(caller) => add_numbered(rt, words, "exit", *caller),
-        Line::Read(caller, table, key) => { add_triple(rt, words, "read", (*caller, *table, *key)) }
-        Line::List(caller, table) => add_pair(rt, words, "list", *caller, *table),
-        Line::Put(caller, table, key, bytes) => {
-            add_triple(rt, words, "put", (*caller, *table, *key));
-            add_bytes(rt, words, bytes.as_slice());
-        }
+        Line::Head(line) => add_head_line(rt, words, line),
+        Line::Call(caller, line) => add_call_line(rt, words, *caller, line),
         Line::Commit(caller) => add_numbered(rt, words, "commit", *caller),
-        Line::Drop(caller) => add_numbered(rt, words, "drop", *caller),
-        Line::Down(name) => add_named(rt, words, "down", name.as_slice()),
-        Line::Up(name) => add_named(rt, words, "up", name.as_slice()),
-        Line::Reboot(name) => add_named(rt, words, "reboot", name.as_slice()),
-        Line::Table => add_word(rt, words, "table"),
-        Line::Journal => add_word(rt, words, "journal"),
+        Line::Boot(line) => add_boot_line(rt, words, line),
         Line::Reopen => add_word(rt, words, "reopen"),
         Line::Session(line) => add_session_line(rt, words, line),
     }
@@ -151,8 +172,8 @@ pub fn expect_refused(rt: &impl Abort, alloc: Global, lines: &str) {
 /// How many bytes a line gives: 0 where it is another line.
 fn given(line: &Line) -> usize {
     match line {
-        Line::Put(_, _, _, bytes) => bytes.as_slice().len(),
-        Line::Key(bytes) => bytes.as_slice().len(),
+        Line::Call(_, CallLine::Put(_, _, bytes)) => bytes.as_slice().len(),
+        Line::Head(HeadLine::Key(bytes)) => bytes.as_slice().len(),
         Line::Session(SessionLine::Write(_, bytes)) => bytes.as_slice().len(),
         Line::Session(SessionLine::Present(text)) => text.len(),
         _ => 0,

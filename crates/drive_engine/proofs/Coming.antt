@@ -15,7 +15,7 @@ use Rattle.scenario_text.specs.declared.line.TheConstants.{MAX_LINE_BYTES}
 use Rattle.scenario_text.proofs.Cuts.{lines_fed, line_unfed, all_left}
 use Rattle.scenario_text.proofs.EndedLines.{text_of_lines-push, lines_before}
 use Rattle.scenario_engine.specs.KeeperCalls.{TellsCalls}
-use Rattle.scenario_engine.specs.State.{State, RefusedIn, DoneTo, NotStarted}
+use Rattle.scenario_engine.specs.State.{State, RefusedIn, DoneTo, UnstartedIn}
 use Rattle.scenario_engine.specs.Telling.{Does}
 use Rattle.scenario_engine.specs.Transcript.{Turn, lines_in, first, transcript, end_from, Ended, calls_from}
 use Rattle.scenario_engine.proofs.Unkept.{numbers_alone}
@@ -25,7 +25,7 @@ use Rattle.drive_engine.specs.declared.ending.Ending.{Ending}
 use Rattle.drive_engine.specs.declared.ending.Ending.TheVariants as endings
 use Rattle.drive_engine.specs.declared.words.Command.TheVariants.{Drive}
 use Rattle.drive_engine.specs.Command.{Runs}
-use Rattle.drive_engine.specs.Drive.{AreRead, AreReadWithFeeds, HasDone, ScenarioStands, WritesTranscript, StopsAtStart, StopsAtLongLine, StopsAtFailedRead, StopsOutOfMemory, StopsPastLimit}
+use Rattle.drive_engine.specs.Drive.{AreRead, AreReadWithFeeds, HasDone, ScenarioStands, WritesTranscript, StopsUnstarted, StopsAtLongLine, StopsAtFailedRead, StopsOutOfMemory, StopsPastLimit}
 use Rattle.drive_engine.specs.Exchange.{Exchange, exchange, IsRead}
 use Rattle.drive_engine.specs.Play.{PlayState, DoesLine, WritesNoText, EndsAtLine, HasCome}
 
@@ -116,7 +116,7 @@ has_done : (left left_now written old new : Option (List ℕ)) (told after : Opt
 has_done left left_now written old new told after turns s done so_far same = record { done = done; written = same ∙ so_far }
 
 -- a boot that it needs was not started
-ends_at_start : (r : StartRefusal) (left left_now written old new : Option (List ℕ)) (told before after : Option KeeperTold) (turns : List Turn) (s t : State) (line : List ℕ) → ScenariosDoStand → end_from first 1 turns ≡ Ended s → old ≡ appended written (transcript first turns) → TellsCalls (calls_from first turns) told before → HasLine (exchange left left_now written new told after) (lines_in turns) line → WritesNoText line old new → Does s (line_of line) (NotStarted t r) before after → StopsAtStart r (exchange left left_now written new told after)
+ends_at_start : (r : StartRefusal) (left left_now written old new : Option (List ℕ)) (told before after : Option KeeperTold) (turns : List Turn) (s t : State) (line : List ℕ) → ScenariosDoStand → end_from first 1 turns ≡ Ended s → old ≡ appended written (transcript first turns) → TellsCalls (calls_from first turns) told before → HasLine (exchange left left_now written new told after) (lines_in turns) line → WritesNoText line old new → Does s (line_of line) (UnstartedIn t r) before after → StopsUnstarted r (exchange left left_now written new told after)
 ends_at_start r left left_now written old new told before after turns s t line law done so_far tells h (short, same) d = record {
   before = turns;
   turn = record { line = line; replies = d.replies };
@@ -125,8 +125,8 @@ ends_at_start r left left_now written old new told before after turns s t line l
   read = h.read;
   done = has_done left left_now written old new told after turns s done so_far same;
   short = short;
-  unstarted = turn_done s line (NotStarted t r) before after d;
-  stands = law (turns ++ record { line = line; replies = d.replies } ∷ []) told after (told-push s turns line (NotStarted t r) told before after done short tells d);
+  unstarted = turn_done s line (UnstartedIn t r) before after d;
+  stands = law (turns ++ record { line = line; replies = d.replies } ∷ []) told after (told-push s turns line (UnstartedIn t r) told before after done short tells d);
 }
 
 -- it ends the scenario

@@ -23,7 +23,7 @@ use Rattle.drive_engine.specs.declared.words.Command.TheVariants.{Drive, Groups}
 use Rattle.drive_engine.specs.declared.ending.Ending.{Ending}
 use Rattle.drive_engine.specs.declared.ending.Ending.TheVariants as endings
 use Rattle.drive_engine.specs.Command.{DescriptorsCallFor, IsCalledFor, Runs, Ends, status_of_refusal, status_of_end, status_past_limit}
-use Rattle.drive_engine.specs.Drive.{AreRead, HasDone, ScenarioStands, StopsAtLine, StopsAtStart, StopsAtLongLine, StopsPastLimit, WritesTranscript}
+use Rattle.drive_engine.specs.Drive.{AreRead, HasDone, ScenarioStands, StopsAtLine, StopsUnstarted, StopsAtLongLine, StopsPastLimit, WritesTranscript}
 use Rattle.drive_engine.specs.Ending.{status, IsReported}
 use Rattle.drive_engine.specs.Exchange.{Exchange, IsRead}
 use Rattle.drive_engine.specs.Groups.{IsDeployment, IsRefused}
@@ -114,7 +114,7 @@ decided_at_line : (x : Exchange) (text : List ℕ) (n : ℕ) → x.left_before �
 decided_at_line x text n is h = decided_at_turn x text h.before h.turn h.state (RefusedAt h.after (1 + length h.before)) is h.read h.done (end_from-refused h.state h.after (1 + length h.before) h.turn h.short h.refused) tt h.stands
 
 -- a boot was not started
-decided_at_start : (x : Exchange) (text : List ℕ) (r : StartRefusal) → x.left_before ≡ Some text → StopsAtStart r x → IsCalledFor Drive text x.told_before x.told_after (status_of_refusal r)
+decided_at_start : (x : Exchange) (text : List ℕ) (r : StartRefusal) → x.left_before ≡ Some text → StopsUnstarted r x → IsCalledFor Drive text x.told_before x.told_after (status_of_refusal r)
 decided_at_start x text r is h = decided_at_turn x text h.before h.turn h.state (Unstarted h.after r) is h.read h.done (end_from-unstarted h.state h.after (1 + length h.before) h.turn r h.short h.unstarted) tt h.stands
 
 -- lines whose first, or else what follows them, is too long

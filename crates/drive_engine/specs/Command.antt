@@ -14,7 +14,7 @@ use Rattle.drive_engine.specs.declared.ending.Ending.{Ending}
 use Rattle.drive_engine.specs.declared.ending.Ending.TheVariants.{Done, UnknownCommand, LineRefused, ReadFailed, WriteFailed, KeeperFailed, BadRow, LineTooLong, OutOfMemory, DescriptorsRefused, BootsSpent, ScenarioTooLong}
 use Rattle.drive_engine.specs.declared.words.Command.{Command}
 use Rattle.drive_engine.specs.declared.words.Command.TheVariants.{Drive, Groups}
-use Rattle.drive_engine.specs.Drive.{WritesTranscript, StopsAtLine, StopsAtStart, StopsAtLongLine, StopsAtFailedRead, StopsAtFailedWrite, StopsOutOfMemory, HasNoReport, StopsPastLimit}
+use Rattle.drive_engine.specs.Drive.{WritesTranscript, StopsAtLine, StopsUnstarted, StopsAtLongLine, StopsAtFailedRead, StopsAtFailedWrite, StopsOutOfMemory, HasNoReport, StopsPastLimit}
 use Rattle.drive_engine.specs.Exchange.{Exchange, WritesNothing}
 use Rattle.drive_engine.specs.Groups.{WritesGroups, WritesGroupsPrefix, RefusesDescriptors, HasTooManyBytes, IsDeployment, IsRefused}
 
@@ -55,12 +55,12 @@ Runs command UnknownCommand x = ⊥
 Runs command (LineRefused n) x = (command ≡ Drive) × StopsAtLine n x
 Runs command ReadFailed x = FailsToRead command x
 Runs command WriteFailed x = FailsToWrite command x
-Runs command KeeperFailed x = (command ≡ Drive) × StopsAtStart refusals.KeeperFailed x
-Runs command (BadRow id) x = (command ≡ Drive) × StopsAtStart (refusals.BadRow id) x
+Runs command KeeperFailed x = (command ≡ Drive) × StopsUnstarted refusals.KeeperFailed x
+Runs command (BadRow id) x = (command ≡ Drive) × StopsUnstarted (refusals.BadRow id) x
 Runs command (LineTooLong n) x = HasLongLine command n x
 Runs command OutOfMemory x = RunsOutOfMemory command x
 Runs command DescriptorsRefused x = (command ≡ Groups) × RefusesDescriptors x
-Runs command BootsSpent x = (command ≡ Drive) × StopsAtStart refusals.BootsSpent x
+Runs command BootsSpent x = (command ≡ Drive) × StopsUnstarted refusals.BootsSpent x
 Runs command ScenarioTooLong x = (command ≡ Drive) × StopsPastLimit x
 
 -- The words spell no command, or their command ends so.

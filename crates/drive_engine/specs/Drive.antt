@@ -13,7 +13,7 @@ use Rattle.scenario_text.specs.declared.line.TheConstants.{MAX_LINE_BYTES}
 use Rattle.scenario_engine.specs.KeeperCalls.{TellsCalls}
 use Rattle.scenario_engine.specs.Sessions.{HasSessions}
 use Rattle.scenario_engine.specs.Sound.{CommitsUnrebooted, RunsSerially, CommitsOwnRequests}
-use Rattle.scenario_engine.specs.State.{State, RefusedIn, DoneTo, NotStarted}
+use Rattle.scenario_engine.specs.State.{State, RefusedIn, DoneTo, UnstartedIn}
 use Rattle.scenario_engine.specs.Telling.{DoesPartly, HoldsRowsButNumber}
 use Rattle.scenario_engine.specs.Told.{Tells}
 use Rattle.scenario_engine.specs.Transcript.{Turn, lines_in, first, Ended, end_from, turn_outcome, transcript, calls_from, boots_from}
@@ -79,7 +79,7 @@ pub record StopsAtLine (n : ℕ) (x : Exchange) : Type 0 where
   pub stands : ScenarioStands (before ++ turn ∷ []) x.told_before x.told_after
 
 -- A line was read to its end and needs a boot that was not started for this refusal, after the lines before it were done.
-pub record StopsAtStart (refusal : StartRefusal) (x : Exchange) : Type 0 where
+pub record StopsUnstarted (refusal : StartRefusal) (x : Exchange) : Type 0 where
   pub before : List Turn
   pub turn : Turn
   pub state : State
@@ -87,7 +87,7 @@ pub record StopsAtStart (refusal : StartRefusal) (x : Exchange) : Type 0 where
   pub read : AreRead x (lines_in before ++ turn.line ∷ [])
   pub done : HasDone x before state
   pub short : length turn.line ≤ MAX_LINE_BYTES
-  pub unstarted : turn_outcome state turn ≡ NotStarted after refusal
+  pub unstarted : turn_outcome state turn ≡ UnstartedIn after refusal
   pub stands : ScenarioStands (before ++ turn ∷ []) x.told_before x.told_after
 
 -- More bytes than a line may have were read of the line of this number, after the lines before it were done.
@@ -160,7 +160,7 @@ abbrev pub HasNoReport : Exchange → Type 0
 HasNoReport x =
     ((n : ℕ) × StopsAtLine n x)
     ⊎ (((n : ℕ) × StopsAtLongLine n x)
-    ⊎ ((id : RowId) × StopsAtStart (refusals.BadRow id) x))
+    ⊎ ((id : RowId) × StopsUnstarted (refusals.BadRow id) x))
 
 -- More bytes were read than a scenario may have, after the lines that end within its limit were done.
 pub record StopsPastLimit (x : Exchange) : Type 0 where

@@ -7,6 +7,7 @@ use Rattle.outside.specs.Source.{prepended}
 use Rattle.scenario_text.specs.Cutting.{text_of_lines, IsOneLine}
 use Rattle.scenario_text.specs.Reading.{line_of}
 use Rattle.scenario_text.specs.declared.line.TheConstants.{MAX_LINE_BYTES}
+use Rattle.scenario_engine.specs.declared.failure.LineFailure.TheVariants as failures
 use Rattle.scenario_engine.specs.KeeperCalls.{TellsCalls}
 use Rattle.scenario_engine.specs.State.{State, RefusedIn, DoneTo}
 use Rattle.scenario_engine.specs.Telling.{Does, DoesPartly, Ends}
@@ -48,16 +49,16 @@ EndsAtLine endings.WriteFailed number s line old new before after =
     (t : State) × (text : List ℕ) × (length line ≤ MAX_LINE_BYTES)
     × Does s (line_of line) (DoneTo t text) before after × AppendsPrefix old new text
 EndsAtLine endings.KeeperFailed number s line old new before after =
-    WritesNoText line old new × Ends refusals.KeeperFailed s (line_of line) before after
+    WritesNoText line old new × Ends (failures.Unstarted refusals.KeeperFailed) s (line_of line) before after
 EndsAtLine (endings.BadRow id) number s line old new before after =
-    WritesNoText line old new × Ends (refusals.BadRow id) s (line_of line) before after
+    WritesNoText line old new × Ends (failures.Unstarted (refusals.BadRow id)) s (line_of line) before after
 EndsAtLine (endings.LineTooLong n) number s line old new before after =
     (n ≡ number) × (MAX_LINE_BYTES < length line) × (new ≡ old) × (after ≡ before)
 EndsAtLine endings.OutOfMemory number s line old new before after =
     WritesNoText line old new × DoesPartly s (line_of line) before after
 EndsAtLine endings.DescriptorsRefused number s line old new before after = ⊥
 EndsAtLine endings.BootsSpent number s line old new before after =
-    WritesNoText line old new × Ends refusals.BootsSpent s (line_of line) before after
+    WritesNoText line old new × Ends (failures.Unstarted refusals.BootsSpent) s (line_of line) before after
 EndsAtLine endings.ScenarioTooLong number s line old new before after = ⊥
 
 -- A scenario has come so far: of what was taken from the input, first come the lines of turns, which were done; then a part

@@ -6,7 +6,7 @@ ghost use Rattle.boot_core.specs.declared.refusals.StartRefusal.{StartRefusal};
 ghost use Rattle.outside.specs.Faults.{Rose};
 ghost use Rattle.outside.specs.Sink.{AppendsOrFails};
 ghost use Rattle.drive_engine.specs.Command.{WritesAll, FailsToRead, FailsToWrite, HasLongLine, EndsOutOfMemory, Runs, Ends, IsCalledFor};
-ghost use Rattle.drive_engine.specs.Drive.{StopsAtLine, StopsAtStart, StopsPastLimit};
+ghost use Rattle.drive_engine.specs.Drive.{StopsAtLine, StopsUnstarted, StopsPastLimit};
 ghost use Rattle.drive_engine.specs.Ending.{report, line_report, long_line_report, bad_row_report, IsReported};
 ghost use Rattle.drive_engine.specs.Exchange.{exchange};
 ghost use Rattle.drive_engine.specs.Groups.{RefusesDescriptors, is_silent};
@@ -238,19 +238,19 @@ pub fn run_command<S: Source, T: Sink, E: Sink, K: Keeper>(
     // written. At 6 the keeper's count of faults rose, at 7 it gave a bad row, and at 11 no number is left.
     ensures keeper_failed { result.0 ≡ 6 → (command_of words.now ≡ Some Command.Drive)
         × Rose (K.faults keeper) (K.faults result.1)
-        × StopsAtStart StartRefusal.KeeperFailed
+        × StopsUnstarted StartRefusal.KeeperFailed
         (exchange (S.left input.old) (S.left input.new) (T.written out.old) (T.written out.new)
         (K.told keeper) (K.told result.1))
         × AppendsOrFails (E.written errors.old) (E.written errors.new)
         (E.faults errors.old) (E.faults errors.new) (codes "keeper failed\n") }
     ensures bad_row { result.0 ≡ 7 → (command_of words.now ≡ Some Command.Drive)
-        × ((id : RowId) × StopsAtStart (StartRefusal.BadRow id)
+        × ((id : RowId) × StopsUnstarted (StartRefusal.BadRow id)
         (exchange (S.left input.old) (S.left input.new) (T.written out.old) (T.written out.new)
         (K.told keeper) (K.told result.1))
         × AppendsOrFails (E.written errors.old) (E.written errors.new)
         (E.faults errors.old) (E.faults errors.new) (bad_row_report id)) }
     ensures boots_spent { result.0 ≡ 11 → (command_of words.now ≡ Some Command.Drive)
-        × StopsAtStart StartRefusal.BootsSpent
+        × StopsUnstarted StartRefusal.BootsSpent
         (exchange (S.left input.old) (S.left input.new) (T.written out.old) (T.written out.new)
         (K.told keeper) (K.told result.1))
         × AppendsOrFails (E.written errors.old) (E.written errors.new)

@@ -16,7 +16,7 @@ use crate::words::Command;
 use boot_core::StartRefusal;
 use crash_base::OutOfMemory;
 use outside::{Keeper, Sink, write_all};
-use scenario_engine::Engine;
+use scenario_engine::{Engine, LineFailure};
 use scenario_text::{LineAnswer, MAX_LINE_BYTES, ended_line};
 use std::alloc::Global;
 use std::marker::Model;
@@ -68,10 +68,11 @@ fn do_line<T: Sink, K: Keeper>(
         return Err(Ending::LineTooLong(number));
     }
     match engine.do_text(alloc, line, keeper) {
-        Err(StartRefusal::KeeperFailed) => Err(Ending::KeeperFailed),
-        Err(StartRefusal::BadRow { id }) => Err(Ending::BadRow(id)),
-        Err(StartRefusal::BootsSpent) => Err(Ending::BootsSpent),
-        Err(StartRefusal::OutOfMemory) => Err(Ending::OutOfMemory),
+        Err(LineFailure::Unstarted(StartRefusal::KeeperFailed)) => Err(Ending::KeeperFailed),
+        Err(LineFailure::Unstarted(StartRefusal::BadRow { id })) => Err(Ending::BadRow(id)),
+        Err(LineFailure::Unstarted(StartRefusal::BootsSpent)) => Err(Ending::BootsSpent),
+        Err(LineFailure::Unstarted(StartRefusal::OutOfMemory)) => unreachable!(),
+        Err(LineFailure::OutOfMemory) => Err(Ending::OutOfMemory),
         Ok(LineAnswer::Refused) => Err(Ending::LineRefused(number)),
         Ok(LineAnswer::Done) => Ok(()),
         Ok(LineAnswer::Wrote(text)) => match write_all(out, text.as_bytes()) {

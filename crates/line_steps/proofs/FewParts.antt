@@ -10,10 +10,12 @@ use Rattle.deployment.specs.Parts.{named, owner_of}
 use Rattle.journal_model.specs.declared.limits.TheConstants.{MAX_ENTRIES, MAX_JOURNAL_BYTES}
 use Rattle.scenario_text.specs.declared.line.Line.{Line}
 use Rattle.scenario_text.specs.declared.line.Line.TheVariants as lines
+use Rattle.scenario_text.specs.declared.head_line.HeadLine.{HeadLine}
+use Rattle.scenario_text.specs.declared.head_line.HeadLine.TheVariants as heads
 use Rattle.line_steps.specs.declared.head.Head.{Head}
-use Rattle.session_steps.specs.Setup.{SetupState, bricks_step, key_step}
+use Rattle.scenario_text.specs.Setup.{SetupState, bricks_step, key_step}
 use Rattle.scenario_text.specs.Answer.{Answer, Refused, Done, refused_if, within}
-use Rattle.line_steps.specs.Head.{head_line, plain, with_parts, with_setup, with_component, component_step, reference_step, owns_step, limit_step}
+use Rattle.line_steps.specs.Head.{head_step, head_line, plain, with_parts, with_setup, with_component, component_step, reference_step, owns_step, limit_step}
 use Rattle.line_steps.specs.Tables.{table_of}
 use Rattle.scenario_text.proofs.Leaving.{Leaves, leaves-refused_if, leaves-or_refused, leaves-within}
 
@@ -58,27 +60,20 @@ few_setup : (head : Head) (a : Answer SetupState) → AreFew head.parts → Leav
 few_setup head Refused few = tt
 few_setup head (Done setup text) few = few
 
+few_head_step : (head : Head) (line : HeadLine) → AreFew head.parts → Leaves (λ h. AreFew h.parts) (head_step head line)
+few_head_step head (heads.Component name) few = few_parts head (component_step head.parts name) (few_component head.parts name)
+few_head_step head (heads.Hard from to) few = few_parts head (reference_step head.parts from to true) (few_reference head.parts from to true few)
+few_head_step head (heads.Soft from to) few = few_parts head (reference_step head.parts from to false) (few_reference head.parts from to false few)
+few_head_step head (heads.Owns name table) few = few_parts head (owns_step head.parts name table) (few_owns head.parts name table few)
+few_head_step head (heads.Limit entries bytes) few = few_limit head entries bytes few
+few_head_step head (heads.Bricks bricks most least) few = few_setup head (bricks_step head.setup bricks most least) few
+few_head_step head (heads.Key bytes) few = few_setup head (key_step head.setup bytes) few
+
 pub few_head : (head : Head) (line : Line) → AreFew head.parts → Leaves (λ h. AreFew h.parts) (head_line head line)
 few_head head lines.Pass few = few
-few_head head (lines.Component name) few = few_parts head (component_step head.parts name) (few_component head.parts name)
-few_head head (lines.Hard from to) few = few_parts head (reference_step head.parts from to true) (few_reference head.parts from to true few)
-few_head head (lines.Soft from to) few = few_parts head (reference_step head.parts from to false) (few_reference head.parts from to false few)
-few_head head (lines.Owns name table) few = few_parts head (owns_step head.parts name table) (few_owns head.parts name table few)
-few_head head (lines.Limit entries bytes) few = few_limit head entries bytes few
-few_head head (lines.Bricks bricks most least) few = few_setup head (bricks_step head.setup bricks most least) few
-few_head head (lines.Key bytes) few = few_setup head (key_step head.setup bytes) few
-few_head head (lines.Begin c) few = tt
-few_head head (lines.Enter c name) few = tt
-few_head head (lines.Exit c) few = tt
-few_head head (lines.Read c table key) few = tt
-few_head head (lines.List c table) few = tt
-few_head head (lines.Put c table key bytes) few = tt
+few_head head (lines.Head line) few = few_head_step head line few
+few_head head (lines.Call c line) few = tt
 few_head head (lines.Commit c) few = tt
-few_head head (lines.Drop c) few = tt
-few_head head (lines.Down name) few = tt
-few_head head (lines.Up name) few = tt
-few_head head (lines.Reboot name) few = tt
-few_head head lines.Table few = tt
-few_head head lines.Journal few = tt
+few_head head (lines.Boot line) few = tt
 few_head head lines.Reopen few = tt
 few_head head (lines.Session line) few = tt

@@ -25,8 +25,8 @@ use Rattle.boot_core.specs.declared.refusals.CallRefusal.{CallRefusal}
 use Rattle.boot_core.specs.declared.refusals.CallRefusal.TheVariants.{Depth, Steps, Sentinel}
 use Rattle.boot_core.proofs.Fitting.{begins_fitting, fits_entering, fits_leaving, fits_reading, fits_listing, fits_putting}
 use Rattle.boot_core.proofs.Refusing.{first_none, map_none}
-use Rattle.line_steps.specs.declared.call_lines.CallLine.{CallLine}
-use Rattle.line_steps.specs.declared.call_lines.CallLine.TheVariants as calls
+use Rattle.scenario_text.specs.declared.call_line.CallLine.{CallLine}
+use Rattle.scenario_text.specs.declared.call_line.CallLine.TheVariants as calls
 use Rattle.line_steps.specs.declared.callers.Caller.{Caller}
 use Rattle.line_steps.specs.declared.callers.Caller.TheVariants.{Absent, Live}
 use Rattle.scenario_text.specs.Answer.{Answer, Done, refused_if}

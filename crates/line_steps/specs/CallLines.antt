@@ -12,8 +12,8 @@ use Rattle.journal_model.specs.Snapshots.{snapshot}
 use Rattle.boot_core.specs.Refusals.{enter_refusal, exit_refusal, read_refusal, list_refusal, put_refusal}
 use Rattle.boot_core.specs.Steps.{ticket_entered, ticket_has_read, ticket_has_listed}
 use Rattle.boot_core.specs.declared.refusals.CallRefusal.{CallRefusal}
-use Rattle.line_steps.specs.declared.call_lines.CallLine.{CallLine}
-use Rattle.line_steps.specs.declared.call_lines.CallLine.TheVariants as calls
+use Rattle.scenario_text.specs.declared.call_line.CallLine.{CallLine}
+use Rattle.scenario_text.specs.declared.call_line.CallLine.TheVariants as calls
 use Rattle.scenario_text.specs.Answer.{Answer, Done, refused_if, or_refused}
 use Rattle.line_steps.specs.Tables.{table_of}
 use Rattle.line_steps.specs.Texts.{refusal_text, row_answer_text, list_answer_text}

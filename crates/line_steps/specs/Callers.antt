@@ -5,7 +5,7 @@ use Rattle.call_ticket.specs.Ticket.{TicketValue, ticket_begun}
 use Rattle.boot_core.specs.Boot.{BootValue}
 use Rattle.boot_core.specs.Fits.{FitsIn}
 use Rattle.scenario_text.specs.declared.line.TheConstants.{MAX_CALLER}
-use Rattle.line_steps.specs.declared.call_lines.CallLine.{CallLine}
+use Rattle.scenario_text.specs.declared.call_line.CallLine.{CallLine}
 use Rattle.line_steps.specs.declared.callers.Caller.{Caller}
 use Rattle.line_steps.specs.declared.callers.Caller.TheVariants.{Absent, Live}
 use Rattle.scenario_text.specs.Answer.{Answer, Refused, Done, refused_if, within}

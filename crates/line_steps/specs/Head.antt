@@ -5,6 +5,8 @@ use Rattle.crash_base.specs.declared.scope.TheConstants.{MAX_GROUPS}
 use Rattle.journal_model.specs.declared.limits.TheConstants.{MAX_ENTRIES, MAX_JOURNAL_BYTES}
 use Rattle.scenario_text.specs.declared.line.Line.{Line}
 use Rattle.scenario_text.specs.declared.line.Line.TheVariants as lines
+use Rattle.scenario_text.specs.declared.head_line.HeadLine.{HeadLine}
+use Rattle.scenario_text.specs.declared.head_line.HeadLine.TheVariants as heads
 use Rattle.deployment.specs.Parts.{named, owner_of, component_no, one_call}
 use Rattle.deployment.specs.declared.parts.ComponentPart.{ComponentPart}
 use Rattle.deployment.specs.declared.parts.Parts.{Parts}
@@ -12,7 +14,7 @@ use Rattle.deployment.specs.declared.parts.Reference.{Reference}
 use Rattle.scenario_text.specs.Answer.{Answer, Refused, Done, refused_if, or_refused, within}
 use Rattle.line_steps.specs.Tables.{table_of}
 use Rattle.line_steps.specs.declared.head.Head.{Head}
-use Rattle.session_steps.specs.Setup.{SetupState, no_setup, bricks_step, key_step}
+use Rattle.scenario_text.specs.Setup.{SetupState, no_setup, bricks_step, key_step}
 
 -- no parts
 abbrev pub no_parts : Parts
@@ -86,33 +88,27 @@ limit_step head entries bytes =
     (refused_if (nat_lt MAX_JOURNAL_BYTES bytes)
     (Done (record head { limits = record { entries = entries; bytes = bytes } }) []))
 
+-- a line of the head
+abbrev pub head_step : Head → HeadLine → Answer Head
+head_step head (heads.Component name) =
+    within (with_parts head) (component_step head.parts name)
+head_step head (heads.Hard from to) =
+    within (with_parts head) (reference_step head.parts from to true)
+head_step head (heads.Soft from to) =
+    within (with_parts head) (reference_step head.parts from to false)
+head_step head (heads.Owns name table) =
+    within (with_parts head) (owns_step head.parts name table)
+head_step head (heads.Limit entries bytes) = limit_step head entries bytes
+head_step head (heads.Bricks bricks most least) =
+    within (with_setup head) (bricks_step head.setup bricks most least)
+head_step head (heads.Key bytes) = within (with_setup head) (key_step head.setup bytes)
+
 -- a line before the boot is started, which no event line is
 abbrev pub head_line : Head → Line → Answer Head
 head_line head lines.Pass = Done head []
-head_line head (lines.Component name) =
-    within (with_parts head) (component_step head.parts name)
-head_line head (lines.Hard from to) =
-    within (with_parts head) (reference_step head.parts from to true)
-head_line head (lines.Soft from to) =
-    within (with_parts head) (reference_step head.parts from to false)
-head_line head (lines.Owns name table) =
-    within (with_parts head) (owns_step head.parts name table)
-head_line head (lines.Limit entries bytes) = limit_step head entries bytes
-head_line head (lines.Bricks bricks most least) =
-    within (with_setup head) (bricks_step head.setup bricks most least)
-head_line head (lines.Key bytes) = within (with_setup head) (key_step head.setup bytes)
-head_line head (lines.Begin c) = Refused
-head_line head (lines.Enter c name) = Refused
-head_line head (lines.Exit c) = Refused
-head_line head (lines.Read c table key) = Refused
-head_line head (lines.List c table) = Refused
-head_line head (lines.Put c table key bytes) = Refused
+head_line head (lines.Head line) = head_step head line
+head_line head (lines.Call c line) = Refused
 head_line head (lines.Commit c) = Refused
-head_line head (lines.Drop c) = Refused
-head_line head (lines.Down name) = Refused
-head_line head (lines.Up name) = Refused
-head_line head (lines.Reboot name) = Refused
-head_line head lines.Table = Refused
-head_line head lines.Journal = Refused
+head_line head (lines.Boot line) = Refused
 head_line head lines.Reopen = Refused
 head_line head (lines.Session line) = Refused

@@ -9,23 +9,8 @@ use crate::tables::table_of;
 use crate::texts::{list_answer_text, refusal_text, row_answer_text};
 use boot_core::{Boot, CallRefusal, MAX_STEPS, Ticket};
 use crash_base::{ComponentName, OutOfMemory, RowBytes, RowId, RowWrite};
-use scenario_text::{HexBytes, LineAnswer};
+use scenario_text::{CallLine, HexBytes, LineAnswer};
 use std::alloc::Global;
-
-/// What a line does to its caller's call.
-#[derive(Drop)]
-pub enum CallLine {
-    /// Enters a component.
-    Enter(ComponentName),
-    /// Leaves the component that was entered last.
-    Exit,
-    /// Reads a row, by the number of its table and its key.
-    Read(u64, u64),
-    /// Lists a table, by its number.
-    List(u64),
-    /// Puts a row, by the number of its table, its key and its bytes.
-    Put(u64, u64, HexBytes),
-}
 
 /// Enters a component.
 #[tactic(auto, unfolding(crate::specs::CallLines::enter_step))]

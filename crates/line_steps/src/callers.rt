@@ -7,10 +7,10 @@ ghost use Rattle.scenario_text.specs.Answer.{KeepsRefused, answer_of};
 ghost use Rattle.line_steps.specs.Callers.{caller_at, padded, request_of, is_live, can_begin, caller_line, call_step, AllFit, FitsCaller, IsAway, TakesCall};
 ghost use Rattle.line_steps.specs.declared.callers.Caller.TheVariants.{Live, Absent};
 
-use crate::call_lines::{CallLine, call_line};
+use crate::call_lines::call_line;
 use boot_core::{Boot, Ticket};
 use crash_base::{OutOfMemory, RequestNo};
-use scenario_text::{LineAnswer, MAX_CALLER};
+use scenario_text::{CallLine, LineAnswer, MAX_CALLER};
 use std::alloc::Global;
 use std::marker::Model;
 use std::mem;

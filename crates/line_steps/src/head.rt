@@ -3,14 +3,13 @@
 ghost use Rattle.std.specs.Prelude.{◌≡◌, None, IfOk, true, false};
 ghost use Rattle.deployment.specs.Refusals.{deploy_refusal};
 ghost use Rattle.scenario_text.specs.Answer.{KeepsRefused, answer_of, within};
-ghost use Rattle.line_steps.specs.Head.{no_head, component_step, reference_step, owns_step, limit_step, head_line};
+ghost use Rattle.line_steps.specs.Head.{no_head, component_step, reference_step, owns_step, limit_step, head_step, head_line};
 
 use crate::tables::table_of;
 use boot_core::{JournalLimits, MAX_ENTRIES, MAX_JOURNAL_BYTES};
 use crash_base::{ComponentName, ComponentNo, MAX_GROUPS, OutOfMemory, is_component_name};
 use deployment::{ComponentPart, Parts, Reference, TablePart, one_call};
-use scenario_text::{Line, LineAnswer};
-use session_steps::Setup;
+use scenario_text::{HeadLine, Line, LineAnswer, Setup};
 use std::alloc::Global;
 
 /// What head lines have said: the parts of a deployment, the limits of the journal, and the bricks and the key of sessions.
@@ -128,6 +127,30 @@ impl Head {
     }
 }
 
+/// A line of the head.
+fn head_step(
+    alloc: Global,
+    head: &mut Head,
+    line: HeadLine,
+) -> Result<LineAnswer, OutOfMemory>
+    requires { deploy_refusal head.old.parts ≡ None }
+    ensures answer { IfOk result (λ a. answer_of a head.new ≡ head_step head.old line) }
+    ensures refused { IfOk result (λ a. KeepsRefused a head.old head.new) }
+    ensures accepted { deploy_refusal head.new.parts ≡ None }
+{
+    match line {
+        HeadLine::Component(name) => component_step(alloc, &mut head.parts, name),
+        HeadLine::Hard(from, to) => reference_step(&mut head.parts, from, to, true),
+        HeadLine::Soft(from, to) => reference_step(&mut head.parts, from, to, false),
+        HeadLine::Owns(name, number) => owns_step(&mut head.parts, name, number),
+        HeadLine::Limit(entries, bytes) => Ok(limit_step(head, entries, bytes)),
+        HeadLine::Bricks(bricks, most, least) => {
+            Ok(head.setup.bricks_line(bricks, most, least))
+        }
+        HeadLine::Key(key) => Ok(head.setup.key_line(key)),
+    }
+}
+
 /// A line before the boot is started.
 pub fn head_line(alloc: Global, head: &mut Head, line: Line) -> Result<LineAnswer, OutOfMemory>
     requires { deploy_refusal head.old.parts ≡ None }
@@ -137,27 +160,9 @@ pub fn head_line(alloc: Global, head: &mut Head, line: Line) -> Result<LineAnswe
 {
     match line {
         Line::Pass => Ok(LineAnswer::Done),
-        Line::Component(name) => component_step(alloc, &mut head.parts, name),
-        Line::Hard(from, to) => reference_step(&mut head.parts, from, to, true),
-        Line::Soft(from, to) => reference_step(&mut head.parts, from, to, false),
-        Line::Owns(name, number) => owns_step(&mut head.parts, name, number),
-        Line::Limit(entries, bytes) => Ok(limit_step(head, entries, bytes)),
-        Line::Bricks(bricks, most, least) => Ok(head.setup.bricks_line(bricks, most, least)),
-        Line::Key(key) => Ok(head.setup.key_line(key)),
-        Line::Begin(_)
-        | Line::Enter(_, _)
-        | Line::Exit(_)
-        | Line::Read(_, _, _)
-        | Line::List(_, _)
-        | Line::Put(_, _, _, _)
-        | Line::Commit(_)
-        | Line::Drop(_)
-        | Line::Down(_)
-        | Line::Up(_)
-        | Line::Reboot(_)
-        | Line::Table
-        | Line::Journal
-        | Line::Reopen
-        | Line::Session(_) => Ok(LineAnswer::Refused),
+        Line::Head(line) => head_step(alloc, head, line),
+        Line::Call(_, _) | Line::Commit(_) | Line::Boot(_) | Line::Reopen | Line::Session(_) => {
+            Ok(LineAnswer::Refused)
+        }
     }
 }

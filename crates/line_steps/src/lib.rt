@@ -25,7 +25,7 @@ mod head;
 mod tables;
 mod texts;
 
-pub use call_lines::{CallLine, call_line};
+pub use call_lines::call_line;
 pub use callers::{Caller, Callers, request_of};
 pub use head::{Head, head_line};
 pub use tables::{LAST_TABLE, table_of};

@@ -24,11 +24,11 @@ use Rattle.line_steps.specs.Callers.{caller_at}
 use Rattle.line_steps.specs.Head.{head_line}
 use Rattle.scenario_engine.specs.declared.kind.LineKind.{LineKind}
 use Rattle.scenario_engine.specs.declared.kind.LineKind.TheVariants as kinds
-use Rattle.scenario_engine.specs.Engine.{Replies, Target, TheHead, TheBoot, NoBoot, opened_target, target_of, target_calls, kind_of, in_head, in_boot, next_opening, reopens, line_over, line_on, step, calls_over as calls_of_kind, calls_on, line_calls}
+use Rattle.scenario_engine.specs.Engine.{Replies, Target, TheHead, TheBoot, TheUnstarted, opened_target, target_of, target_calls, kind_of, in_head, in_boot, next_opening, reopens, line_over, line_on, step, calls_over as calls_of_kind, calls_on, line_calls}
 use Rattle.scenario_engine.specs.KeeperCalls.{KeeperCall, Gave, Kept, Failed, apply_calls, TellsCalls}
-use Rattle.scenario_engine.specs.Opening.{StartReplies, Opened, Shut, is_spent, opening, opening_of, opening_over, calls_over_rows, start_calls, start_calls_of}
+use Rattle.scenario_engine.specs.Opening.{StartReplies, Opened, UnstartedBoot, is_spent, opening, opening_of, opening_over, calls_over_rows, start_calls, start_calls_of}
 use Rattle.scenario_engine.specs.Running.{commit_ends, with_keeper, boot_refusal, keep_calls, caller_commits, caller_calls, commit_step, commit_calls, quiet_line}
-use Rattle.scenario_engine.specs.State.{RunningState, State, Heading, Running, Outcome, RefusedIn, DoneTo, NotStarted}
+use Rattle.scenario_engine.specs.State.{RunningState, State, Heading, Running, Outcome, RefusedIn, DoneTo, UnstartedIn}
 use Rattle.scenario_engine.specs.Transcript.{Turn, lines_in, first, answer_to, turn_outcome, calls_to, turn_calls, calls_from, transcript, End, end_from, Ended, RefusedAt, TooLong, Unstarted}
 use Rattle.scenario_engine.proofs.Telling.{none_after}
 
@@ -185,16 +185,16 @@ apply_decided ws false true calls others v a b twins = absurd (cc (lost_left (Ke
 
 unspent_decided : (parts : Parts) (limits : JournalLimits) (rows : List RowWrite) (spent keeps other : Bool) (calls others : List KeeperCall) (v a b : KeeperTold)
     → Twins ((if spent then [] else apply_calls (boot_row (last_boot rows + 1) ∷ []) keeps) ++ calls) ((if spent then [] else apply_calls (boot_row (last_boot rows + 1) ∷ []) other) ++ others) v a b
-    → Decided (if spent then Shut refusals.BootsSpent else (if keeps then Opened (start_over parts limits rows) else Shut refusals.KeeperFailed)) (if spent then Shut refusals.BootsSpent else (if other then Opened (start_over parts limits rows) else Shut refusals.KeeperFailed)) calls others a b
-unspent_decided parts limits rows true keeps other calls others v a b twins = undecided (Shut refusals.BootsSpent) calls others v a b twins
+    → Decided (if spent then UnstartedBoot refusals.BootsSpent else (if keeps then Opened (start_over parts limits rows) else UnstartedBoot refusals.KeeperFailed)) (if spent then UnstartedBoot refusals.BootsSpent else (if other then Opened (start_over parts limits rows) else UnstartedBoot refusals.KeeperFailed)) calls others a b
+unspent_decided parts limits rows true keeps other calls others v a b twins = undecided (UnstartedBoot refusals.BootsSpent) calls others v a b twins
 unspent_decided parts limits rows false keeps other calls others v a b twins =
-    decided_as (λ (keeps : Bool). if keeps then Opened (start_over parts limits rows) else Shut refusals.KeeperFailed) keeps other calls others a b
+    decided_as (λ (keeps : Bool). if keeps then Opened (start_over parts limits rows) else UnstartedBoot refusals.KeeperFailed) keeps other calls others a b
     (apply_decided (boot_row (last_boot rows + 1) ∷ []) keeps other calls others v a b twins)
 
 over_decided : (parts : Parts) (limits : JournalLimits) (rows : List RowWrite) (bad : Option RowId) (keeps other : Bool) (calls others : List KeeperCall) (v a b : KeeperTold)
     → Twins (calls_over_rows rows keeps bad ++ calls) (calls_over_rows rows other bad ++ others) v a b
     → Decided (opening_over parts limits rows keeps bad) (opening_over parts limits rows other bad) calls others a b
-over_decided parts limits rows (Some id) keeps other calls others v a b twins = undecided (Shut (refusals.BadRow id)) calls others v a b twins
+over_decided parts limits rows (Some id) keeps other calls others v a b twins = undecided (UnstartedBoot (refusals.BadRow id)) calls others v a b twins
 over_decided parts limits rows None keeps other calls others v a b twins =
     unspent_decided parts limits rows (is_spent rows) keeps other calls others v a b twins
 
@@ -284,8 +284,8 @@ line_decided : (target : Target) (line : Line) (replies other : Replies) (calls 
 line_decided (TheHead head) line replies other calls others v a b twins =
     undecided (in_head head (head_line head line)) calls others v a b twins
 line_decided (TheBoot r) line replies other calls others v a b twins = kind_decided r (kind_of line) line replies other calls others v a b twins
-line_decided (NoBoot head refusal) line replies other calls others v a b twins =
-    undecided (NotStarted (Heading head) refusal) calls others v a b twins
+line_decided (TheUnstarted head refusal) line replies other calls others v a b twins =
+    undecided (UnstartedIn (Heading head) refusal) calls others v a b twins
 
 -- on the targets that were reached
 reached_decided : (target reached : Target) (line : Line) (replies other : Replies) (calls others : List KeeperCall) (a b : KeeperTold)
@@ -374,21 +374,21 @@ next_alike s n turn other turns others v a b later twins =
     calls_after more outcome = elim outcome [
       | RefusedIn t ↦ []
       | DoneTo t text ↦ calls_from t more
-      | NotStarted t refusal ↦ []
+      | UnstartedIn t refusal ↦ []
     ]
 
     text_after : List Turn → Outcome → List ℕ
     text_after more outcome = elim outcome [
       | RefusedIn t ↦ []
       | DoneTo t text ↦ text ++ transcript t more
-      | NotStarted t refusal ↦ []
+      | UnstartedIn t refusal ↦ []
     ]
 
     end_after : List Turn → Outcome → End
     end_after more outcome = elim outcome [
       | RefusedIn t ↦ RefusedAt t n
       | DoneTo t text ↦ end_from t (n + 1) more
-      | NotStarted t refusal ↦ Unstarted t refusal
+      | UnstartedIn t refusal ↦ Unstarted t refusal
     ]
 
     short : (outcome : Outcome) (w : KeeperTold) → Twins (calls_after turns outcome) (calls_after others outcome) w a b
@@ -397,7 +397,7 @@ next_alike s n turn other turns others v a b later twins =
     short (DoneTo t text) w both =
         let rest : Alike t (n + 1) turns others a b = later t w both in
         record { texts = ap (λ more. text ++ more) rest.texts; ends = rest.ends; told = rest.told }
-    short (NotStarted t refusal) w both = ended_alike [] (Unstarted t refusal) w a b both
+    short (UnstartedIn t refusal) w both = ended_alike [] (Unstarted t refusal) w a b both
 
     reached : (one two : Outcome) → Decided one two (calls_after turns one) (calls_after others two) a b
         → AreAlike (text_after turns one) (text_after others two) (end_after turns one) (end_after others two) a b

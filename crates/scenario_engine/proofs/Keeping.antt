@@ -2,7 +2,6 @@
 use Rattle.std.proofs.Common.{◌≡◌, ℕ, ◌+◌, ◌≤◌, Bool, true, false, if◌then◌else◌, List, [], ◌∷◌, ◌++◌, length, Option, Some, None, refl, arith}
 use Rattle.std.specs.Prelude.{All, nat_lt}
 use Rattle.std.proofs.lemmas.List.Elements.{All-nil, All-cons, All-append}
-use Rattle.crash_base.specs.declared.rows.TheConstants.{MAX_ROW_BYTES}
 use Rattle.boot_core.specs.declared.boot.Start.{Start}
 use Rattle.boot_core.specs.Boot.{BootValue}
 use Rattle.scenario_text.specs.declared.line.Line.{Line}
@@ -10,7 +9,10 @@ use Rattle.scenario_text.specs.declared.line.Line.TheVariants as lines
 use Rattle.scenario_text.specs.declared.line.TheConstants.{MAX_LINE_BYTES}
 use Rattle.scenario_text.specs.Line.{is_event}
 use Rattle.scenario_text.specs.Reading.{line_of}
-use Rattle.scenario_text.specs.Spelling.{IsInRange}
+use Rattle.scenario_text.specs.Spelling.{IsInRange, IsCallInRange}
+use Rattle.scenario_text.specs.declared.call_line.CallLine.{CallLine}
+use Rattle.scenario_text.specs.declared.call_line.CallLine.TheVariants as calls
+use Rattle.line_steps.proofs.Stepping.{IsShortCall}
 use Rattle.scenario_text.proofs.Spelled.{line_in_range}
 use Rattle.line_steps.specs.declared.head.Head.{Head}
 use Rattle.scenario_text.specs.Answer.{Answer, Refused, Done}
@@ -18,27 +20,34 @@ use Rattle.line_steps.specs.Head.{head_line}
 use Rattle.scenario_text.proofs.Leaving.{Leaves}
 use Rattle.scenario_engine.specs.declared.kind.LineKind.{LineKind}
 use Rattle.scenario_engine.specs.declared.kind.LineKind.TheVariants as kinds
-use Rattle.scenario_engine.specs.Engine.{Replies, Target, TheHead, TheBoot, NoBoot, opened_target, target_of, kind_of, in_head, in_boot, next_opening, reopens, line_over, line_on, step, ended_by, ends_over, ends_on, ended_boots}
-use Rattle.scenario_engine.specs.Opening.{StartReplies, Opening, Opened, Shut, opening}
+use Rattle.scenario_engine.specs.Engine.{Replies, Target, TheHead, TheBoot, TheUnstarted, opened_target, target_of, kind_of, in_head, in_boot, next_opening, reopens, line_over, line_on, step, ended_by, ends_over, ends_on, ended_boots}
+use Rattle.scenario_engine.specs.Opening.{StartReplies, Opening, Opened, UnstartedBoot, opening}
 use Rattle.session_steps.specs.Setup.{set_up}
 use Rattle.scenario_engine.specs.Running.{started, commit_step, quiet_line}
-use Rattle.scenario_engine.specs.State.{RunningState, State, Heading, Running, Outcome, RefusedIn, DoneTo, NotStarted}
+use Rattle.scenario_engine.specs.State.{RunningState, State, Heading, Running, Outcome, RefusedIn, DoneTo, UnstartedIn}
 use Rattle.scenario_engine.specs.Transcript.{Turn, answer_to, turn_outcome, ends_to, turn_ends, boots_in, boots_from, end_from, last_state, RefusedAt, TooLong, Unstarted}
 
 -- what an outcome leaves is so
 abbrev pub LeavesTo : (State → Type 0) → Outcome → Type 0
 LeavesTo P (RefusedIn s) = P s
 LeavesTo P (DoneTo s text) = P s
-LeavesTo P (NotStarted s refusal) = P s
+LeavesTo P (UnstartedIn s refusal) = P s
 
 -- a put of a whole line
 abbrev pub IsShortLine : Line → Type 0
-IsShortLine (lines.Put c table key bytes) = length bytes ≤ MAX_ROW_BYTES
+IsShortLine (lines.Call c line) = IsShortCall line
 IsShortLine _ = Unit {0}
+
+short_call : (line : CallLine) → IsCallInRange line → IsShortCall line
+short_call (calls.Enter name) range = tt
+short_call calls.Exit range = tt
+short_call (calls.Read table key) range = tt
+short_call (calls.List table) range = tt
+short_call (calls.Put table key bytes) range = omega (arith, range.2.0)
 
 -- a line in its ranges is short
 short_line : (line : Line) → IsInRange line → IsShortLine line
-short_line (lines.Put c table key bytes) range = omega (arith, range.3.0)
+short_line (lines.Call c line) range = short_call line range.1
 short_line _ range = tt
 
 -- Each line keeps what holds of a head, and of a boot with its callers; and a boot that starts has it.
@@ -58,12 +67,12 @@ HoldsIn H R (Running r) = R r
 abbrev HoldsOf : (Head → Type 0) → (RunningState → Type 0) → Target → Type 0
 HoldsOf H R (TheHead head) = H head
 HoldsOf H R (TheBoot r) = R r
-HoldsOf H R (NoBoot head refusal) = H head
+HoldsOf H R (TheUnstarted head refusal) = H head
 
 module _ (H : Head → Type 0) (R : RunningState → Type 0) (B : BootValue → Type 0) (keeps : Keeps H R) (of_boot : (r : RunningState) → R r → B r.boot) where
   kept_opened : (head : Head) (replies : StartReplies) (how : Opening) → opening head.parts head.limits replies ≡ how → H head → HoldsOf H R (opened_target head how)
   kept_opened head replies (Opened start) opens holds = keeps.opens head replies start holds opens
-  kept_opened head replies (Shut refusal) opens holds = holds
+  kept_opened head replies (UnstartedBoot refusal) opens holds = holds
 
   kept_target : (s : State) (event : Bool) (replies : StartReplies) → HoldsIn H R s → HoldsOf H R (target_of s event replies)
   kept_target (Running r) event replies holds = holds
@@ -80,7 +89,7 @@ module _ (H : Head → Type 0) (R : RunningState → Type 0) (B : BootValue → 
 
   kept_reopens : (r : RunningState) (replies : StartReplies) (how : Opening) → next_opening r replies ≡ how → R r → LeavesTo (HoldsIn H R) (reopens r how)
   kept_reopens r replies (Opened start) opens holds = keeps.reopens r replies start holds opens
-  kept_reopens r replies (Shut refusal) opens holds = holds
+  kept_reopens r replies (UnstartedBoot refusal) opens holds = holds
 
   kept_line_over : (r : RunningState) (kind : LineKind) (line : Line) (replies : Replies) → IsShortLine line → R r → LeavesTo (HoldsIn H R) (line_over r kind line replies)
   kept_line_over r (kinds.Commits caller) line replies short holds =
@@ -93,7 +102,7 @@ module _ (H : Head → Type 0) (R : RunningState → Type 0) (B : BootValue → 
   kept_line_on : (target : Target) (line : Line) (replies : Replies) → IsShortLine line → HoldsOf H R target → LeavesTo (HoldsIn H R) (line_on target line replies)
   kept_line_on (TheHead head) line replies short holds = kept_in_head head (head_line head line) holds (keeps.heads head line holds)
   kept_line_on (TheBoot r) line replies short holds = kept_line_over r (kind_of line) line replies short holds
-  kept_line_on (NoBoot head refusal) line replies short holds = holds
+  kept_line_on (TheUnstarted head refusal) line replies short holds = holds
 
   kept_step : (s : State) (line : Line) (replies : Replies) → IsShortLine line → HoldsIn H R s → LeavesTo (HoldsIn H R) (step s line replies)
   unfolding step
@@ -113,7 +122,7 @@ module _ (H : Head → Type 0) (R : RunningState → Type 0) (B : BootValue → 
 
   kept_ended_by : (r : RunningState) (how : Opening) → R r → All B (ended_by r how)
   kept_ended_by r (Opened start) holds = All-cons B r.boot [] (of_boot r holds) (All-nil B)
-  kept_ended_by r (Shut refusal) holds = All-nil B
+  kept_ended_by r (UnstartedBoot refusal) holds = All-nil B
 
   kept_ends_over : (r : RunningState) (kind : LineKind) (replies : Replies) → R r → All B (ends_over r kind replies)
   kept_ends_over r (kinds.Commits caller) replies holds = All-nil B
@@ -123,7 +132,7 @@ module _ (H : Head → Type 0) (R : RunningState → Type 0) (B : BootValue → 
   kept_ends_on : (target : Target) (line : Line) (replies : Replies) → HoldsOf H R target → All B (ends_on target line replies)
   kept_ends_on (TheHead head) line replies holds = All-nil B
   kept_ends_on (TheBoot r) line replies holds = kept_ends_over r (kind_of line) replies holds
-  kept_ends_on (NoBoot head refusal) line replies holds = All-nil B
+  kept_ends_on (TheUnstarted head refusal) line replies holds = All-nil B
 
   kept_ended_boots : (s : State) (line : Line) (replies : Replies) → HoldsIn H R s → All B (ended_boots s line replies)
   unfolding ended_boots
@@ -152,12 +161,12 @@ module _ (H : Head → Type 0) (R : RunningState → Type 0) (B : BootValue → 
       go : (long : Bool) (o : Outcome) → LeavesTo (HoldsIn H R) o → ((t : State) → HoldsIn H R t → HoldsIn H R (last_state (end_from t (n + 1) turns))) → HoldsIn H R (last_state (if long then TooLong s n else (elim o [
         | RefusedIn t ↦ RefusedAt t n
         | DoneTo t text ↦ end_from t (n + 1) turns
-        | NotStarted t refusal ↦ Unstarted t refusal
+        | UnstartedIn t refusal ↦ Unstarted t refusal
       ])))
       go true o left later = holds
       go false (RefusedIn t) left later = left
       go false (DoneTo t text) left later = later t left
-      go false (NotStarted t refusal) left later = left
+      go false (UnstartedIn t refusal) left later = left
 
   pub kept_boots : (s : State) (turns : List Turn) → HoldsIn H R s → All B (boots_from s turns)
   kept_boots s [] holds = kept_boots_in s holds
@@ -170,12 +179,12 @@ module _ (H : Head → Type 0) (R : RunningState → Type 0) (B : BootValue → 
       go : (long : Bool) (o : Outcome) → LeavesTo (HoldsIn H R) o → ((t : State) → HoldsIn H R t → All B (boots_from t turns)) → All B (if long then boots_in s else (turn_ends s turn ++ (elim o [
         | RefusedIn t ↦ boots_in t
         | DoneTo t text ↦ boots_from t turns
-        | NotStarted t refusal ↦ boots_in t
+        | UnstartedIn t refusal ↦ boots_in t
       ])))
       go true o left later = kept_boots_in s holds
       go false (RefusedIn t) left later = ends (boots_in t) (kept_boots_in t left)
       go false (DoneTo t text) left later = ends (boots_from t turns) (later t left)
-      go false (NotStarted t refusal) left later = ends (boots_in t) (kept_boots_in t left)
+      go false (UnstartedIn t refusal) left later = ends (boots_in t) (kept_boots_in t left)
 
   pub kept_at_end : (s : State) (n : ℕ) (turns : List Turn) → HoldsIn H R s → All B (boots_in (last_state (end_from s n turns)))
   kept_at_end s n turns holds = kept_boots_in (last_state (end_from s n turns)) (kept_ending s n turns holds)

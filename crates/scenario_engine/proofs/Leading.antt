@@ -8,12 +8,15 @@ use Rattle.boot_core.specs.declared.refusals.RebootRefusal.{RebootRefusal}
 use Rattle.call_ticket.specs.Ticket.{TicketValue}
 use Rattle.crash_base.specs.declared.scope.Scope.{Scope}
 use Rattle.journal_model.specs.Reboots.{undone_of}
-use Rattle.line_steps.specs.declared.call_lines.CallLine.TheVariants as calls
+use Rattle.scenario_text.specs.declared.boot_line.BootLine.{BootLine}
+use Rattle.scenario_text.specs.declared.boot_line.BootLine.TheVariants as boots
+use Rattle.scenario_text.specs.declared.head_line.HeadLine.{HeadLine}
+use Rattle.scenario_text.specs.declared.head_line.HeadLine.TheVariants as heads
 use Rattle.line_steps.specs.declared.callers.Caller.{Caller}
 use Rattle.line_steps.specs.declared.callers.Caller.TheVariants.{Absent, Live}
 use Rattle.line_steps.specs.declared.head.Head.{Head}
 use Rattle.line_steps.specs.Callers.{caller_at, begin_step, call_step}
-use Rattle.line_steps.specs.Head.{head_line, with_parts, with_setup, limit_step}
+use Rattle.line_steps.specs.Head.{head_line, head_step, with_parts, with_setup, component_step, reference_step, owns_step, limit_step}
 use Rattle.scenario_text.proofs.Leaving.{Leaves, leaves-refused_if, leaves-or_refused}
 use Rattle.scenario_text.specs.Answer.{Answer, Refused, Done, within}
 use Rattle.scenario_text.specs.Line.{is_event}
@@ -25,13 +28,14 @@ use Rattle.session_steps.specs.Promise.{SessionTurn, Boots, Lead}
 use Rattle.session_steps.specs.Sessions.{SessionsState, session_line, reopened}
 use Rattle.deployment.specs.declared.parts.Parts.{Parts}
 use Rattle.journal_model.specs.declared.limits.TheConstants.{MAX_ENTRIES, MAX_JOURNAL_BYTES}
-use Rattle.session_steps.specs.Setup.{SetupState, HasCounts, no_setup, bricks_step, key_step, set_up}
+use Rattle.scenario_text.specs.Setup.{SetupState, HasCounts, no_setup, bricks_step, key_step}
+use Rattle.session_steps.specs.Setup.{set_up}
 use Rattle.session_steps.proofs.Leading.{lead_on}
 use Rattle.scenario_engine.specs.Engine.{Replies, target_of, opened_target, kind_of, in_head, in_boot, next_opening, reopens, line_over, line_on, step}
-use Rattle.scenario_engine.specs.Opening.{Opening, Opened, Shut, opening}
-use Rattle.scenario_engine.specs.Running.{started, with_callers, with_sessions, commit_ends, with_keeper, boot_refusal, caller_commits, caller_drops, commit_step, drop_step, scope_of, goes_down, reboots, down_step, up_step, reboot_step, table_step, journal_step}
+use Rattle.scenario_engine.specs.Opening.{Opening, Opened, UnstartedBoot, opening}
+use Rattle.scenario_engine.specs.Running.{started, with_callers, with_sessions, commit_ends, with_keeper, boot_refusal, caller_commits, caller_drops, commit_step, drop_step, scope_of, goes_down, reboots, down_step, up_step, reboot_step, table_step, journal_step, boot_line}
 use Rattle.scenario_engine.specs.Sessions.{AreSessionsOf, turns_by, first_start, starts_by, starts_on, turns_to, turn_on_sessions, session_turns}
-use Rattle.scenario_engine.specs.State.{RunningState, State, Heading, Running, Outcome, RefusedIn, DoneTo, NotStarted}
+use Rattle.scenario_engine.specs.State.{RunningState, State, Heading, Running, Outcome, RefusedIn, DoneTo, UnstartedIn}
 use Rattle.scenario_engine.specs.Transcript.{Turn, TooLong, RefusedAt, Unstarted, end_from, last_state, answer_to, turn_outcome}
 
 -- lines that leave the sessions as they were
@@ -96,7 +100,7 @@ abbrev LeadsOver : RunningState → Line → Outcome → Type 0
 LeadsOver r line (RefusedIn t) = t ≡ Running r
 LeadsOver r line (DoneTo t text) =
     (q : RunningState) × (t ≡ Running q) × Lead r.sessions (turns_by line t text) q.sessions
-LeadsOver r line (NotStarted t refusal) = t ≡ Running r
+LeadsOver r line (UnstartedIn t refusal) = t ≡ Running r
 
 leads_same : (r : RunningState) (line : Line) (a : Answer RunningState) → ((t : State) (text : List ℕ) → turns_by line t text ≡ []) → Leaves (SameSessions r) a → LeadsOver r line (in_boot r a)
 leads_same r line Refused none same = refl
@@ -110,31 +114,24 @@ leads_session r line (Done sessions text) is = (with_sessions r sessions, refl, 
 
 leads_reopen : (r : RunningState) (how : Opening) → LeadsOver r lines.Reopen (reopens r how)
 leads_reopen r (Opened start) = (started r.sessions start, refl, (reopened r.sessions start.boot, refl, refl))
-leads_reopen r (Shut refusal) = refl
+leads_reopen r (UnstartedBoot refusal) = refl
+
+same_boot : (r : RunningState) (line : BootLine) → Leaves (SameSessions r) (boot_line r line)
+unfolding table_step journal_step
+same_boot r (boots.Begin c) = same_called r (begin_step r.boot r.callers c)
+same_boot r (boots.Drop c) = same_drop r c
+same_boot r (boots.Down name) = same_down r name
+same_boot r (boots.Up name) = same_up r name
+same_boot r (boots.Reboot name) = same_reboot r name
+same_boot r boots.Table = refl
+same_boot r boots.Journal = refl
 
 leads_over : (r : RunningState) (line : Line) (replies : Replies) → LeadsOver r line (line_over r (kind_of line) line replies)
-unfolding table_step journal_step
 leads_over r lines.Pass replies = (r, refl, refl)
-leads_over r (lines.Component name) replies = refl
-leads_over r (lines.Hard from to) replies = refl
-leads_over r (lines.Soft from to) replies = refl
-leads_over r (lines.Owns name table) replies = refl
-leads_over r (lines.Limit entries bytes) replies = refl
-leads_over r (lines.Bricks bricks most least) replies = refl
-leads_over r (lines.Key bytes) replies = refl
-leads_over r (lines.Begin c) replies = leads_same r (lines.Begin c) _ (λ t text. refl) (same_called r (begin_step r.boot r.callers c))
-leads_over r (lines.Enter c name) replies = leads_same r (lines.Enter c name) _ (λ t text. refl) (same_called r (call_step r.boot r.callers c (calls.Enter name)))
-leads_over r (lines.Exit c) replies = leads_same r (lines.Exit c) _ (λ t text. refl) (same_called r (call_step r.boot r.callers c calls.Exit))
-leads_over r (lines.Read c table key) replies = leads_same r (lines.Read c table key) _ (λ t text. refl) (same_called r (call_step r.boot r.callers c (calls.Read table key)))
-leads_over r (lines.List c table) replies = leads_same r (lines.List c table) _ (λ t text. refl) (same_called r (call_step r.boot r.callers c (calls.List table)))
-leads_over r (lines.Put c table key bytes) replies = leads_same r (lines.Put c table key bytes) _ (λ t text. refl) (same_called r (call_step r.boot r.callers c (calls.Put table key bytes)))
+leads_over r (lines.Head line) replies = refl
+leads_over r (lines.Call c line) replies = leads_same r (lines.Call c line) _ (λ t text. refl) (same_called r (call_step r.boot r.callers c line))
 leads_over r (lines.Commit c) replies = leads_same r (lines.Commit c) (commit_step r c replies.keeps) (λ t text. refl) (same_commit r c replies.keeps)
-leads_over r (lines.Drop c) replies = leads_same r (lines.Drop c) (drop_step r c) (λ t text. refl) (same_drop r c)
-leads_over r (lines.Down name) replies = leads_same r (lines.Down name) (down_step r name) (λ t text. refl) (same_down r name)
-leads_over r (lines.Up name) replies = leads_same r (lines.Up name) (up_step r name) (λ t text. refl) (same_up r name)
-leads_over r (lines.Reboot name) replies = leads_same r (lines.Reboot name) (reboot_step r name) (λ t text. refl) (same_reboot r name)
-leads_over r lines.Table replies = (r, refl, refl)
-leads_over r lines.Journal replies = (r, refl, refl)
+leads_over r (lines.Boot line) replies = leads_same r (lines.Boot line) (boot_line r line) (λ t text. refl) (same_boot r line)
 leads_over r lines.Reopen replies = leads_reopen r (next_opening r replies.again)
 leads_over r (lines.Session line) replies = leads_session r line (session_line r.sessions line) refl
 
@@ -167,40 +164,31 @@ counts_limit head entries bytes =
 abbrev StaysHead : Head → Line → Outcome → Type 0
 StaysHead old line (RefusedIn t) = t ≡ Heading old
 StaysHead old line (DoneTo t text) = (head : Head) × (t ≡ Heading head) × (turns_by line t text ≡ []) × KeepsCounts old head
-StaysHead old line (NotStarted t refusal) = t ≡ Heading old
+StaysHead old line (UnstartedIn t refusal) = t ≡ Heading old
 
 stays_in : (line : Line) (head : Head) (a : Answer Head) → ((t : State) (text : List ℕ) → turns_by line t text ≡ []) → Leaves (KeepsCounts head) a → StaysHead head line (in_head head a)
 stays_in line head Refused none keeps = refl
 stays_in line head (Done next text) none keeps = (next, refl, none (Heading next) text, keeps)
 
+keeps_counts : CountsLaw → (head : Head) (line : HeadLine) → Leaves (KeepsCounts head) (head_step head line)
+keeps_counts law head (heads.Component name) = counts_parts head (component_step head.parts name)
+keeps_counts law head (heads.Hard from to) = counts_parts head (reference_step head.parts from to true)
+keeps_counts law head (heads.Soft from to) = counts_parts head (reference_step head.parts from to false)
+keeps_counts law head (heads.Owns name table) = counts_parts head (owns_step head.parts name table)
+keeps_counts law head (heads.Limit entries bytes) = counts_limit head entries bytes
+keeps_counts law head (heads.Bricks bricks most least) =
+    counts_setup head (bricks_step head.setup bricks most least) (λ t text is has. law.bricks head.setup bricks most least t text is)
+keeps_counts law head (heads.Key bytes) =
+    counts_setup head (key_step head.setup bytes) (λ t text is has. law.key head.setup bytes t text has is)
+
 stays_head : CountsLaw → (head : Head) (line : Line) → StaysHead head line (in_head head (head_line head line))
+stays_head law head lines.Pass = (head, refl, refl, λ has. has)
+stays_head law head (lines.Head line) = stays_in (lines.Head line) head (head_step head line) (λ t text. refl) (keeps_counts law head line)
+stays_head law head (lines.Call c line) = refl
+stays_head law head (lines.Commit c) = refl
+stays_head law head (lines.Boot line) = refl
 stays_head law head lines.Reopen = refl
 stays_head law head (lines.Session line) = refl
-stays_head law head lines.Pass = (head, refl, refl, λ has. has)
-stays_head law head (lines.Component name) = stays_in (lines.Component name) head _ (λ t text. refl) (counts_parts head _)
-stays_head law head (lines.Hard from to) = stays_in (lines.Hard from to) head _ (λ t text. refl) (counts_parts head _)
-stays_head law head (lines.Soft from to) = stays_in (lines.Soft from to) head _ (λ t text. refl) (counts_parts head _)
-stays_head law head (lines.Owns name table) = stays_in (lines.Owns name table) head _ (λ t text. refl) (counts_parts head _)
-stays_head law head (lines.Limit entries bytes) = stays_in (lines.Limit entries bytes) head _ (λ t text. refl) (counts_limit head entries bytes)
-stays_head law head (lines.Bricks bricks most least) =
-    stays_in (lines.Bricks bricks most least) head _ (λ t text. refl)
-    (counts_setup head (bricks_step head.setup bricks most least) (λ t text is has. law.bricks head.setup bricks most least t text is))
-stays_head law head (lines.Key bytes) =
-    stays_in (lines.Key bytes) head _ (λ t text. refl)
-    (counts_setup head (key_step head.setup bytes) (λ t text is has. law.key head.setup bytes t text has is))
-stays_head law head (lines.Begin c) = refl
-stays_head law head (lines.Enter c name) = refl
-stays_head law head (lines.Exit c) = refl
-stays_head law head (lines.Read c table key) = refl
-stays_head law head (lines.List c table) = refl
-stays_head law head (lines.Put c table key bytes) = refl
-stays_head law head (lines.Commit c) = refl
-stays_head law head (lines.Drop c) = refl
-stays_head law head (lines.Down name) = refl
-stays_head law head (lines.Up name) = refl
-stays_head law head (lines.Reboot name) = refl
-stays_head law head lines.Table = refl
-stays_head law head lines.Journal = refl
 
 -- one turn
 
@@ -216,7 +204,7 @@ Reaches (Running r) turns t = (q : RunningState) × (t ≡ Running q) × Lead r.
 abbrev LeadsTo : State → List SessionTurn → (State → List ℕ → List SessionTurn) → Outcome → Type 0
 LeadsTo s starts turns (RefusedIn t) = Reaches s starts t
 LeadsTo s starts turns (DoneTo t text) = Reaches s (turns t text) t
-LeadsTo s starts turns (NotStarted t refusal) = Reaches s starts t
+LeadsTo s starts turns (UnstartedIn t refusal) = Reaches s starts t
 
 -- a state is itself reached by no turn
 stays : (s : State) → Reaches s [] s
@@ -226,12 +214,12 @@ stays (Running r) = (r, refl, refl)
 leads_running : (r : RunningState) (line : Line) (o : Outcome) → LeadsOver r line o → LeadsTo (Running r) [] (turns_by line) o
 leads_running r line (RefusedIn t) is = (r, is, refl)
 leads_running r line (DoneTo t text) leads = leads
-leads_running r line (NotStarted t refusal) is = (r, is, refl)
+leads_running r line (UnstartedIn t refusal) is = (r, is, refl)
 
 leads_heading : (head : Head) (line : Line) (o : Outcome) → StaysHead head line o → LeadsTo (Heading head) [] (turns_by line) o
 leads_heading head line (RefusedIn t) is = inl (head, is, refl, λ has. has)
 leads_heading head line (DoneTo t text) stays = inl stays
-leads_heading head line (NotStarted t refusal) is = inl (head, is, refl, λ has. has)
+leads_heading head line (UnstartedIn t refusal) is = inl (head, is, refl, λ has. has)
 
 leads_first : (head : Head) (start : Start) (line : Line) (o : Outcome) → LeadsOver (started (set_up head.setup 0) start) line o
     → LeadsTo (Heading head) (Boots start.boot ∷ []) (λ t text. Boots start.boot ∷ turns_by line t text) o
@@ -239,14 +227,14 @@ leads_first head start line (RefusedIn t) is =
     inr (started (set_up head.setup 0) start, is, (reopened (set_up head.setup 0) start.boot, refl, refl))
 leads_first head start line (DoneTo t text) (q, is, lead) =
     inr (q, is, (reopened (set_up head.setup 0) start.boot, refl, lead))
-leads_first head start line (NotStarted t refusal) is =
+leads_first head start line (UnstartedIn t refusal) is =
     inr (started (set_up head.setup 0) start, is, (reopened (set_up head.setup 0) start.boot, refl, refl))
 
 leads_opened : (head : Head) (how : Opening) (line : Line) (replies : Replies)
     → LeadsTo (Heading head) (first_start (Heading head) (opened_target head how)) (λ t text. first_start (Heading head) (opened_target head how) ++ turns_by line t text) (line_on (opened_target head how) line replies)
 leads_opened head (Opened start) line replies =
     leads_first head start line (line_over (started (set_up head.setup 0) start) (kind_of line) line replies) (leads_over (started (set_up head.setup 0) start) line replies)
-leads_opened head (Shut refusal) line replies = stays (Heading head)
+leads_opened head (UnstartedBoot refusal) line replies = stays (Heading head)
 
 leads_step : CountsLaw → (s : State) (line : Line) (replies : Replies)
     → LeadsTo s (first_start s (target_of s (is_event line) replies.first)) (λ t text. first_start s (target_of s (is_event line) replies.first) ++ turns_by line t text) (step s line replies)
@@ -307,13 +295,13 @@ all_lead law s n (turn ∷ turns) =
     go : (long : Bool) (o : Outcome) → LeadsTo s (starts_on s turn) (turn_on_sessions s turn) o → ((t : State) → AllLead t (session_turns t turns) (last_state (end_from t (n + 1) turns))) → AllLead s (if long then [] else (elim o [
       | RefusedIn t ↦ starts_on s turn
       | DoneTo t text ↦ turn_on_sessions s turn t text ++ session_turns t turns
-      | NotStarted t refusal ↦ starts_on s turn
+      | UnstartedIn t refusal ↦ starts_on s turn
     ])) (last_state (if long then TooLong s n else (elim o [
       | RefusedIn t ↦ RefusedAt t n
       | DoneTo t text ↦ end_from t (n + 1) turns
-      | NotStarted t refusal ↦ Unstarted t refusal
+      | UnstartedIn t refusal ↦ Unstarted t refusal
     ])))
     go true o leads later = no_lead s
     go false (RefusedIn t) leads later = lead_last s t (starts_on s turn) leads
     go false (DoneTo t text) leads later = lead_more s t (last_state (end_from t (n + 1) turns)) (turn_on_sessions s turn t text) (session_turns t turns) leads (later t)
-    go false (NotStarted t refusal) leads later = lead_last s t (starts_on s turn) leads
+    go false (UnstartedIn t refusal) leads later = lead_last s t (starts_on s turn) leads

@@ -12,3 +12,4 @@ pub mod Stepping
 pub mod Telling
 pub mod Turns
 pub mod Unkept
+pub mod Rising

@@ -21,9 +21,11 @@ use Rattle.boot_core.specs.declared.refusals.CallRefusal.{CallRefusal}
 use Rattle.boot_core.specs.declared.refusals.CommitRefusal.{CommitRefusal}
 use Rattle.boot_core.specs.declared.refusals.RebootRefusal.{RebootRefusal}
 use Rattle.scenario_text.specs.declared.line.Line.{Line}
+use Rattle.scenario_text.specs.declared.boot_line.BootLine.{BootLine}
+use Rattle.scenario_text.specs.declared.boot_line.BootLine.TheVariants as boots
 use Rattle.scenario_text.specs.declared.line.Line.TheVariants as lines
-use Rattle.line_steps.specs.declared.call_lines.CallLine.{CallLine}
-use Rattle.line_steps.specs.declared.call_lines.CallLine.TheVariants as calls
+use Rattle.scenario_text.specs.declared.call_line.CallLine.{CallLine}
+use Rattle.scenario_text.specs.declared.call_line.CallLine.TheVariants as calls
 use Rattle.line_steps.specs.declared.callers.Caller.{Caller}
 use Rattle.line_steps.specs.declared.callers.Caller.TheVariants.{Absent, Live}
 use Rattle.session_steps.specs.Sessions.{SessionsState, session_line}
@@ -35,7 +37,7 @@ use Rattle.line_steps.specs.Tables.{table_of}
 use Rattle.line_steps.specs.Texts.{row_answer_text, list_answer_text}
 use Rattle.line_steps.proofs.Stepping.{is_outside}
 use Rattle.scenario_text.proofs.Leaving.{Leaves, leaves-refused_if, leaves-or_refused, leaves-within, leaves-weaker, leaves-nothing}
-use Rattle.scenario_engine.specs.Running.{with_callers, with_sessions, with_boot_entry, commit_ends, with_keeper, boot_refusal, caller_commits, caller_drops, commit_step, drop_step, scope_of, goes_down, reboots, down_step, up_step, reboot_step, table_step, journal_step, quiet_line}
+use Rattle.scenario_engine.specs.Running.{with_callers, with_sessions, with_boot_entry, commit_ends, with_keeper, boot_refusal, caller_commits, caller_drops, commit_step, drop_step, scope_of, goes_down, reboots, down_step, up_step, reboot_step, table_step, journal_step, boot_line, quiet_line}
 use Rattle.scenario_engine.specs.Sound.{CommitsOwnRequests}
 use Rattle.scenario_engine.specs.State.{RunningState}
 use Rattle.scenario_engine.specs.Transcript.{Turn, first, boots_from}
@@ -229,29 +231,22 @@ own_session : (r : RunningState) (a : Answer SessionsState) → IsOwnRun r → L
 own_session r Refused run = tt
 own_session r (Done sessions text) run = record { entries = run.entries; callers = run.callers }
 
-own_quiet : (r : RunningState) (line : Line) → IsOwnRun r → Leaves IsOwnRun (quiet_line r line)
+own_boot : (r : RunningState) (line : BootLine) → IsOwnRun r → Leaves IsOwnRun (boot_line r line)
 unfolding table_step journal_step
+own_boot r (boots.Begin c) run = own_begin r c run
+own_boot r (boots.Drop c) run = own_drop r c run
+own_boot r (boots.Down name) run = own_down r name run
+own_boot r (boots.Up name) run = own_up r name run
+own_boot r (boots.Reboot name) run = own_reboot r name run
+own_boot r boots.Table run = run
+own_boot r boots.Journal run = run
+
+own_quiet : (r : RunningState) (line : Line) → IsOwnRun r → Leaves IsOwnRun (quiet_line r line)
 own_quiet r lines.Pass run = run
-own_quiet r (lines.Component name) run = tt
-own_quiet r (lines.Hard from to) run = tt
-own_quiet r (lines.Soft from to) run = tt
-own_quiet r (lines.Owns name table) run = tt
-own_quiet r (lines.Limit entries bytes) run = tt
-own_quiet r (lines.Bricks bricks most least) run = tt
-own_quiet r (lines.Key bytes) run = tt
-own_quiet r (lines.Begin c) run = own_begin r c run
-own_quiet r (lines.Enter c name) run = own_call r c (calls.Enter name) run
-own_quiet r (lines.Exit c) run = own_call r c calls.Exit run
-own_quiet r (lines.Read c table key) run = own_call r c (calls.Read table key) run
-own_quiet r (lines.List c table) run = own_call r c (calls.List table) run
-own_quiet r (lines.Put c table key bytes) run = own_call r c (calls.Put table key bytes) run
+own_quiet r (lines.Head line) run = tt
+own_quiet r (lines.Call c line) run = own_call r c line run
 own_quiet r (lines.Commit c) run = tt
-own_quiet r (lines.Drop c) run = own_drop r c run
-own_quiet r (lines.Down name) run = own_down r name run
-own_quiet r (lines.Up name) run = own_up r name run
-own_quiet r (lines.Reboot name) run = own_reboot r name run
-own_quiet r lines.Table run = run
-own_quiet r lines.Journal run = run
+own_quiet r (lines.Boot line) run = own_boot r line run
 own_quiet r lines.Reopen run = tt
 own_quiet r (lines.Session line) run = own_session r (session_line r.sessions line) run
 

@@ -33,9 +33,11 @@ use Rattle.boot_core.specs.declared.refusals.RebootRefusal.{RebootRefusal}
 use Rattle.boot_core.specs.declared.refusals.StartRefusal.TheVariants as refusals
 use Rattle.container_core.specs.Start.{first_bad, start_over}
 use Rattle.scenario_text.specs.declared.line.Line.{Line}
+use Rattle.scenario_text.specs.declared.boot_line.BootLine.{BootLine}
+use Rattle.scenario_text.specs.declared.boot_line.BootLine.TheVariants as boots
 use Rattle.scenario_text.specs.declared.line.Line.TheVariants as lines
-use Rattle.line_steps.specs.declared.call_lines.CallLine.{CallLine}
-use Rattle.line_steps.specs.declared.call_lines.CallLine.TheVariants as calls
+use Rattle.scenario_text.specs.declared.call_line.CallLine.{CallLine}
+use Rattle.scenario_text.specs.declared.call_line.CallLine.TheVariants as calls
 use Rattle.line_steps.specs.declared.callers.Caller.{Caller}
 use Rattle.line_steps.specs.declared.callers.Caller.TheVariants.{Absent, Live}
 use Rattle.scenario_text.specs.Answer.{Answer, Refused, Done, within}
@@ -49,8 +51,8 @@ use Rattle.line_steps.proofs.Stepping.{IsShortCall, fits_begin_step, fits_call_s
 use Rattle.line_steps.specs.Head.{no_head}
 use Rattle.scenario_engine.proofs.Keeping.{IsShortLine, Keeps, kept_boots, kept_at_end}
 use Rattle.scenario_engine.proofs.Rebooting.{undone_last}
-use Rattle.scenario_engine.specs.Opening.{StartReplies, Opening, Opened, Shut, is_spent, opening, opening_of, opening_over}
-use Rattle.scenario_engine.specs.Running.{started, with_callers, with_sessions, with_boot_entry, commit_ends, with_keeper, boot_refusal, caller_commits, caller_drops, commit_step, drop_step, scope_of, goes_down, reboots, down_step, up_step, reboot_step, table_step, journal_step, quiet_line}
+use Rattle.scenario_engine.specs.Opening.{StartReplies, Opening, Opened, UnstartedBoot, is_spent, opening, opening_of, opening_over}
+use Rattle.scenario_engine.specs.Running.{started, with_callers, with_sessions, with_boot_entry, commit_ends, with_keeper, boot_refusal, caller_commits, caller_drops, commit_step, drop_step, scope_of, goes_down, reboots, down_step, up_step, reboot_step, table_step, journal_step, boot_line, quiet_line}
 use Rattle.scenario_engine.specs.Sound.{CommitsUnrebooted, RunsSerially}
 use Rattle.scenario_engine.specs.State.{RunningState}
 use Rattle.scenario_engine.specs.Transcript.{Turn, first, boots_in, boots_from, end_from, last_state}
@@ -172,41 +174,34 @@ sound_session : (r : RunningState) (a : Answer SessionsState) → IsSoundRun r �
 sound_session r Refused run = tt
 sound_session r (Done sessions text) run = record { sound = run.sound; few = run.few; fit = run.fit }
 
-sound_quiet : (laws : BootLaws) (r : RunningState) (line : Line) → IsShortLine line → IsSoundRun r → Leaves IsSoundRun (quiet_line r line)
+sound_boot : (laws : BootLaws) → (r : RunningState) (line : BootLine) → IsSoundRun r → Leaves IsSoundRun (boot_line r line)
 unfolding table_step journal_step
+sound_boot laws r (boots.Begin c) run = sound_begin r c run
+sound_boot laws r (boots.Drop c) run = sound_drop r c run
+sound_boot laws r (boots.Down name) run = sound_down laws r name run
+sound_boot laws r (boots.Up name) run = sound_up laws r name run
+sound_boot laws r (boots.Reboot name) run = sound_reboot laws r name run
+sound_boot laws r boots.Table run = run
+sound_boot laws r boots.Journal run = run
+
+sound_quiet : (laws : BootLaws) (r : RunningState) (line : Line) → IsShortLine line → IsSoundRun r → Leaves IsSoundRun (quiet_line r line)
 sound_quiet laws r lines.Pass short run = run
-sound_quiet laws r (lines.Component name) short run = tt
-sound_quiet laws r (lines.Hard from to) short run = tt
-sound_quiet laws r (lines.Soft from to) short run = tt
-sound_quiet laws r (lines.Owns name table) short run = tt
-sound_quiet laws r (lines.Limit entries bytes) short run = tt
-sound_quiet laws r (lines.Bricks bricks most least) short run = tt
-sound_quiet laws r (lines.Key bytes) short run = tt
-sound_quiet laws r (lines.Begin c) short run = sound_begin r c run
-sound_quiet laws r (lines.Enter c name) short run = sound_call r c (calls.Enter name) tt run
-sound_quiet laws r (lines.Exit c) short run = sound_call r c calls.Exit tt run
-sound_quiet laws r (lines.Read c table key) short run = sound_call r c (calls.Read table key) tt run
-sound_quiet laws r (lines.List c table) short run = sound_call r c (calls.List table) tt run
-sound_quiet laws r (lines.Put c table key bytes) short run = sound_call r c (calls.Put table key bytes) short run
+sound_quiet laws r (lines.Head line) short run = tt
+sound_quiet laws r (lines.Call c line) short run = sound_call r c line short run
 sound_quiet laws r (lines.Commit c) short run = tt
-sound_quiet laws r (lines.Drop c) short run = sound_drop r c run
-sound_quiet laws r (lines.Down name) short run = sound_down laws r name run
-sound_quiet laws r (lines.Up name) short run = sound_up laws r name run
-sound_quiet laws r (lines.Reboot name) short run = sound_reboot laws r name run
-sound_quiet laws r lines.Table short run = run
-sound_quiet laws r lines.Journal short run = run
+sound_quiet laws r (lines.Boot line) short run = sound_boot laws r line run
 sound_quiet laws r lines.Reopen short run = tt
 sound_quiet laws r (lines.Session line) short run = sound_session r (session_line r.sessions line) run
 
 -- a boot opens with few components
 abbrev OpensFew : Opening → Type 0
 OpensFew (Opened start) = AreFew start.deployment
-OpensFew (Shut refusal) = Unit {0}
+OpensFew (UnstartedBoot refusal) = Unit {0}
 
 few_opening : (parts : Parts) (limits : JournalLimits) (replies : StartReplies) → AreFew parts → OpensFew (opening parts limits replies)
 few_opening parts limits replies few = given replies.rows
   where
-    kept : (rows : List RowWrite) (spent keeps : Bool) → OpensFew (if spent then Shut refusals.BootsSpent else (if keeps then Opened (start_over parts limits rows) else Shut refusals.KeeperFailed))
+    kept : (rows : List RowWrite) (spent keeps : Bool) → OpensFew (if spent then UnstartedBoot refusals.BootsSpent else (if keeps then Opened (start_over parts limits rows) else UnstartedBoot refusals.KeeperFailed))
     kept rows true keeps = tt
     kept rows false true = few
     kept rows false false = tt

@@ -12,8 +12,8 @@ use Rattle.boot_core.specs.declared.refusals.StartRefusal.{StartRefusal}
 use Rattle.boot_core.specs.declared.refusals.StartRefusal.TheVariants as refusals
 use Rattle.container_core.specs.Start.{boot_row, first_bad, last_boot, greatest_boot, start_over, IsOpened, IsRefusedStart}
 use Rattle.scenario_engine.specs.KeeperCalls.{KeeperCall, Gave, TellsCalls, apply_calls}
-use Rattle.scenario_engine.specs.Opening.{StartReplies, Opened, Shut, is_spent, opening_over, opening_of, calls_over_rows, start_calls_of}
-use Rattle.scenario_engine.specs.Telling.{Opens, OpensPartly, IsShut}
+use Rattle.scenario_engine.specs.Opening.{StartReplies, Opened, UnstartedBoot, is_spent, opening_over, opening_of, calls_over_rows, start_calls_of}
+use Rattle.scenario_engine.specs.Telling.{Opens, OpensPartly, IsUnstarted}
 
 -- whether a number has come up to another
 
@@ -24,10 +24,10 @@ same_number : (n m : ℕ) → n ≡ m → nat_le m n ≡ true
 same_number n m same = grind (arith, nat_tests)
 
 -- how a boot opens over good rows
-good_opening : (parts : Parts) (limits : JournalLimits) (rows : List RowWrite) (keeps : Bool) → first_bad rows ≡ None → last_boot rows < greatest_boot → cond keeps (Opened (start_over parts limits rows)) (Shut refusals.KeeperFailed) ≡ opening_of parts limits (Some rows) keeps
+good_opening : (parts : Parts) (limits : JournalLimits) (rows : List RowWrite) (keeps : Bool) → first_bad rows ≡ None → last_boot rows < greatest_boot → cond keeps (Opened (start_over parts limits rows)) (UnstartedBoot refusals.KeeperFailed) ≡ opening_of parts limits (Some rows) keeps
 good_opening parts limits rows keeps good left =
     sym (ap (λ o. opening_over parts limits rows keeps o) good
-    ∙ ap (λ b. cond b (Shut refusals.BootsSpent) (cond keeps (Opened (start_over parts limits rows)) (Shut refusals.KeeperFailed))) (below (last_boot rows) greatest_boot left))
+    ∙ ap (λ b. cond b (UnstartedBoot refusals.BootsSpent) (cond keeps (Opened (start_over parts limits rows)) (UnstartedBoot refusals.KeeperFailed))) (below (last_boot rows) greatest_boot left))
 
 good_calls : (rows : List RowWrite) (keeps : Bool) → first_bad rows ≡ None → last_boot rows < greatest_boot → Gave rows ∷ apply_calls (boot_row (last_boot rows + 1) ∷ []) keeps ≡ start_calls_of (Some rows) keeps
 good_calls rows keeps good left =
@@ -50,20 +50,20 @@ opened parts limits old new boot h =
       },
     )
 
-pub shut : (parts : Parts) (limits : JournalLimits) (old new : Option KeeperTold) (refusal : StartRefusal) → IsRefusedStart refusal old new → IsShut refusal parts limits old new
-shut parts limits old new refusals.KeeperFailed (inl tells) = record {
+pub left_unstarted : (parts : Parts) (limits : JournalLimits) (old new : Option KeeperTold) (refusal : StartRefusal) → IsRefusedStart refusal old new → IsUnstarted refusal parts limits old new
+left_unstarted parts limits old new refusals.KeeperFailed (inl tells) = record {
   replies = record { rows = None; keeps = true };
   opens = refl;
   told = (new, tells, refl);
 }
-shut parts limits old new refusals.KeeperFailed (inr (rows, good, tells)) =
+left_unstarted parts limits old new refusals.KeeperFailed (inr (rows, good, tells)) =
     let P : List KeeperCall → Type 0 = λ calls. TellsCalls calls old new in
     record {
       replies = record { rows = Some rows; keeps = false };
       opens = good_opening parts limits rows false good.good good.unspent;
       told = subst P (good_calls rows false good.good good.unspent) (loaded old, (good.given, refl), (new, tells, refl));
     }
-shut parts limits old new (refusals.BadRow id) (rows, given, bad, is) =
+left_unstarted parts limits old new (refusals.BadRow id) (rows, given, bad, is) =
     let P : List KeeperCall → Type 0 = λ calls. TellsCalls calls old new in
     let none : Gave rows ∷ [] ≡ start_calls_of (Some rows) true = ap (λ o. Gave rows ∷ calls_over_rows rows true o) (sym bad) in
     record {
@@ -71,21 +71,21 @@ shut parts limits old new (refusals.BadRow id) (rows, given, bad, is) =
       opens = ap (λ o. opening_over parts limits rows true o) (sym bad);
       told = subst P none (loaded old, (given, refl), is);
     }
-shut parts limits old new refusals.BootsSpent (rows, given, good, last, is) =
+left_unstarted parts limits old new refusals.BootsSpent (rows, given, good, last, is) =
     let P : List KeeperCall → Type 0 = λ calls. TellsCalls calls old new in
     let spent : is_spent rows ≡ true = same_number (last_boot rows) greatest_boot last in
     let none : start_calls_of (Some rows) true ≡ Gave rows ∷ [] = ap (λ o. Gave rows ∷ calls_over_rows rows true o) good ∙ ap (λ b. Gave rows ∷ cond b [] (apply_calls (boot_row (last_boot rows + 1) ∷ []) true)) spent in
-    let shuts : opening_of parts limits (Some rows) true ≡ Shut refusals.BootsSpent = ap (λ o. opening_over parts limits rows true o) good ∙ ap (λ b. cond b (Shut refusals.BootsSpent) (Opened (start_over parts limits rows))) spent in
+    let stays_unstarted : opening_of parts limits (Some rows) true ≡ UnstartedBoot refusals.BootsSpent = ap (λ o. opening_over parts limits rows true o) good ∙ ap (λ b. cond b (UnstartedBoot refusals.BootsSpent) (Opened (start_over parts limits rows))) spent in
     record {
       replies = record { rows = Some rows; keeps = true };
-      opens = sym shuts;
+      opens = sym stays_unstarted;
       told = subst P (sym none) (loaded old, (given, refl), is);
     }
-shut parts limits old new refusals.OutOfMemory (inl tells) = record {
+left_unstarted parts limits old new refusals.OutOfMemory (inl tells) = record {
   replies = record { rows = None; keeps = true };
   told = record { made = []; more = start_calls_of None true; begins = refl; between = old; told = refl; last = inr (λ none. cc, tells) };
 }
-shut parts limits old new refusals.OutOfMemory (inr (rows, good, after)) = record {
+left_unstarted parts limits old new refusals.OutOfMemory (inr (rows, good, after)) = record {
   replies = record { rows = Some rows; keeps = true };
   told = record {
     made = Gave rows ∷ [];
@@ -98,8 +98,8 @@ shut parts limits old new refusals.OutOfMemory (inr (rows, good, after)) = recor
 }
 
 -- memory ran out before the keeper was called
-pub shut_at_once : (told : Option KeeperTold) → OpensPartly told told
-shut_at_once told = record {
+pub unstarted_at_once : (told : Option KeeperTold) → OpensPartly told told
+unstarted_at_once told = record {
   replies = record { rows = None; keeps = true };
   told = record { made = []; more = start_calls_of None true; begins = refl; between = told; told = refl; last = inl refl };
 }

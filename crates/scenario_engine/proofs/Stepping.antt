@@ -14,15 +14,17 @@ use Rattle.line_steps.specs.declared.head.Head.{Head}
 use Rattle.scenario_text.specs.declared.line.Line.{Line}
 use Rattle.scenario_text.specs.declared.line.Line.TheVariants as lines
 use Rattle.scenario_text.specs.Line.{is_event}
+use Rattle.scenario_engine.specs.declared.failure.LineFailure.{LineFailure}
+use Rattle.scenario_engine.specs.declared.failure.LineFailure.TheVariants as failures
 use Rattle.scenario_engine.specs.declared.kind.LineKind.{LineKind}
 use Rattle.scenario_engine.specs.declared.kind.LineKind.TheVariants as kinds
-use Rattle.scenario_engine.specs.Engine.{Replies, Target, TheHead, TheBoot, NoBoot, target_in, opened_target, target_of, target_calls, kind_of, in_head, in_boot, reopens, line_over, line_on, calls_over, calls_on, step, line_calls}
+use Rattle.scenario_engine.specs.Engine.{Replies, Target, TheHead, TheBoot, TheUnstarted, target_in, opened_target, target_of, target_calls, kind_of, in_head, in_boot, reopens, line_over, line_on, calls_over, calls_on, step, line_calls}
 use Rattle.scenario_engine.specs.KeeperCalls.{TellsCalls, TellsSome}
-use Rattle.scenario_engine.specs.Opening.{StartReplies, Opened, Shut, start_calls}
+use Rattle.scenario_engine.specs.Opening.{StartReplies, Opened, UnstartedBoot, start_calls}
 use Rattle.session_steps.specs.Setup.{set_up}
 use Rattle.scenario_engine.specs.Running.{started, quiet_line}
-use Rattle.scenario_engine.specs.State.{RunningState, State, Heading, Running, Outcome, RefusedIn, DoneTo, NotStarted}
-use Rattle.scenario_engine.specs.Telling.{Opens, IsShut, Commits, CommitsPartly, Reaches, IsUnreached, DoesOn, DoesPartlyOn, AnswersOn, EndsOn, Does, DoesPartly, Answers, Ends}
+use Rattle.scenario_engine.specs.State.{RunningState, State, Heading, Running, Outcome, RefusedIn, DoneTo, UnstartedIn}
+use Rattle.scenario_engine.specs.Telling.{Opens, IsUnstarted, Commits, CommitsPartly, Reaches, ReachesUnstarted, DoesOn, DoesPartlyOn, AnswersOn, failure_of, EndsOn, Does, DoesPartly, Answers, Ends}
 use Rattle.scenario_engine.proofs.Calls.{all_made, then_calls, then_some, some_first}
 
 -- replies that nobody asks for
@@ -47,8 +49,8 @@ reached_opened head start old new h = record {
   told = h.told;
 }
 
-unreached_shut : (head : Head) (refusal : StartRefusal) (old new : Option KeeperTold) → Opens head.parts head.limits (Shut refusal) old new → (h : Head) × Reaches (Heading head) true (NoBoot h refusal) old new
-unreached_shut head refusal old new h = (
+unstarted_reached : (head : Head) (refusal : StartRefusal) (old new : Option KeeperTold) → Opens head.parts head.limits (UnstartedBoot refusal) old new → (h : Head) × Reaches (Heading head) true (TheUnstarted h refusal) old new
+unstarted_reached head refusal old new h = (
   head,
   record {
     replies = h.replies;
@@ -57,35 +59,19 @@ unreached_shut head refusal old new h = (
   },
 )
 
-pub unreached : (head : Head) (refusal : StartRefusal) (old new : Option KeeperTold) → IsShut refusal head.parts head.limits old new → IsUnreached refusal (Heading head) true old new
-unreached head refusals.KeeperFailed old new h = unreached_shut head refusals.KeeperFailed old new h
-unreached head (refusals.BadRow id) old new h = unreached_shut head (refusals.BadRow id) old new h
-unreached head refusals.BootsSpent old new h = unreached_shut head refusals.BootsSpent old new h
-unreached head refusals.OutOfMemory old new h = record { replies = h.replies; told = h.told }
+pub reaches_unstarted : (head : Head) (refusal : StartRefusal) (old new : Option KeeperTold) → IsUnstarted refusal head.parts head.limits old new → ReachesUnstarted refusal (Heading head) true old new
+reaches_unstarted head refusals.KeeperFailed old new h = unstarted_reached head refusals.KeeperFailed old new h
+reaches_unstarted head (refusals.BadRow id) old new h = unstarted_reached head (refusals.BadRow id) old new h
+reaches_unstarted head refusals.BootsSpent old new h = unstarted_reached head refusals.BootsSpent old new h
+reaches_unstarted head refusals.OutOfMemory old new h = record { replies = h.replies; told = h.told }
 
 -- a line of another kind is refused in the head
 pub not_quiet : (line : Line) (head : Head) → kind_of line ≢ kinds.Quiet → head_line head line ≡ Refused
 not_quiet lines.Pass head kind = absurd (kind refl)
-not_quiet (lines.Component name) head kind = absurd (kind refl)
-not_quiet (lines.Hard from to) head kind = absurd (kind refl)
-not_quiet (lines.Soft from to) head kind = absurd (kind refl)
-not_quiet (lines.Owns name table) head kind = absurd (kind refl)
-not_quiet (lines.Limit entries bytes) head kind = absurd (kind refl)
-not_quiet (lines.Bricks bricks most least) head kind = absurd (kind refl)
-not_quiet (lines.Key bytes) head kind = absurd (kind refl)
-not_quiet (lines.Begin c) head kind = refl
-not_quiet (lines.Enter c name) head kind = refl
-not_quiet (lines.Exit c) head kind = refl
-not_quiet (lines.Read c table key) head kind = refl
-not_quiet (lines.List c table) head kind = refl
-not_quiet (lines.Put c table key bytes) head kind = refl
+not_quiet (lines.Head line) head kind = absurd (kind refl)
+not_quiet (lines.Call c line) head kind = refl
 not_quiet (lines.Commit c) head kind = refl
-not_quiet (lines.Drop c) head kind = refl
-not_quiet (lines.Down name) head kind = refl
-not_quiet (lines.Up name) head kind = refl
-not_quiet (lines.Reboot name) head kind = refl
-not_quiet lines.Table head kind = refl
-not_quiet lines.Journal head kind = refl
+not_quiet (lines.Boot line) head kind = refl
 not_quiet lines.Reopen head kind = refl
 not_quiet (lines.Session line) head kind = refl
 
@@ -149,7 +135,7 @@ reopened_partly line r start old new kind h =
     let replies : Replies = to_reopen h.replies in
     record { replies = replies; unkept = refl; told = subst (λ k. TellsSome (calls_over r k replies) old new) (sym kind) (all_made (start_calls h.replies) old new h.told) }
 
-not_reopened : (line : Line) (r : RunningState) (refusal : StartRefusal) (old new : Option KeeperTold) → kind_of line ≡ kinds.Reopens → Opens r.boot.start.deployment r.boot.start.limits (Shut refusal) old new → (state : State) × DoesOn (TheBoot r) line (NotStarted state refusal) old new
+not_reopened : (line : Line) (r : RunningState) (refusal : StartRefusal) (old new : Option KeeperTold) → kind_of line ≡ kinds.Reopens → Opens r.boot.start.deployment r.boot.start.limits (UnstartedBoot refusal) old new → (state : State) × DoesOn (TheBoot r) line (UnstartedIn state refusal) old new
 not_reopened line r refusal old new kind h =
     let replies : Replies = to_reopen h.replies in (
       Running r,
@@ -160,7 +146,7 @@ not_reopened line r refusal old new kind h =
       },
     )
 
-pub reopen_ends : (line : Line) (r : RunningState) (refusal : StartRefusal) (old new : Option KeeperTold) → kind_of line ≡ kinds.Reopens → IsShut refusal r.boot.start.deployment r.boot.start.limits old new → EndsOn refusal (TheBoot r) line old new
+pub reopen_ends : (line : Line) (r : RunningState) (refusal : StartRefusal) (old new : Option KeeperTold) → kind_of line ≡ kinds.Reopens → IsUnstarted refusal r.boot.start.deployment r.boot.start.limits old new → EndsOn (failure_of refusal) (TheBoot r) line old new
 reopen_ends line r refusals.KeeperFailed old new kind h = not_reopened line r refusals.KeeperFailed old new kind h
 reopen_ends line r (refusals.BadRow id) old new kind h = not_reopened line r (refusals.BadRow id) old new kind h
 reopen_ends line r refusals.BootsSpent old new kind h = not_reopened line r refusals.BootsSpent old new kind h
@@ -174,7 +160,7 @@ both first rest = record { first = first; again = rest.again; keeps = rest.keeps
 
 same_line : (target : Target) (line : Line) (first : StartReplies) (rest : Replies) → line_on target line rest ≡ line_on target line (both first rest)
 same_line (TheHead head) line first rest = refl
-same_line (NoBoot head refusal) line first rest = refl
+same_line (TheUnstarted head refusal) line first rest = refl
 same_line (TheBoot r) line first rest = go (kind_of line)
   where
     go : (k : LineKind) → line_over r k line rest ≡ line_over r k line (both first rest)
@@ -184,7 +170,7 @@ same_line (TheBoot r) line first rest = go (kind_of line)
 
 same_calls : (target : Target) (line : Line) (first : StartReplies) (rest : Replies) → calls_on target line rest ≡ calls_on target line (both first rest)
 same_calls (TheHead head) line first rest = refl
-same_calls (NoBoot head refusal) line first rest = refl
+same_calls (TheUnstarted head refusal) line first rest = refl
 same_calls (TheBoot r) line first rest = go (kind_of line)
   where
     go : (k : LineKind) → calls_over r k rest ≡ calls_over r k (both first rest)
@@ -222,41 +208,39 @@ does_line answers.Refused s after line target old between new reach h = does s l
 does_line answers.Done s after line target old between new reach h = does s line target (DoneTo after []) old between new reach h
 does_line (answers.Wrote text) s after line target old between new reach h = does s line target (DoneTo after (string_bytes text)) old between new reach h
 
-pub ends_line : (refusal : StartRefusal) (s : State) (line : Line) (target : Target) (old between new : Option KeeperTold) → Reaches s (is_event line) target old between → EndsOn refusal target line between new → Ends refusal s (Some line) old new
-ends_line refusals.KeeperFailed s line target old between new reach (state, h) = (state, does s line target (NotStarted state refusals.KeeperFailed) old between new reach h)
-ends_line (refusals.BadRow id) s line target old between new reach (state, h) = (state, does s line target (NotStarted state (refusals.BadRow id)) old between new reach h)
-ends_line refusals.BootsSpent s line target old between new reach (state, h) = (state, does s line target (NotStarted state refusals.BootsSpent) old between new reach h)
-ends_line refusals.OutOfMemory s line target old between new reach h = does_partly s line target old between new reach h
+pub ends_line : (failure : LineFailure) (s : State) (line : Line) (target : Target) (old between new : Option KeeperTold) → Reaches s (is_event line) target old between → EndsOn failure target line between new → Ends failure s (Some line) old new
+ends_line (failures.Unstarted refusal) s line target old between new reach (state, h) = (state, does s line target (UnstartedIn state refusal) old between new reach h)
+ends_line failures.OutOfMemory s line target old between new reach h = does_partly s line target old between new reach h
 
 -- a line that has no boot to be done to
-no_boot : (s : State) (line : Line) (head : Head) (refusal : StartRefusal) (old new : Option KeeperTold) → Reaches s (is_event line) (NoBoot head refusal) old new → (state : State) × Does s (Some line) (NotStarted state refusal) old new
-no_boot s line head refusal old new reach =
-    (Heading head, does s line (NoBoot head refusal) (NotStarted (Heading head) refusal) old new new reach (record { replies = no_replies; answers = refl; told = refl }))
+on_unstarted : (s : State) (line : Line) (head : Head) (refusal : StartRefusal) (old new : Option KeeperTold) → Reaches s (is_event line) (TheUnstarted head refusal) old new → (state : State) × Does s (Some line) (UnstartedIn state refusal) old new
+on_unstarted s line head refusal old new reach =
+    (Heading head, does s line (TheUnstarted head refusal) (UnstartedIn (Heading head) refusal) old new new reach (record { replies = no_replies; answers = refl; told = refl }))
 
-pub ends_unreached : (refusal : StartRefusal) (s : State) (line : Line) (old new : Option KeeperTold) → IsUnreached refusal s (is_event line) old new → Ends refusal s (Some line) old new
+pub ends_unstarted : (refusal : StartRefusal) (s : State) (line : Line) (old new : Option KeeperTold) → ReachesUnstarted refusal s (is_event line) old new → Ends (failure_of refusal) s (Some line) old new
 unfolding line_calls
-ends_unreached refusals.KeeperFailed s line old new (head, h) = no_boot s line head refusals.KeeperFailed old new h
-ends_unreached (refusals.BadRow id) s line old new (head, h) = no_boot s line head (refusals.BadRow id) old new h
-ends_unreached refusals.BootsSpent s line old new (head, h) = no_boot s line head refusals.BootsSpent old new h
-ends_unreached refusals.OutOfMemory s line old new h =
+ends_unstarted refusals.KeeperFailed s line old new (head, h) = on_unstarted s line head refusals.KeeperFailed old new h
+ends_unstarted (refusals.BadRow id) s line old new (head, h) = on_unstarted s line head (refusals.BadRow id) old new h
+ends_unstarted refusals.BootsSpent s line old new (head, h) = on_unstarted s line head refusals.BootsSpent old new h
+ends_unstarted refusals.OutOfMemory s line old new h =
     let replies : Replies = both h.replies no_replies in
     record { replies = replies; unkept = refl; told = some_first (target_calls s (is_event line) h.replies) _ old new h.told }
 
 -- how a line on the target of a state ended
-abbrev pub LineEnded : Result LineAnswer StartRefusal → State → State → Line → Option KeeperTold → Option KeeperTold → Type 0
-LineEnded result after s line old new = MatchResult result (λ a. AnswersOn a after (target_in s) line old new) (λ refusal. EndsOn refusal (target_in s) line old new)
+abbrev pub LineEnded : Result LineAnswer LineFailure → State → State → Line → Option KeeperTold → Option KeeperTold → Type 0
+LineEnded result after s line old new = MatchResult result (λ a. AnswersOn a after (target_in s) line old new) (λ failure. EndsOn failure (target_in s) line old new)
 
 -- the same, over equal values
-pub moved : (result result' : Result LineAnswer StartRefusal) (after after' s s' : State) (line : Line) (old new new' : Option KeeperTold) → LineEnded result' after' s' line old new' → result ≡ result' → after ≡ after' → s' ≡ s → new ≡ new' → LineEnded result after s line old new
+pub moved : (result result' : Result LineAnswer LineFailure) (after after' s s' : State) (line : Line) (old new new' : Option KeeperTold) → LineEnded result' after' s' line old new' → result ≡ result' → after ≡ after' → s' ≡ s → new ≡ new' → LineEnded result after s line old new
 moved result result' after after' s s' line old new new' h r a t n =
     let one = subst (λ s. LineEnded result' after' s line old new') t h in
     let two = subst (λ n. LineEnded result' after' s line old n) (sym n) one in
     let three = subst (λ a. LineEnded result' a s line old new) (sym a) two in
     subst (λ r. LineEnded r after s line old new) (sym r) three
 
-pub line_done : (result : Result LineAnswer StartRefusal) (s t after : State) (line : Line) (old between new : Option KeeperTold) → Reaches s (is_event line) (target_in t) old between → LineEnded result after t line between new → MatchResult result (λ a. Answers a after s (Some line) old new) (λ refusal. Ends refusal s (Some line) old new)
+pub line_done : (result : Result LineAnswer LineFailure) (s t after : State) (line : Line) (old between new : Option KeeperTold) → Reaches s (is_event line) (target_in t) old between → LineEnded result after t line between new → MatchResult result (λ a. Answers a after s (Some line) old new) (λ failure. Ends failure s (Some line) old new)
 line_done (Ok a) s t after line old between new reach h = does_line a s after line (target_in t) old between new reach h
-line_done (Err refusal) s t after line old between new reach h = ends_line refusal s line (target_in t) old between new reach h
+line_done (Err failure) s t after line old between new reach h = ends_line failure s line (target_in t) old between new reach h
 
 -- a text for which memory ran out before it was read
 pub unread : (s : State) (line : Option Line) (told : Option KeeperTold) → DoesPartly s line told told

@@ -30,7 +30,8 @@ use Rattle.scenario_text.specs.declared.line.Line.TheVariants as lines
 use Rattle.scenario_text.specs.declared.line.TheConstants.{MAX_LINE_BYTES}
 use Rattle.scenario_text.specs.Line.{is_event}
 use Rattle.scenario_text.specs.Reading.{line_of}
-use Rattle.line_steps.specs.declared.call_lines.CallLine.TheVariants as calls
+use Rattle.scenario_text.specs.declared.boot_line.BootLine.{BootLine}
+use Rattle.scenario_text.specs.declared.boot_line.BootLine.TheVariants as boots
 use Rattle.line_steps.specs.declared.callers.Caller.{Caller}
 use Rattle.line_steps.specs.declared.callers.Caller.TheVariants.{Absent, Live}
 use Rattle.line_steps.specs.declared.head.Head.{Head}
@@ -41,11 +42,11 @@ use Rattle.line_steps.specs.Head.{head_line}
 use Rattle.scenario_text.proofs.Leaving.{Leaves, leaves-or_refused, leaves-within, leaves-weaker, leaves-nothing}
 use Rattle.scenario_engine.specs.declared.kind.LineKind.{LineKind}
 use Rattle.scenario_engine.specs.declared.kind.LineKind.TheVariants as kinds
-use Rattle.scenario_engine.specs.Engine.{Replies, Target, TheHead, TheBoot, NoBoot, opened_target, target_of, target_calls, kind_of, in_head, in_boot, next_opening, reopens, line_over, line_on, step, calls_over as calls_of_kind, calls_on, line_calls, ended_by, ends_over, ends_on, ended_boots}
+use Rattle.scenario_engine.specs.Engine.{Replies, Target, TheHead, TheBoot, TheUnstarted, opened_target, target_of, target_calls, kind_of, in_head, in_boot, next_opening, reopens, line_over, line_on, step, calls_over as calls_of_kind, calls_on, line_calls, ended_by, ends_over, ends_on, ended_boots}
 use Rattle.scenario_engine.specs.KeeperCalls.{KeeperCall, Gave, Kept, Failed, apply_calls, TellsCall, TellsCalls}
-use Rattle.scenario_engine.specs.Opening.{StartReplies, Opening, Opened, Shut, is_spent, opening, opening_of, opening_over, calls_over_rows, start_calls, start_calls_of}
-use Rattle.scenario_engine.specs.Running.{with_callers, with_sessions, with_boot_entry, commit_ends, with_keeper, boot_refusal, keep_calls, caller_commits, caller_calls, caller_drops, commit_step, commit_calls, drop_step, scope_of, goes_down, reboots, down_step, up_step, reboot_step, table_step, journal_step, quiet_line}
-use Rattle.scenario_engine.specs.State.{RunningState, State, Heading, Running, Outcome, RefusedIn, DoneTo, NotStarted}
+use Rattle.scenario_engine.specs.Opening.{StartReplies, Opening, Opened, UnstartedBoot, is_spent, opening, opening_of, opening_over, calls_over_rows, start_calls, start_calls_of}
+use Rattle.scenario_engine.specs.Running.{with_callers, with_sessions, with_boot_entry, commit_ends, with_keeper, boot_refusal, keep_calls, caller_commits, caller_calls, caller_drops, commit_step, commit_calls, drop_step, scope_of, goes_down, reboots, down_step, up_step, reboot_step, table_step, journal_step, boot_line, quiet_line}
+use Rattle.scenario_engine.specs.State.{RunningState, State, Heading, Running, Outcome, RefusedIn, DoneTo, UnstartedIn}
 use Rattle.scenario_engine.specs.Told.{HoldsStateRows, IsOver, IsChained, Tells}
 use Rattle.scenario_engine.specs.Transcript.{Turn, first, answer_to, turn_outcome, calls_to, turn_calls, ends_to, turn_ends, calls_from, boots_in, boots_from, end_from, last_state, RefusedAt, TooLong, Unstarted}
 use Rattle.scenario_engine.proofs.Numbering.{GoesOn, AreLinked, chained_over}
@@ -107,7 +108,7 @@ record OpensOver (parts : Parts) (limits : JournalLimits) (t u : KeeperTold) (st
 
 abbrev StartLeaves : Parts → JournalLimits → KeeperTold → KeeperTold → Opening → Type 0
 StartLeaves parts limits t u (Opened start) = OpensOver parts limits t u start
-StartLeaves parts limits t u (Shut refusal) = u.rows ≡ t.rows
+StartLeaves parts limits t u (UnstartedBoot refusal) = u.rows ≡ t.rows
 
 abbrev rows_told : Option KeeperTold → List RowWrite
 rows_told None = []
@@ -128,7 +129,7 @@ is_left rows left = above greatest_boot (last_boot rows) left
 start_kept : (parts : Parts) (limits : JournalLimits) (rows : List RowWrite) (t v u : KeeperTold) (keeps : Bool) → rows ≡ t.rows → AreOrdered rows → v.rows ≡ t.rows
     → first_bad rows ≡ None → is_spent rows ≡ false
     → TellsCalls (apply_calls (boot_row (last_boot rows + 1) ∷ []) keeps) (Some v) (Some u)
-    → StartLeaves parts limits t u (if keeps then Opened (start_over parts limits rows) else Shut refusals.KeeperFailed)
+    → StartLeaves parts limits t u (if keeps then Opened (start_over parts limits rows) else UnstartedBoot refusals.KeeperFailed)
 start_kept parts limits rows t v u true given ordered same good left told =
     let row : List RowWrite = boot_row (last_boot rows + 1) ∷ [] in
     let put : u.rows ≡ put_all row v.rows = ap rows_told told.2 ∙ ap rows_told told.1 in
@@ -144,7 +145,7 @@ start_kept parts limits rows t v u false given ordered same good left told = row
 start_unspent : (parts : Parts) (limits : JournalLimits) (rows : List RowWrite) (t v u : KeeperTold) (spent keeps : Bool) → rows ≡ t.rows → AreOrdered rows → v.rows ≡ t.rows
     → first_bad rows ≡ None → is_spent rows ≡ spent
     → TellsCalls (if spent then [] else apply_calls (boot_row (last_boot rows + 1) ∷ []) keeps) (Some v) (Some u)
-    → StartLeaves parts limits t u (if spent then Shut refusals.BootsSpent else (if keeps then Opened (start_over parts limits rows) else Shut refusals.KeeperFailed))
+    → StartLeaves parts limits t u (if spent then UnstartedBoot refusals.BootsSpent else (if keeps then Opened (start_over parts limits rows) else UnstartedBoot refusals.KeeperFailed))
 start_unspent parts limits rows t v u true keeps given ordered same good left told = ap rows_told told ∙ same
 start_unspent parts limits rows t v u false keeps given ordered same good left told = start_kept parts limits rows t v u keeps given ordered same good left told
 
@@ -182,7 +183,7 @@ IsAt held P t (Running r) = HoldsBoot P t r.boot
 abbrev IsOn : List RowWrite → (Start → Type 0) → KeeperTold → Target → Type 0
 IsOn held P t (TheHead head) = HoldsFirst held P t
 IsOn held P t (TheBoot r) = HoldsBoot P t r.boot
-IsOn held P t (NoBoot head refusal) = HoldsFirst held P t
+IsOn held P t (TheUnstarted head refusal) = HoldsFirst held P t
 
 same_told : (P : KeeperTold → Type 0) (t u : KeeperTold) → Some u ≡ Some t → P t → P u
 same_told P t u same h = let Q : Option KeeperTold → Type 0 = λ o. IfSome o P in subst Q (sym same) h
@@ -193,7 +194,7 @@ first_over held P t start holds over = let Q : List RowWrite → Type 0 = λ row
 on_opened : (held : List RowWrite) (P : Start → Type 0) (head : Head) (how : Opening) (t u : KeeperTold) → HoldsFirst held P t → StartLeaves head.parts head.limits t u how → IsOn held P u (opened_target head how)
 on_opened held P head (Opened start) t u holds leaves =
     (first_over held P t start holds leaves.over, leaves.rows)
-on_opened held P head (Shut refusal) t u holds leaves = (holds.0, leaves ∙ holds.1)
+on_opened held P head (UnstartedBoot refusal) t u holds leaves = (holds.0, leaves ∙ holds.1)
 
 on_target : (held : List RowWrite) (P : Start → Type 0) (s : State) (event : Bool) (replies : StartReplies) (t u : KeeperTold) → IsAt held P t s
     → TellsCalls (target_calls s event replies) (Some t) (Some u) → IsOn held P u (target_of s event replies)
@@ -205,7 +206,7 @@ on_target held P (Heading head) true replies t u at told =
 -- lines that leave the rows
 
 -- the boot is of the same start, and its journal leaves the same rows
-abbrev HasSameRows : RunningState → RunningState → Type 0
+abbrev pub HasSameRows : RunningState → RunningState → Type 0
 HasSameRows old new =
     (new.boot.start ≡ old.boot.start)
     × (rows_after new.boot.start.base new.boot.entries ≡ rows_after old.boot.start.base old.boot.entries)
@@ -263,29 +264,22 @@ rows_session : (r : RunningState) (a : Answer SessionsState) → Leaves (HasSame
 rows_session r Refused = tt
 rows_session r (Done sessions text) = (refl, refl)
 
-rows_quiet : (r : RunningState) (line : Line) → Leaves (HasSameRows r) (quiet_line r line)
+rows_boot : (r : RunningState) (line : BootLine) → Leaves (HasSameRows r) (boot_line r line)
 unfolding table_step journal_step
+rows_boot r (boots.Begin c) = rows_called r (begin_step r.boot r.callers c)
+rows_boot r (boots.Drop c) = rows_drop r c
+rows_boot r (boots.Down name) = rows_down r name
+rows_boot r (boots.Up name) = rows_up r name
+rows_boot r (boots.Reboot name) = rows_reboot r name
+rows_boot r boots.Table = (refl, refl)
+rows_boot r boots.Journal = (refl, refl)
+
+pub rows_quiet : (r : RunningState) (line : Line) → Leaves (HasSameRows r) (quiet_line r line)
 rows_quiet r lines.Pass = (refl, refl)
-rows_quiet r (lines.Component name) = tt
-rows_quiet r (lines.Hard from to) = tt
-rows_quiet r (lines.Soft from to) = tt
-rows_quiet r (lines.Owns name table) = tt
-rows_quiet r (lines.Limit entries bytes) = tt
-rows_quiet r (lines.Bricks bricks most least) = tt
-rows_quiet r (lines.Key bytes) = tt
-rows_quiet r (lines.Begin c) = rows_called r (begin_step r.boot r.callers c)
-rows_quiet r (lines.Enter c name) = rows_called r (call_step r.boot r.callers c (calls.Enter name))
-rows_quiet r (lines.Exit c) = rows_called r (call_step r.boot r.callers c calls.Exit)
-rows_quiet r (lines.Read c table key) = rows_called r (call_step r.boot r.callers c (calls.Read table key))
-rows_quiet r (lines.List c table) = rows_called r (call_step r.boot r.callers c (calls.List table))
-rows_quiet r (lines.Put c table key bytes) = rows_called r (call_step r.boot r.callers c (calls.Put table key bytes))
+rows_quiet r (lines.Head line) = tt
+rows_quiet r (lines.Call c line) = rows_called r (call_step r.boot r.callers c line)
 rows_quiet r (lines.Commit c) = tt
-rows_quiet r (lines.Drop c) = rows_drop r c
-rows_quiet r (lines.Down name) = rows_down r name
-rows_quiet r (lines.Up name) = rows_up r name
-rows_quiet r (lines.Reboot name) = rows_reboot r name
-rows_quiet r lines.Table = (refl, refl)
-rows_quiet r lines.Journal = (refl, refl)
+rows_quiet r (lines.Boot line) = rows_boot r line
 rows_quiet r lines.Reopen = tt
 rows_quiet r (lines.Session line) = rows_session r (session_line r.sessions line)
 
@@ -373,7 +367,7 @@ left_reopened held P t u r (Opened start) holds leaves =
     let Q : List RowWrite → Type 0 = λ rows. IsOver rows start in
     let next : GoesOn r.boot start = record { over = subst Q holds.1 leaves.over; deployment = leaves.deployment; limits = leaves.limited } in
     (holds.0, (next, leaves.rows))
-left_reopened held P t u r (Shut refusal) holds leaves = (holds.0, leaves ∙ holds.1)
+left_reopened held P t u r (UnstartedBoot refusal) holds leaves = (holds.0, leaves ∙ holds.1)
 
 left_over : (held : List RowWrite) (P : Start → Type 0) (t u : KeeperTold) (r : RunningState) (kind : LineKind) (line : Line) (replies : Replies) → HoldsBoot P t r.boot
     → TellsCalls (calls_of_kind r kind replies) (Some t) (Some u)
@@ -393,7 +387,7 @@ left_on : (held : List RowWrite) (P : Start → Type 0) (t u : KeeperTold) (targ
 left_on held P t u (TheHead head) line replies on told =
     left_in_head held P u head (head_line head line) (same_told (HoldsFirst held P) t u told on)
 left_on held P t u (TheBoot r) line replies on told = left_over held P t u r (kind_of line) line replies on told
-left_on held P t u (NoBoot head refusal) line replies on told = same_told (HoldsFirst held P) t u told on
+left_on held P t u (TheUnstarted head refusal) line replies on told = same_told (HoldsFirst held P) t u told on
 
 left_by_step : (held : List RowWrite) (P : Start → Type 0) (t u : KeeperTold) (s : State) (line : Line) (replies : Replies) → IsAt held P t s
     → TellsCalls (line_calls s line replies) (Some t) (Some u)
@@ -447,12 +441,12 @@ linked_all held P t u s (turn ∷ turns) at told =
         → TellsCalls (if long then [] else (turn_calls s turn ++ (elim o [
           | RefusedIn t ↦ []
           | DoneTo t text ↦ calls_from t turns
-          | NotStarted t refusal ↦ []
+          | UnstartedIn t refusal ↦ []
         ]))) (Some t) (Some u)
         → AreLinked P (if long then boots_in s else (turn_ends s turn ++ (elim o [
           | RefusedIn t ↦ boots_in t
           | DoneTo t text ↦ boots_from t turns
-          | NotStarted t refusal ↦ boots_in t
+          | UnstartedIn t refusal ↦ boots_in t
         ])))
     go true o one all told = linked_in held P t s at
     go false (RefusedIn next) one all told =
@@ -463,9 +457,9 @@ linked_all held P t u s (turn ∷ turns) at told =
         let two : Halves (turn_calls s turn) (calls_from next turns) t u = halves (turn_calls s turn) (calls_from next turns) t u told in
         linked-append P (turn_ends s turn) (boots_from next turns) (IsLeft held two.half (DoneTo next text)) (one two.half two.before)
         (λ later there. all later two.half next there two.after)
-    go false (NotStarted next refusal) one all told =
+    go false (UnstartedIn next refusal) one all told =
         let two : Halves (turn_calls s turn) [] t u = halves (turn_calls s turn) [] t u told in
-        linked-append P (turn_ends s turn) (boots_in next) (IsLeft held two.half (NotStarted next refusal)) (one two.half two.before)
+        linked-append P (turn_ends s turn) (boots_in next) (IsLeft held two.half (UnstartedIn next refusal)) (one two.half two.before)
         (λ later there. linked_in held later two.half next there)
 
 -- the rows that are held at the end
@@ -500,12 +494,12 @@ held_all held P t u s n (turn ∷ turns) at told =
         → TellsCalls (if long then [] else (turn_calls s turn ++ (elim o [
           | RefusedIn t ↦ []
           | DoneTo t text ↦ calls_from t turns
-          | NotStarted t refusal ↦ []
+          | UnstartedIn t refusal ↦ []
         ]))) (Some t) (Some u)
         → HoldsAtEnd held u (last_state (if long then TooLong s n else (elim o [
           | RefusedIn t ↦ RefusedAt t n
           | DoneTo t text ↦ end_from t (n + 1) turns
-          | NotStarted t refusal ↦ Unstarted t refusal
+          | UnstartedIn t refusal ↦ Unstarted t refusal
         ])))
     go true o one all told = held_at held P u s (same_told (λ v. IsAt held P v s) t u told at)
     go false (RefusedIn next) one all told = ends (RefusedIn next) next one (λ later v there. there) told
@@ -513,7 +507,7 @@ held_all held P t u s n (turn ∷ turns) at told =
         let two : Halves (turn_calls s turn) (calls_from next turns) t u = halves (turn_calls s turn) (calls_from next turns) t u told in
         linked_left P (turn_ends s turn) (IsLeft held two.half (DoneTo next text)) (HoldsAtEnd held u (last_state (end_from next (n + 1) turns))) (one two.half two.before)
         (λ later there. all later two.half next there two.after)
-    go false (NotStarted next refusal) one all told = ends (NotStarted next refusal) next one (λ later v there. there) told
+    go false (UnstartedIn next refusal) one all told = ends (UnstartedIn next refusal) next one (λ later v there. there) told
 
 -- the rows at the end, of a keeper that tells or not
 

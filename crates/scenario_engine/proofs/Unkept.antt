@@ -15,7 +15,7 @@ use Rattle.scenario_text.specs.declared.line.Line.{Line}
 use Rattle.scenario_text.specs.Line.{is_event}
 use Rattle.scenario_engine.specs.declared.kind.LineKind.{LineKind}
 use Rattle.scenario_engine.specs.declared.kind.LineKind.TheVariants as kinds
-use Rattle.scenario_engine.specs.Engine.{Replies, Target, TheHead, TheBoot, NoBoot, target_of, target_calls, calls_over, calls_on, kind_of, line_calls}
+use Rattle.scenario_engine.specs.Engine.{Replies, Target, TheHead, TheBoot, TheUnstarted, target_of, target_calls, calls_over, calls_on, kind_of, line_calls}
 use Rattle.scenario_engine.specs.KeeperCalls.{KeeperCall, Gave, Kept, Failed, TellsCalls, apply_calls}
 use Rattle.scenario_engine.specs.Opening.{StartReplies, is_spent, start_calls, start_calls_of}
 use Rattle.scenario_engine.specs.Opening as opening
@@ -80,7 +80,7 @@ over_boot r kinds.Quiet replies unkept = tt
 on_target : (target : Target) (line : Line) (replies : Replies) → replies.keeps ≡ false → AreOfNumber (calls_on target line replies)
 on_target (TheHead head) line replies unkept = tt
 on_target (TheBoot r) line replies unkept = over_boot r (kind_of line) replies unkept
-on_target (NoBoot head refusal) line replies unkept = tt
+on_target (TheUnstarted head refusal) line replies unkept = tt
 
 until_target : (s : State) (event : Bool) (replies : StartReplies) → AreOfNumber (target_calls s event replies)
 until_target (Running r) event replies = tt

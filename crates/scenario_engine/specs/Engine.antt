@@ -8,7 +8,7 @@ use Rattle.scenario_text.specs.Answer.{Answer, Refused, Done}
 use Rattle.line_steps.specs.Head.{head_line}
 use Rattle.line_steps.specs.Texts.{boot_text}
 use Rattle.scenario_text.specs.declared.line.Line.{Line}
-use Rattle.scenario_text.specs.declared.line.Line.TheVariants.{Pass, Component, Hard, Soft, Owns, Limit, Bricks, Key, Begin, Enter, Exit, Read, List as ListLine, Put, Commit, Drop, Down, Up, Reboot, Table, Journal, Reopen, Session}
+use Rattle.scenario_text.specs.declared.line.Line.TheVariants as lines
 use Rattle.scenario_text.specs.Line.{is_event}
 use Rattle.session_steps.specs.Setup.{set_up}
 use Rattle.scenario_engine.specs.declared.engine.Stage.{Stage}
@@ -16,9 +16,9 @@ use Rattle.scenario_engine.specs.declared.engine.Stage.TheVariants as stages
 use Rattle.scenario_engine.specs.declared.kind.LineKind.{LineKind}
 use Rattle.scenario_engine.specs.declared.kind.LineKind.TheVariants as kinds
 use Rattle.scenario_engine.specs.KeeperCalls.{KeeperCall}
-use Rattle.scenario_engine.specs.Opening.{StartReplies, Opening, Opened, Shut, opening, start_calls}
+use Rattle.scenario_engine.specs.Opening.{StartReplies, Opening, Opened, UnstartedBoot, opening, start_calls}
 use Rattle.scenario_engine.specs.Running.{started, quiet_line, commit_step, commit_calls}
-use Rattle.scenario_engine.specs.State.{RunningState, State, Heading, Running, Outcome, RefusedIn, DoneTo, NotStarted}
+use Rattle.scenario_engine.specs.State.{RunningState, State, Heading, Running, Outcome, RefusedIn, DoneTo, UnstartedIn}
 
 -- What the keeper replies while one line is done: to the start that the first event line makes, to the start that a `reopen`
 -- makes, and whether it keeps the writes of a commit. A line asks only for some of it.
@@ -37,11 +37,11 @@ abbrev pub IsAccepted : Stage → Type 0
 IsAccepted (stages.Head head) = deploy_refusal head.parts ≡ None
 IsAccepted (stages.Run r) = Unit {0}
 
--- what a line is done to: the head, a boot, or nothing, since the boot that it needs was not started
+-- what a line is done to: the head, a boot, or nothing, since the boot that it needs was left unstarted
 pub data Target : Type 0 where
   TheHead : (head : Head) → Target
   TheBoot : (running : RunningState) → Target
-  NoBoot : (head : Head) (refusal : StartRefusal) → Target
+  TheUnstarted : (head : Head) (refusal : StartRefusal) → Target
 
 -- what a line is done to in a state that does not change before it
 abbrev pub target_in : State → Target
@@ -51,7 +51,7 @@ target_in (Running r) = TheBoot r
 -- the boot over a head that opens so
 abbrev pub opened_target : Head → Opening → Target
 opened_target head (Opened start) = TheBoot (started (set_up head.setup 0) start)
-opened_target head (Shut refusal) = NoBoot head refusal
+opened_target head (UnstartedBoot refusal) = TheUnstarted head refusal
 
 -- what a line is done to that is an event line, or is none
 abbrev pub target_of : State → Bool → StartReplies → Target
@@ -68,29 +68,13 @@ target_calls (Heading head) true replies = start_calls replies
 
 -- what kind a line is of: it commits the call of a caller, starts the next boot, or calls no keeper
 abbrev pub kind_of : Line → LineKind
-kind_of Pass = kinds.Quiet
-kind_of (Component name) = kinds.Quiet
-kind_of (Hard name other) = kinds.Quiet
-kind_of (Soft name other) = kinds.Quiet
-kind_of (Owns name table) = kinds.Quiet
-kind_of (Limit entries bytes) = kinds.Quiet
-kind_of (Bricks bricks most least) = kinds.Quiet
-kind_of (Key bytes) = kinds.Quiet
-kind_of (Begin caller) = kinds.Quiet
-kind_of (Enter caller name) = kinds.Quiet
-kind_of (Exit caller) = kinds.Quiet
-kind_of (Read caller table key) = kinds.Quiet
-kind_of (ListLine caller table) = kinds.Quiet
-kind_of (Put caller table key bytes) = kinds.Quiet
-kind_of (Commit caller) = kinds.Commits caller
-kind_of (Drop caller) = kinds.Quiet
-kind_of (Down name) = kinds.Quiet
-kind_of (Up name) = kinds.Quiet
-kind_of (Reboot name) = kinds.Quiet
-kind_of Table = kinds.Quiet
-kind_of Journal = kinds.Quiet
-kind_of Reopen = kinds.Reopens
-kind_of (Session line) = kinds.Quiet
+kind_of lines.Pass = kinds.Quiet
+kind_of (lines.Head line) = kinds.Quiet
+kind_of (lines.Call caller line) = kinds.Quiet
+kind_of (lines.Commit caller) = kinds.Commits caller
+kind_of (lines.Boot line) = kinds.Quiet
+kind_of lines.Reopen = kinds.Reopens
+kind_of (lines.Session line) = kinds.Quiet
 
 -- a line of the head, by its answer
 abbrev pub in_head : Head → Answer Head → Outcome
@@ -109,7 +93,7 @@ next_opening r replies = opening r.boot.start.deployment r.boot.start.limits rep
 -- the next boot, where it opens so; the callers of the boot before are gone, and the sessions stay
 abbrev pub reopens : RunningState → Opening → Outcome
 reopens r (Opened start) = DoneTo (Running (started r.sessions start)) (boot_text start.boot)
-reopens r (Shut refusal) = NotStarted (Running r) refusal
+reopens r (UnstartedBoot refusal) = UnstartedIn (Running r) refusal
 
 -- a line over a boot, by its kind
 abbrev pub line_over : RunningState → LineKind → Line → Replies → Outcome
@@ -121,7 +105,7 @@ line_over r kinds.Quiet line replies = in_boot r (quiet_line r line)
 abbrev pub line_on : Target → Line → Replies → Outcome
 line_on (TheHead head) line replies = in_head head (head_line head line)
 line_on (TheBoot r) line replies = line_over r (kind_of line) line replies
-line_on (NoBoot head refusal) line replies = NotStarted (Heading head) refusal
+line_on (TheUnstarted head refusal) line replies = UnstartedIn (Heading head) refusal
 
 -- What a line answers, where the keeper replies so. The first event line starts the boot before it is itself judged.
 unfoldable pub step : State → Line → Replies → Outcome
@@ -137,7 +121,7 @@ calls_over r kinds.Quiet replies = []
 abbrev pub calls_on : Target → Line → Replies → List KeeperCall
 calls_on (TheHead head) line replies = []
 calls_on (TheBoot r) line replies = calls_over r (kind_of line) replies
-calls_on (NoBoot head refusal) line replies = []
+calls_on (TheUnstarted head refusal) line replies = []
 
 -- The calls of the keeper that a line makes: those of a start, one for a commit with writes that the boot does not refuse,
 -- and none else.
@@ -149,7 +133,7 @@ line_calls s line replies =
 -- the boot that a start of the next one ends
 abbrev pub ended_by : RunningState → Opening → List BootValue
 ended_by r (Opened start) = r.boot ∷ []
-ended_by r (Shut refusal) = []
+ended_by r (UnstartedBoot refusal) = []
 
 -- the boot that a line over it ends, by the line's kind
 abbrev pub ends_over : RunningState → LineKind → Replies → List BootValue
@@ -161,7 +145,7 @@ ends_over r kinds.Quiet replies = []
 abbrev pub ends_on : Target → Line → Replies → List BootValue
 ends_on (TheHead head) line replies = []
 ends_on (TheBoot r) line replies = ends_over r (kind_of line) replies
-ends_on (NoBoot head refusal) line replies = []
+ends_on (TheUnstarted head refusal) line replies = []
 
 -- The boot that a line ends: `reopen` ends one where the next one starts.
 unfoldable pub ended_boots : State → Line → Replies → List BootValue

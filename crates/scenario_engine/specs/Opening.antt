@@ -15,10 +15,10 @@ pub record StartReplies : Type 0 where
   pub rows : Option (List RowWrite)
   pub keeps : Bool
 
--- a boot opens so, or is refused
+-- a boot opens so, or is left unstarted for this refusal
 pub data Opening : Type 0 where
   Opened : (start : Start) → Opening
-  Shut : (refusal : StartRefusal) → Opening
+  UnstartedBoot : (refusal : StartRefusal) → Opening
 
 -- whether the last boot of these rows leaves no number for a next one
 abbrev pub is_spent : List RowWrite → Bool
@@ -26,14 +26,14 @@ is_spent rows = nat_le greatest_boot (last_boot rows)
 
 -- over rows of which this is the id of the first bad one: it takes the number after that of the last boot
 abbrev pub opening_over : Parts → JournalLimits → List RowWrite → Bool → Option RowId → Opening
-opening_over parts limits rows keeps (Some id) = Shut (refusals.BadRow id)
+opening_over parts limits rows keeps (Some id) = UnstartedBoot (refusals.BadRow id)
 opening_over parts limits rows keeps None =
-    if is_spent rows then Shut refusals.BootsSpent else (
-    if keeps then Opened (start_over parts limits rows) else Shut refusals.KeeperFailed)
+    if is_spent rows then UnstartedBoot refusals.BootsSpent else (
+    if keeps then Opened (start_over parts limits rows) else UnstartedBoot refusals.KeeperFailed)
 
 -- over the rows that the keeper gives, if it does
 abbrev pub opening_of : Parts → JournalLimits → Option (List RowWrite) → Bool → Opening
-opening_of parts limits None keeps = Shut refusals.KeeperFailed
+opening_of parts limits None keeps = UnstartedBoot refusals.KeeperFailed
 opening_of parts limits (Some rows) keeps = opening_over parts limits rows keeps (first_bad rows)
 
 -- How a boot of these parts and limits opens, where the keeper replies so.

@@ -21,7 +21,8 @@ use Rattle.boot_core.specs.Refusals.{commit_refusal, reboot_refusal}
 use Rattle.boot_core.specs.declared.refusals.CommitRefusal.{CommitRefusal}
 use Rattle.boot_core.specs.declared.refusals.CommitRefusal.TheVariants as commits
 use Rattle.boot_core.specs.declared.refusals.RebootRefusal.{RebootRefusal}
-use Rattle.line_steps.specs.declared.call_lines.CallLine.TheVariants as calls
+use Rattle.scenario_text.specs.declared.boot_line.BootLine.{BootLine}
+use Rattle.scenario_text.specs.declared.boot_line.BootLine.TheVariants as boots
 use Rattle.line_steps.specs.declared.callers.Caller.{Caller}
 use Rattle.line_steps.specs.declared.callers.Caller.TheVariants.{Absent, Live}
 use Rattle.scenario_engine.specs.KeeperCalls.{KeeperCall, apply_calls}
@@ -152,33 +153,22 @@ table_step r = Done r (table_text (rows_after r.boot.start.base r.boot.entries))
 unfoldable pub journal_step : RunningState → Answer RunningState
 journal_step r = Done r (journal_text r.boot.entries)
 
--- a line over a boot that calls no keeper, which no head line is
+-- a line over the boot
+abbrev pub boot_line : RunningState → BootLine → Answer RunningState
+boot_line r (boots.Begin c) = within (with_callers r) (begin_step r.boot r.callers c)
+boot_line r (boots.Drop c) = drop_step r c
+boot_line r (boots.Down name) = down_step r name
+boot_line r (boots.Up name) = up_step r name
+boot_line r (boots.Reboot name) = reboot_step r name
+boot_line r boots.Table = table_step r
+boot_line r boots.Journal = journal_step r
+
+-- a line that calls no keeper, where a boot is started, which no head line is
 abbrev pub quiet_line : RunningState → Line → Answer RunningState
 quiet_line r lines.Pass = Done r []
-quiet_line r (lines.Component name) = Refused
-quiet_line r (lines.Hard from to) = Refused
-quiet_line r (lines.Soft from to) = Refused
-quiet_line r (lines.Owns name table) = Refused
-quiet_line r (lines.Limit entries bytes) = Refused
-quiet_line r (lines.Bricks bricks most least) = Refused
-quiet_line r (lines.Key bytes) = Refused
-quiet_line r (lines.Begin c) = within (with_callers r) (begin_step r.boot r.callers c)
-quiet_line r (lines.Enter c name) =
-    within (with_callers r) (call_step r.boot r.callers c (calls.Enter name))
-quiet_line r (lines.Exit c) =
-    within (with_callers r) (call_step r.boot r.callers c calls.Exit)
-quiet_line r (lines.Read c table key) =
-    within (with_callers r) (call_step r.boot r.callers c (calls.Read table key))
-quiet_line r (lines.List c table) =
-    within (with_callers r) (call_step r.boot r.callers c (calls.List table))
-quiet_line r (lines.Put c table key bytes) =
-    within (with_callers r) (call_step r.boot r.callers c (calls.Put table key bytes))
+quiet_line r (lines.Head line) = Refused
+quiet_line r (lines.Call c line) = within (with_callers r) (call_step r.boot r.callers c line)
 quiet_line r (lines.Commit c) = Refused
-quiet_line r (lines.Drop c) = drop_step r c
-quiet_line r (lines.Down name) = down_step r name
-quiet_line r (lines.Up name) = up_step r name
-quiet_line r (lines.Reboot name) = reboot_step r name
-quiet_line r lines.Table = table_step r
-quiet_line r lines.Journal = journal_step r
+quiet_line r (lines.Boot line) = boot_line r line
 quiet_line r lines.Reopen = Refused
 quiet_line r (lines.Session line) = within (with_sessions r) (session_line r.sessions line)

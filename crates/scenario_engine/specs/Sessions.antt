@@ -2,16 +2,17 @@
 use Rattle.std.specs.Prelude.{◌≡◌, ℕ, nat_lt, if◌then◌else◌, List, [], ◌∷◌, ◌++◌, length, map, Option, Some, None}
 use Rattle.boot_core.specs.Boot.{BootValue}
 use Rattle.scenario_text.specs.declared.line.Line.{Line}
-use Rattle.scenario_text.specs.declared.line.Line.TheVariants.{Pass, Component, Hard, Soft, Owns, Limit, Bricks, Key, Begin, Enter, Exit, Read, List as ListLine, Put, Commit, Drop, Down, Up, Reboot, Table, Journal, Reopen, Session}
+use Rattle.scenario_text.specs.declared.line.Line.TheVariants as lines
 use Rattle.scenario_text.specs.declared.line.TheConstants.{MAX_LINE_BYTES}
 use Rattle.scenario_text.specs.Line.{is_event}
 use Rattle.scenario_text.specs.Reading.{line_of}
 use Rattle.session_steps.specs.Promise.{SessionTurn, Does, Boots}
 use Rattle.session_steps.specs.Sessions.{SessionsState}
-use Rattle.session_steps.specs.Setup.{SetupState, HasCounts, set_up}
+use Rattle.scenario_text.specs.Setup.{SetupState, HasCounts}
+use Rattle.session_steps.specs.Setup.{set_up}
 use Rattle.session_steps.specs.Standing.{SessionsStand}
-use Rattle.scenario_engine.specs.Engine.{Replies, Target, TheHead, TheBoot, NoBoot, target_of}
-use Rattle.scenario_engine.specs.State.{State, Heading, Running, RefusedIn, DoneTo, NotStarted}
+use Rattle.scenario_engine.specs.Engine.{Replies, Target, TheHead, TheBoot, TheUnstarted, target_of}
+use Rattle.scenario_engine.specs.State.{State, Heading, Running, RefusedIn, DoneTo, UnstartedIn}
 use Rattle.scenario_engine.specs.Transcript.{Turn, first, end_from, last_state, turn_outcome, boots_in}
 
 -- the starts of the boot of a state, for sessions
@@ -21,35 +22,19 @@ start_turns t = map (λ (b : BootValue). Boots b.start.boot) (boots_in t)
 -- what a line does to sessions that was done, left this state and wrote this text: a line about sessions, and the start of
 -- the next boot
 abbrev pub turns_by : Line → State → List ℕ → List SessionTurn
-turns_by Pass t text = []
-turns_by (Component name) t text = []
-turns_by (Hard name other) t text = []
-turns_by (Soft name other) t text = []
-turns_by (Owns name table) t text = []
-turns_by (Limit entries bytes) t text = []
-turns_by (Bricks bricks most least) t text = []
-turns_by (Key bytes) t text = []
-turns_by (Begin caller) t text = []
-turns_by (Enter caller name) t text = []
-turns_by (Exit caller) t text = []
-turns_by (Read caller table key) t text = []
-turns_by (ListLine caller table) t text = []
-turns_by (Put caller table key bytes) t text = []
-turns_by (Commit caller) t text = []
-turns_by (Drop caller) t text = []
-turns_by (Down name) t text = []
-turns_by (Up name) t text = []
-turns_by (Reboot name) t text = []
-turns_by Table t text = []
-turns_by Journal t text = []
-turns_by Reopen t text = start_turns t
-turns_by (Session line) t text = Does line text ∷ []
+turns_by lines.Pass t text = []
+turns_by (lines.Head line) t text = []
+turns_by (lines.Call caller line) t text = []
+turns_by (lines.Commit caller) t text = []
+turns_by (lines.Boot line) t text = []
+turns_by lines.Reopen t text = start_turns t
+turns_by (lines.Session line) t text = Does line text ∷ []
 
 -- the start of the first boot, where a line in this state starts it before it is done to this
 abbrev pub first_start : State → Target → List SessionTurn
 first_start (Heading head) (TheHead h) = []
 first_start (Heading head) (TheBoot r) = Boots r.boot.start.boot ∷ []
-first_start (Heading head) (NoBoot h refusal) = []
+first_start (Heading head) (TheUnstarted h refusal) = []
 first_start (Running r) target = []
 
 -- the same of a text that spells this line, or none
@@ -80,7 +65,7 @@ session_turns s (turn ∷ turns) =
     (elim (turn_outcome s turn) [
       | RefusedIn t ↦ starts_on s turn
       | DoneTo t text ↦ turn_on_sessions s turn t text ++ session_turns t turns
-      | NotStarted t refusal ↦ starts_on s turn
+      | UnstartedIn t refusal ↦ starts_on s turn
     ])
 
 -- the sessions of a state are these, of this setup: those beside its boot, or those that its head sets up

@@ -18,8 +18,8 @@ pub data State : Type 0 where
   Running : (running : RunningState) → State
 
 -- A line is refused, in this state: an event line has a boot there, which it has started where there was none. Or it is
--- done, which leaves this state, and writes this text. Or a boot that it needed was not started.
+-- done, which leaves this state, and writes this text. Or the boot that it needs was left unstarted.
 pub data Outcome : Type 0 where
   RefusedIn : (state : State) → Outcome
   DoneTo : (state : State) (text : List ℕ) → Outcome
-  NotStarted : (state : State) (refusal : StartRefusal) → Outcome
+  UnstartedIn : (state : State) (refusal : StartRefusal) → Outcome

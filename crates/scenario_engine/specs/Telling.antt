@@ -13,11 +13,13 @@ use Rattle.scenario_text.specs.declared.answer.LineAnswer.{LineAnswer}
 use Rattle.scenario_text.specs.declared.answer.LineAnswer.TheVariants as answers
 use Rattle.line_steps.specs.declared.head.Head.{Head}
 use Rattle.scenario_text.specs.declared.line.Line.{Line}
-use Rattle.scenario_engine.specs.Engine.{Replies, Target, NoBoot, target_of, target_calls, line_on, calls_on}
+use Rattle.scenario_engine.specs.declared.failure.LineFailure.{LineFailure}
+use Rattle.scenario_engine.specs.declared.failure.LineFailure.TheVariants as failures
+use Rattle.scenario_engine.specs.Engine.{Replies, Target, TheUnstarted, target_of, target_calls, line_on, calls_on}
 use Rattle.scenario_engine.specs.KeeperCalls.{TellsCalls, TellsSome}
-use Rattle.scenario_engine.specs.Opening.{StartReplies, Opening, Shut, opening, start_calls}
+use Rattle.scenario_engine.specs.Opening.{StartReplies, Opening, UnstartedBoot, opening, start_calls}
 use Rattle.scenario_engine.specs.Running.{commit_step, commit_calls}
-use Rattle.scenario_engine.specs.State.{RunningState, State, Outcome, RefusedIn, DoneTo, NotStarted}
+use Rattle.scenario_engine.specs.State.{RunningState, State, Outcome, RefusedIn, DoneTo, UnstartedIn}
 use Rattle.scenario_engine.specs.Transcript.{answer_to, calls_to}
 
 -- A boot opened so.
@@ -31,16 +33,16 @@ pub record OpensPartly (old new : Option KeeperTold) : Type 0 where
   pub replies : StartReplies
   pub told : TellsSome (start_calls replies) old new
 
--- A boot was not opened, for this refusal.
-abbrev pub IsShut : StartRefusal → Parts → JournalLimits
+-- A boot was left unstarted, for this refusal.
+abbrev pub IsUnstarted : StartRefusal → Parts → JournalLimits
     → Option KeeperTold → Option KeeperTold → Type 0
-IsShut refusals.KeeperFailed parts limits old new =
-    Opens parts limits (Shut refusals.KeeperFailed) old new
-IsShut (refusals.BadRow id) parts limits old new =
-    Opens parts limits (Shut (refusals.BadRow id)) old new
-IsShut refusals.BootsSpent parts limits old new =
-    Opens parts limits (Shut refusals.BootsSpent) old new
-IsShut refusals.OutOfMemory parts limits old new = OpensPartly old new
+IsUnstarted refusals.KeeperFailed parts limits old new =
+    Opens parts limits (UnstartedBoot refusals.KeeperFailed) old new
+IsUnstarted (refusals.BadRow id) parts limits old new =
+    Opens parts limits (UnstartedBoot (refusals.BadRow id)) old new
+IsUnstarted refusals.BootsSpent parts limits old new =
+    Opens parts limits (UnstartedBoot refusals.BootsSpent) old new
+IsUnstarted refusals.OutOfMemory parts limits old new = OpensPartly old new
 
 -- The call of a caller committed, or was refused, with this answer.
 pub record Commits (r : RunningState) (caller : ℕ) (answer : Answer RunningState) (old new : Option KeeperTold) : Type 0 where
@@ -63,16 +65,16 @@ pub record ReachesPartly (s : State) (event : Bool) (old new : Option KeeperTold
   pub replies : StartReplies
   pub told : TellsSome (target_calls s event replies) old new
 
--- A line has no boot to be done to, for this refusal.
-abbrev pub IsUnreached : StartRefusal → State → Bool
+-- A line has no boot to be done to: it was left unstarted, for this refusal.
+abbrev pub ReachesUnstarted : StartRefusal → State → Bool
     → Option KeeperTold → Option KeeperTold → Type 0
-IsUnreached refusals.KeeperFailed s event old new =
-    (head : Head) × Reaches s event (NoBoot head refusals.KeeperFailed) old new
-IsUnreached (refusals.BadRow id) s event old new =
-    (head : Head) × Reaches s event (NoBoot head (refusals.BadRow id)) old new
-IsUnreached refusals.BootsSpent s event old new =
-    (head : Head) × Reaches s event (NoBoot head refusals.BootsSpent) old new
-IsUnreached refusals.OutOfMemory s event old new = ReachesPartly s event old new
+ReachesUnstarted refusals.KeeperFailed s event old new =
+    (head : Head) × Reaches s event (TheUnstarted head refusals.KeeperFailed) old new
+ReachesUnstarted (refusals.BadRow id) s event old new =
+    (head : Head) × Reaches s event (TheUnstarted head (refusals.BadRow id)) old new
+ReachesUnstarted refusals.BootsSpent s event old new =
+    (head : Head) × Reaches s event (TheUnstarted head refusals.BootsSpent) old new
+ReachesUnstarted refusals.OutOfMemory s event old new = ReachesPartly s event old new
 
 -- A line was done to a target, with this outcome.
 pub record DoesOn (target : Target) (line : Line) (outcome : Outcome) (old new : Option KeeperTold) : Type 0 where
@@ -94,15 +96,18 @@ pub record DoesPartlyOn (target : Target) (line : Line) (old new : Option Keeper
   pub unkept : replies.keeps ≡ false
   pub told : TellsSome (calls_on target line replies) old new
 
--- A line on a target ended for this refusal.
-abbrev pub EndsOn : StartRefusal → Target → Line → Option KeeperTold → Option KeeperTold → Type 0
-EndsOn refusals.KeeperFailed target line old new =
-    (state : State) × DoesOn target line (NotStarted state refusals.KeeperFailed) old new
-EndsOn (refusals.BadRow id) target line old new =
-    (state : State) × DoesOn target line (NotStarted state (refusals.BadRow id)) old new
-EndsOn refusals.BootsSpent target line old new =
-    (state : State) × DoesOn target line (NotStarted state refusals.BootsSpent) old new
-EndsOn refusals.OutOfMemory target line old new = DoesPartlyOn target line old new
+-- why a line was not done whose boot was left unstarted for this refusal
+abbrev pub failure_of : StartRefusal → LineFailure
+failure_of refusals.KeeperFailed = failures.Unstarted refusals.KeeperFailed
+failure_of (refusals.BadRow id) = failures.Unstarted (refusals.BadRow id)
+failure_of refusals.BootsSpent = failures.Unstarted refusals.BootsSpent
+failure_of refusals.OutOfMemory = failures.OutOfMemory
+
+-- A line was not done to a target: the boot that it needs was left unstarted, or memory ran out.
+abbrev pub EndsOn : LineFailure → Target → Line → Option KeeperTold → Option KeeperTold → Type 0
+EndsOn (failures.Unstarted refusal) target line old new =
+    (state : State) × DoesOn target line (UnstartedIn state refusal) old new
+EndsOn failures.OutOfMemory target line old new = DoesPartlyOn target line old new
 
 -- A text that spells this line, or none, was done, with this outcome.
 pub record Does (s : State) (line : Option Line) (outcome : Outcome) (old new : Option KeeperTold) : Type 0 where
@@ -132,13 +137,8 @@ HoldsRowsButNumber old new =
     IfSome old (λ o. IfSome new (λ n.
     (numbers : List ℕ) × (n.rows ≡ put_all (map boot_row numbers) o.rows)))
 
--- A text that spells this line, or none, was not done for this refusal: a boot that it needs was not started, or memory ran
--- out.
-abbrev pub Ends : StartRefusal → State → Option Line → Option KeeperTold → Option KeeperTold → Type 0
-Ends refusals.KeeperFailed s line old new =
-    (state : State) × Does s line (NotStarted state refusals.KeeperFailed) old new
-Ends (refusals.BadRow id) s line old new =
-    (state : State) × Does s line (NotStarted state (refusals.BadRow id)) old new
-Ends refusals.BootsSpent s line old new =
-    (state : State) × Does s line (NotStarted state refusals.BootsSpent) old new
-Ends refusals.OutOfMemory s line old new = DoesPartly s line old new
+-- A text that spells this line, or none, was not done: the boot that it needs was left unstarted, or memory ran out.
+abbrev pub Ends : LineFailure → State → Option Line → Option KeeperTold → Option KeeperTold → Type 0
+Ends (failures.Unstarted refusal) s line old new =
+    (state : State) × Does s line (UnstartedIn state refusal) old new
+Ends failures.OutOfMemory s line old new = DoesPartly s line old new

@@ -8,7 +8,7 @@ use Rattle.scenario_text.specs.Reading.{line_of}
 use Rattle.line_steps.specs.Head.{no_head}
 use Rattle.scenario_engine.specs.Engine.{Replies, step, line_calls, ended_boots}
 use Rattle.scenario_engine.specs.KeeperCalls.{KeeperCall}
-use Rattle.scenario_engine.specs.State.{State, Heading, Running, Outcome, RefusedIn, DoneTo, NotStarted}
+use Rattle.scenario_engine.specs.State.{State, Heading, Running, Outcome, RefusedIn, DoneTo, UnstartedIn}
 
 -- A line of a scenario, with what the keeper replies while it is done.
 pub record Turn : Type 0 where
@@ -56,7 +56,7 @@ transcript s [] = []
 transcript s (turn ∷ turns) = elim (turn_outcome s turn) [
   | RefusedIn t ↦ []
   | DoneTo t text ↦ text ++ transcript t turns
-  | NotStarted t refusal ↦ []
+  | UnstartedIn t refusal ↦ []
 ]
 
 -- A scenario comes to its end, to a line that is refused or too long, which has this number, or to a boot that was not
@@ -75,7 +75,7 @@ end_from s n (turn ∷ turns) =
     (elim (turn_outcome s turn) [
       | RefusedIn t ↦ RefusedAt t n
       | DoneTo t text ↦ end_from t (n + 1) turns
-      | NotStarted t refusal ↦ Unstarted t refusal
+      | UnstartedIn t refusal ↦ Unstarted t refusal
     ])
 
 -- The calls of the keeper that turns make from here on, up to where the scenario ends.
@@ -86,7 +86,7 @@ calls_from s (turn ∷ turns) =
     (turn_calls s turn ++ (elim (turn_outcome s turn) [
       | RefusedIn t ↦ []
       | DoneTo t text ↦ calls_from t turns
-      | NotStarted t refusal ↦ []
+      | UnstartedIn t refusal ↦ []
     ]))
 
 -- the boot of a state, where one is started
@@ -103,7 +103,7 @@ boots_from s (turn ∷ turns) =
     (turn_ends s turn ++ (elim (turn_outcome s turn) [
       | RefusedIn t ↦ boots_in t
       | DoneTo t text ↦ boots_from t turns
-      | NotStarted t refusal ↦ boots_in t
+      | UnstartedIn t refusal ↦ boots_in t
     ]))
 
 -- the state at the end

@@ -5,11 +5,13 @@ ghost use Rattle.outside.specs.Faults.{Rose};
 ghost use Rattle.outside.specs.Keeper.{KeeperTold};
 ghost use Rattle.scenario_text.specs.declared.line.Line.{Line};
 ghost use Rattle.scenario_text.specs.Reading.{line_of};
+ghost use Rattle.scenario_engine.specs.declared.failure.LineFailure.{LineFailure};
 ghost use Rattle.scenario_engine.specs.declared.kind.LineKind.{LineKind};
 ghost use Rattle.scenario_engine.specs.Engine.{target_in, kind_of};
-ghost use Rattle.scenario_engine.specs.Telling.{Reaches, IsUnreached, AnswersOn, EndsOn, Answers, Ends};
+ghost use Rattle.scenario_engine.specs.Telling.{Reaches, ReachesUnstarted, AnswersOn, EndsOn, Answers, Ends};
 ghost use Rattle.scenario_engine.specs.Transcript.{first};
 
+use crate::failure::{LineFailure, failure_of};
 use crate::kind::{LineKind, kind_of};
 use crate::running::Running;
 use boot_core::StartRefusal;
@@ -60,7 +62,7 @@ impl Engine {
         ensures starts { MatchResult result
             (λ _. Reaches self.old true (target_in self.new)
             (K.told keeper.old) (K.told keeper.new))
-            (λ refusal. IsUnreached refusal self.old true
+            (λ refusal. ReachesUnstarted refusal self.old true
             (K.told keeper.old) (K.told keeper.new)) }
         ensures failed { result ≡ Err StartRefusal.KeeperFailed
             → Rose (K.faults keeper.old) (K.faults keeper.new) }
@@ -91,7 +93,7 @@ impl Engine {
         ensures reaches { MatchResult result
             (λ _. Reaches self.old event (target_in self.new)
             (K.told keeper.old) (K.told keeper.new))
-            (λ refusal. IsUnreached refusal self.old event
+            (λ refusal. ReachesUnstarted refusal self.old event
             (K.told keeper.old) (K.told keeper.new)) }
         ensures failed { result ≡ Err StartRefusal.KeeperFailed
             → Rose (K.faults keeper.old) (K.faults keeper.new) }
@@ -110,21 +112,22 @@ impl Engine {
         alloc: Global,
         caller: u64,
         keeper: &mut K,
-    ) -> Result<LineAnswer, StartRefusal>
+    ) -> Result<LineAnswer, LineFailure>
         ensures answer { (line : Line) → kind_of line ≡ LineKind.Commits caller
             → MatchResult result
             (λ a. AnswersOn a self.new (target_in self.old) line
             (K.told keeper.old) (K.told keeper.new))
-            (λ refusal. EndsOn refusal (target_in self.old) line
+            (λ failure. EndsOn failure (target_in self.old) line
             (K.told keeper.old) (K.told keeper.new)) }
-        ensures failed { result ≢ Err StartRefusal.KeeperFailed }
+        ensures failed { result ≢ Err (LineFailure.Unstarted StartRefusal.KeeperFailed) }
+        ensures memory { result ≢ Err (LineFailure.Unstarted StartRefusal.OutOfMemory) }
         ensures count { K.faults keeper.old ≤ K.faults keeper.new }
     {
         match &mut self.stage {
             Stage::Head(_) => Ok(LineAnswer::Refused),
             Stage::Run(running) => match running.commit_step(alloc, caller, keeper) {
                 Ok(answer) => Ok(answer),
-                Err(OutOfMemory) => Err(StartRefusal::OutOfMemory),
+                Err(OutOfMemory) => Err(LineFailure::OutOfMemory),
             },
         }
     }
@@ -134,15 +137,16 @@ impl Engine {
         &mut self,
         alloc: Global,
         keeper: &mut K,
-    ) -> Result<LineAnswer, StartRefusal>
+    ) -> Result<LineAnswer, LineFailure>
         ensures answer { (line : Line) → kind_of line ≡ LineKind.Reopens
             → MatchResult result
             (λ a. AnswersOn a self.new (target_in self.old) line
             (K.told keeper.old) (K.told keeper.new))
-            (λ refusal. EndsOn refusal (target_in self.old) line
+            (λ failure. EndsOn failure (target_in self.old) line
             (K.told keeper.old) (K.told keeper.new)) }
-        ensures failed { result ≡ Err StartRefusal.KeeperFailed
+        ensures failed { result ≡ Err (LineFailure.Unstarted StartRefusal.KeeperFailed)
             → Rose (K.faults keeper.old) (K.faults keeper.new) }
+        ensures memory { result ≢ Err (LineFailure.Unstarted StartRefusal.OutOfMemory) }
         ensures count { K.faults keeper.old ≤ K.faults keeper.new }
     {
         match mem::replace(&mut self.stage, Stage::Head(Head::new(alloc))) {
@@ -156,10 +160,10 @@ impl Engine {
                     self.stage = Stage::Run(next);
                     match boot_text(alloc, number) {
                         Ok(text) => Ok(LineAnswer::Wrote(text)),
-                        Err(OutOfMemory) => Err(StartRefusal::OutOfMemory),
+                        Err(OutOfMemory) => Err(LineFailure::OutOfMemory),
                     }
                 }
-                Err(refusal) => Err(refusal),
+                Err(refusal) => Err(failure_of(refusal)),
             },
         }
     }
@@ -182,14 +186,15 @@ impl Engine {
         alloc: Global,
         line: Line,
         keeper: &mut K,
-    ) -> Result<LineAnswer, StartRefusal>
+    ) -> Result<LineAnswer, LineFailure>
         ensures answer { MatchResult result
             (λ a. AnswersOn a self.new (target_in self.old) line
             (K.told keeper.old) (K.told keeper.new))
-            (λ refusal. EndsOn refusal (target_in self.old) line
+            (λ failure. EndsOn failure (target_in self.old) line
             (K.told keeper.old) (K.told keeper.new)) }
-        ensures failed { result ≡ Err StartRefusal.KeeperFailed
+        ensures failed { result ≡ Err (LineFailure.Unstarted StartRefusal.KeeperFailed)
             → Rose (K.faults keeper.old) (K.faults keeper.new) }
+        ensures memory { result ≢ Err (LineFailure.Unstarted StartRefusal.OutOfMemory) }
         ensures count { K.faults keeper.old ≤ K.faults keeper.new }
     {
         match kind_of(&line) {
@@ -197,7 +202,7 @@ impl Engine {
             LineKind::Reopens => self.reopen(alloc, keeper),
             LineKind::Quiet => match self.quiet_line(alloc, line) {
                 Ok(answer) => Ok(answer),
-                Err(OutOfMemory) => Err(StartRefusal::OutOfMemory),
+                Err(OutOfMemory) => Err(LineFailure::OutOfMemory),
             },
         }
     }
@@ -208,19 +213,20 @@ impl Engine {
         alloc: Global,
         line: Line,
         keeper: &mut K,
-    ) -> Result<LineAnswer, StartRefusal>
+    ) -> Result<LineAnswer, LineFailure>
         ensures answer { MatchResult result
             (λ a. Answers a self.new self.old (Some line)
             (K.told keeper.old) (K.told keeper.new))
-            (λ refusal. Ends refusal self.old (Some line)
+            (λ failure. Ends failure self.old (Some line)
             (K.told keeper.old) (K.told keeper.new)) }
-        ensures failed { result ≡ Err StartRefusal.KeeperFailed
+        ensures failed { result ≡ Err (LineFailure.Unstarted StartRefusal.KeeperFailed)
             → Rose (K.faults keeper.old) (K.faults keeper.new) }
+        ensures memory { result ≢ Err (LineFailure.Unstarted StartRefusal.OutOfMemory) }
         ensures count { K.faults keeper.old ≤ K.faults keeper.new }
     {
         match self.reach(alloc, line.is_event(), keeper) {
             Ok(()) => self.line_on(alloc, line, keeper),
-            Err(refusal) => Err(refusal),
+            Err(refusal) => Err(failure_of(refusal)),
         }
     }
 
@@ -229,25 +235,26 @@ impl Engine {
     /// `reopen` starts the next boot over the keeper's rows.
     ///
     /// # Errors
-    /// `StartRefusal` says why a boot was not started, or that memory ran out. The scenario ends there, and what the engine
+    /// `LineFailure` says why a boot was left unstarted, or that memory ran out. The scenario ends there, and what the engine
     /// holds then is not told. A line that is refused leaves the engine as it was, but for the boot that it started.
     pub fn do_text<K: Keeper>(
         &mut self,
         alloc: Global,
         text: &[u8],
         keeper: &mut K,
-    ) -> Result<LineAnswer, StartRefusal>
+    ) -> Result<LineAnswer, LineFailure>
         ensures answer { MatchResult result
             (λ a. Answers a self.new self.old (line_of text.now)
             (K.told keeper.old) (K.told keeper.new))
-            (λ refusal. Ends refusal self.old (line_of text.now)
+            (λ failure. Ends failure self.old (line_of text.now)
             (K.told keeper.old) (K.told keeper.new)) }
-        ensures failed { result ≡ Err StartRefusal.KeeperFailed
+        ensures failed { result ≡ Err (LineFailure.Unstarted StartRefusal.KeeperFailed)
             → Rose (K.faults keeper.old) (K.faults keeper.new) }
+        ensures memory { result ≢ Err (LineFailure.Unstarted StartRefusal.OutOfMemory) }
         ensures count { K.faults keeper.old ≤ K.faults keeper.new }
     {
         match read_line(alloc, text) {
-            Err(OutOfMemory) => Err(StartRefusal::OutOfMemory),
+            Err(OutOfMemory) => Err(LineFailure::OutOfMemory),
             Ok(None) => Ok(LineAnswer::Refused),
             Ok(Some(line)) => self.step(alloc, line, keeper),
         }

@@ -23,26 +23,7 @@ pub(crate) fn kind_of(line: &Line) -> LineKind
     match line {
         Line::Commit(caller) => LineKind::Commits(*caller),
         Line::Reopen => LineKind::Reopens,
-        Line::Pass
-        | Line::Component(_)
-        | Line::Hard(_, _)
-        | Line::Soft(_, _)
-        | Line::Owns(_, _)
-        | Line::Limit(_, _)
-        | Line::Bricks(_, _, _)
-        | Line::Key(_)
-        | Line::Begin(_)
-        | Line::Enter(_, _)
-        | Line::Exit(_)
-        | Line::Read(_, _, _)
-        | Line::List(_, _)
-        | Line::Put(_, _, _, _)
-        | Line::Drop(_)
-        | Line::Down(_)
-        | Line::Up(_)
-        | Line::Reboot(_)
-        | Line::Table
-        | Line::Journal
-        | Line::Session(_) => LineKind::Quiet,
+        Line::Pass | Line::Head(_) | Line::Call(_, _) | Line::Boot(_) | Line::Session(_) =>
+            LineKind::Quiet,
     }
 }

@@ -1,21 +1,25 @@
 //! Laws of scenarios. Each is the contract of a function that does nothing: a caller that needs the law calls the
 //! function.
 
-ghost use Rattle.std.specs.Prelude.{◌≡◌, ◌<◌, ◌-◌, ◌^◌, List, Option, Some, All};
+ghost use Rattle.std.specs.Prelude.{◌≡◌, ◌<◌, ◌-◌, ◌^◌, List, Option, Some, All, true};
 ghost use Rattle.boot_core.specs.Sound.{IsSound};
 ghost use Rattle.outside.specs.Keeper.{KeeperTold};
 ghost use Rattle.scenario_engine.specs.KeeperCalls.{TellsCalls};
 ghost use Rattle.scenario_engine.specs.Sound.{CommitsUnrebooted, RunsSerially, CommitsOwnRequests};
 ghost use Rattle.scenario_text.specs.declared.line.Line.{Line};
-ghost use Rattle.scenario_engine.specs.Sessions.{HasSessions};
-ghost use Rattle.scenario_engine.specs.State.{State};
+ghost use Rattle.scenario_engine.specs.Sessions.{HasSessions, session_turns};
+ghost use Rattle.scenario_engine.specs.State.{State, RunningState, Running};
+ghost use Rattle.session_steps.specs.Promise.{BootsRise};
+ghost use Rattle.session_steps.specs.Sessions.{nonce};
+ghost use Rattle.session_steps.specs.Store.{StoreState};
+ghost use Rattle.ssm_world.specs.Worlds.{is_new};
 ghost use Rattle.scenario_engine.specs.Telling.{DoesPartly, HoldsRowsButNumber};
 ghost use Rattle.scenario_engine.specs.Told.{Tells};
 ghost use Rattle.scenario_engine.specs.Transcript.{Turn, lines_in, first, transcript, end_from, last_state, calls_from, boots_in, boots_from};
 
 use boot_core::boots_stay_sound;
 use journal_model::{legal_journals_are_serial, no_commit_after_a_reboot};
-use session_steps::{sessions_stand, writes_with_new_nonces_are_done};
+use session_steps::{nonces_stay_new, sessions_stand, writes_with_new_nonces_are_done};
 
 /// Whatever the turns, each boot is sound, and so is the one at the end, also where they stop at a line: its journal is
 /// legal and within its limits, and each commit wrote only rows of tables whose owners' groups it entered.
@@ -59,6 +63,22 @@ pub fn scenarios_have_sessions()
 {
     sessions_stand();
     writes_with_new_nonces_are_done();
+}
+
+/// Over a keeper that tells, boots rise: each boot that turns start has a greater number than those before. So while serials
+/// are left, no call to a brick has had the nonce that the next `write` or `fetch` draws, and none is refused for a used one.
+/// A start that takes a number twice would break it, and so would a boot whose serials go on from another's.
+pub fn boots_rise()
+    ensures rise { (turns : List Turn) (t u : KeeperTold) →
+        TellsCalls (calls_from first turns) (Some t) (Some u) → BootsRise 0 (session_turns first turns) }
+    ensures new { (turns : List Turn) (t u : KeeperTold) (r : RunningState) (st : StoreState) →
+        TellsCalls (calls_from first turns) (Some t) (Some u) →
+        last_state (end_from first 1 turns) ≡ Running r → r.sessions.store ≡ Some st →
+        r.sessions.serial < 2 ^ 64 - 1 → is_new st.world (nonce r.sessions) ≡ true }
+{
+    keepers_tell();
+    scenarios_have_sessions();
+    nonces_stay_new();
 }
 
 /// Whatever the turns, a keeper that was called as they say, and that tells, holds just the rows that the journal of the

@@ -14,18 +14,20 @@
 //! `calls_from`. The engine is proved to answer each line so, and to make just these calls.
 //!
 //! The laws hold for all turns, whatever the keeper replies: `boots_are_sound`, `no_turns_commit_after_a_reboot`,
-//! `no_turns_break_the_order` and `commits_are_of_their_boot` for the journals of the boots, `keepers_tell` for the rows that the keeper holds, and
-//! `keepers_decide` for what decides the transcript.
+//! `no_turns_break_the_order` and `commits_are_of_their_boot` for the journals of the boots, `keepers_tell` for the rows that the keeper holds,
+//! `boots_rise` for the numbers of boots over a keeper that tells, and `keepers_decide` for what decides the transcript.
 #![tactic(auto)]
 
 mod engine;
+mod failure;
 mod kind;
 mod laws;
 mod running;
 
 pub use engine::Engine;
+pub use failure::LineFailure;
 pub use laws::{
-    boots_are_sound, commits_are_of_their_boot, keepers_decide, keepers_tell,
+    boots_are_sound, boots_rise, commits_are_of_their_boot, keepers_decide, keepers_tell,
     no_commit_is_kept_partly, no_turns_break_the_order, no_turns_commit_after_a_reboot,
     scenarios_have_sessions,
 };

@@ -14,19 +14,19 @@ ghost use Rattle.boot_core.specs.declared.boot.Start.{Start};
 ghost use Rattle.outside.specs.Faults.{Rose};
 ghost use Rattle.session_steps.specs.Setup.{set_up};
 ghost use Rattle.scenario_engine.specs.Opening.{Opened};
-ghost use Rattle.scenario_engine.specs.Running.{started, with_callers, scope_of, drop_step, down_step, up_step, reboot_step, table_step, journal_step, quiet_line};
-ghost use Rattle.scenario_engine.specs.Telling.{Opens, IsShut, Commits, CommitsPartly};
+ghost use Rattle.scenario_engine.specs.Running.{started, with_callers, scope_of, drop_step, down_step, up_step, reboot_step, table_step, journal_step, boot_line, quiet_line};
+ghost use Rattle.scenario_engine.specs.Telling.{Opens, IsUnstarted, Commits, CommitsPartly};
 
 use boot_core::{Boot, JournalLimits, StartRefusal, Ticket};
 use container_core::start_boot;
 use crash_base::{APPLICATION, ComponentName, LatestRows, OutOfMemory, Place, Scope, WorkerNo};
 use deployment::Deployment;
 use line_steps::{
-    CallLine, Callers, Head, commit_refusal_text, committed_text, down_text, journal_text,
+    Callers, Head, commit_refusal_text, committed_text, down_text, journal_text,
     reboot_refusal_text, rebooted_text, request_of, table_text, up_text,
 };
 use outside::Keeper;
-use scenario_text::{Line, LineAnswer, MAX_CALLER};
+use scenario_text::{BootLine, CallLine, Line, LineAnswer, MAX_CALLER};
 use session_steps::Sessions;
 use std::alloc::Global;
 use std::marker::Model;
@@ -107,7 +107,7 @@ impl Running {
         ensures opens { MatchResult result
             (λ r. (start : Start) × (r ≡ started sessions start)
             × Opens deployment limits (Opened start) (K.told keeper.old) (K.told keeper.new))
-            (λ refusal. IsShut refusal deployment limits (K.told keeper.old) (K.told keeper.new)) }
+            (λ refusal. IsUnstarted refusal deployment limits (K.told keeper.old) (K.told keeper.new)) }
         ensures failed { result ≡ Err StartRefusal.KeeperFailed
             → Rose (K.faults keeper.old) (K.faults keeper.new) }
         ensures count { K.faults keeper.old ≤ K.faults keeper.new }
@@ -128,7 +128,7 @@ impl Running {
         ensures opens { MatchResult result
             (λ r. (start : Start) × (r ≡ started (set_up head.setup 0) start)
             × Opens head.parts head.limits (Opened start) (K.told keeper.old) (K.told keeper.new))
-            (λ refusal. IsShut refusal head.parts head.limits
+            (λ refusal. IsUnstarted refusal head.parts head.limits
             (K.told keeper.old) (K.told keeper.new)) }
         ensures failed { result ≡ Err StartRefusal.KeeperFailed
             → Rose (K.faults keeper.old) (K.faults keeper.new) }
@@ -164,7 +164,7 @@ impl Running {
             (λ r. (start : Start) × (r ≡ started self.sessions start)
             × Opens self.boot.start.deployment self.boot.start.limits (Opened start)
             (K.told keeper.old) (K.told keeper.new))
-            (λ refusal. IsShut refusal self.boot.start.deployment self.boot.start.limits
+            (λ refusal. IsUnstarted refusal self.boot.start.deployment self.boot.start.limits
             (K.told keeper.old) (K.told keeper.new)) }
         ensures failed { result ≡ Err StartRefusal.KeeperFailed
             → Rose (K.faults keeper.old) (K.faults keeper.new) }
@@ -336,7 +336,23 @@ impl Running {
         self.callers.call_step(alloc, &self.boot, caller, line)
     }
 
-    /// A line over the boot that calls no keeper.
+    /// A line over the boot.
+    fn boot_line(&mut self, alloc: Global, line: BootLine) -> Result<LineAnswer, OutOfMemory>
+        ensures answer { IfOk result (λ a. answer_of a self.new ≡ boot_line self.old line) }
+        ensures refused { IfOk result (λ a. KeepsRefused a self.old self.new) }
+    {
+        match line {
+            BootLine::Begin(caller) => self.begin_step(alloc, caller),
+            BootLine::Drop(caller) => Ok(self.drop_step(caller)),
+            BootLine::Down(name) => self.down_step(alloc, name),
+            BootLine::Up(name) => self.up_step(alloc, name),
+            BootLine::Reboot(name) => self.reboot_step(alloc, name),
+            BootLine::Table => self.table_step(alloc),
+            BootLine::Journal => self.journal_step(alloc),
+        }
+    }
+
+    /// A line that calls no keeper.
     pub(crate) fn quiet_line(
         &mut self,
         alloc: Global,
@@ -347,31 +363,9 @@ impl Running {
     {
         match line {
             Line::Pass => Ok(LineAnswer::Done),
-            Line::Component(_)
-            | Line::Hard(_, _)
-            | Line::Soft(_, _)
-            | Line::Owns(_, _)
-            | Line::Limit(_, _)
-            | Line::Bricks(_, _, _)
-            | Line::Key(_)
-            | Line::Commit(_)
-            | Line::Reopen => Ok(LineAnswer::Refused),
-            Line::Begin(caller) => self.begin_step(alloc, caller),
-            Line::Enter(caller, name) => self.call_step(alloc, caller, CallLine::Enter(name)),
-            Line::Exit(caller) => self.call_step(alloc, caller, CallLine::Exit),
-            Line::Read(caller, table, key) => {
-                self.call_step(alloc, caller, CallLine::Read(table, key))
-            }
-            Line::List(caller, table) => self.call_step(alloc, caller, CallLine::List(table)),
-            Line::Put(caller, table, key, bytes) => {
-                self.call_step(alloc, caller, CallLine::Put(table, key, bytes))
-            }
-            Line::Drop(caller) => Ok(self.drop_step(caller)),
-            Line::Down(name) => self.down_step(alloc, name),
-            Line::Up(name) => self.up_step(alloc, name),
-            Line::Reboot(name) => self.reboot_step(alloc, name),
-            Line::Table => self.table_step(alloc),
-            Line::Journal => self.journal_step(alloc),
+            Line::Head(_) | Line::Commit(_) | Line::Reopen => Ok(LineAnswer::Refused),
+            Line::Call(caller, line) => self.call_step(alloc, caller, line),
+            Line::Boot(line) => self.boot_line(alloc, line),
             Line::Session(line) => self.sessions.step(alloc, line),
         }
     }

@@ -15,7 +15,8 @@ use Rattle.scenario_text.proofs.LineReads.{IsRead, no_read, one_read, two_read}
 abbrev pub sessions : Grammar SessionLine
 sessions = record { IsIn = IsSessionInRange; words = words_of_session_line }
 
-one_of : {A : Type 0} (o p : Option A) (y : A) → option_or o p ≡ Some y → (o ≡ Some y) ⊎ (p ≡ Some y)
+-- one of two that are tried in turn
+pub one_of : {A : Type 0} (o p : Option A) (y : A) → option_or o p ≡ Some y → (o ≡ Some y) ⊎ (p ≡ Some y)
 one_of None p y h = inr h
 one_of (Some x) p y h = inl h
 

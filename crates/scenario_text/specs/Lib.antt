@@ -7,6 +7,7 @@ pub mod Line
 pub mod Reading
 pub mod SessionReading
 pub mod SessionSpelling
+pub mod Setup
 pub mod Spelling
 pub mod Texts
 pub mod Words

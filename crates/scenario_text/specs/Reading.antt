@@ -1,57 +1,89 @@
 -- Which line a text spells.
 use Rattle.std.specs.Prelude.{ℕ, Bool, nat_lt, ◌==◌, ◌&&◌, true, not, if◌then◌else◌, List, [], ◌∷◌, length, Option, Some, None, option_and_then, codes}
 use Rattle.std.specs.Char.{is_ascii}
-use Rattle.std.specs.Option.{option_map}
+use Rattle.std.specs.Option.{option_map, option_or}
 use Rattle.std.specs.Str.{bytes_eq}
 use Rattle.std.specs.List.{list_all}
 use Rattle.scenario_text.specs.declared.line.TheConstants.{MAX_LINE_BYTES}
 use Rattle.scenario_text.specs.declared.line.Line.{Line}
-use Rattle.scenario_text.specs.declared.line.Line.TheVariants.{Pass, Component, Hard, Soft, Owns, Limit, Bricks, Key, Begin, Enter, Exit, Read, List as ListLine, Put, Commit, Drop, Down, Up, Reboot, Table, Journal, Reopen, Session}
+use Rattle.scenario_text.specs.declared.line.Line.TheVariants.{Pass, Head, Call, Commit, Boot, Reopen, Session}
+use Rattle.scenario_text.specs.declared.head_line.HeadLine.{HeadLine}
+use Rattle.scenario_text.specs.declared.head_line.HeadLine.TheVariants.{Component, Hard, Soft, Owns, Limit, Bricks, Key}
+use Rattle.scenario_text.specs.declared.call_line.CallLine.{CallLine}
+use Rattle.scenario_text.specs.declared.call_line.CallLine.TheVariants.{Enter, Exit, Read, List as ListLine, Put}
+use Rattle.scenario_text.specs.declared.boot_line.BootLine.{BootLine}
+use Rattle.scenario_text.specs.declared.boot_line.BootLine.TheVariants.{Begin, Drop, Down, Up, Reboot, Table, Journal}
 use Rattle.scenario_text.specs.Fields.{decimal_number, caller_number, hex_bytes}
 use Rattle.scenario_text.specs.Words.{words_of, no_words, four_words}
 use Rattle.scenario_text.specs.Arguments.{one_name, one_caller, one_bytes, two_names, two_numbers, name_and_number, caller_and_name, caller_and_number, caller_and_two_numbers, three_numbers}
 use Rattle.scenario_text.specs.SessionReading.{session_line}
 
 -- the line of put and these words: a caller, the numbers of a table and a key, and bytes
-abbrev pub put_line : List (List ℕ) → Option Line
+abbrev pub put_line : List (List ℕ) → Option (ℕ × CallLine)
 put_line words =
     option_and_then
     (λ w.
     option_and_then (λ c. option_and_then (λ t. option_and_then (λ k.
-    option_map (λ bytes. Put c t k bytes) (hex_bytes w.3))
+    option_map (λ bytes. (c, Put t k bytes)) (hex_bytes w.3))
     (decimal_number w.2)) (decimal_number w.1)) (caller_number w.0))
     (four_words words)
 
--- the event line that a first word and the further words spell
-abbrev pub event_line : List ℕ → List (List ℕ) → Option Line
-event_line first words =
+-- the caller and the line of its call that a first word and the further words spell
+abbrev pub call_line : List ℕ → List (List ℕ) → Option (ℕ × CallLine)
+call_line first words =
+    if bytes_eq first (codes "enter") then option_map (λ p. (p.0, Enter p.1)) (caller_and_name words) else (
+    if bytes_eq first (codes "exit") then option_map (λ c. (c, Exit)) (one_caller words) else (
+    if bytes_eq first (codes "read") then option_map (λ p. (p.0, Read p.1.0 p.1.1)) (caller_and_two_numbers words) else (
+    if bytes_eq first (codes "list") then option_map (λ p. (p.0, ListLine p.1)) (caller_and_number words) else (
+    if bytes_eq first (codes "put") then put_line words else None))))
+
+-- the line over the boot that they spell
+abbrev pub boot_line : List ℕ → List (List ℕ) → Option BootLine
+boot_line first words =
     if bytes_eq first (codes "begin") then option_map (λ c. Begin c) (one_caller words) else (
-    if bytes_eq first (codes "enter") then option_map (λ p. Enter p.0 p.1) (caller_and_name words) else (
-    if bytes_eq first (codes "exit") then option_map (λ c. Exit c) (one_caller words) else (
-    if bytes_eq first (codes "read") then option_map (λ p. Read p.0 p.1.0 p.1.1) (caller_and_two_numbers words) else (
-    if bytes_eq first (codes "list") then option_map (λ p. ListLine p.0 p.1) (caller_and_number words) else (
-    if bytes_eq first (codes "put") then put_line words else (
-    if bytes_eq first (codes "commit") then option_map (λ c. Commit c) (one_caller words) else (
     if bytes_eq first (codes "drop") then option_map (λ c. Drop c) (one_caller words) else (
     if bytes_eq first (codes "down") then option_map (λ n. Down n) (one_name words) else (
     if bytes_eq first (codes "up") then option_map (λ n. Up n) (one_name words) else (
     if bytes_eq first (codes "reboot") then option_map (λ n. Reboot n) (one_name words) else (
     if bytes_eq first (codes "table") then option_map (λ _. Table) (no_words words) else (
-    if bytes_eq first (codes "journal") then option_map (λ _. Journal) (no_words words) else (
-    if bytes_eq first (codes "reopen") then option_map (λ _. Reopen) (no_words words) else
-    option_map (λ s. Session s) (session_line first words))))))))))))))
+    if bytes_eq first (codes "journal") then option_map (λ _. Journal) (no_words words) else None))))))
 
--- the line of the head, or else the event line, that they spell
-abbrev pub line_from : List ℕ → List (List ℕ) → Option Line
-line_from first words =
+-- the line of the head that they spell
+abbrev pub head_line : List ℕ → List (List ℕ) → Option HeadLine
+head_line first words =
     if bytes_eq first (codes "component") then option_map (λ n. Component n) (one_name words) else (
     if bytes_eq first (codes "hard") then option_map (λ p. Hard p.0 p.1) (two_names words) else (
     if bytes_eq first (codes "soft") then option_map (λ p. Soft p.0 p.1) (two_names words) else (
     if bytes_eq first (codes "owns") then option_map (λ p. Owns p.0 p.1) (name_and_number words) else (
     if bytes_eq first (codes "limit") then option_map (λ p. Limit p.0 p.1) (two_numbers words) else (
     if bytes_eq first (codes "bricks") then option_map (λ p. Bricks p.0 p.1.0 p.1.1) (three_numbers words) else (
-    if bytes_eq first (codes "key") then option_map (λ b. Key b) (one_bytes words) else
-    event_line first words))))))
+    if bytes_eq first (codes "key") then option_map (λ b. Key b) (one_bytes words) else None))))))
+
+-- the line over the boot, or else about sessions, that they spell
+abbrev pub boot_or_session : List ℕ → List (List ℕ) → Option Line
+boot_or_session first words =
+    option_or
+    (option_map (λ b. Boot b) (boot_line first words))
+    (option_map (λ s. Session s) (session_line first words))
+
+-- the line of a live call, or else over the boot or about sessions, that they spell
+abbrev pub call_or_other : List ℕ → List (List ℕ) → Option Line
+call_or_other first words =
+    option_or
+    (option_map (λ p. Call p.0 p.1) (call_line first words))
+    (boot_or_session first words)
+
+-- the event line that they spell
+abbrev pub event_line : List ℕ → List (List ℕ) → Option Line
+event_line first words =
+    if bytes_eq first (codes "commit") then option_map (λ c. Commit c) (one_caller words) else (
+    if bytes_eq first (codes "reopen") then option_map (λ _. Reopen) (no_words words) else
+    call_or_other first words)
+
+-- the line of the head, or else the event line, that they spell
+abbrev pub line_from : List ℕ → List (List ℕ) → Option Line
+line_from first words =
+    option_or (option_map (λ h. Head h) (head_line first words)) (event_line first words)
 
 -- the line that words spell
 abbrev pub line_of_words : List (List ℕ) → Option Line

@@ -4,64 +4,93 @@ use Rattle.std.specs.Fmt.{decimal}
 use Rattle.std.specs.List.{join_with_byte}
 use Rattle.scenario_text.specs.declared.line.TheConstants.{MAX_LINE_BYTES}
 use Rattle.scenario_text.specs.declared.line.Line.{Line}
-use Rattle.scenario_text.specs.declared.line.Line.TheVariants.{Pass, Component, Hard, Soft, Owns, Limit, Bricks, Key, Begin, Enter, Exit, Read, List as ListLine, Put, Commit, Drop, Down, Up, Reboot, Table, Journal, Reopen, Session}
+use Rattle.scenario_text.specs.declared.line.Line.TheVariants.{Pass, Head, Call, Commit, Boot, Reopen, Session}
+use Rattle.scenario_text.specs.declared.head_line.HeadLine.{HeadLine}
+use Rattle.scenario_text.specs.declared.head_line.HeadLine.TheVariants.{Component, Hard, Soft, Owns, Limit, Bricks, Key}
+use Rattle.scenario_text.specs.declared.call_line.CallLine.{CallLine}
+use Rattle.scenario_text.specs.declared.call_line.CallLine.TheVariants.{Enter, Exit, Read, List as ListLine, Put}
+use Rattle.scenario_text.specs.declared.boot_line.BootLine.{BootLine}
+use Rattle.scenario_text.specs.declared.boot_line.BootLine.TheVariants.{Begin, Drop, Down, Up, Reboot, Table, Journal}
 use Rattle.scenario_text.specs.Texts.{hex_text}
 use Rattle.scenario_text.specs.FieldSpelling.{IsName, IsNumber, IsCaller, AreBytes, caller_word}
 use Rattle.scenario_text.specs.SessionSpelling.{IsSessionInRange, words_of_session_line}
 
+-- the numbers, names and bytes of a line of the head are in their ranges
+abbrev pub IsHeadInRange : HeadLine → Type 0
+IsHeadInRange (Component name) = IsName name
+IsHeadInRange (Hard name other) = IsName name × IsName other
+IsHeadInRange (Soft name other) = IsName name × IsName other
+IsHeadInRange (Owns name table) = IsName name × IsNumber table
+IsHeadInRange (Limit entries bytes) = IsNumber entries × IsNumber bytes
+IsHeadInRange (Bricks bricks most least) = IsNumber bricks × IsNumber most × IsNumber least
+IsHeadInRange (Key bytes) = AreBytes bytes
+
+-- those of a line of a live call
+abbrev pub IsCallInRange : CallLine → Type 0
+IsCallInRange (Enter name) = IsName name
+IsCallInRange Exit = Unit {0}
+IsCallInRange (Read table key) = IsNumber table × IsNumber key
+IsCallInRange (ListLine table) = IsNumber table
+IsCallInRange (Put table key bytes) = IsNumber table × IsNumber key × AreBytes bytes
+
+-- those of a line over the boot
+abbrev pub IsBootInRange : BootLine → Type 0
+IsBootInRange (Begin caller) = IsCaller caller
+IsBootInRange (Drop caller) = IsCaller caller
+IsBootInRange (Down name) = IsName name
+IsBootInRange (Up name) = IsName name
+IsBootInRange (Reboot name) = IsName name
+IsBootInRange Table = Unit {0}
+IsBootInRange Journal = Unit {0}
+
 -- the numbers, names and bytes of a line are in their ranges
 abbrev pub IsInRange : Line → Type 0
 IsInRange Pass = Unit {0}
-IsInRange (Component name) = IsName name
-IsInRange (Hard name other) = IsName name × IsName other
-IsInRange (Soft name other) = IsName name × IsName other
-IsInRange (Owns name table) = IsName name × IsNumber table
-IsInRange (Limit entries bytes) = IsNumber entries × IsNumber bytes
-IsInRange (Bricks bricks most least) = IsNumber bricks × IsNumber most × IsNumber least
-IsInRange (Key bytes) = AreBytes bytes
-IsInRange (Begin caller) = IsCaller caller
-IsInRange (Enter caller name) = IsCaller caller × IsName name
-IsInRange (Exit caller) = IsCaller caller
-IsInRange (Read caller table key) = IsCaller caller × IsNumber table × IsNumber key
-IsInRange (ListLine caller table) = IsCaller caller × IsNumber table
-IsInRange (Put caller table key bytes) =
-    IsCaller caller × IsNumber table × IsNumber key × AreBytes bytes
+IsInRange (Head line) = IsHeadInRange line
+IsInRange (Call caller line) = IsCaller caller × IsCallInRange line
 IsInRange (Commit caller) = IsCaller caller
-IsInRange (Drop caller) = IsCaller caller
-IsInRange (Down name) = IsName name
-IsInRange (Up name) = IsName name
-IsInRange (Reboot name) = IsName name
-IsInRange Table = Unit {0}
-IsInRange Journal = Unit {0}
+IsInRange (Boot line) = IsBootInRange line
 IsInRange Reopen = Unit {0}
 IsInRange (Session line) = IsSessionInRange line
+
+-- the words of a line of the head
+abbrev pub words_of_head_line : HeadLine → List (List ℕ)
+words_of_head_line (Component name) = codes "component" ∷ name ∷ []
+words_of_head_line (Hard name other) = codes "hard" ∷ name ∷ other ∷ []
+words_of_head_line (Soft name other) = codes "soft" ∷ name ∷ other ∷ []
+words_of_head_line (Owns name table) = codes "owns" ∷ name ∷ decimal table ∷ []
+words_of_head_line (Limit entries bytes) = codes "limit" ∷ decimal entries ∷ decimal bytes ∷ []
+words_of_head_line (Bricks bricks most least) =
+    codes "bricks" ∷ decimal bricks ∷ decimal most ∷ decimal least ∷ []
+words_of_head_line (Key bytes) = codes "key" ∷ hex_text bytes ∷ []
+
+-- the words of a line of a caller's live call
+abbrev pub words_of_call_line : ℕ → CallLine → List (List ℕ)
+words_of_call_line caller (Enter name) = codes "enter" ∷ caller_word caller ∷ name ∷ []
+words_of_call_line caller Exit = codes "exit" ∷ caller_word caller ∷ []
+words_of_call_line caller (Read table key) =
+    codes "read" ∷ caller_word caller ∷ decimal table ∷ decimal key ∷ []
+words_of_call_line caller (ListLine table) = codes "list" ∷ caller_word caller ∷ decimal table ∷ []
+words_of_call_line caller (Put table key bytes) =
+    codes "put" ∷ caller_word caller ∷ decimal table ∷ decimal key ∷ hex_text bytes ∷ []
+
+-- the words of a line over the boot
+abbrev pub words_of_boot_line : BootLine → List (List ℕ)
+words_of_boot_line (Begin caller) = codes "begin" ∷ caller_word caller ∷ []
+words_of_boot_line (Drop caller) = codes "drop" ∷ caller_word caller ∷ []
+words_of_boot_line (Down name) = codes "down" ∷ name ∷ []
+words_of_boot_line (Up name) = codes "up" ∷ name ∷ []
+words_of_boot_line (Reboot name) = codes "reboot" ∷ name ∷ []
+words_of_boot_line Table = codes "table" ∷ []
+words_of_boot_line Journal = codes "journal" ∷ []
 
 -- the words of a line that is not passed over
 abbrev pub words_of_line : Line → List (List ℕ)
 words_of_line Pass = []
-words_of_line (Component name) = codes "component" ∷ name ∷ []
-words_of_line (Hard name other) = codes "hard" ∷ name ∷ other ∷ []
-words_of_line (Soft name other) = codes "soft" ∷ name ∷ other ∷ []
-words_of_line (Owns name table) = codes "owns" ∷ name ∷ decimal table ∷ []
-words_of_line (Limit entries bytes) = codes "limit" ∷ decimal entries ∷ decimal bytes ∷ []
-words_of_line (Bricks bricks most least) =
-    codes "bricks" ∷ decimal bricks ∷ decimal most ∷ decimal least ∷ []
-words_of_line (Key bytes) = codes "key" ∷ hex_text bytes ∷ []
-words_of_line (Begin caller) = codes "begin" ∷ caller_word caller ∷ []
-words_of_line (Enter caller name) = codes "enter" ∷ caller_word caller ∷ name ∷ []
-words_of_line (Exit caller) = codes "exit" ∷ caller_word caller ∷ []
-words_of_line (Read caller table key) =
-    codes "read" ∷ caller_word caller ∷ decimal table ∷ decimal key ∷ []
-words_of_line (ListLine caller table) = codes "list" ∷ caller_word caller ∷ decimal table ∷ []
-words_of_line (Put caller table key bytes) =
-    codes "put" ∷ caller_word caller ∷ decimal table ∷ decimal key ∷ hex_text bytes ∷ []
+words_of_line (Head line) = words_of_head_line line
+words_of_line (Call caller line) = words_of_call_line caller line
 words_of_line (Commit caller) = codes "commit" ∷ caller_word caller ∷ []
-words_of_line (Drop caller) = codes "drop" ∷ caller_word caller ∷ []
-words_of_line (Down name) = codes "down" ∷ name ∷ []
-words_of_line (Up name) = codes "up" ∷ name ∷ []
-words_of_line (Reboot name) = codes "reboot" ∷ name ∷ []
-words_of_line Table = codes "table" ∷ []
-words_of_line Journal = codes "journal" ∷ []
+words_of_line (Boot line) = words_of_boot_line line
 words_of_line Reopen = codes "reopen" ∷ []
 words_of_line (Session line) = words_of_session_line line
 

@@ -56,6 +56,10 @@
 //! comment: `#` and then ASCII without a carriage return. A line has at most 8,192 bytes
 //! (`MAX_LINE_BYTES`).
 //!
+//! A line is sorted when it is read, by what it acts on: the head, the live call of a caller, the boot,
+//! or the sessions. So a new form has its place in one of `HeadLine`, `CallLine`, `BootLine` and
+//! `SessionLine`, in its reading and in its spelling, and in what its group does.
+//!
 //! `read_line` is exact: it answers `line_of` of the text. `spelling_law` says that this is a line
 //! exactly where the text is the words of that line, with its numbers, names, bytes and text in
 //! their ranges; so only a line that passes has more than one spelling. `lines_law` says the same of
@@ -66,20 +70,28 @@
 
 mod answer;
 mod arguments;
+mod boot_line;
+mod call_line;
 mod cutting;
 mod fields;
+mod head_line;
 mod laws;
 mod line;
 mod reading;
 mod session_line;
 mod session_reading;
+mod setup;
 mod texts;
 mod words;
 
 pub use answer::LineAnswer;
+pub use boot_line::BootLine;
+pub use call_line::CallLine;
 pub use cutting::ended_line;
+pub use head_line::HeadLine;
 pub use laws::{lines_law, spelling_law};
 pub use line::{HexBytes, Line, MAX_CALLER, MAX_HEX_BYTES, MAX_LINE_BYTES};
 pub use reading::read_line;
 pub use session_line::{Freed, MAX_KEY, SessionLine};
+pub use setup::{BrickCounts, LEAST_KEY_BYTES, MOST_KEY_BYTES, Setup};
 pub use texts::write_hex;

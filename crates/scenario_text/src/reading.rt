@@ -3,20 +3,24 @@
 ghost use Rattle.std.specs.Prelude.{◌≡◌, ◌∷◌, IfOk};
 ghost use Rattle.std.specs.List.{list_all};
 ghost use Rattle.scenario_text.specs.Words.{words_after};
-ghost use Rattle.scenario_text.specs.Reading.{line_of, passes, is_comment_byte, line_from, event_line, put_line};
+ghost use Rattle.scenario_text.specs.Reading.{line_of, passes, is_comment_byte, line_from, head_line, event_line, call_or_other, call_line, boot_or_session, boot_line, put_line};
 
 use crate::arguments::{
     caller_and_name, caller_and_number, caller_and_two_numbers, name_and_number, one_bytes,
     one_caller, one_name, three_numbers, two_names, two_numbers,
 };
+use crate::boot_line::BootLine;
+use crate::call_line::CallLine;
 use crate::fields::{caller_number, decimal_number, hex_bytes};
+use crate::head_line::HeadLine;
 use crate::line::{Line, MAX_LINE_BYTES};
 use crate::session_reading::session_line;
 use crate::words::{first_word, four_words, no_words};
 use crash_base::OutOfMemory;
 use std::alloc::Global;
 
-fn put_line(alloc: Global, left: &[u8]) -> Result<Option<Line>, OutOfMemory>
+/// The line of `put`: a caller, the numbers of a table and a key, and bytes.
+fn put_line(alloc: Global, left: &[u8]) -> Result<Option<(u64, CallLine)>, OutOfMemory>
     ensures { IfOk result (λ line. line ≡ put_line (words_after left.now)) }
 {
     let Some((caller, table, key, hex)) = four_words(left) else {
@@ -32,43 +36,108 @@ fn put_line(alloc: Global, left: &[u8]) -> Result<Option<Line>, OutOfMemory>
         return Ok(None);
     };
     let bytes = hex_bytes(alloc, hex)?;
-    Ok(bytes.map(|bytes| Line::Put(caller, table, key, bytes)))
+    Ok(bytes.map(|bytes| (caller, CallLine::Put(table, key, bytes))))
 }
 
-/// The event line that a first word and the words after it spell.
+/// The caller and the line of its call that a first word and the words after it spell.
+fn call_line(
+    alloc: Global,
+    first: &[u8],
+    left: &[u8],
+) -> Result<Option<(u64, CallLine)>, OutOfMemory>
+    ensures { IfOk result (λ line. line ≡ call_line first.now (words_after left.now)) }
+{
+    if first == b"enter".as_slice() {
+        Ok(caller_and_name(alloc, left)?.map(|(caller, name)| (caller, CallLine::Enter(name))))
+    } else if first == b"exit".as_slice() {
+        Ok(one_caller(left).map(|caller| (caller, CallLine::Exit)))
+    } else if first == b"read".as_slice() {
+        Ok(caller_and_two_numbers(left).map(|(caller, row)| (caller, CallLine::Read(row.0, row.1))))
+    } else if first == b"list".as_slice() {
+        Ok(caller_and_number(left).map(|(caller, table)| (caller, CallLine::List(table))))
+    } else if first == b"put".as_slice() {
+        put_line(alloc, left)
+    } else {
+        Ok(None)
+    }
+}
+
+/// The line over the boot that they spell.
+fn boot_line(alloc: Global, first: &[u8], left: &[u8]) -> Result<Option<BootLine>, OutOfMemory>
+    ensures { IfOk result (λ line. line ≡ boot_line first.now (words_after left.now)) }
+{
+    if first == b"begin".as_slice() {
+        Ok(one_caller(left).map(BootLine::Begin))
+    } else if first == b"drop".as_slice() {
+        Ok(one_caller(left).map(BootLine::Drop))
+    } else if first == b"down".as_slice() {
+        Ok(one_name(alloc, left)?.map(BootLine::Down))
+    } else if first == b"up".as_slice() {
+        Ok(one_name(alloc, left)?.map(BootLine::Up))
+    } else if first == b"reboot".as_slice() {
+        Ok(one_name(alloc, left)?.map(BootLine::Reboot))
+    } else if first == b"table".as_slice() {
+        Ok(no_words(left).map(|()| BootLine::Table))
+    } else if first == b"journal".as_slice() {
+        Ok(no_words(left).map(|()| BootLine::Journal))
+    } else {
+        Ok(None)
+    }
+}
+
+/// The line of the head that they spell.
+fn head_line(alloc: Global, first: &[u8], left: &[u8]) -> Result<Option<HeadLine>, OutOfMemory>
+    ensures { IfOk result (λ line. line ≡ head_line first.now (words_after left.now)) }
+{
+    if first == b"component".as_slice() {
+        Ok(one_name(alloc, left)?.map(HeadLine::Component))
+    } else if first == b"hard".as_slice() {
+        Ok(two_names(alloc, left)?.map(|(name, other)| HeadLine::Hard(name, other)))
+    } else if first == b"soft".as_slice() {
+        Ok(two_names(alloc, left)?.map(|(name, other)| HeadLine::Soft(name, other)))
+    } else if first == b"owns".as_slice() {
+        Ok(name_and_number(alloc, left)?.map(|(name, table)| HeadLine::Owns(name, table)))
+    } else if first == b"limit".as_slice() {
+        Ok(two_numbers(left).map(|(entries, bytes)| HeadLine::Limit(entries, bytes)))
+    } else if first == b"bricks".as_slice() {
+        Ok(three_numbers(left).map(|(bricks, writes)| HeadLine::Bricks(bricks, writes.0, writes.1)))
+    } else if first == b"key".as_slice() {
+        Ok(one_bytes(alloc, left)?.map(HeadLine::Key))
+    } else {
+        Ok(None)
+    }
+}
+
+/// The line over the boot, or else about sessions, that they spell.
+fn boot_or_session(alloc: Global, first: &[u8], left: &[u8]) -> Result<Option<Line>, OutOfMemory>
+    ensures { IfOk result (λ line. line ≡ boot_or_session first.now (words_after left.now)) }
+{
+    match boot_line(alloc, first, left)? {
+        Some(line) => Ok(Some(Line::Boot(line))),
+        None => Ok(session_line(alloc, first, left)?.map(Line::Session)),
+    }
+}
+
+/// The line of a live call, or else over the boot or about sessions, that they spell.
+fn call_or_other(alloc: Global, first: &[u8], left: &[u8]) -> Result<Option<Line>, OutOfMemory>
+    ensures { IfOk result (λ line. line ≡ call_or_other first.now (words_after left.now)) }
+{
+    match call_line(alloc, first, left)? {
+        Some((caller, line)) => Ok(Some(Line::Call(caller, line))),
+        None => boot_or_session(alloc, first, left),
+    }
+}
+
+/// The event line that they spell.
 fn event_line(alloc: Global, first: &[u8], left: &[u8]) -> Result<Option<Line>, OutOfMemory>
     ensures { IfOk result (λ line. line ≡ event_line first.now (words_after left.now)) }
 {
-    if first == b"begin".as_slice() {
-        Ok(one_caller(left).map(Line::Begin))
-    } else if first == b"enter".as_slice() {
-        Ok(caller_and_name(alloc, left)?.map(|(caller, name)| Line::Enter(caller, name)))
-    } else if first == b"exit".as_slice() {
-        Ok(one_caller(left).map(Line::Exit))
-    } else if first == b"read".as_slice() {
-        Ok(caller_and_two_numbers(left).map(|(caller, row)| Line::Read(caller, row.0, row.1)))
-    } else if first == b"list".as_slice() {
-        Ok(caller_and_number(left).map(|(caller, table)| Line::List(caller, table)))
-    } else if first == b"put".as_slice() {
-        put_line(alloc, left)
-    } else if first == b"commit".as_slice() {
+    if first == b"commit".as_slice() {
         Ok(one_caller(left).map(Line::Commit))
-    } else if first == b"drop".as_slice() {
-        Ok(one_caller(left).map(Line::Drop))
-    } else if first == b"down".as_slice() {
-        Ok(one_name(alloc, left)?.map(Line::Down))
-    } else if first == b"up".as_slice() {
-        Ok(one_name(alloc, left)?.map(Line::Up))
-    } else if first == b"reboot".as_slice() {
-        Ok(one_name(alloc, left)?.map(Line::Reboot))
-    } else if first == b"table".as_slice() {
-        Ok(no_words(left).map(|()| Line::Table))
-    } else if first == b"journal".as_slice() {
-        Ok(no_words(left).map(|()| Line::Journal))
     } else if first == b"reopen".as_slice() {
         Ok(no_words(left).map(|()| Line::Reopen))
     } else {
-        Ok(session_line(alloc, first, left)?.map(Line::Session))
+        call_or_other(alloc, first, left)
     }
 }
 
@@ -76,22 +145,9 @@ fn event_line(alloc: Global, first: &[u8], left: &[u8]) -> Result<Option<Line>, 
 fn line_from(alloc: Global, first: &[u8], left: &[u8]) -> Result<Option<Line>, OutOfMemory>
     ensures { IfOk result (λ line. line ≡ line_from first.now (words_after left.now)) }
 {
-    if first == b"component".as_slice() {
-        Ok(one_name(alloc, left)?.map(Line::Component))
-    } else if first == b"hard".as_slice() {
-        Ok(two_names(alloc, left)?.map(|(name, other)| Line::Hard(name, other)))
-    } else if first == b"soft".as_slice() {
-        Ok(two_names(alloc, left)?.map(|(name, other)| Line::Soft(name, other)))
-    } else if first == b"owns".as_slice() {
-        Ok(name_and_number(alloc, left)?.map(|(name, table)| Line::Owns(name, table)))
-    } else if first == b"limit".as_slice() {
-        Ok(two_numbers(left).map(|(entries, bytes)| Line::Limit(entries, bytes)))
-    } else if first == b"bricks".as_slice() {
-        Ok(three_numbers(left).map(|(bricks, writes)| Line::Bricks(bricks, writes.0, writes.1)))
-    } else if first == b"key".as_slice() {
-        Ok(one_bytes(alloc, left)?.map(Line::Key))
-    } else {
-        event_line(alloc, first, left)
+    match head_line(alloc, first, left)? {
+        Some(line) => Ok(Some(Line::Head(line))),
+        None => event_line(alloc, first, left),
     }
 }
 

@@ -38,10 +38,11 @@ use Rattle.session_steps.specs.Lanes.{LaneState, raised, new_lane, losing, dropp
 use Rattle.session_steps.specs.Promise.{SessionTurn, Does, Boots, Makes, Lead}
 use Rattle.session_steps.specs.Rule.{IsReplyOf, LanesAreOf}
 use Rattle.session_steps.specs.Sessions.{SessionsState, with_store, nonce, drawn, session_key, expiry, cookie_of, write_of, read_of, spent_by, written_as, store_written, answered_write, write_line, store_read, fetch_line, cookie_line, now_line, on_lane, lose_line, mute_line, repeat_line, brick_no, crash_line, sweep_line, values_line, windows_line, holds, hold_line, freed_pass, free_line, session_line}
-use Rattle.session_steps.specs.Setup.{SetupState, set_up, store_of}
+use Rattle.scenario_text.specs.Setup.{SetupState}
+use Rattle.session_steps.specs.Setup.{set_up, store_of}
 use Rattle.session_steps.specs.Store.{StoreState, new_store, after_event, with_lane, gone_on}
 use Rattle.session_steps.specs.Texts.{overload_text}
-use Rattle.session_steps.specs.declared.setup.BrickCounts.{BrickCounts}
+use Rattle.scenario_text.specs.declared.setup.BrickCounts.{BrickCounts}
 use Rattle.session_steps.specs.declared.sessions.TheConstants.{MAX_MOMENT}
 use Rattle.session_steps.proofs.Ending.{goes_on, goes_nowhere}
 use Rattle.session_steps.proofs.LaneLists.{histories_as_many}

@@ -27,7 +27,8 @@ use Rattle.session_steps.specs.Kept.{HasHolders, HasSoundStore, IsSessions}
 use Rattle.session_steps.specs.Lanes.{LaneState, reply_made, lane_at}
 use Rattle.session_steps.specs.Promise.{Does}
 use Rattle.session_steps.specs.Sessions.{SessionsState, with_store, nonce, drawn, session_key, expiry, cookie_of, write_of, read_of, spent_by, written_as, store_written, answered_write, write_line, store_read, fetch_line, cookie_line, now_line, on_lane, lose_line, mute_line, repeat_line, brick_no, crash_line, sweep_line, values_line, windows_line, holds, hold_line, free_line, session_line}
-use Rattle.session_steps.specs.Setup.{SetupState, set_up}
+use Rattle.scenario_text.specs.Setup.{SetupState}
+use Rattle.session_steps.specs.Setup.{set_up}
 use Rattle.session_steps.specs.Store.{StoreState}
 use Rattle.session_steps.specs.Texts.{overload_text}
 use Rattle.session_steps.specs.declared.sessions.TheConstants.{MAX_MOMENT}

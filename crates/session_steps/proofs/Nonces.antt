@@ -8,9 +8,10 @@ use Rattle.ssm_world.specs.Worlds.{nonce_of, is_new}
 use Rattle.ssm_world.proofs.Tests.{version_is}
 use Rattle.session_steps.specs.Promise.{SessionTurn, Does, Boots, Lead, BootsRise}
 use Rattle.session_steps.specs.Sessions.{SessionsState, nonce, drawn}
-use Rattle.session_steps.specs.Setup.{SetupState, store_of, set_up}
+use Rattle.scenario_text.specs.Setup.{SetupState}
+use Rattle.session_steps.specs.Setup.{store_of, set_up}
 use Rattle.session_steps.specs.Store.{StoreState}
-use Rattle.session_steps.specs.declared.setup.BrickCounts.{BrickCounts}
+use Rattle.scenario_text.specs.declared.setup.BrickCounts.{BrickCounts}
 use Rattle.session_steps.proofs.Histories.{PassesAt, any_passes}
 use Rattle.session_steps.proofs.LanesKept.{AreSound, one_turn_keeps, set_up_sound}
 use Rattle.session_steps.proofs.TurnsMade.{HasHad, TurnGoes, turn_goes}

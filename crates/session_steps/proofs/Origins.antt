@@ -11,7 +11,8 @@ use Rattle.ssm_world.proofs.Askable.{acknowledged_askable}
 use Rattle.session_steps.specs.Promise.{Does, FetchedWrite, SessionTurn, Makes, Lead, IsAcknowledged, IsUnacknowledged, ComesFrom, IsOfWrite}
 use Rattle.session_steps.specs.Rule.{result_by_rule}
 use Rattle.session_steps.specs.Sessions.{SessionsState, with_store, nonce, drawn, cookie_of, read_of, session_line, fetched_text, store_read, answered_read, fetch_line}
-use Rattle.session_steps.specs.Setup.{SetupState, set_up}
+use Rattle.scenario_text.specs.Setup.{SetupState}
+use Rattle.session_steps.specs.Setup.{set_up}
 use Rattle.session_steps.specs.Store.{StoreState}
 use Rattle.session_steps.proofs.Acknowledging.{StayLaw, MadeCookie, cookie_before, IsKept, turn_keeps, turns_keep, kept_not_new}
 use Rattle.session_steps.proofs.ByRule.{read_by_rule}

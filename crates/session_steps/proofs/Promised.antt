@@ -23,10 +23,11 @@ use Rattle.session_steps.specs.Lanes.{LaneState, lane_at}
 use Rattle.session_steps.specs.Promise.{SessionTurn, Does, Lead, FetchMade, IsRight, lanes_of, FetchedWrite, fetch_of}
 use Rattle.session_steps.specs.Rule.{LanesAreOf, reply_by, heard_on_lane, outcome_by_rule, result_by_rule}
 use Rattle.session_steps.specs.Sessions.{SessionsState, nonce, cookie_of, fetched_text, expiry, session_line, write_line}
-use Rattle.session_steps.specs.Setup.{SetupState, store_of, set_up}
+use Rattle.scenario_text.specs.Setup.{SetupState}
+use Rattle.session_steps.specs.Setup.{store_of, set_up}
 use Rattle.session_steps.specs.Store.{StoreState}
 use Rattle.session_steps.specs.Texts.{version_text}
-use Rattle.session_steps.specs.declared.setup.BrickCounts.{BrickCounts}
+use Rattle.scenario_text.specs.declared.setup.BrickCounts.{BrickCounts}
 use Rattle.session_steps.proofs.Acknowledging.{StayLaw, IsKept, AreKept, turns_keep, acknowledged_not_new, kept_not_new}
 use Rattle.session_steps.proofs.Cookies.{kept_cookie, same_cookie}
 use Rattle.session_steps.proofs.Holders.{HolderWent, WriteWorlds, holder_went}

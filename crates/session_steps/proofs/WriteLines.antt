@@ -24,11 +24,12 @@ use Rattle.ssm_world.specs.Worlds.{is_new, same_brick, are_distinct, may_write}
 use Rattle.ssm_world.proofs.Tests.{both, number_other}
 use Rattle.session_steps.specs.Promise.{SessionTurn, Lead}
 use Rattle.session_steps.specs.Sessions.{SessionsState, with_store, nonce, drawn, session_key, expiry, write_of, spent_by, written_as, told_write, answered_write, write_line, session_line}
-use Rattle.session_steps.specs.Setup.{HasCounts, SetupState, no_setup, are_counts, bricks_step, key_step, store_of, set_up}
+use Rattle.scenario_text.specs.Setup.{HasCounts, SetupState, no_setup, are_counts, bricks_step, key_step}
+use Rattle.session_steps.specs.Setup.{store_of, set_up}
 use Rattle.session_steps.specs.Store.{StoreState}
 use Rattle.session_steps.specs.Texts.{overload_text}
-use Rattle.session_steps.specs.declared.setup.BrickCounts.{BrickCounts}
-use Rattle.session_steps.specs.declared.setup.TheConstants.{LEAST_KEY_BYTES, MOST_KEY_BYTES}
+use Rattle.scenario_text.specs.declared.setup.BrickCounts.{BrickCounts}
+use Rattle.scenario_text.specs.declared.setup.TheConstants.{LEAST_KEY_BYTES, MOST_KEY_BYTES}
 use Rattle.session_steps.proofs.Calls.{bricks_of_write, write_ended}
 use Rattle.session_steps.proofs.LanesKept.{StoreIsSound, set_up_sound, all_sound}
 use Rattle.session_steps.proofs.Ending.{WriteGone}

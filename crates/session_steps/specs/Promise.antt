@@ -20,7 +20,8 @@ use Rattle.ssm_world.specs.Claims.{WasMissed as WasMissedInWorld}
 use Rattle.ssm_world.specs.Worlds.{new_world, after, bricks_of, may_be_asked}
 use Rattle.session_steps.specs.Lanes.{LaneState, lane_at}
 use Rattle.session_steps.specs.Sessions.{SessionsState, session_line, reopened, nonce, session_key, cookie_of, expiry}
-use Rattle.session_steps.specs.Setup.{SetupState, set_up}
+use Rattle.scenario_text.specs.Setup.{SetupState}
+use Rattle.session_steps.specs.Setup.{set_up}
 use Rattle.session_steps.specs.Store.{StoreState}
 use Rattle.session_steps.specs.Texts.{version_text, overload_text, missed_text, found_text, expired_text, lost_text}
 

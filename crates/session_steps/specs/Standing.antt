@@ -6,7 +6,8 @@ use Rattle.ssm_stub.specs.declared.cause.BrickCause.{BrickCause}
 use Rattle.ssm_world.specs.Worlds.{IsMade}
 use Rattle.session_steps.specs.Promise.{SessionTurn, Does, Lead, CanServe, FindsValue, IsLost, IsRight, FetchedWrite, IsOfWrite, fetch_of, HasCrashedOrWasUnheard, NoneSweptLate}
 use Rattle.session_steps.specs.Sessions.{SessionsState, expiry}
-use Rattle.session_steps.specs.Setup.{SetupState, set_up}
+use Rattle.scenario_text.specs.Setup.{SetupState}
+use Rattle.session_steps.specs.Setup.{set_up}
 use Rattle.session_steps.specs.Store.{StoreState}
 use Rattle.session_steps.specs.Texts.{version_text, found_text, expired_text, lost_text}
 

@@ -32,7 +32,6 @@ mod lane;
 mod laws;
 mod parts;
 mod sessions;
-mod setup;
 mod store;
 mod texts;
 mod turns;
@@ -44,6 +43,5 @@ pub use laws::{
     nonces_stay_new, presented_texts_are_told_apart, sessions_are_worlds, sessions_stand,
     writes_say_whether_they_are_acknowledged, writes_with_new_nonces_are_done,
 };
-pub use sessions::{LEASE, MAX_MOMENT, NODE, Sessions};
-pub use setup::{BrickCounts, DEFAULT_KEY_BYTES, LEAST_KEY_BYTES, MOST_KEY_BYTES, Setup};
+pub use sessions::{DEFAULT_KEY_BYTES, LEASE, MAX_MOMENT, NODE, Sessions};
 pub use store::TURNS_PER_BRICK;

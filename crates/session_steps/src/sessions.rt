@@ -6,10 +6,9 @@ ghost use Rattle.session_steps.specs.Sessions.{reopened, session_line};
 ghost use Rattle.session_steps.specs.Setup.{service_key, set_up};
 
 use crate::parts::Parts;
-use crate::setup::{DEFAULT_KEY_BYTES, Setup};
 use crate::store::Store;
 use crash_base::{Moment, OutOfMemory};
-use scenario_text::{HexBytes, LineAnswer, SessionLine};
+use scenario_text::{HexBytes, LineAnswer, SessionLine, Setup};
 use std::alloc::Global;
 use std::marker::Model;
 
@@ -18,6 +17,9 @@ pub const LEASE: u64 = 1_800_000;
 
 /// The last moment that a scenario may have.
 pub const MAX_MOMENT: u64 = (1 << 62) - 1;
+
+/// How many zero bytes the key of the service is where none is given.
+pub const DEFAULT_KEY_BYTES: usize = 32;
 
 /// The number of the node, which is part of each version.
 pub const NODE: u16 = 1;
@@ -54,7 +56,7 @@ fn service_key(alloc: Global, key: Option<HexBytes>) -> Result<Vec<u8>, OutOfMem
 fn set_up(alloc: Global, setup: Setup) -> Result<Parts, OutOfMemory>
     ensures { IfOk result (λ parts. parts ≡ set_up setup 0) }
 {
-    let Setup { counts, key } = setup;
+    let (counts, key) = setup.into_parts();
     let key = service_key(alloc, key)?;
     let store = match counts {
         None => None,

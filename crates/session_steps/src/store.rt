@@ -9,16 +9,15 @@ ghost use Rattle.ssm_world.specs.declared.event.WorldEvent.TheVariants.{Crash, S
 ghost use Rattle.ssm_world.specs.Worlds.{history, may_happen};
 ghost use Rattle.session_steps.specs.Lanes.{new_lane, losing, dropping, waiting, reply_made, lane_at};
 ghost use Rattle.session_steps.specs.Sessions.{brick_no, freed_pass, holds};
-ghost use Rattle.session_steps.specs.Setup.{are_counts};
+ghost use Rattle.scenario_text.specs.Setup.{are_counts};
 ghost use Rattle.session_steps.specs.Store.{new_store, after_event, with_lane};
 ghost use Rattle.session_steps.specs.Texts.{values_text, windows_text};
 
 use crate::lane::Lane;
 use crate::sessions::MAX_MOMENT;
-use crate::setup::BrickCounts;
 use crate::texts::{closed_text, held_text, values_text, windows_text};
 use crash_base::{BrickNo, Moment, OutOfMemory};
-use scenario_text::{Freed, LineAnswer};
+use scenario_text::{BrickCounts, Freed, LineAnswer};
 use send_windows::{Pass, PassMark, Windows};
 use ssm_world::{World, WorldEvent};
 use std::alloc::Global;

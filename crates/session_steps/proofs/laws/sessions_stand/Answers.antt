@@ -1,7 +1,8 @@
 use Rattle.std.proofs.Common.{List, ◌∷◌, subst}
 use Rattle.scenario_text.specs.declared.session_line.SessionLine.TheVariants as lines
 use Rattle.session_steps.specs.Promise.{SessionTurn, Does, Lead, FetchedWrite}
-use Rattle.session_steps.specs.Setup.{SetupState, set_up}
+use Rattle.scenario_text.specs.Setup.{SetupState}
+use Rattle.session_steps.specs.Setup.{set_up}
 use Rattle.session_steps.specs.Standing.{FetchStands}
 use Rattle.session_steps.proofs.Leading.{lead_cut}
 use Rattle.session_steps.proofs.laws.sessions_stand.Goals as goal

@@ -1,5 +1,5 @@
 use Rattle.std.proofs.Common.{◌≡◌, ◌≢◌, Ok, Err, ap, sym, ◌∙◌, refl}
-use Rattle.boot_core.specs.declared.refusals.StartRefusal.TheVariants.{OutOfMemory}
+use Rattle.scenario_engine.specs.declared.failure.LineFailure.TheVariants.{OutOfMemory}
 use Rattle.scenario_text.specs.declared.answer.LineAnswer.TheVariants.{Refused}
 use Rattle.scenario_engine.specs.declared.kind.LineKind.TheVariants.{Quiet}
 use Rattle.scenario_engine.specs.Engine.{state_of, kind_of}

@@ -1,15 +1,16 @@
 use Rattle.std.proofs.Common.{◌≡◌, ◌≢◌, Ok, Err, ap, sym, ◌∙◌, refl, subst}
-use Rattle.boot_core.specs.declared.refusals.StartRefusal.TheVariants.{OutOfMemory}
+use Rattle.scenario_engine.specs.declared.failure.LineFailure.TheVariants.{OutOfMemory}
 use Rattle.deployment.proofs.Growing.{none_of_nothing}
 use Rattle.scenario_text.specs.declared.answer.LineAnswer.TheVariants.{Wrote}
 use Rattle.line_steps.specs.Head.{no_head}
 use Rattle.line_steps.specs.Texts.{boot_text}
 use Rattle.scenario_engine.specs.declared.engine.Stage.{Stage}
+use Rattle.scenario_engine.specs.declared.failure.LineFailure.{LineFailure}
 use Rattle.scenario_engine.specs.declared.engine.Stage.TheVariants.{Head}
 use Rattle.scenario_engine.specs.declared.kind.LineKind.TheVariants.{Quiet}
 use Rattle.scenario_engine.specs.Engine.{state_of, target_in, kind_of, IsAccepted}
 use Rattle.scenario_engine.specs.State.{State, Heading, Running, RefusedIn}
-use Rattle.scenario_engine.specs.Telling.{DoesOn, EndsOn}
+use Rattle.scenario_engine.specs.Telling.{DoesOn, failure_of, EndsOn}
 use Rattle.scenario_engine.proofs.Stepping.{refused_in_head, reopened_text, reopened_partly, reopen_ends, moved}
 use Rattle.scenario_engine.proofs.engine.Engine.reopen.Goals as goal
 use Rattle.scenario_engine.proofs.engine.Engine.reopen.Goals.{in-Ok-boot_text, in-Err-boot_text}
@@ -47,5 +48,6 @@ returns-in-Err-clause-answer g c = λ line kind.
     let new = g.K.Keeper.told c.reopen.new.keeper in
     let r = c.in-Run.running in
     let s : Running r ≡ c.args.self.now = ap state_of (sym c.in-Run.is ∙ c.replace.ensures.value) ∙ c.self.view_is in
-    let P : State → Type 0 = λ s. EndsOn c.in-Err.refusal (target_in s) line old new in
-    subst P s (reopen_ends line r c.in-Err.refusal old new kind c.in-Err.ensures.opens)
+    let P : State → Type 0 = λ s. EndsOn (failure_of c.in-Err.refusal) (target_in s) line old new in
+    let Q : LineFailure → Type 0 = λ f. EndsOn f (target_in c.args.self.now) line old new in
+    subst Q (sym c.failure_of.ensures.value) (subst P s (reopen_ends line r c.in-Err.refusal old new kind c.in-Err.ensures.opens))

@@ -1,4 +1,4 @@
-use Rattle.scenario_engine.proofs.Starting.{opened, shut}
+use Rattle.scenario_engine.proofs.Starting.{opened, left_unstarted}
 use Rattle.scenario_engine.proofs.running.Running.open.Goals as goal
 
 pub returns-in-Ok-clause-opens : goal.returns-in-Ok-clause-opens
@@ -12,4 +12,4 @@ pub returns-in-Err-clause-opens : goal.returns-in-Err-clause-opens
 returns-in-Err-clause-opens g c =
     let old = g.K.Keeper.told c.args.keeper.now in
     let new = g.K.Keeper.told c.start_boot.new.keeper in
-    shut c.args.deployment c.args.limits old new c.in-Err.refusal c.in-Err.ensures.opens
+    left_unstarted c.args.deployment c.args.limits old new c.in-Err.refusal c.in-Err.ensures.opens

@@ -2,9 +2,10 @@
 
 ghost use Rattle.std.specs.Prelude.{◌≡◌};
 ghost use Rattle.scenario_text.specs.Answer.{KeepsRefused, answer_of};
-ghost use Rattle.session_steps.specs.Setup.{no_setup, are_counts, bricks_step, key_step};
+ghost use Rattle.scenario_text.specs.Setup.{HasCounts, no_setup, are_counts, bricks_step, key_step};
 
-use scenario_text::{HexBytes, LineAnswer};
+use crate::answer::LineAnswer;
+use crate::line::HexBytes;
 use send_windows::MAX_BRICKS;
 use std::marker::Model;
 
@@ -13,9 +14,6 @@ pub const LEAST_KEY_BYTES: usize = 16;
 
 /// The most bytes of a key of the service.
 pub const MOST_KEY_BYTES: usize = 64;
-
-/// How many zero bytes the key of the service is where none is given.
-pub const DEFAULT_KEY_BYTES: usize = 32;
 
 /// How many bricks there are, how many of them a write asks at most, and how many are to store its value.
 #[derive(Clone, Copy)]
@@ -28,12 +26,12 @@ pub struct BrickCounts {
 /// What head lines have said of sessions: the bricks, and the key of the service.
 #[derive(Drop)]
 pub struct Setup {
-    pub(crate) counts: Option<BrickCounts>,
-    pub(crate) key: Option<HexBytes>,
+    counts: Option<BrickCounts>,
+    key: Option<HexBytes>,
 }
 
 impl Model for Setup {
-    ghost use Rattle.session_steps.specs.Setup.{SetupState, HasCounts};
+    ghost use Rattle.scenario_text.specs.Setup.{SetupState, HasCounts};
 
     ghost Value = { SetupState };
 
@@ -97,5 +95,14 @@ impl Setup {
         }
         self.key = Some(key);
         LineAnswer::Done
+    }
+
+    /// The counts of the bricks and the key of the service, each where it was given. They are not copied.
+    pub fn into_parts(self) -> (Option<BrickCounts>, Option<HexBytes>)
+        ensures counts { result.0 ≡ self.counts }
+        ensures key { result.1 ≡ self.key }
+        ensures allowed { HasCounts result.0 }
+    {
+        (self.counts, self.key)
     }
 }

@@ -1,0 +1,22 @@
+//! Lines of the head.
+
+use crate::line::HexBytes;
+use crash_base::ComponentName;
+
+/// A line of the head, with what its words say, in their order.
+#[derive(Drop)]
+pub enum HeadLine {
+    Component(ComponentName),
+    /// The component, and the one that it refers to by a hard reference.
+    Hard(ComponentName, ComponentName),
+    /// The component, and the one that it refers to by a soft reference.
+    Soft(ComponentName, ComponentName),
+    /// The component, and the number of a table of its own.
+    Owns(ComponentName, u64),
+    /// The most entries of the journal, and the most bytes.
+    Limit(u64, u64),
+    /// How many bricks there are, the most that a write asks, and the fewest that are to store its value.
+    Bricks(u64, u64, u64),
+    /// The key of the service, under which cookies are made.
+    Key(HexBytes),
+}
