@@ -128,11 +128,7 @@ impl Head {
 }
 
 /// A line of the head.
-fn head_step(
-    alloc: Global,
-    head: &mut Head,
-    line: HeadLine,
-) -> Result<LineAnswer, OutOfMemory>
+fn head_step(alloc: Global, head: &mut Head, line: HeadLine) -> Result<LineAnswer, OutOfMemory>
     requires { deploy_refusal head.old.parts ≡ None }
     ensures answer { IfOk result (λ a. answer_of a head.new ≡ head_step head.old line) }
     ensures refused { IfOk result (λ a. KeepsRefused a head.old head.new) }
@@ -144,9 +140,7 @@ fn head_step(
         HeadLine::Soft(from, to) => reference_step(&mut head.parts, from, to, false),
         HeadLine::Owns(name, number) => owns_step(&mut head.parts, name, number),
         HeadLine::Limit(entries, bytes) => Ok(limit_step(head, entries, bytes)),
-        HeadLine::Bricks(bricks, most, least) => {
-            Ok(head.setup.bricks_line(bricks, most, least))
-        }
+        HeadLine::Bricks(bricks, most, least) => { Ok(head.setup.bricks_line(bricks, most, least)) }
         HeadLine::Key(key) => Ok(head.setup.key_line(key)),
     }
 }
