@@ -3,8 +3,8 @@
 use crate::shop::SHOP;
 use crate::tables::expect_table;
 
-/// A bid is taken from the start on, above the best bid, before the end, also by who bid best, and for any amount. Bid n
-/// of item 1 stands at 2^20 + n, that of item 2 at 2 * 2^20 + n.
+/// A bid is taken from the start on, above the best bid, before the end, also by who bid best, and for any amount. Bid
+/// n of item 1 stands at 2^20 + n, that of item 2 at 2 * 2^20 + n.
 const TAKEN: &str = "\
 3 1000 bid 1 100|is 200 Bid 1 on item 1|put 6.1048577 bid 3 100 1000|\
 put 4.1 item running 2 1 100 500 100 3 1 5000 0 none Atlas
@@ -19,8 +19,8 @@ put 4.5 item running 2 1 200 0 200 9 1 5000 0 none Poems
 4 1000 bid 1 260|with 4.1 item running 2 1 100 500 250 3 1048574 5000 0 none Atlas|is 200 Bid 1048575 on item 1|\
 put 6.2097151 bid 4 260 1000|put 4.1 item running 2 1 100 500 260 4 1048575 5000 0 none Atlas";
 
-/// The first refusal that holds is answered: nobody is signed in, no item, the auction is over, an own item, too low, and
-/// no more numbers.
+/// The first refusal that holds is answered: nobody is signed in, no item, the auction is over, an own item, too low,
+/// and no more numbers.
 const REFUSED: &str = "\
 0 1000 bid 1 100|is 403 Sign in first
 0 1000 bid 99 100|is 403 Sign in first

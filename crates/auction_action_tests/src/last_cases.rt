@@ -3,9 +3,9 @@
 use crate::shop::SHOP;
 use crate::tables::{expect_steps, expect_table};
 
-/// The last number is 2^32 - 1. The first bid on that item, and the first feedback about that user, stand at (2^32 - 1) *
-/// 2^20 + 1; the first entry of that category, and the first own item of that user, at (2^32 - 1) * 2^32 + 1; and the
-/// category's counter at 2^32 + 2^32 - 1.
+/// The last number is 2^32 - 1. The first bid on that item, and the first feedback about that user, stand at (2^32 -
+/// 1) * 2^20 + 1; the first entry of that category, and the first own item of that user, at (2^32 - 1) * 2^32 + 1; and
+/// the category's counter at 2^32 + 2^32 - 1.
 const LAST: &str = "\
 4294967295 1000 bid 4294967295 7|with 4.4294967295 item running 2 1 7 0 0 0 0 5000 0 none Atlas|\
 is 200 Bid 1 on item 4294967295|put 6.4503599626321921 bid 4294967295 7 1000|\
@@ -37,8 +37,8 @@ with 1.4294967295 user zed 5555555555555555 aac88105b1a750037a118a942d283caace2a
 with 4.4294967295 item sold 4294967295 1 7 0 0 0 0 5000 4294967295 none Atlas|is 200 Atlas|line <p>Seller zed</p>|\
 line <p>Price 7</p>|line <p>Sold to user 4294967295</p>";
 
-/// Also a count that is over the last number leads to entries that are missing, and so does the last own item. The first
-/// entry of page 9999 is 16 * 9999 + 1 = 159985.
+/// Also a count that is over the last number leads to entries that are missing, and so does the last own item. The
+/// first entry of page 9999 is 16 * 9999 + 1 = 159985.
 const MISSING: &str = "\
 0 1000 browse 1 0|with 3.4294967297 counter 18446744073709551615|\
 e0.0 e4.0 r5.1 x e2.0 r3.4294967297 x e3.0 r7.4294967297 x e3.0 r4.1 x e3.0 r7.4294967298 x e3.0 r4.2 x e3.0 \

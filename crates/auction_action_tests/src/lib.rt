@@ -1,10 +1,10 @@
 //! Tests of the sixteen actions of the auction, each run as a program over rows in memory.
 //!
-//! Most tests go through tables of rows: a call, the rows in which the shop differs from the one that the test names, and
-//! then what is wanted: the answer, the rows that are put, and the session. What a program did is put into the same words,
-//! and these are compared. A row that fails is shown whole. What is wanted was worked out by hand from the formats of rows
-//! and pages, and the digests outside. `containers` runs actions over a container, while others act and groups are rebooted
-//! between their steps.
+//! Most tests go through tables of rows: a call, the rows in which the shop differs from the one that the test names,
+//! and then what is wanted: the answer, the rows that are put, and the session. What a program did is put into the same
+//! words, and these are compared. A row that fails is shown whole. What is wanted was worked out by hand from the
+//! formats of rows and pages, and the digests outside. `containers` runs actions over a container, while others act and
+//! groups are rebooted between their steps.
 #![tactic(auto)]
 
 #[cfg(test)]

@@ -3,8 +3,8 @@
 use crate::shop::SHOP;
 use crate::tables::expect_steps;
 
-/// Component 0 is Web, 1 Users, 2 Numbers, 3 Items, 4 Categories, 5 Bids, 6 Purchases and 7 Feedback. Each access is made
-/// inside the owner of its table, which is left again, unless the action goes through that owner.
+/// Component 0 is Web, 1 Users, 2 Numbers, 3 Items, 4 Categories, 5 Bids, 6 Purchases and 7 Feedback. Each access is
+/// made inside the owner of its table, which is left again, unless the action goes through that owner.
 const STEPS: &str = "\
 3 1000 bid 1 100|e0.0 e5.0 e3.0 r4.1 x p6.1048577 e3.0 p4.1 x x x d200
 4 1000 sell 2 150 0 24 Globe|\

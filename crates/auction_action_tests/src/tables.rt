@@ -1,9 +1,9 @@
 //! Tables of rows, each a call and what comes of it.
 //!
-//! A row is `USER NOW ACTION ..`, and then has its parts after bars: first `with ID ROW ..` and `gone ID`, which say in what
-//! the shop differs; a row of the shop is in words, or its bytes follow the word `bytes` in hexadecimal. The rest is what is
-//! wanted: `is STATUS HEADING`, then `line HTML` for each line of the page after its heading, `put ID ROW ..` for each row
-//! that is put, in order, and `session HEX` where the session is set.
+//! A row is `USER NOW ACTION ..`, and then has its parts after bars: first `with ID ROW ..` and `gone ID`, which say in
+//! what the shop differs; a row of the shop is in words, or its bytes follow the word `bytes` in hexadecimal. The rest
+//! is what is wanted: `is STATUS HEADING`, then `line HTML` for each line of the page after its heading, `put ID
+//! ROW ..` for each row that is put, in order, and `session HEX` where the session is set.
 
 use crate::calls::program_of;
 use crate::driver::{Driven, drive, put_row};

@@ -4,8 +4,8 @@ use crate::shop::SHOP;
 use crate::tables::expect_table;
 
 /// The digest of `open sesame` is SHA-256 of 01 02 03 04 05 06 07 08 and that text, and a name's key the first eight
-/// bytes of its own, both worked out by another program. A session's value is the user and the moment: 1000 is 3e8. `Ann`
-/// is another name than `ann`, and the last of 24 letters counts.
+/// bytes of its own, both worked out by another program. A session's value is the user and the moment: 1000 is 3e8.
+/// `Ann` is another name than `ann`, and the last of 24 letters counts.
 const REGISTERED: &str = "\
 0 1000 register eve open sesame|is 200 Welcome eve|put 3.1 counter 5|\
 put 1.5 user eve 0102030405060708 2c885c68d28aa10e4fbefb6375880cf01dfd3838e6ec245736d5aa7b8ff36243 0 0 0|\

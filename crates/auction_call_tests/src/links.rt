@@ -8,9 +8,9 @@ use page_text::PageLine;
 use std::alloc::Global;
 use std::process::Abort;
 
-/// The piece, the start and the best bid of an item with the title `Lamp`, and the link. The first number is that of the
-/// category `Lamps` for `category`, and the number of the text for `text`. A best bid is the price also where it is below the
-/// start.
+/// The piece, the start and the best bid of an item with the title `Lamp`, and the link. The first number is that of
+/// the category `Lamps` for `category`, and the number of the text for `text`. A best bid is the price also where it is
+/// below the start.
 const LINKS: &str = "item 100 0|/item/4294967295 Lamp
 priced 100 0|/item/4294967295 Lamp, 100
 priced 100 250|/item/4294967295 Lamp, 250

@@ -35,8 +35,8 @@ impl Model for CheckedCall {
 }
 
 impl CheckedCall {
-    /// The call, if each of its fields is in its range. Where one is not, the call is handed back with the first that is
-    /// not. It visits each byte of the texts of its action once, and takes no memory.
+    /// The call, if each of its fields is in its range. Where one is not, the call is handed back with the first that
+    /// is not. It visits each byte of the texts of its action once, and takes no memory.
     pub fn check(call: ActionCall) -> Result<CheckedCall, BadCall>
         ensures { MatchResult result
             (λ checked. (is_call call ≡ true) × (checked ≡ call))

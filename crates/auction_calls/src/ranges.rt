@@ -197,8 +197,8 @@ fn first_bad(call: &ActionCall) -> Option<CallField>
     }
 }
 
-/// The first field of a call that is out of its range: its moment, or a field of its action in their order. None exactly
-/// where each is in its range. It visits each byte of the texts of its action once, and takes no memory.
+/// The first field of a call that is out of its range: its moment, or a field of its action in their order. None
+/// exactly where each is in its range. It visits each byte of the texts of its action once, and takes no memory.
 pub fn bad_field(call: &ActionCall) -> Option<CallField>
     ensures value { result ≡ bad_field call.entry.now }
     ensures exact { MatchOption result (is_call call.entry.now ≡ true) (λ field. is_call call.entry.now ≡ false) }

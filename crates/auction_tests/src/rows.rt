@@ -414,8 +414,8 @@ fn expect_id(rt: &impl Abort, id: RowId, table: u8, key: u64) {
     assert!(rt; id.table == table && id.key == key);
 }
 
-/// SHA-256 of `abc` begins with ba7816bf8f01cfea, and that of no bytes with e3b0c44298fc1c14. Each byte of a name counts, to
-/// the last one of the longest, and a capital is another letter.
+/// SHA-256 of `abc` begins with ba7816bf8f01cfea, and that of no bytes with e3b0c44298fc1c14. Each byte of a name
+/// counts, to the last one of the longest, and a capital is another letter.
 #[test]
 fn names_stand_under_their_digest(rt: HostRuntime) {
     expect_id(&rt, name_id(b"abc"), 2, 0xba78_16bf_8f01_cfea);

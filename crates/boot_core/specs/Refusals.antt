@@ -104,8 +104,8 @@ commit_refusal limits es call action =
     (full_for limits es 1 (entry_bytes (Commit (entry_of call action))))
     ∷ [])
 
--- The cause is the first of four parts that is there: the earlier commit of the request, a stale touch, a conflict, and a
--- journal that is too full.
+-- The cause is the first of four parts that is there: the earlier commit of the request, a stale touch, a conflict, and
+-- a journal that is too full.
 abbrev pub IsFirstOf : Option Place → Option Stale → Option Conflict → Option FullAt → CommitRefusal → Type 0
 IsFirstOf already stale conflict full commits.OutOfMemory = ⊥
 IsFirstOf already stale conflict full commits.KeeperFailed = ⊥

@@ -83,9 +83,9 @@ pub fn least_group_is_busy()
 
 /// A call that entered a group is revoked from the next Down on whose scope holds the group, and stays so whatever
 /// comes. A Down or an Up leaves a call that entered none of its groups as it was: it is revoked by neither, its exits,
-/// its reads, its lists, its puts and its enters of groups outside the scope are refused exactly as before, and so is its commit
-/// where the journal has room for it before and after. After an Up each call that is not revoked, and has frames and steps left, may enter
-/// each group that the scope holds.
+/// its reads, its lists, its puts and its enters of groups outside the scope are refused exactly as before, and so is
+/// its commit where the journal has room for it before and after. After an Up each call that is not revoked, and has
+/// frames and steps left, may enter each group that the scope holds.
 pub fn reboots_revoke_calls()
     ensures down { (es : List Entry) (call : Call) (t : Touch) (i : ℕ) (s : Scope) →
         slice_get call.touched i ≡ Some t → t.front.0 ≤ length es →
@@ -130,9 +130,9 @@ pub fn reboots_revoke_calls()
         enter_refusal (es ++ Up s ∷ []) call g ≡ None }
 {}
 
-/// A commit is refused exactly for the first of four parts that is there: the request has committed, a group that the call
-/// entered was rebooted since, what it read or writes was written since, and its entry would pass a limit of the journal.
-/// Another order of these is refused, and so is a part that is left out.
+/// A commit is refused exactly for the first of four parts that is there: the request has committed, a group that the
+/// call entered was rebooted since, what it read or writes was written since, and its entry would pass a limit of the
+/// journal. Another order of these is refused, and so is a part that is left out.
 pub fn commits_are_refused_in_order()
     ensures first { (limits : JournalLimits) (es : List Entry) (call : Call) (action : Option ActionEntry)
         (cause : CommitRefusal) → (commit_refusal limits es call action ≡ Some cause)

@@ -22,19 +22,19 @@
 //! match boot.commit(alloc, &mut keeper, ticket, None) { .. }
 //! ```
 //!
-//! `Boot::journal` hands out that the boot is sound (`IsSound` in `specs/Sound`): its journal is legal, so each commit is
-//! whole, once, live and current; it is within its limits; and each row was written by a call that entered the group of
-//! the row's owner. The laws `boots_stay_sound`, `calls_go_on_fitting` and `reboots_revoke_calls` say so of the
-//! definitions alone, and `journal_model::legal_journals_are_serial` what it means. The steps of a call here are those of
-//! a program's call (`boot_steps_follow`), and one that follows a program is refused by nothing but a reboot
+//! `Boot::journal` hands out that the boot is sound (`IsSound` in `specs/Sound`): its journal is legal, so each commit
+//! is whole, once, live and current; it is within its limits; and each row was written by a call that entered the group
+//! of the row's owner. The laws `boots_stay_sound`, `calls_go_on_fitting` and `reboots_revoke_calls` say so of the
+//! definitions alone, and `journal_model::legal_journals_are_serial` what it means. The steps of a call here are those
+//! of a program's call (`boot_steps_follow`), and one that follows a program is refused by nothing but a reboot
 //! (`programs_pass_no_limit`).
 //!
-//! Refusals come in a fixed order; `enter`, `read`, `list`, `put`, `commit` and `begin_reboot` each have one function in
-//! `specs/Refusals` that says which one comes first, and answer exactly that one. Out of memory is apart, and so is a
-//! keeper that failed: they are answered only where nothing else refuses, and leave the boot as it was; the call of such
-//! a commit has ended. A caller has two duties, and the boot offers the test of each: a component is entered only from
-//! one that may call it (`may_enter`), and a row is read, listed or put only from the component that owns its table
-//! (`is_in_owner`).
+//! Refusals come in a fixed order; `enter`, `read`, `list`, `put`, `commit` and `begin_reboot` each have one function
+//! in `specs/Refusals` that says which one comes first, and answer exactly that one. Out of memory is apart, and so is
+//! a keeper that failed: they are answered only where nothing else refuses, and leave the boot as it was; the call of
+//! such a commit has ended. A caller has two duties, and the boot offers the test of each: a component is entered only
+//! from one that may call it (`may_enter`), and a row is read, listed or put only from the component that owns its
+//! table (`is_in_owner`).
 //!
 //! A call has all the room of its ticket when it begins. That of a call which committed or was given up is kept for
 //! another one, up to sixteen tickets, and else a ticket takes new room. A commit takes exactly the room that its

@@ -21,8 +21,8 @@ ghost use Rattle.boot_core.specs.Boot.{BootValue, HasGrown};
 ghost use Rattle.boot_core.specs.Refusals.{enter_refusal, exit_refusal, read_refusal, list_refusal, put_refusal};
 ghost use Rattle.boot_core.specs.Steps.{ticket_entered, ticket_has_read, ticket_has_listed};
 
-/// A step that a call may make, as a call that follows its program may make each, is refused only by a reboot: where the
-/// call is revoked, or the group that it enters is down.
+/// A step that a call may make, as a call that follows its program may make each, is refused only by a reboot: where
+/// the call is revoked, or the group that it enters is down.
 pub fn programs_pass_no_limit()
     ensures enter { (parts : Parts) (es : List Entry) (call : Call) (c : ComponentNo) (m g : ℕ) →
         MayMake parts call (next.Enter c m) → stale_in es call.touched ≡ None →
@@ -43,9 +43,9 @@ pub fn programs_pass_no_limit()
 
 /// The steps of a boot are those that a program's call follows, over the rows at its begin: what `Boot::enter`, `read`,
 /// `list`, `put` and `exit` answer and leave of a ticket is just what `MakesStep` says of such a step. Each step but an
-/// enter has one answer and leaves one call; an enter opens one frame, and leaves what was read and put. The rows at the
-/// begin stay as they are while the boot grows. So a kind of step that no call could make is refused, and so is one after
-/// which a call might be anything.
+/// enter has one answer and leaves one call; an enter opens one frame, and leaves what was read and put. The rows at
+/// the begin stay as they are while the boot grows. So a kind of step that no call could make is refused, and so is one
+/// after which a call might be anything.
 pub fn boot_steps_follow()
     ensures enter { (c : BootValue) (ticket : TicketValue) (x : ComponentNo) (m : ℕ) →
         MakesStep (snapshot c.start.base c.entries ticket.call.at.0) ticket.call (next.Enter x m) answer.Entered

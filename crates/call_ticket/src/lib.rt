@@ -25,7 +25,8 @@
 //! answers each step from them, with its own puts laid over. So a run over other rows that are the same in all that
 //! it read is equal (`equal_answers`), and what a commit did at the begin of its call is what it would do where it
 //! commits (`serial_order`). A call that follows its program meets each condition of each step (`calls_follow`). A step
-//! whose answer did not come may be made again, but for an enter by a method that says otherwise (`steps_are_repeated`).
+//! whose answer did not come may be made again, but for an enter by a method that says otherwise
+//! (`steps_are_repeated`).
 #![tactic(auto)]
 
 mod limits;

@@ -50,8 +50,8 @@ pub fn calls_follow()
         ≡ Some (record { marks = call.marks; writes = call.writes; done = d }) }
 {}
 
-/// The only step that may not be made again is an enter by a method that may not be called again: one that kept a read, a
-/// put or an exit from being made again, or let such an enter be, is refused.
+/// The only step that may not be made again is an enter by a method that may not be called again: one that kept a read,
+/// a put or an exit from being made again, or let such an enter be, is refused.
 pub fn steps_are_repeated()
     ensures { (parts : Parts) (step : Next) → (may_repeat parts step ≡ false)
         ↔ ((component : ComponentNo) × (method : ℕ) × (step ≡ next.Enter component method)

@@ -28,7 +28,8 @@ abbrev pub FailsToRead : Command → Exchange → Type 0
 FailsToRead Drive x = StopsAtFailedRead x
 FailsToRead Groups x = WritesNothing x
 
--- A write failed: a scenario was done up to a line, and of what this line writes, or of the lines of groups, a prefix was written.
+-- A write failed: a scenario was done up to a line, and of what this line writes, or of the lines of groups, a prefix
+-- was written.
 abbrev pub FailsToWrite : Command → Exchange → Type 0
 FailsToWrite Drive x = StopsAtFailedWrite x
 FailsToWrite Groups x = WritesGroupsPrefix x
@@ -82,7 +83,8 @@ status_of_end (RefusedAt state n) = 3
 status_of_end (TooLong state n) = 8
 status_of_end (Unstarted state refusal) = status_of_refusal refusal
 
--- the status of a scenario that goes on past the limit, by the end of its lines within it and the bytes of the next line
+-- the status of a scenario that goes on past the limit, by the end of its lines within it and the bytes of the next
+-- line
 abbrev pub status_past_limit : End → ℕ → ℕ
 status_past_limit (Ended state) bytes = if nat_lt MAX_LINE_BYTES bytes then 8 else 12
 status_past_limit (RefusedAt state n) bytes = 3
@@ -96,8 +98,8 @@ pub record CallsWithinLimit (text : List ℕ) (turns : List Turn) (status : ℕ)
   pub lines : lines_in turns ≡ lines_of text
   pub called : status ≡ status_of_end (end_from first 1 turns)
 
--- A scenario has more bytes than one may have; these are its lines that end within the limit with what the keeper replies,
--- which call for this status.
+-- A scenario has more bytes than one may have; these are its lines that end within the limit with what the keeper
+-- replies, which call for this status.
 pub record CallsPastLimit (text : List ℕ) (turns : List Turn) (status : ℕ) : Type 0 where
   pub long : MAX_SCENARIO_BYTES < length text
   pub part : List ℕ
@@ -112,8 +114,8 @@ DescriptorsCallFor text status =
     × ((length text ≤ MAX_DESCRIPTOR_BYTES) × ((parts : Parts) × IsDeployment text parts)))
     ⊎ ((status ≡ 10) × ((length text ≤ MAX_DESCRIPTOR_BYTES) × IsRefused text)))
 
--- The status that a text calls for where the keeper replies as these turns say, neither input nor output fails, and memory
--- does not run out. A descriptor text has no turns.
+-- The status that a text calls for where the keeper replies as these turns say, neither input nor output fails, and
+-- memory does not run out. A descriptor text has no turns.
 abbrev pub CallsFor : Command → List ℕ → List Turn → ℕ → Type 0
 CallsFor Drive text turns status =
     CallsWithinLimit text turns status ⊎ CallsPastLimit text turns status

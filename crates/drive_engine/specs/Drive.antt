@@ -78,7 +78,8 @@ pub record StopsAtLine (n : ℕ) (x : Exchange) : Type 0 where
   pub refused : turn_outcome state turn ≡ RefusedIn after
   pub stands : ScenarioStands (before ++ turn ∷ []) x.told_before x.told_after
 
--- A line was read to its end and needs a boot that was not started for this refusal, after the lines before it were done.
+-- A line was read to its end and needs a boot that was not started for this refusal, after the lines before it were
+-- done.
 pub record StopsUnstarted (refusal : StartRefusal) (x : Exchange) : Type 0 where
   pub before : List Turn
   pub turn : Turn
@@ -135,8 +136,9 @@ pub record StopsAtFailedWrite (x : Exchange) : Type 0 where
   pub written : IsWritten x (transcript first before ++ prefix)
   pub stands : ScenarioStands (before ++ turn ∷ []) x.told_before x.told_after
 
--- A line was read to its end after these lines, and memory ran out while it was done: the first of its calls of the keeper
--- were made. No commit was kept: of the keeper's rows, where it tells, at most that of the boot's number is another.
+-- A line was read to its end after these lines, and memory ran out while it was done: the first of its calls of the
+-- keeper were made. No commit was kept: of the keeper's rows, where it tells, at most that of the boot's number is
+-- another.
 pub record RunsOutAtLine (x : Exchange) (lines : List (List ℕ)) (state : State) (between : Option KeeperTold) : Type 0 where
   pub line : List ℕ
   pub read : AreRead x (lines ++ line ∷ [])
@@ -144,8 +146,8 @@ pub record RunsOutAtLine (x : Exchange) (lines : List (List ℕ)) (state : State
   pub partly : DoesPartly state (line_of line) between x.told_after
   pub rows : HoldsRowsButNumber between x.told_after
 
--- Memory ran out after these lines were read and done. The keeper was called for these lines alone, or for a part of the
--- next one, too.
+-- Memory ran out after these lines were read and done. The keeper was called for these lines alone, or for a part of
+-- the next one, too.
 pub record StopsOutOfMemory (x : Exchange) : Type 0 where
   pub before : List Turn
   pub state : State
@@ -155,7 +157,8 @@ pub record StopsOutOfMemory (x : Exchange) : Type 0 where
   pub stands : ScenarioStands before x.told_before between
   pub last : (x.told_after ≡ between) ⊎ RunsOutAtLine x (lines_in before) state between
 
--- There is no memory for the numbers of a report: that of a line which was refused or is too long, or those of a bad row.
+-- There is no memory for the numbers of a report: that of a line which was refused or is too long, or those of a bad
+-- row.
 abbrev pub HasNoReport : Exchange → Type 0
 HasNoReport x =
     ((n : ℕ) × StopsAtLine n x)

@@ -61,8 +61,9 @@ EndsAtLine endings.BootsSpent number s line old new before after =
     WritesNoText line old new × Ends (failures.Unstarted refusals.BootsSpent) s (line_of line) before after
 EndsAtLine endings.ScenarioTooLong number s line old new before after = ⊥
 
--- A scenario has come so far: of what was taken from the input, first come the lines of turns, which were done; then a part
--- of a line, which is kept; and then bytes that were not looked at, of which the last are past the limit of a scenario.
+-- A scenario has come so far: of what was taken from the input, first come the lines of turns, which were done; then a
+-- part of a line, which is kept; and then bytes that were not looked at, of which the last are past the limit of a
+-- scenario.
 pub record HasCome (x : Exchange) (more : ℕ) (unread past : List ℕ) (p : PlayState) : Type 0 where
   pub turns : List Turn
   pub taken : x.left_before

@@ -12,7 +12,8 @@ use deployment::{ComponentPart, Parts, Reference, TablePart, one_call};
 use scenario_text::{HeadLine, Line, LineAnswer, Setup};
 use std::alloc::Global;
 
-/// What head lines have said: the parts of a deployment, the limits of the journal, and the bricks and the key of sessions.
+/// What head lines have said: the parts of a deployment, the limits of the journal, and the bricks and the key of
+/// sessions.
 #[derive(Drop)]
 pub struct Head {
     pub parts: Parts,

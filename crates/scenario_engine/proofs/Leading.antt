@@ -192,8 +192,8 @@ stays_head law head (lines.Session line) = refl
 
 -- one turn
 
--- What turns of sessions come to between two states: from the head to a head, where nothing is done to sessions, or from
--- the sessions that the head sets up to those of a boot; or from the sessions of a boot to those of a boot.
+-- What turns of sessions come to between two states: from the head to a head, where nothing is done to sessions, or
+-- from the sessions that the head sets up to those of a boot; or from the sessions of a boot to those of a boot.
 abbrev Reaches : State → List SessionTurn → State → Type 0
 Reaches (Heading head) turns t =
     ((next : Head) × (t ≡ Heading next) × (turns ≡ []) × KeepsCounts head next)
@@ -256,8 +256,8 @@ leads_turn law s turn = leads_answer law s (line_of turn.line) turn.replies
 
 -- all turns
 
--- Turns of sessions from a state lead to the sessions of the last one; from the head they begin with those that some head
--- sets up, with as many bricks as head lines allow.
+-- Turns of sessions from a state lead to the sessions of the last one; from the head they begin with those that some
+-- head sets up, with as many bricks as head lines allow.
 abbrev AllLead : State → List SessionTurn → State → Type 0
 AllLead (Heading head) turns last =
     HasCounts head.setup.counts → (setup : SetupState) × (end : SessionsState) × Lead (set_up setup 0) turns end × HasCounts setup.counts × AreSessionsOf last setup end

@@ -98,8 +98,8 @@ halves calls more t u told = go whole.between whole.before whole.after
 
 -- what a start leaves
 
--- The boot that opens is over the rows that the keeper held, of these parts and limits, and begins with those that it holds;
--- else they stay.
+-- The boot that opens is over the rows that the keeper held, of these parts and limits, and begins with those that it
+-- holds; else they stay.
 record OpensOver (parts : Parts) (limits : JournalLimits) (t u : KeeperTold) (start : Start) : Type 0 where
   over : IsOver t.rows start
   deployment : start.deployment ≡ parts
@@ -167,8 +167,9 @@ start_leaves : (parts : Parts) (limits : JournalLimits) (replies : StartReplies)
     → TellsCalls (start_calls replies) (Some t) (Some u) → StartLeaves parts limits t u (opening parts limits replies)
 start_leaves parts limits replies t u told = start_replied parts limits t u replies.rows replies.keeps told
 
--- where a keeper that tells stands to a state: it holds the rows that the journal leaves, and the boot is started as the next
--- one has to be; where no boot is started, it holds the rows that it held first, and the next one has to be over these
+-- where a keeper that tells stands to a state: it holds the rows that the journal leaves, and the boot is started as
+-- the next one has to be; where no boot is started, it holds the rows that it held first, and the next one has to be
+-- over these
 
 abbrev HoldsBoot : (Start → Type 0) → KeeperTold → BootValue → Type 0
 HoldsBoot P t b = P b.start × (t.rows ≡ rows_after b.start.base b.entries)

@@ -20,8 +20,8 @@ use Rattle.scenario_engine.specs.Opening.{StartReplies, Opening, Opened, Unstart
 use Rattle.scenario_engine.specs.Running.{started, quiet_line, commit_step, commit_calls}
 use Rattle.scenario_engine.specs.State.{RunningState, State, Heading, Running, Outcome, RefusedIn, DoneTo, UnstartedIn}
 
--- What the keeper replies while one line is done: to the start that the first event line makes, to the start that a `reopen`
--- makes, and whether it keeps the writes of a commit. A line asks only for some of it.
+-- What the keeper replies while one line is done: to the start that the first event line makes, to the start that a
+-- `reopen` makes, and whether it keeps the writes of a commit. A line asks only for some of it.
 pub record Replies : Type 0 where
   pub first : StartReplies
   pub again : StartReplies
@@ -123,8 +123,8 @@ calls_on (TheHead head) line replies = []
 calls_on (TheBoot r) line replies = calls_over r (kind_of line) replies
 calls_on (TheUnstarted head refusal) line replies = []
 
--- The calls of the keeper that a line makes: those of a start, one for a commit with writes that the boot does not refuse,
--- and none else.
+-- The calls of the keeper that a line makes: those of a start, one for a commit with writes that the boot does not
+-- refuse, and none else.
 unfoldable pub line_calls : State → Line → Replies → List KeeperCall
 line_calls s line replies =
     target_calls s (is_event line) replies.first

@@ -10,7 +10,8 @@ use Rattle.boot_core.specs.declared.refusals.StartRefusal.TheVariants as refusal
 use Rattle.container_core.specs.Start.{first_bad, last_boot, greatest_boot, boot_row, start_over}
 use Rattle.scenario_engine.specs.KeeperCalls.{KeeperCall, Gave, Failed, apply_calls}
 
--- What the keeper replies to a start: the rows that it gives, unless it fails, and whether it keeps the number of the boot.
+-- What the keeper replies to a start: the rows that it gives, unless it fails, and whether it keeps the number of the
+-- boot.
 pub record StartReplies : Type 0 where
   pub rows : Option (List RowWrite)
   pub keeps : Bool

@@ -19,8 +19,8 @@ use Rattle.scenario_engine.specs.Transcript.{Turn, first, end_from, last_state, 
 abbrev pub start_turns : State → List SessionTurn
 start_turns t = map (λ (b : BootValue). Boots b.start.boot) (boots_in t)
 
--- what a line does to sessions that was done, left this state and wrote this text: a line about sessions, and the start of
--- the next boot
+-- what a line does to sessions that was done, left this state and wrote this text: a line about sessions, and the start
+-- of the next boot
 abbrev pub turns_by : Line → State → List ℕ → List SessionTurn
 turns_by lines.Pass t text = []
 turns_by (lines.Head line) t text = []
@@ -73,8 +73,8 @@ abbrev pub AreSessionsOf : State → SetupState → SessionsState → Type 0
 AreSessionsOf (Heading head) setup sessions = (setup ≡ head.setup) × (sessions ≡ set_up setup 0)
 AreSessionsOf (Running r) setup sessions = sessions ≡ r.sessions
 
--- The sessions of the state that turns leave stand: the turns lead to them from a setup with as many bricks as head lines
--- allow.
+-- The sessions of the state that turns leave stand: the turns lead to them from a setup with as many bricks as head
+-- lines allow.
 pub record HasSessions (turns : List Turn) : Type 0 where
   pub setup : SetupState
   pub counts : HasCounts setup.counts

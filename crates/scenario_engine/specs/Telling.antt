@@ -1,5 +1,5 @@
--- What a line answers and asks of the keeper: that there are replies of the keeper by which it is so. Where memory runs out,
--- what a line has asked of the keeper by then.
+-- What a line answers and asks of the keeper: that there are replies of the keeper by which it is so. Where memory runs
+-- out, what a line has asked of the keeper by then.
 use Rattle.std.specs.Prelude.{◌≡◌, ℕ, Bool, false, List, [], map, Option, IfSome, string_bytes}
 use Rattle.boot_core.specs.declared.refusals.StartRefusal.{StartRefusal}
 use Rattle.boot_core.specs.declared.refusals.StartRefusal.TheVariants as refusals
@@ -124,8 +124,8 @@ Answers answers.Done after s line old new = Does s line (DoneTo after []) old ne
 Answers (answers.Wrote text) after s line old new =
     Does s line (DoneTo after (string_bytes text)) old new
 
--- Memory ran out while a text was done that spells this line, or none: the first of its calls of the keeper were made, and
--- the keeper has not kept the writes of a commit.
+-- Memory ran out while a text was done that spells this line, or none: the first of its calls of the keeper were made,
+-- and the keeper has not kept the writes of a commit.
 pub record DoesPartly (s : State) (line : Option Line) (old new : Option KeeperTold) : Type 0 where
   pub replies : Replies
   pub unkept : replies.keeps ≡ false

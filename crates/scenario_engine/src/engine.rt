@@ -235,8 +235,9 @@ impl Engine {
     /// `reopen` starts the next boot over the keeper's rows.
     ///
     /// # Errors
-    /// `LineFailure` says why a boot was left unstarted, or that memory ran out. The scenario ends there, and what the engine
-    /// holds then is not told. A line that is refused leaves the engine as it was, but for the boot that it started.
+    /// `LineFailure` says why a boot was left unstarted, or that memory ran out. The scenario ends there, and what the
+    /// engine holds then is not told. A line that is refused leaves the engine as it was, but for the boot that it
+    /// started.
     pub fn do_text<K: Keeper>(
         &mut self,
         alloc: Global,

@@ -49,15 +49,15 @@ pub fn no_turns_break_the_order()
     legal_journals_are_serial();
 }
 
-/// Whatever the turns, each commit of a boot is of a request of this boot, also where they stop at a line. A boot commits a
-/// request once at most, since its journal is legal, and the boots of a keeper that tells have numbers of their own: so over
-/// all boots of such a keeper a request commits once at most.
+/// Whatever the turns, each commit of a boot is of a request of this boot, also where they stop at a line. A boot
+/// commits a request once at most, since its journal is legal, and the boots of a keeper that tells have numbers of
+/// their own: so over all boots of such a keeper a request commits once at most.
 pub fn commits_are_of_their_boot()
     ensures { (turns : List Turn) → All CommitsOwnRequests (boots_from first turns) }
 {}
 
-/// Whatever the turns, their sessions stand: the bricks, packets and calls are a world's, and each fetch answers what was
-/// written, or says why it does not.
+/// Whatever the turns, their sessions stand: the bricks, packets and calls are a world's, and each fetch answers what
+/// was written, or says why it does not.
 pub fn scenarios_have_sessions()
     ensures { (turns : List Turn) → HasSessions turns }
 {
@@ -65,9 +65,10 @@ pub fn scenarios_have_sessions()
     writes_with_new_nonces_are_done();
 }
 
-/// Over a keeper that tells, boots rise: each boot that turns start has a greater number than those before. So while serials
-/// are left, no call to a brick has had the nonce that the next `write` or `fetch` draws, and none is refused for a used one.
-/// A start that takes a number twice would break it, and so would a boot whose serials go on from another's.
+/// Over a keeper that tells, boots rise: each boot that turns start has a greater number than those before. So while
+/// serials are left, no call to a brick has had the nonce that the next `write` or `fetch` draws, and none is refused
+/// for a used one. A start that takes a number twice would break it, and so would a boot whose serials go on from
+/// another's.
 pub fn boots_rise()
     ensures rise { (turns : List Turn) (t u : KeeperTold) →
         TellsCalls (calls_from first turns) (Some t) (Some u) → BootsRise 0 (session_turns first turns) }
@@ -81,10 +82,10 @@ pub fn boots_rise()
     nonces_stay_new();
 }
 
-/// Whatever the turns, a keeper that was called as they say, and that tells, holds just the rows that the journal of the
-/// last boot leaves, or those that it held first where no boot is started; and each boot was started over the rows that
-/// the one before left, with its deployment, its limits and the next number. So what was answered as committed stays,
-/// over all boots, and nothing else comes.
+/// Whatever the turns, a keeper that was called as they say, and that tells, holds just the rows that the journal of
+/// the last boot leaves, or those that it held first where no boot is started; and each boot was started over the rows
+/// that the one before left, with its deployment, its limits and the next number. So what was answered as committed
+/// stays, over all boots, and nothing else comes.
 pub fn keepers_tell()
     ensures { (turns : List Turn) (old new : Option KeeperTold) →
         TellsCalls (calls_from first turns) old new → Tells turns old new }
@@ -92,10 +93,10 @@ pub fn keepers_tell()
     boots_are_sound();
 }
 
-/// The lines of a scenario, the rows that its keeper holds and which of its calls fail decide all that it does: two lists of
-/// turns with the same lines write the same and end the same, where the keepers tell the same before and the same failed
-/// calls after; and then the keepers tell the same after. A call is known by its number, so the count of calls must not have
-/// come to its last value.
+/// The lines of a scenario, the rows that its keeper holds and which of its calls fail decide all that it does: two
+/// lists of turns with the same lines write the same and end the same, where the keepers tell the same before and the
+/// same failed calls after; and then the keepers tell the same after. A call is known by its number, so the count of
+/// calls must not have come to its last value.
 pub fn keepers_decide()
     ensures { (turns others : List Turn) (t a b : KeeperTold) → lines_in turns ≡ lines_in others →
         TellsCalls (calls_from first turns) (Some t) (Some a) →
@@ -106,8 +107,8 @@ pub fn keepers_decide()
         × (a ≡ b) }
 {}
 
-/// Where memory runs out while a line is done, no commit was kept: of the rows that a telling keeper held, at most that of
-/// the boot's number is another.
+/// Where memory runs out while a line is done, no commit was kept: of the rows that a telling keeper held, at most that
+/// of the boot's number is another.
 pub fn no_commit_is_kept_partly()
     ensures { (s : State) (line : Option Line) (old new : Option KeeperTold) →
         DoesPartly s line old new → HoldsRowsButNumber old new }

@@ -1,8 +1,8 @@
 //! A scenario, line by line, over a keeper.
 //!
-//! An `Engine` does one line after the other. Head lines build a deployment; the first event line starts a boot over the
-//! rows of the keeper, `commit` hands its writes to the keeper before it is answered, and `reopen` starts the next boot
-//! over the keeper's rows. The keeper is lent to each line.
+//! An `Engine` does one line after the other. Head lines build a deployment; the first event line starts a boot over
+//! the rows of the keeper, `commit` hands its writes to the keeper before it is answered, and `reopen` starts the next
+//! boot over the keeper's rows. The keeper is lent to each line.
 //!
 //! ```text
 //! let mut engine = Engine::new(alloc);
@@ -14,8 +14,9 @@
 //! `calls_from`. The engine is proved to answer each line so, and to make just these calls.
 //!
 //! The laws hold for all turns, whatever the keeper replies: `boots_are_sound`, `no_turns_commit_after_a_reboot`,
-//! `no_turns_break_the_order` and `commits_are_of_their_boot` for the journals of the boots, `keepers_tell` for the rows that the keeper holds,
-//! `boots_rise` for the numbers of boots over a keeper that tells, and `keepers_decide` for what decides the transcript.
+//! `no_turns_break_the_order` and `commits_are_of_their_boot` for the journals of the boots, `keepers_tell` for the
+//! rows that the keeper holds, `boots_rise` for the numbers of boots over a keeper that tells, and `keepers_decide` for
+//! what decides the transcript.
 #![tactic(auto)]
 
 mod engine;

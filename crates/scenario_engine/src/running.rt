@@ -154,7 +154,8 @@ impl Running {
         (self.boot.into_deployment(), limits, self.sessions)
     }
 
-    /// Starts the next boot, over the same deployment and limits. The callers of this one are gone, and the sessions stay.
+    /// Starts the next boot, over the same deployment and limits. The callers of this one are gone, and the sessions
+    /// stay.
     pub(crate) fn reopen<K: Keeper>(
         self,
         alloc: Global,
@@ -189,8 +190,8 @@ impl Running {
         committed_text(alloc, caller, self.boot.journal().len())
     }
 
-    /// A live call joins the journal, or is refused. What it writes where it commits is made before the keeper is called,
-    /// so no commit is kept that is not answered.
+    /// A live call joins the journal, or is refused. What it writes where it commits is made before the keeper is
+    /// called, so no commit is kept that is not answered.
     #[tactic(auto, unfolding(crate::specs::Running::commit_step, crate::specs::Running::commit_calls))]
     pub(crate) fn commit_step<K: Keeper>(
         &mut self,

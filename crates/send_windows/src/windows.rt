@@ -150,7 +150,8 @@ impl Windows {
         }
     }
 
-    /// How many passes to a brick are in flight: given and not yet spent. It visits the bricks up to it, and takes no memory.
+    /// How many passes to a brick are in flight: given and not yet spent. It visits the bricks up to it, and takes no
+    /// memory.
     pub fn in_flight(&self, brick: BrickNo) -> u64
         requires { HasBrick self.now brick }
         ensures { Some result ≡ in_flight_in self.now brick }

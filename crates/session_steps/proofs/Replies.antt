@@ -153,7 +153,8 @@ absent_by nonce cookie holder h =
     ap (λ b. if b then absence holder cookie.expiry (incarnation_after 1 h) (swept_after h) else None) (reply_same (refers nonce cookie.key cookie.version holder.brick))
 
 -- The brick replies with the value, where it has neither crashed since nor been swept late; or with the count of its
--- crashes, where it has crashed since; or, where it has not, with the last moment swept, which is late, where it was swept late since.
+-- crashes, where it has crashed since; or, where it has not, with the last moment swept, which is late, where it was
+-- swept late since.
 pub record RepliesFound (fetch : FetchMade) (holder : Holder) (reply : Option ReadReply) : Type 0 where
   pub reply_is : reply ≡ Some (get.Found fetch.value)
   pub uncrashed : crashes holder.brick.0 fetch.since ≡ 0

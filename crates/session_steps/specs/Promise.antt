@@ -74,8 +74,8 @@ abbrev pub later_of : Moment → List Moment → Moment
 later_of so_far [] = so_far
 later_of so_far (moment ∷ moments) = later so_far moment
 
--- The greatest moment at which the brick of a number was swept since it last crashed, or 0: after turns from this present
--- moment on, where it was so far this one.
+-- The greatest moment at which the brick of a number was swept since it last crashed, or 0: after turns from this
+-- present moment on, where it was so far this one.
 abbrev pub swept_over : Moment → ℕ → Moment → List SessionTurn → Moment
 swept_over now brick so_far [] = so_far
 swept_over now brick so_far (turn ∷ turns) =
@@ -141,8 +141,8 @@ last_swept fetch holder =
     (swept_over (record { 0 = 0 }) holder.brick.0 (record { 0 = 0 }) fetch.before) fetch.since
 
 -- Why a brick of the cookie did not serve a fetch. Crashed: it has crashed since the value was written, and tells how
--- often it has crashed so far, and 1 more. Swept: it has not, but was swept past the lease and the grace since, and tells
--- the greatest moment at which it has been swept since it last crashed.
+-- often it has crashed so far, and 1 more. Swept: it has not, but was swept past the lease and the grace since, and
+-- tells the greatest moment at which it has been swept since it last crashed.
 abbrev pub IsCause : FetchMade → Holder → Cause → Type 0
 IsCause fetch holder cause.Silent = WasSilent fetch holder
 IsCause fetch holder cause.Strayed = WasStrayed fetch holder
@@ -200,9 +200,9 @@ abbrev pub lanes_of : Option StoreState → List LaneState
 lanes_of None = []
 lanes_of (Some st) = st.lanes
 
--- A write line that was acknowledged: the key has a cookie whose version is the nonce that the write drew, which expires a
--- lease after the write, and names 1 to 16 distinct bricks, just as many as are to store a value; each other key has the
--- cookie that it had; and the line wrote the version.
+-- A write line that was acknowledged: the key has a cookie whose version is the nonce that the write drew, which
+-- expires a lease after the write, and names 1 to 16 distinct bricks, just as many as are to store a value; each other
+-- key has the cookie that it had; and the line wrote the version.
 pub record IsAcknowledged (s : SessionsState) (key : ℕ) (t : SessionsState) (text : List ℕ) : Type 0 where
   pub cookie : Cookie
   pub cookie_is : cookie_of t key ≡ Some cookie
@@ -221,8 +221,8 @@ pub record WasFull (s : SessionsState) (key : ℕ) (text : List ℕ) : Type 0 wh
   pub few_open : open_count store.windows.facts < store.windows.wq
   pub text_is : text ≡ overload_text key (full_facts store.windows.facts)
 
--- Too few bricks stored a value, and a write line told why: its write, with the nonce that the line drew, was missed in the
--- world of the bricks with these causes.
+-- Too few bricks stored a value, and a write line told why: its write, with the nonce that the line drew, was missed in
+-- the world of the bricks with these causes.
 pub record WasMissed (s : SessionsState) (key : ℕ) (value : List ℕ) (t : SessionsState) (text : List ℕ) : Type 0 where
   pub before : StoreState
   pub before_is : s.store ≡ Some before
@@ -270,8 +270,9 @@ BootsRise boot [] = Unit {0}
 BootsRise boot (Does line text ∷ turns) = BootsRise boot turns
 BootsRise boot (Boots number ∷ turns) = (boot < number) × BootsRise number turns
 
--- A fetch of what was written, in a scenario of this setup and boot: the turns before a write line that was acknowledged
--- with a cookie; the turns since, after which this is still the cookie of the key; and a fetch line, which wrote a text.
+-- A fetch of what was written, in a scenario of this setup and boot: the turns before a write line that was
+-- acknowledged with a cookie; the turns since, after which this is still the cookie of the key; and a fetch line, which
+-- wrote a text.
 pub record FetchedWrite (setup : SetupState) (boot : ℕ) : Type 0 where
   pub key : ℕ
   pub value : List ℕ
@@ -314,7 +315,8 @@ fetch_of story =
       now = story.at_fetch.moment;
     }
 
--- a brick of the cookie has crashed since the value was written, or was not heard by the fetch: it was silent or strayed to it
+-- a brick of the cookie has crashed since the value was written, or was not heard by the fetch: it was silent or
+-- strayed to it
 abbrev pub HasCrashedOrWasUnheard : FetchMade → Holder → Type 0
 HasCrashedOrWasUnheard fetch holder = HasCrashed fetch holder ⊎ (WasSilent fetch holder ⊎ WasStrayed fetch holder)
 

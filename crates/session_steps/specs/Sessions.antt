@@ -161,8 +161,8 @@ answered_read s key number st =
     or_refused (read_of (slice_get st.world.calls number)) (λ read.
     told_read (with_store s st) key read)
 
--- The value under a key is read by the key's cookie. Refused is a fetch of a key without a cookie, and one whose nonce a
--- call has had.
+-- The value under a key is read by the key's cookie. Refused is a fetch of a key without a cookie, and one whose nonce
+-- a call has had.
 unfoldable pub fetch_line : SessionsState → ℕ → Answer SessionsState
 fetch_line s key =
     or_refused (cookie_of s key) (λ cookie.

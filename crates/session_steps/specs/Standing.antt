@@ -11,11 +11,11 @@ use Rattle.session_steps.specs.Setup.{set_up}
 use Rattle.session_steps.specs.Store.{StoreState}
 use Rattle.session_steps.specs.Texts.{version_text, found_text, expired_text, lost_text}
 
--- What stands of a fetch of what was written. It wrote the value, that the cookie had expired, or that the value was lost
--- with the cause of each brick. The write's line told the version, and the cookie expires a lease after the write. In time
--- it found the value where a brick of the cookie could serve it, and never found another; past the expiry it said so. Lost
--- was told only with the cause of each brick, and within the lease only where every brick of the cookie has crashed since,
--- or was silent to this fetch, or strayed.
+-- What stands of a fetch of what was written. It wrote the value, that the cookie had expired, or that the value was
+-- lost with the cause of each brick. The write's line told the version, and the cookie expires a lease after the write.
+-- In time it found the value where a brick of the cookie could serve it, and never found another; past the expiry it
+-- said so. Lost was told only with the cause of each brick, and within the lease only where every brick of the cookie
+-- has crashed since, or was silent to this fetch, or strayed.
 pub record FetchStands {setup : SetupState} (story : FetchedWrite setup 0) : Type 0 where
   pub right : IsRight (fetch_of story) story.text
   pub version : story.written ≡ version_text story.key story.cookie
@@ -32,8 +32,8 @@ pub record IsAnswered (setup : SetupState) (turns : List SessionTurn) (key : ℕ
   pub of_write : IsOfWrite setup 0 turns at_fetch key text
   pub stands : FetchStands of_write.story
 
--- All turns of a scenario of this setup were done and lead to sessions at the end: their bricks, packets and calls are a
--- world that events made, and each fetch among the turns is answered so.
+-- All turns of a scenario of this setup were done and lead to sessions at the end: their bricks, packets and calls are
+-- a world that events made, and each fetch among the turns is answered so.
 pub record SessionsStand (setup : SetupState) (turns : List SessionTurn) (end : SessionsState) : Type 0 where
   pub lead : Lead (set_up setup 0) turns end
   pub worlds : (st : StoreState) → end.store ≡ Some st → IsMade st.world

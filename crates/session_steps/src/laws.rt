@@ -30,8 +30,8 @@ pub fn sessions_are_worlds()
 
 /// A write line that is done is acknowledged or not. Where it is, the key's cookie has the nonce that the write drew as
 /// its version and expires a lease later, and the line writes the version. Where it is not, no cookie changes, none has
-/// that version, and the line writes which windows are full, or why too few bricks stored the value: the causes with which
-/// this very write was missed in the world of the bricks. It refuses causes that the write did not meet.
+/// that version, and the line writes which windows are full, or why too few bricks stored the value: the causes with
+/// which this very write was missed in the world of the bricks. It refuses causes that the write did not meet.
 pub fn writes_say_whether_they_are_acknowledged()
     ensures { (setup : SetupState) (boot : ℕ) (before : List SessionTurn) (s t : SessionsState)
         (key : ℕ) (value text : List ℕ)
@@ -41,8 +41,8 @@ pub fn writes_say_whether_they_are_acknowledged()
     acknowledged_cookies_stay_acknowledged();
 }
 
-/// A write line is refused only where there are no bricks, or where a call has had the nonce that it would draw: where the
-/// bricks are as many as head lines allow, as those of each setup are that head lines make.
+/// A write line is refused only where there are no bricks, or where a call has had the nonce that it would draw: where
+/// the bricks are as many as head lines allow, as those of each setup are that head lines make.
 pub fn writes_with_new_nonces_are_done()
     ensures refused { (setup : SetupState) (boot : ℕ) (turns : List SessionTurn) (u : SessionsState) (st : StoreState)
         (key : ℕ) (value : List ℕ)
@@ -59,18 +59,18 @@ pub fn writes_with_new_nonces_are_done()
 }
 
 /// While each boot that starts has a greater number than the one before, and serials are left, no call has had a nonce
-/// that is still to be drawn in this boot: neither that of the next write or fetch, nor one of a later serial, in whatever
-/// order their calls begin.
+/// that is still to be drawn in this boot: neither that of the next write or fetch, nor one of a later serial, in
+/// whatever order their calls begin.
 pub fn nonces_stay_new()
     ensures { (setup : SetupState) (boot : ℕ) (turns : List SessionTurn) (u : SessionsState) (st : StoreState) (serial : ℕ)
         → BootsRise boot turns → Lead (set_up setup boot) turns u → u.store ≡ Some st → u.serial < 2 ^ 64 - 1
         → u.serial ≤ serial → is_new st.world (record (nonce u) { serial = serial }) ≡ true }
 {}
 
-/// A text that is presented is written as `ok` exactly where it is the text of a cookie under the key of the service, as
-/// `notbase64` exactly where it spells no bytes, as `form` exactly where it spells bytes that are no cookie's fields and
-/// a tag, and as `tag` exactly where it spells fields and a tag, and the tag is not that of the fields under the key. It
-/// refuses a text that is taken under another key, and one whose fault is told by the wrong word.
+/// A text that is presented is written as `ok` exactly where it is the text of a cookie under the key of the service,
+/// as `notbase64` exactly where it spells no bytes, as `form` exactly where it spells bytes that are no cookie's fields
+/// and a tag, and as `tag` exactly where it spells fields and a tag, and the tag is not that of the fields under the
+/// key. It refuses a text that is taken under another key, and one whose fault is told by the wrong word.
 pub fn presented_texts_are_told_apart()
     ensures ok { (key text : List ℕ)
         → (presented_text key text ≡ codes "cookie ok\n") ↔ ((cookie : Cookie) × IsTextOf key cookie text) }
@@ -101,10 +101,10 @@ pub fn fetches_with_new_nonces_are_done()
     acknowledged_cookies_stay_acknowledged();
 }
 
-/// Over every list of lines and of boots, each fetch line that is done is of a write line before it, and answers what was
-/// written: the value, in time, where a brick of the cookie can serve it; or that the cookie has expired; or that the value
-/// was lost, with the cause of each brick of the cookie. The cookie names 1 to 16 distinct bricks, and expires a lease after
-/// the write, whose line wrote the version that the cookie names.
+/// Over every list of lines and of boots, each fetch line that is done is of a write line before it, and answers what
+/// was written: the value, in time, where a brick of the cookie can serve it; or that the cookie has expired; or that
+/// the value was lost, with the cause of each brick of the cookie. The cookie names 1 to 16 distinct bricks, and
+/// expires a lease after the write, whose line wrote the version that the cookie names.
 pub fn fetches_answer_what_was_written()
     ensures each { (setup : SetupState) (boot : ℕ) (turns : List SessionTurn) (u v : SessionsState) (key : ℕ) (text : List ℕ)
         → Lead (set_up setup boot) turns u → session_line u (lines.Fetch key) ≡ Done v text

@@ -18,13 +18,13 @@
 //! replies wait in its lane: they come in that order, and lines say which are lost, dropped or come once more. A write
 //! and a fetch are calls of the world that go on, turn by turn, until they want nothing more.
 //!
-//! Between two lines `IsSessions` holds: the present moment is below 2^62, each cookie names 1 to 16 distinct bricks, and
-//! the packets that wait in a lane are replies of its brick. So a call ends within 66 turns for each brick that it asks,
-//! and has its answer then; no line is refused after it has changed something.
+//! Between two lines `IsSessions` holds: the present moment is below 2^62, each cookie names 1 to 16 distinct bricks,
+//! and the packets that wait in a lane are replies of its brick. So a call ends within 66 turns for each brick that it
+//! asks, and has its answer then; no line is refused after it has changed something.
 //!
 //! A line costs what its turns do, of which there is one for each ask and one for each reply that it hears. After more
-//! lines a write and a fetch cost more by the logarithm of their number, since their nonce is looked up among those of all
-//! calls. The packets and the calls of all lines are kept.
+//! lines a write and a fetch cost more by the logarithm of their number, since their nonce is looked up among those of
+//! all calls. The packets and the calls of all lines are kept.
 #![tactic(auto)]
 
 mod fetching;

@@ -24,8 +24,8 @@ pub const DEFAULT_KEY_BYTES: usize = 32;
 /// The number of the node, which is part of each version.
 pub const NODE: u16 = 1;
 
-/// The sessions of a scenario: the present moment, the key of the service, the cookie of each session key, and the bricks,
-/// if there are some.
+/// The sessions of a scenario: the present moment, the key of the service, the cookie of each session key, and the
+/// bricks, if there are some.
 #[derive(Drop)]
 pub struct Sessions {
     parts: Parts,
@@ -73,7 +73,8 @@ fn set_up(alloc: Global, setup: Setup) -> Result<Parts, OutOfMemory>
 }
 
 impl Sessions {
-    /// Sessions before the first line about them, in boot 0: no cookie, and the present moment is 0. It visits each brick.
+    /// Sessions before the first line about them, in boot 0: no cookie, and the present moment is 0. It visits each
+    /// brick.
     pub fn new(alloc: Global, setup: Setup) -> Result<Sessions, OutOfMemory>
         ensures { IfOk result (λ s. s ≡ set_up setup 0) }
     {

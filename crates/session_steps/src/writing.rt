@@ -141,8 +141,8 @@ impl Store {
         self.windows.spend(passes);
     }
 
-    /// A write begins with these passes and goes on to its end, and the passes are spent. The answer is its number. Where
-    /// memory ran out, what was not heard counts as silent.
+    /// A write begins with these passes and goes on to its end, and the passes are spent. The answer is its number.
+    /// Where memory ran out, what was not heard counts as silent.
     pub(crate) fn settle(
         &mut self,
         alloc: Global,
@@ -186,8 +186,8 @@ impl Parts {
         Ok(LineAnswer::Wrote(text))
     }
 
-    /// A value is written under a key. It costs what its turns do, and copies the value once for each brick that is asked
-    /// and once for each that stores it.
+    /// A value is written under a key. It costs what its turns do, and copies the value once for each brick that is
+    /// asked and once for each that stores it.
     #[tactic(auto, unfolding(crate::specs::Sessions::write_line))]
     pub(crate) fn write_line(
         &mut self,
