@@ -46,8 +46,8 @@ fn full_for_call(journal: &Journal, ticket: &Ticket, action: &Option<ActionEntry
     }
 }
 
-/// Why a call may not commit. It visits each entry up to one of the request, each group that the call entered, and for
-/// each read and each write each write that was noted.
+/// Why a call may not commit. It visits each group that the call entered, each read and each write, and finds the
+/// request as `Journal::commit_of` does and the newest write of each row and table as `Rows::newest` does.
 pub(crate) fn commit_refusal(
     journal: &Journal,
     rows: &Rows,

@@ -13,7 +13,7 @@ use commit_journal::{Conflict, Mark, ReadMark};
 use crash_base::{Place, RowWrite};
 use row_store::Rows;
 
-/// The place after the last commit that writes of what was read. It visits each write that was noted.
+/// The place after the last commit that writes of what was read. It is found as `Rows::newest` finds it.
 fn newest(rows: &Rows, read: ReadMark) -> Place
     ensures { (base : List RowWrite) (es : List Entry) → AreRowsOf rows.now base es →
         result.0 ≡ newest es read }
@@ -24,7 +24,7 @@ fn newest(rows: &Rows, read: ReadMark) -> Place
     }
 }
 
-/// The conflict of what was read with what was written after a place, if there is one. It visits each write that was noted.
+/// The conflict of what was read with what was written after a place, if there is one.
 fn conflict_at(rows: &Rows, at: Place, read: ReadMark) -> Option<Conflict>
     ensures { (base : List RowWrite) (es : List Entry) → AreRowsOf rows.now base es →
         result ≡ conflict_in es at.0 (read ∷ []) }
@@ -40,7 +40,7 @@ fn conflict_at(rows: &Rows, at: Place, read: ReadMark) -> Option<Conflict>
     None
 }
 
-/// The first conflict of what was read, if there is one. For each mark it visits each write that was noted.
+/// The first conflict of what was read, if there is one. It visits each mark.
 fn conflict_of_marks(rows: &Rows, at: Place, marks: &[Mark]) -> Option<Conflict>
     ensures { (base : List RowWrite) (es : List Entry) → AreRowsOf rows.now base es →
         result ≡ conflict_in es at.0 (map (λ m. m.read) marks.now) }
@@ -53,7 +53,7 @@ fn conflict_of_marks(rows: &Rows, at: Place, marks: &[Mark]) -> Option<Conflict>
     None
 }
 
-/// The first conflict of what is written, if there is one. For each write it visits each one that was noted.
+/// The first conflict of what is written, if there is one. It visits each write.
 fn conflict_of_writes(rows: &Rows, at: Place, writes: &[RowWrite]) -> Option<Conflict>
     ensures { (base : List RowWrite) (es : List Entry) → AreRowsOf rows.now base es →
         result ≡ conflict_in es at.0 (map (λ w. Row w.id) writes.now) }
@@ -66,7 +66,7 @@ fn conflict_of_writes(rows: &Rows, at: Place, writes: &[RowWrite]) -> Option<Con
     None
 }
 
-/// The first conflict of a call, if it has one. For each read and each write it visits each write that was noted.
+/// The first conflict of a call, if it has one. It visits each read and each write.
 pub(crate) fn conflict_of(rows: &Rows, ticket: &Ticket) -> Option<Conflict>
     ensures { (base : List RowWrite) (es : List Entry) → AreRowsOf rows.now base es →
         result ≡ conflict_of es ticket.now.call }

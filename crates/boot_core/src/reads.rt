@@ -145,8 +145,7 @@ fn read_found(
     Ok(value)
 }
 
-/// What a call finds in a row, and its mark. It visits each row of the base and each write that was noted before the
-/// call began.
+/// What a call finds in a row, and its mark. The row is found as `Rows::row_at` finds it.
 pub(crate) fn read_row(
     alloc: Global,
     rows: &Rows,

@@ -7,7 +7,7 @@ ghost use Rattle.outside.specs.Serials.{IsDrawn, Looked, Draws, AllDiffer};
 
 use std::marker::Model;
 
-/// The serial numbers are those below this one, 2^62.
+/// A draw that looks at this number, 2^62, or at a greater one, draws none.
 pub const SERIALS_END: u64 = 0x4000_0000_0000_0000;
 
 /// No serial number is left.
