@@ -1,9 +1,11 @@
 //! Rows of the auction as bytes and as words, their ids, values of sessions, and the site.
 //!
-//! Most tests go through a table of rows. What a row's call answers is put into words, each with a
-//! space before it, and these are compared with the words that the row wants. A row that fails is
-//! shown whole. Bytes are written in hexadecimal, each field as a word.
+//! Bytes are written in hexadecimal, each field as a word.
 
+use crate::words::{
+    add_byte, add_hex, add_hex_bytes, add_number, add_text, add_word, cut, expect_words, hex_bytes,
+    number, small_number, table_number,
+};
 use auction_rows::{
     AuctionRow, BidRow, CategoryRow, CounterRow, EntryRow, FeedbackRow, GivenFeedback, ItemRow,
     ItemState, NameRow, OwnItemRow, TableRow, UserRow, bid_id, categories_counter,
@@ -17,69 +19,6 @@ use descriptor_text::read_descriptors;
 use std::alloc::Global;
 use std::fmt::Write;
 use std::process::Abort;
-
-/// Asserts that these words were found, and shows the row where they were not.
-fn expect_words(rt: &impl Abort, found: &str, want: &str, row: &str) {
-    assert_eq!(rt; found.trim_start(), want, "{row}");
-}
-
-/// The parts of a row before a mark and after it.
-fn cut<'a>(rt: &impl Abort, row: &'a str, mark: char) -> (&'a str, &'a str) {
-    row.split_once(mark).expect(rt, row)
-}
-
-fn number(rt: &impl Abort, text: &str) -> u64 {
-    text.parse().expect(rt, text)
-}
-
-fn small(rt: &impl Abort, text: &str) -> u32 {
-    text.parse().expect(rt, text)
-}
-
-fn table_no(rt: &impl Abort, text: &str) -> u8 {
-    text.parse().expect(rt, text)
-}
-
-fn push_byte(rt: &impl Abort, bytes: &mut Vec<u8>, byte: u8) {
-    bytes.push(byte).expect(rt, "a byte");
-}
-
-/// Adds the bytes that a word spells, two digits each.
-fn push_hex(rt: &impl Abort, bytes: &mut Vec<u8>, word: &str) {
-    for digits in word.as_bytes().chunks_exact(2) {
-        let digits = std::str::from_utf8(digits).expect(rt, word);
-        push_byte(rt, bytes, u8::from_str_radix(digits, 16).expect(rt, word));
-    }
-}
-
-/// The bytes that words spell.
-fn hex_bytes(rt: &impl Abort, alloc: Global, text: &str) -> Vec<u8> {
-    let mut bytes = Vec::new(alloc);
-    for word in text.split(' ') {
-        push_hex(rt, &mut bytes, word);
-    }
-    bytes
-}
-
-fn add_word(rt: &impl Abort, words: &mut String, word: &str) {
-    write!(words, " {word}").expect(rt, word);
-}
-
-fn add_number(rt: &impl Abort, words: &mut String, number: u64) {
-    write!(words, " {number}").expect(rt, "a number");
-}
-
-fn add_text(rt: &impl Abort, words: &mut String, bytes: &[u8]) {
-    add_word(rt, words, std::str::from_utf8(bytes).expect(rt, "a text"));
-}
-
-/// Adds bytes in hexadecimal.
-fn add_hex(rt: &impl Abort, words: &mut String, bytes: &[u8]) {
-    add_word(rt, words, "");
-    for byte in bytes {
-        write!(words, "{byte:02x}").expect(rt, "a byte");
-    }
-}
 
 fn add_user(rt: &impl Abort, words: &mut String, user: &UserRow) {
     add_word(rt, words, "user");
@@ -211,10 +150,10 @@ fn expect_rows(rt: &impl Abort, alloc: Global, table: &str) {
     for row in table.split('\n') {
         let (bytes, want) = cut(rt, row, '|');
         let (table, bytes) = cut(rt, bytes, ' ');
-        let table = table_no(rt, table);
+        let table = table_number(rt, table);
         let mut bytes = hex_bytes(rt, alloc, bytes);
         expect_row(rt, alloc, table, bytes.as_slice(), want, row);
-        push_byte(rt, &mut bytes, 0);
+        add_byte(rt, &mut bytes, 0);
         expect_row(rt, alloc, table, bytes.as_slice(), "no", row);
         bytes.pop();
         bytes.pop();
@@ -287,7 +226,7 @@ fn push_field(
     field: &str,
     word: &str,
 ) {
-    push_hex(rt, bytes, if place == wrong { word } else { field });
+    add_hex_bytes(rt, bytes, if place == wrong { word } else { field });
 }
 
 /// A row is a table, the place of a field of its row in `ROWS`, and a word in place of that field.
@@ -299,7 +238,14 @@ fn expect_none(rt: &impl Abort, alloc: Global, row: &str) {
     for (place, field) in fields_of(rt, table).split(' ').enumerate() {
         push_field(rt, &mut bytes, place as u64, number(rt, wrong), field, word);
     }
-    expect_row(rt, alloc, table_no(rt, table), bytes.as_slice(), "no", row);
+    expect_row(
+        rt,
+        alloc,
+        table_number(rt, table),
+        bytes.as_slice(),
+        "no",
+        row,
+    );
 }
 
 /// Numbers of users, items and categories over 4,294,967,295; a state, feedback and a truth value over
@@ -345,10 +291,10 @@ fn other_tables_have_no_rows(rt: HostRuntime) {
 /// Adds a text of so many letters: its length in two bytes, and the letters.
 fn push_letters(rt: &impl Abort, bytes: &mut Vec<u8>, count: u16) {
     for byte in count.to_be_bytes() {
-        push_byte(rt, bytes, byte);
+        add_byte(rt, bytes, byte);
     }
     for _ in 0..count {
-        push_byte(rt, bytes, b'a');
+        add_byte(rt, bytes, b'a');
     }
 }
 
@@ -357,7 +303,7 @@ fn push_or_letters(rt: &impl Abort, bytes: &mut Vec<u8>, is_text: bool, count: u
     if is_text {
         push_letters(rt, bytes, count);
     } else {
-        push_hex(rt, bytes, field);
+        add_hex_bytes(rt, bytes, field);
     }
 }
 
@@ -367,7 +313,7 @@ fn takes_letters(rt: &impl Abort, alloc: Global, table: &str, text: usize, count
     for (place, field) in fields_of(rt, table).split(' ').enumerate() {
         push_or_letters(rt, &mut bytes, place == text, count, field);
     }
-    decode_row(alloc, table_no(rt, table), bytes.as_slice())
+    decode_row(alloc, table_number(rt, table), bytes.as_slice())
         .expect(rt, table)
         .is_some()
 }
@@ -468,7 +414,10 @@ fn sessions_tell_their_user(rt: HostRuntime) {
     for row in SESSIONS.split('\n') {
         let (value, user) = cut(&rt, row, '|');
         let value = hex_bytes(&rt, rt.alloc(), value);
-        assert!(rt; session_user(value.as_slice()) == small(&rt, user), "{row}");
+        assert!(rt;
+            session_user(value.as_slice()) == small_number(&rt, user),
+            "{row}"
+        );
     }
 }
 

@@ -1,11 +1,12 @@
 //! The kinds in memory at values, and each adapter over a stream that fails in its midst.
 
-use crate::words::{add_number, add_row, add_text, add_word, cut, expect_words, number, rows};
-use crash_base::{InputBytes, RowWrite};
+use crate::keeper_words::{add_fault, add_load, add_rows};
+use crate::words::{add_number, add_text, add_word, cut, expect_words, number, rows};
+use crash_base::InputBytes;
 use outside::{
-    BytesSink, BytesSource, CallList, Failed, InputRefusal, InputSource, Keeper, KeeperFault,
-    MapKeeper, OutputSink, PlainSerials, Serials, Sink, SizeList, Source, SureKeeper, SureSink,
-    SureSource, read_to_end, write_all,
+    BytesSink, BytesSource, CallList, Failed, InputRefusal, InputSource, Keeper, MapKeeper,
+    OutputSink, PlainSerials, Serials, Sink, SizeList, Source, SureKeeper, SureSink, SureSource,
+    read_to_end, write_all,
 };
 use std::alloc::Global;
 use std::cell::Cell;
@@ -163,26 +164,6 @@ fn a_sure_sink_takes_everything(rt: HostRuntime) {
     }
     add_number(&rt, &mut words, sink.taken());
     expect_words(&rt, &words, "whole whole whole 7", "three pieces");
-}
-
-fn add_rows(rt: &impl Abort, words: &mut String, rows: &[RowWrite]) {
-    for row in rows {
-        add_row(rt, words, row);
-    }
-}
-
-fn add_fault(rt: &impl Abort, words: &mut String, fault: KeeperFault) {
-    match fault {
-        KeeperFault::Failed => add_word(rt, words, "failed"),
-        KeeperFault::OutOfMemory => add_word(rt, words, "out_of_memory"),
-    }
-}
-
-fn add_load<K: Keeper>(rt: &impl Abort, alloc: Global, words: &mut String, keeper: &mut K) {
-    match keeper.load(alloc) {
-        Ok(rows) => add_rows(rt, words, rows.as_slice()),
-        Err(fault) => add_fault(rt, words, fault),
-    }
 }
 
 fn add_apply<K: Keeper>(

@@ -31,6 +31,11 @@ pub fn small_number(rt: &impl Abort, text: &str) -> u32 {
     text.parse().expect(rt, text)
 }
 
+/// The number of a table that a text spells.
+pub fn table_number(rt: &impl Abort, text: &str) -> u8 {
+    text.parse().expect(rt, text)
+}
+
 /// The first word of a row, and the words after it.
 pub fn first_word(row: &str) -> (&str, &str) {
     row.split_once(' ').unwrap_or((row, ""))
@@ -40,11 +45,15 @@ fn hex_byte(rt: &impl Abort, digits: &str) -> u8 {
     u8::from_str_radix(digits, 16).expect(rt, digits)
 }
 
+pub fn add_byte(rt: &impl Abort, bytes: &mut Vec<u8>, byte: u8) {
+    bytes.push(byte).expect(rt, "a byte");
+}
+
 /// Adds the bytes that a word spells in hexadecimal, two digits each.
 pub fn add_hex_bytes(rt: &impl Abort, bytes: &mut Vec<u8>, word: &str) {
     for digits in word.as_bytes().chunks_exact(2) {
         let digits = std::str::from_utf8(digits).expect(rt, word);
-        bytes.push(hex_byte(rt, digits)).expect(rt, word);
+        add_byte(rt, bytes, hex_byte(rt, digits));
     }
 }
 

@@ -1,6 +1,6 @@
 //! Databases that a keeper is made over, or not.
 
-use crate::words::{database, opening};
+use crate::keeper_words::{database, opening};
 use std::alloc::Global;
 use std::process::Abort;
 

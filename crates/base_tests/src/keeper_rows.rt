@@ -1,6 +1,7 @@
 //! Rows that are put, and come back.
 
-use crate::words::{TABLE, add_apply, add_load, expect_words, keeper};
+use crate::keeper_words::{TABLE, add_apply, add_load, keeper};
+use crate::words::expect_words;
 use keeper_sqlite::SqlKeeper;
 use sqlite::MemStore;
 use std::alloc::Global;
@@ -21,7 +22,7 @@ fn expect_calls(
         add_apply(rt, alloc, &mut words, keeper, line);
     }
     add_load(rt, alloc, &mut words, keeper);
-    expect_words(rt, &words, want);
+    expect_words(rt, &words, want, lines);
     assert!(rt; keeper.faults() == faults);
 }
 

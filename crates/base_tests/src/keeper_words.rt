@@ -1,13 +1,11 @@
-//! What words spell, and a keeper's answers in words.
-//!
-//! Each crate of tests has its own, since only a test may end the process.
+//! Keepers over databases in memory, and a keeper's answers in words.
 
-use crash_base::{RowBytes, RowId, RowList, RowWrite};
+use crate::words::{add_row, add_word, rows};
+use crash_base::RowWrite;
 use keeper_sqlite::{OpenFault, SqlKeeper};
 use outside::{Keeper, KeeperFault};
 use sqlite::{Alter, Connection, MemStore};
 use std::alloc::Global;
-use std::fmt::Write;
 use std::process::Abort;
 
 /// The table of the rows, as the keeper makes it.
@@ -47,43 +45,19 @@ pub fn keeper(rt: &impl Abort, alloc: Global, statements: &[&str]) -> SqlKeeper<
     sent_keeper(SqlKeeper::new(database(rt, alloc, statements)).expect(rt, "a keeper"))
 }
 
-/// The parts of a word before a mark and after it.
-fn cut<'a>(rt: &impl Abort, word: &'a str, mark: char) -> (&'a str, &'a str) {
-    word.split_once(mark).expect(rt, word)
-}
-
-fn row(rt: &impl Abort, alloc: Global, word: &str) -> RowWrite {
-    let (table, rest) = cut(rt, word, '.');
-    let (key, text) = cut(rt, rest, '=');
-    RowWrite {
-        id: RowId {
-            table: table.parse().expect(rt, word),
-            key: key.parse().expect(rt, word),
-        },
-        bytes: RowBytes::copied(alloc, text.as_bytes()).expect(rt, word),
+/// Adds why a keeper did not answer.
+pub fn add_fault(rt: &impl Abort, words: &mut String, fault: KeeperFault) {
+    match fault {
+        KeeperFault::OutOfMemory => add_word(rt, words, "out_of_memory"),
+        KeeperFault::Failed => add_word(rt, words, "failed"),
     }
 }
 
-/// The rows that words spell.
-fn rows(rt: &impl Abort, alloc: Global, text: &str) -> RowList {
-    let mut rows = RowList::new(alloc);
-    for word in text.split(' ') {
-        rows.push(row(rt, alloc, word)).expect(rt, text);
+/// Adds rows, each as the word that spells it.
+pub fn add_rows(rt: &impl Abort, words: &mut String, rows: &[RowWrite]) {
+    for row in rows {
+        add_row(rt, words, row);
     }
-    rows
-}
-
-fn add_fault(rt: &impl Abort, words: &mut String, fault: KeeperFault) {
-    let word = match fault {
-        KeeperFault::OutOfMemory => " out_of_memory",
-        KeeperFault::Failed => " failed",
-    };
-    words.push_str(word).expect(rt, word);
-}
-
-fn add_row(rt: &impl Abort, words: &mut String, row: &RowWrite) {
-    let text = std::str::from_utf8(row.bytes.as_slice()).expect(rt, "a text");
-    write!(words, " {}.{}={text}", row.id.table, row.id.key).expect(rt, text);
 }
 
 /// Applies the writes that words spell, and adds what that answers.
@@ -95,7 +69,7 @@ pub fn add_apply<K: Keeper>(
     text: &str,
 ) {
     match keeper.apply(alloc, &rows(rt, alloc, text)) {
-        Ok(()) => words.push_str(" ok").expect(rt, text),
+        Ok(()) => add_word(rt, words, "ok"),
         Err(fault) => add_fault(rt, words, fault),
     }
 }
@@ -103,16 +77,7 @@ pub fn add_apply<K: Keeper>(
 /// Adds the rows that a load gives, or why it gives none.
 pub fn add_load<K: Keeper>(rt: &impl Abort, alloc: Global, words: &mut String, keeper: &mut K) {
     match keeper.load(alloc) {
-        Ok(rows) => {
-            for row in rows.as_slice() {
-                add_row(rt, words, row);
-            }
-        }
+        Ok(rows) => add_rows(rt, words, rows.as_slice()),
         Err(fault) => add_fault(rt, words, fault),
     }
-}
-
-/// Asserts that these words were found.
-pub fn expect_words(rt: &impl Abort, found: &str, want: &str) {
-    assert_eq!(rt; found.trim_start(), want);
 }
