@@ -23,3 +23,4 @@ pub mod Serially
 pub mod Exactly
 pub mod Marking
 pub mod Counting
+pub mod Found

@@ -42,6 +42,7 @@ pub use stale::Stale;
 pub use status::GroupStatus;
 pub use statuses::GroupStatuses;
 pub use step_laws::{
-    calls_keep_what_they_did, entries_count_what_they_hold, journals_are_full_exactly,
-    puts_are_seen, reads_leave_their_marks, tests_are_exact,
+    calls_keep_what_they_did, commits_are_found, enters_leave_touches,
+    entries_count_what_they_hold, journals_are_full_exactly, puts_are_seen,
+    reads_leave_their_marks, tests_are_exact,
 };
