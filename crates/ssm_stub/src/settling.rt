@@ -98,8 +98,8 @@ fn settle_one<L: Link>(
     }
 }
 
-/// Hears the brick of each unheard pass, in order, for the Put of this nonce and key, and marks the pass: Answered by a lawful reply, and Silent where the brick was silent or strayed, or
-/// where memory ran out. It sends nothing.
+/// Hears the brick of each unheard pass, in order, for the Put of this nonce and key, and marks the pass: Answered by a
+/// lawful reply, and Silent where the brick was silent or strayed, or where memory ran out. It sends nothing.
 pub fn settle<L: Link>(
     alloc: Global,
     link: &mut L,

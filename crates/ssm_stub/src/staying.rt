@@ -14,7 +14,7 @@ ghost use Rattle.ssm_stub.specs.Runs.{Fits, after};
 ghost use Rattle.ssm_stub.specs.Writes.{write_answer, write_machine, write_start};
 
 /// An answer stays: what a write hears after it has its answer does not change the answer, and a read
-/// hears nothing after it.
+/// hears nothing after it. It refuses a write whose answer changes with what it hears later.
 pub fn answers_stay()
     ensures write { (first more : List Told) (bricks : List BrickNo) (least : ℕ) (nonce : Version)
         (key : SessionKey) (value : List ℕ) (expiry : Moment) (answer : Result Cookie WriteRefusal)

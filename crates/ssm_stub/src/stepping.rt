@@ -17,9 +17,10 @@ use crash_base::{FrameBytes, OutOfMemory};
 use outside::Link;
 use std::alloc::Global;
 
-/// Makes the call of the link that a write wants, and tells the write what came of it: one send of its ask,
-/// or one receive, whose bytes are put into `into`. A write that goes on so hears all its bricks, those too
-/// that are left at its answer, so that all its passes are settled where it wants nothing more.
+/// Makes the call of the link that a write wants, and tells the write what came of it: one send of `ask`, which is to
+/// be the bytes of `frame`, or one receive. `into` is room for what is received, and holds anything after. A write that
+/// goes on so hears all its bricks, those too that are left at its answer, so that all its passes are settled where it
+/// wants nothing more.
 ///
 /// # Errors
 /// There is no memory. The write is as it was; the link may have made the call.
@@ -41,8 +42,8 @@ pub fn write_step<L: Link>(
     write_once(alloc, link, call, next, ask, into)
 }
 
-/// Makes the call of the link that a read wants, and tells the read what came of it: one send of its ask, or
-/// one receive, whose bytes are put into `into`.
+/// Makes the call of the link that a read wants, and tells the read what came of it: one send of `ask`, which is to be
+/// the bytes of `frame`, or one receive. `into` is room for what is received, and holds anything after.
 ///
 /// # Errors
 /// There is no memory. The read is as it was; the link may have made the call.
@@ -66,6 +67,7 @@ pub fn read_step<L: Link>(
 
 /// Runs join: a step is a run, a run that goes on where another ended makes one run with it, and a write's
 /// run up to its answer is one of the write that goes on. So what steps come to is what the laws of runs say.
+/// It refuses a run that forgets a call of the link or an event at the place where it was cut.
 pub fn runs_join<L: Link>(_link: &L)
     ensures made { (old mid new : L) (first more : List LinkEvent)
         → Made L.makes old first mid → Made L.makes mid more new → Made L.makes old (first ++ more) new }

@@ -23,7 +23,8 @@ pub fn a_missed_write_has_causes()
         → IsMissedBy bricks s.least s.nonce s.key (told_to write_machine s events) causes }
 {}
 
-/// Where a read was lost, each of its holders has its cause by its own events, in order.
+/// Where a read was lost, each of its holders has its cause by its own events, in order. It refuses a holder with no
+/// cause, and a cause that its events do not tell.
 pub fn a_lost_read_has_causes()
     ensures { (events : List Told) (holders : List Holder) (s : ReadState) (causes : List BrickCause)
         → s.asks ≡ none_asked holders → AllDiffer (map (λ holder. holder.brick.0) holders) → Fits read_machine s events
@@ -32,7 +33,8 @@ pub fn a_lost_read_has_causes()
 {}
 
 /// A value that a read gave came in a lawful Found of a holder; each holder before it has its cause by its
-/// own events, and those behind it were told nothing.
+/// own events, and those behind it were told nothing. It refuses a value that no holder gave, and a read that asks on
+/// after a value.
 pub fn a_read_value_was_found()
     ensures { (events : List Told) (holders : List Holder) (s : ReadState) (value : List ℕ)
         → s.asks ≡ none_asked holders → AllDiffer (map (λ holder. holder.brick.0) holders) → Fits read_machine s events

@@ -145,7 +145,7 @@ pub fn acknowledged_cookies_name_who_stored()
 /// other brick has its cause, in asked order. A cause is Silent only where the link was silent to this write's
 /// send to the brick or to its receiving from it, Strayed only where this write was given 64 frames of the brick
 /// that are no lawful reply, and Full only where the brick told this write so and had no room for the value.
-/// It refuses a cause that is told of a brick that stored the value, or that another call met.
+/// It refuses a cause of a brick that told this write a lawful Stored, and one that another call met.
 pub fn missed_writes_have_causes()
     ensures { (bricks : ℕ) (events : List WorldEvent) (place : ℕ) (write : WriteState) (causes : List BrickCause)
         → slice_get (after (new_world bricks) events).calls place ≡ Some (kind.Write write)
@@ -165,11 +165,13 @@ pub fn acknowledged_cookies_may_be_read()
 /// A read of a cookie that was acknowledged when the read began answers the acknowledged value, which a
 /// holder gave to it in a lawful Found, where its moment is not past the expiry; or Expired, where it is; or
 /// Lost, with the cause of each holder. A cause is Crashed only where the holder has crashed since it stored
-/// the value, Swept only where it was swept past the lease and the grace, Silent only where the link was
-/// silent to this read's send to the holder or to its receiving from it, and Strayed only where this read was
-/// given 64 frames of the holder that are no lawful reply. The cause of an intact holder, which has neither
-/// crashed since it stored the value nor been swept past the lease and the grace, is Silent or Strayed.
-/// What the read heard of each holder is the outcome of what it was told of that holder.
+/// the value, Swept only where it was swept past the lease and the grace since it stored the value, in the
+/// incarnation that the cookie names, Silent only where the link was silent to this read's send to the holder or
+/// to its receiving from it, and Strayed only where this read was given 64 frames of the holder that are no
+/// lawful reply. The cause of an intact holder, which since it stored the value has neither crashed nor been
+/// swept past the lease and the grace, is Silent or Strayed. What the read heard of each holder is the outcome
+/// of what it was told of that holder. It refuses another value, and a cause that the holder or this read did
+/// not meet.
 pub fn reads_answer_what_was_written()
     ensures right { (bricks : ℕ) (earlier later : List WorldEvent) (order : ReadOrder) (value : List ℕ) (read : ReadState)
         (result : Result (List ℕ) ReadRefusal)
@@ -193,9 +195,9 @@ pub fn reads_answer_what_was_written()
     an_outcome_of_a_get_has_its_events();
 }
 
-/// A holder that is intact, neither crashed since it stored the value nor swept past the lease and the grace,
+/// A holder that is intact, neither crashed nor swept past the lease and the grace since it stored the value,
 /// replies Found with the value to the read, and where the read has heard it, it has heard this, or the link
-/// was silent to the read or gave it 64 strays.
+/// was silent to the read or gave it 64 strays. It refuses a brick that loses a value otherwise.
 pub fn holders_answer_found()
     ensures replies { (bricks : ℕ) (earlier later : List WorldEvent) (order : ReadOrder) (value : List ℕ) (read : ReadState)
         (place packet : ℕ) (holder : Holder) (frame : Frame)
