@@ -66,9 +66,8 @@ pub fn scenarios_have_sessions()
 }
 
 /// Over a keeper that tells, boots rise: each boot that turns start has a greater number than those before. So while
-/// serials are left, no call to a brick has had the nonce that the next `write` or `fetch` draws, and none is refused
-/// for a used one. A start that takes a number twice would break it, and so would a boot whose serials go on from
-/// another's.
+/// serials are left, no call to a brick has had the nonce that the next `write` or `fetch` draws. A start that
+/// takes a number twice would break it.
 pub fn boots_rise()
     ensures rise { (turns : List Turn) (t u : KeeperTold) →
         TellsCalls (calls_from first turns) (Some t) (Some u) → BootsRise 0 (session_turns first turns) }

@@ -12,11 +12,12 @@ ghost use Rattle.ssm_world.specs.Worlds.{is_new, may_be_asked, bricks_of, IsMade
 ghost use Rattle.session_steps.specs.Present.{presented_text};
 ghost use Rattle.session_steps.specs.Promise.{SessionTurn, Lead, CanServe, FindsValue, IsLost, IsRight, IsAcknowledged, IsUnacknowledged, ComesFrom, BootsRise, FetchedWrite, IsOfWrite, fetch_of, HasCrashedOrWasUnheard, NoneSweptLate};
 ghost use Rattle.session_steps.specs.Rule.{result_by_rule};
-ghost use Rattle.session_steps.specs.Sessions.{SessionsState, nonce, cookie_of, expiry, fetched_text, session_line};
+ghost use Rattle.session_steps.specs.Sessions.{SessionsState, nonce, reopened, cookie_of, expiry, fetched_text, session_line};
 ghost use Rattle.scenario_text.specs.Setup.{SetupState, HasCounts, no_setup, bricks_step, key_step};
 ghost use Rattle.session_steps.specs.Setup.{set_up};
 ghost use Rattle.session_steps.specs.Standing.{SessionsStand};
 ghost use Rattle.session_steps.specs.Store.{StoreState};
+ghost use Rattle.session_steps.specs.declared.sessions.TheConstants.{LEASE};
 ghost use Rattle.session_steps.specs.Texts.{version_text, found_text, expired_text, lost_text};
 
 use send_windows::{taken_passes_are_lawful, windows_keep_their_limits};
@@ -31,12 +32,14 @@ pub fn sessions_are_worlds()
 /// A write line that is done is acknowledged or not. Where it is, the key's cookie has the nonce that the write drew as
 /// its version and expires a lease later, and the line writes the version. Where it is not, no cookie changes, none has
 /// that version, and the line writes which windows are full, or why too few bricks stored the value: the causes with
-/// which this very write was missed in the world of the bricks. It refuses causes that the write did not meet.
+/// which this very write was missed in the world of the bricks. A lease is 1,800,000 ms. It refuses causes that the
+/// write did not meet, and another lease.
 pub fn writes_say_whether_they_are_acknowledged()
-    ensures { (setup : SetupState) (boot : ℕ) (before : List SessionTurn) (s t : SessionsState)
+    ensures told { (setup : SetupState) (boot : ℕ) (before : List SessionTurn) (s t : SessionsState)
         (key : ℕ) (value text : List ℕ)
         → Lead (set_up setup boot) before s → session_line s (lines.Write key value) ≡ Done t text
         → IsAcknowledged s key t text ⊎ IsUnacknowledged s key value t text }
+    ensures lease { LEASE ≡ 1800000 }
 {
     acknowledged_cookies_stay_acknowledged();
 }
@@ -60,11 +63,14 @@ pub fn writes_with_new_nonces_are_done()
 
 /// While each boot that starts has a greater number than the one before, and serials are left, no call has had a nonce
 /// that is still to be drawn in this boot: neither that of the next write or fetch, nor one of a later serial, in
-/// whatever order their calls begin.
+/// whatever order their calls begin. The serials of each boot that starts begin at 0, and the node is 1. It refuses a
+/// rule that draws a nonce twice, and serials that go on from another boot.
 pub fn nonces_stay_new()
-    ensures { (setup : SetupState) (boot : ℕ) (turns : List SessionTurn) (u : SessionsState) (st : StoreState) (serial : ℕ)
+    ensures new { (setup : SetupState) (boot : ℕ) (turns : List SessionTurn) (u : SessionsState) (st : StoreState) (serial : ℕ)
         → BootsRise boot turns → Lead (set_up setup boot) turns u → u.store ≡ Some st → u.serial < 2 ^ 64 - 1
         → u.serial ≤ serial → is_new st.world (record (nonce u) { serial = serial }) ≡ true }
+    ensures first { (s : SessionsState) (boot : ℕ)
+        → nonce (reopened s boot) ≡ record { node = 1; boot = boot; serial = 0 } }
 {}
 
 /// A text that is presented is written as `ok` exactly where it is the text of a cookie under the key of the service,

@@ -18,4 +18,4 @@ returns-clause-new c = λ turns t u r st told last store below.
     let P : State → Type 0 = λ s. AreSessionsOf s has.setup has.end in
     let same : has.end ≡ r.sessions = subst P last has.ends in
     let Q : SessionsState → Type 0 = λ s. s.store ≡ Some st → s.serial < 2 ^ 64 - 1 → is_new st.world (nonce s) ≡ true in
-    subst Q same (c.nonces_stay_new.ensures has.setup 0 (session_turns first turns) has.end st rise has.stand.lead) store below
+    subst Q same (c.nonces_stay_new.ensures.new has.setup 0 (session_turns first turns) has.end st rise has.stand.lead) store below

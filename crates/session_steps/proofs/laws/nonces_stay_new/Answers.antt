@@ -1,5 +1,5 @@
 use Rattle.session_steps.proofs.Nonces.{nonce_new}
 use Rattle.session_steps.proofs.laws.nonces_stay_new.Goals as goal
 
-pub returns : goal.returns
-returns c = nonce_new
+pub returns-clause-new : goal.returns-clause-new
+returns-clause-new c = nonce_new
