@@ -6,6 +6,7 @@ use crash_base::ComponentName;
 /// A line of the head, with what its words say, in their order.
 #[derive(Drop)]
 pub enum HeadLine {
+    /// The component.
     Component(ComponentName),
     /// The component, and the one that it refers to by a hard reference.
     Hard(ComponentName, ComponentName),

@@ -42,6 +42,7 @@ pub enum SessionLine {
     SweepAt(u64, u64),
     /// The brick.
     Values(u64),
+    /// Nothing: the windows of all bricks are written.
     Windows,
     /// The brick to which a pass is held.
     Hold(u64),
