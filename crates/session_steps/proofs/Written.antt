@@ -1,5 +1,5 @@
 -- What a write line leaves that was done: the cookie with which its value is acknowledged, or the cookies as they were.
-use Rattle.std.proofs.Common.{◌≡◌, ◌⊎◌, inl, inr, ℕ, ◌<◌, true, nat_lt, List, length, take, arith, Some, Ok, Err, sym, ap, ◌∙◌}
+use Rattle.std.proofs.Common.{◌≡◌, ◌⊎◌, inl, inr, ℕ, ◌<◌, true, if◌then◌else◌, nat_lt, List, [], ◌∷◌, ◌++◌, length, take, arith, Some, Ok, Err, sym, ap, ◌∙◌}
 use Rattle.std.specs.Prelude.{slice_get, slice_set, nat_le}
 use Rattle.std.specs.List.{filter_map}
 use Rattle.std.proofs.lemmas.List.{length-take-le}
@@ -10,12 +10,20 @@ use Rattle.session_cookie.specs.declared.cookie.Cookie.{Cookie}
 use Rattle.session_cookie.specs.declared.cookie.Holder.{Holder}
 use Rattle.ssm_frames.specs.declared.frame.Frame.TheVariants.{Put}
 use Rattle.send_windows.specs.Facts.{open_count}
+use Rattle.ssm_stub.specs.declared.reply.WriteReply.{WriteReply}
 use Rattle.ssm_stub.specs.declared.write_call.WriteRefusal.TheVariants as missing
 use Rattle.ssm_stub.specs.Turns.{none_asked}
 use Rattle.ssm_stub.specs.Writes.{WriteState, write_start, write_answer, holder_of}
+use Rattle.ssm_world.specs.declared.call.Call.{Call}
 use Rattle.ssm_world.specs.declared.call.Call.TheVariants as call
-use Rattle.ssm_world.specs.Claims.{IsAcknowledged, WriteOrder, write_state, WasMissed as WasMissedInWorld}
-use Rattle.ssm_world.specs.Worlds.{WorldValue, new_world, after, IsMade}
+use Rattle.ssm_world.specs.declared.event.WorldEvent.{WorldEvent}
+use Rattle.ssm_world.specs.Claims.{IsAcknowledged, WriteOrder, write_event, write_state, WasMissed as WasMissedInWorld}
+use Rattle.ssm_world.specs.Sound.{asked_of, untold, Grows}
+use Rattle.ssm_world.specs.Worlds.{WorldValue, with_new_call, may_write, new_world, step, after, IsMade}
+use Rattle.ssm_world.proofs.Asks.{asked_none}
+use Rattle.ssm_world.proofs.Growing.{same_bricks}
+use Rattle.ssm_world.proofs.Lists.{get_new}
+use Rattle.ssm_world.proofs.Steps.{after_stays}
 use Rattle.ssm_world.proofs.Holding.{answer_cookie}
 use Rattle.ssm_world.proofs.Missing.{missed_for}
 use Rattle.session_steps.specs.Promise.{Does, SaysWhy, WasMissed}
@@ -83,6 +91,22 @@ acknowledged_by s key value st t text store_is sound a ok =
       text_is = ok.text_is;
     }
 
+-- a write that began as it was ordered asks the ordered bricks, whatever it has heard
+asked_in : (w : WorldValue) (earlier : List WorldEvent) (order : WriteOrder) (later : List WorldEvent) (place : ℕ) (write : WriteState)
+    → may_write (after w earlier) order.nonce order.bricks order.least ≡ true → place ≡ length (after w earlier).calls
+    → slice_get (after w (earlier ++ write_event order ∷ later)).calls place ≡ Some (call.Write write) → asked_of write.asks ≡ order.bricks
+asked_in w [] order later place write may place_is there =
+    let u : WorldValue = step w (write_event order) in
+    let c : Call = call.Write (write_state order) in
+    let begun : u ≡ with_new_call w c = ap (λ b. if b then with_new_call w c else w) may in
+    let first : slice_get u.calls (length w.calls) ≡ Some c = ap (λ (x : WorldValue). slice_get x.calls (length w.calls)) begun ∙ get_new w.calls c in
+    let grown : Grows u (after u later) = (after_stays w u later).grows in
+    let now : (d : Call) × (slice_get (after u later).calls (length w.calls) ≡ Some d) × (untold d ≡ untold c) = grown.calls (length w.calls) c first in
+    let one : Some now.0 ≡ Some (call.Write write) = sym now.1 ∙ ap (slice_get (after u later).calls) (sym place_is) ∙ there in
+    let same : now.0 ≡ call.Write write = cc in
+    same_bricks c (call.Write write) (ap untold (sym same) ∙ now.2) ∙ asked_none WriteReply order.bricks
+asked_in w (e ∷ earlier) order later place write may place_is there = asked_in (step w e) earlier order later place write may place_is there
+
 -- the write of the line was missed in the world of the bricks
 missed_by : (s : SessionsState) (key : ℕ) (value : List ℕ) (st : StoreState) (t : SessionsState) (text : List ℕ) → s.store ≡ Some st → StoreIsSound st → (a : HasAnswered s key value st t text)
     → IsMissed (with_store (drawn s) (spent_by a.write (passes_of s st) (store_after_write s key value st))) key a.answer t text → SoundIfAny t.store → WasMissed s key value t text
@@ -106,6 +130,10 @@ missed_by s key value st t text store_is sound a missed after_sound =
     let least_is : order.least ≡ st.windows.wq = ap (λ (r : WriteState). r.least) its ∙ gone.least_is in
     let puts : Put order.nonce order.key order.nonce order.expiry order.value ≡ Put (nonce s) (session_key key) (nonce s) (expiry s) value = ap (λ (r : WriteState). r.ask) its ∙ gone.ask_is in
     let value_is : order.value ≡ value = cc in
+    let where_is : slice_get (after (new_world made.bricks) (why.earlier ++ write_event order ∷ why.later)).calls n ≡ Some (call.Write gone.end) =
+    ap (λ es. slice_get (after (new_world made.bricks) es).calls n) (sym why.parts) ∙ there in
+    let asked : asked_of gone.end.asks ≡ order.bricks = asked_in (new_world made.bricks) why.earlier order why.later n gone.end why.may_begin why.place_is where_is in
+    let bricks_are : order.bricks ≡ bricks_of_write s st = sym asked ∙ gone.asked_are ∙ asked_none WriteReply (bricks_of_write s st) in
     record {
       before = st;
       before_is = store_is;
@@ -117,7 +145,7 @@ missed_by s key value st t text store_is sound a missed after_sound =
       write = gone.end;
       causes = missed.causes;
       missed = why;
-      order_is = λ l. record { nonce = nonce_is l; key = key_is l; value = value_is l; expiry = expiry_is l; bricks = order.bricks; least = least_is l };
+      order_is = λ l. record { nonce = nonce_is l; key = key_is l; value = value_is l; expiry = expiry_is l; bricks = bricks_are l; least = least_is l };
       text_is = missed.text_is;
     }
 

@@ -10,10 +10,12 @@ use Rattle.session_cookie.specs.declared.cookie.Cookie.{Cookie}
 use Rattle.session_cookie.specs.declared.cookie.Holder.{Holder}
 use Rattle.ssm_frames.specs.declared.frame.TheConstants.{SWEEP_GRACE}
 use Rattle.send_windows.specs.Facts.{open_count, full_facts}
+use Rattle.send_windows.specs.Windows.{chosen}
 use Rattle.ssm_stub.specs.declared.cause.BrickCause.{BrickCause}
 use Rattle.ssm_stub.specs.declared.cause.Cause.{Cause}
 use Rattle.ssm_stub.specs.declared.cause.Cause.TheVariants as cause
 use Rattle.ssm_stub.specs.declared.ear.TheConstants.{MAX_STRAYS}
+use Rattle.ssm_stub.specs.Ends.{bricks_of as bricks_of_passes}
 use Rattle.ssm_stub.specs.Writes.{WriteState}
 use Rattle.ssm_world.specs.declared.event.WorldEvent.{WorldEvent}
 use Rattle.ssm_world.specs.Claims.{WasMissed as WasMissedInWorld}
@@ -221,8 +223,8 @@ pub record WasFull (s : SessionsState) (key : ℕ) (text : List ℕ) : Type 0 wh
   pub few_open : open_count store.windows.facts < store.windows.wq
   pub text_is : text ≡ overload_text key (full_facts store.windows.facts)
 
--- Too few bricks stored a value, and a write line told why: its write, with the nonce that the line drew, was missed in
--- the world of the bricks with these causes.
+-- Too few bricks stored a value, and a write line told why: its write, with the nonce that the line drew, at the bricks
+-- of the passes that are chosen from the nonce's serial on, was missed in the world of the bricks with these causes.
 pub record WasMissed (s : SessionsState) (key : ℕ) (value : List ℕ) (t : SessionsState) (text : List ℕ) : Type 0 where
   pub before : StoreState
   pub before_is : s.store ≡ Some before
@@ -234,7 +236,7 @@ pub record WasMissed (s : SessionsState) (key : ℕ) (value : List ℕ) (t : Ses
   pub write : WriteState
   pub causes : List BrickCause
   pub missed : WasMissedInWorld bricks events (length before.world.calls) write causes
-  pub order_is : missed.order ≡ record { nonce = nonce s; key = session_key key; value = value; expiry = expiry s; bricks = missed.order.bricks; least = before.windows.wq }
+  pub order_is : missed.order ≡ record { nonce = nonce s; key = session_key key; value = value; expiry = expiry s; bricks = bricks_of_passes (chosen before.windows (nonce s).serial); least = before.windows.wq }
   pub text_is : text ≡ missed_text key causes
 
 -- what a write line writes that is not acknowledged: that too few windows were open, or why too few bricks stored the

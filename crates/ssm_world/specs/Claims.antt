@@ -222,11 +222,13 @@ abbrev pub missed_by : WriteOrder → (BrickNo → List Told) → BrickNo → Op
 missed_by order told brick =
     with_brick brick (cause_by (ear_after (put_lawful order.nonce order.key brick) (told brick)))
 
--- A brick had no room for a value when it was to keep it, and so many values then, of so many bytes in all.
-pub record HadNoRoom (w : WorldValue) (brick : BrickNo) (s : Kept) (entries bytes : ℕ) : Type 0 where
+-- At some time no earlier than a world, a brick had no room for a value, and so many values then, of so many bytes in
+-- all.
+pub record HadNoRoom (since w : WorldValue) (brick : BrickNo) (s : Kept) (entries bytes : ℕ) : Type 0 where
   pub earlier : List BrickEvent
   pub later : List BrickEvent
   pub history_is : history w brick ≡ Some (later ++ earlier)
+  pub since_then : (h : List BrickEvent) → history since brick ≡ Some h → (newer : List BrickEvent) × (earlier ≡ newer ++ h)
   pub full : is_full (all_held earlier) s ≡ true
   pub entries_are : length (all_held earlier) ≡ entries
   pub bytes_are : bytes_of (all_held earlier) ≡ bytes
@@ -241,15 +243,15 @@ EndsAs order brick told outcome = EndsIn (put_lawful order.nonce order.key brick
 
 -- Why a brick did not store the value of a write that was told this of it: the link was silent to the write's
 -- send, or to its receiving; or 64 frames came that are no lawful reply; or the brick told that it is full, and
--- had no room for the value.
-abbrev pub IsMissed : WorldValue → WriteOrder → BrickNo → List Told → Cause → Type 0
-IsMissed w order brick told cause.Silent = EndsAs order brick told outcome.Silent
-IsMissed w order brick told cause.Strayed = EndsAs order brick told outcome.Strayed
-IsMissed w order brick told (cause.Full entries bytes) =
+-- had no room for the value, at a time no earlier than the world in which the write began.
+abbrev pub IsMissed : WorldValue → WorldValue → WriteOrder → BrickNo → List Told → Cause → Type 0
+IsMissed since w order brick told cause.Silent = EndsAs order brick told outcome.Silent
+IsMissed since w order brick told cause.Strayed = EndsAs order brick told outcome.Strayed
+IsMissed since w order brick told (cause.Full entries bytes) =
     EndsAs order brick told (outcome.Answered (Full entries bytes))
-    × HadNoRoom w brick (kept_by order) entries bytes
-IsMissed w order brick told (cause.Crashed incarnation) = ⊥
-IsMissed w order brick told (cause.Swept moment) = ⊥
+    × HadNoRoom since w brick (kept_by order) entries bytes
+IsMissed since w order brick told (cause.Crashed incarnation) = ⊥
+IsMissed since w order brick told (cause.Swept moment) = ⊥
 
 -- Why the write at a place was missed in a world that these events made of a new one: it began among them; fewer
 -- than `least` of its bricks told it a lawful Stored since; and each other brick has its cause, in asked order.
@@ -264,4 +266,4 @@ pub record WasMissed (bricks : ℕ) (events : List WorldEvent) (place : ℕ) (wr
   pub few : length (filter_map (stored_by order (told_to_write_of (after (new_world bricks) earlier) order later)) order.bricks) < order.least
   pub causes_are : causes ≡ filter_map (missed_by order (told_to_write_of (after (new_world bricks) earlier) order later)) order.bricks
   pub all_heard : length (filter_map (stored_by order (told_to_write_of (after (new_world bricks) earlier) order later)) order.bricks) + length causes ≡ length order.bricks
-  pub each : All (λ (c : BrickCause). IsMissed (after (new_world bricks) events) order c.brick (told_to_write_of (after (new_world bricks) earlier) order later c.brick) c.cause) causes
+  pub each : All (λ (c : BrickCause). IsMissed (after (new_world bricks) earlier) (after (new_world bricks) events) order c.brick (told_to_write_of (after (new_world bricks) earlier) order later c.brick) c.cause) causes

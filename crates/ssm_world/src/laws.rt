@@ -144,7 +144,8 @@ pub fn acknowledged_cookies_name_who_stored()
 /// A write that is missed has its causes: fewer than `least` of its bricks told it a lawful Stored, and each
 /// other brick has its cause, in asked order. A cause is Silent only where the link was silent to this write's
 /// send to the brick or to its receiving from it, Strayed only where this write was given 64 frames of the brick
-/// that are no lawful reply, and Full only where the brick told this write so and had no room for the value.
+/// that are no lawful reply, and Full only where the brick told this write so and had no room for the value at a
+/// time since the write began.
 /// It refuses a cause of a brick that told this write a lawful Stored, and one that another call met.
 pub fn missed_writes_have_causes()
     ensures { (bricks : ℕ) (events : List WorldEvent) (place : ℕ) (write : WriteState) (causes : List BrickCause)
