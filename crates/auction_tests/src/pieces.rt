@@ -30,8 +30,8 @@ session 258 Hi|200 00000000000001020000000000000007 <!doctype html>/<title>Hi</t
 number 4294967295 Item |200 keep <!doctype html>/<title>Item 4294967295</title>/<h1>Item 4294967295</h1>/
 answered 403 No|403 keep <!doctype html>/<title>No</title>/<h1>No</h1>/";
 
-/// The piece and what it is given: `if` a test, `rule` a refusal, `reads` a row that was decoded or none. Then the status
-/// and the heading of the refusal, or `on` where nothing refuses.
+/// The piece and what it is given: `if` a test, `rule` a refusal, `reads` a row that was decoded or none. Then the
+/// status and the heading of the refusal, or `on` where nothing refuses.
 const REFUSALS: &str = "if yes|403 Sign in first
 if no|on
 rule AuctionOver|409 Auction over
@@ -48,8 +48,8 @@ reads row|on";
 /// The piece and the answer to its read: `left` where no answer is left, `none` where the row is missing or the table
 /// has none, and else the bytes of the row. Then what comes of it.
 ///
-/// `row`, `or` and `no` are `asks_row`, `asks_row_or` and `asks_no_row` of category 5, `counter` asks for the counter of
-/// users, and `table` lists the categories.
+/// `row`, `or` and `no` are `asks_row`, `asks_row_or` and `asks_no_row` of category 5, `counter` asks for the counter
+/// of users, and `table` lists the categories.
 const READS: &str = "row left|ask 5.5
 row none|404 Not there
 row 0002 6869|hi

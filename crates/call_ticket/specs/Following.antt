@@ -15,7 +15,7 @@ use Rattle.call_ticket.specs.declared.next.Next.{Next}
 use Rattle.call_ticket.specs.declared.next.Next.TheVariants as next
 use Rattle.call_ticket.specs.Access.{may_enter, is_in_owner}
 
--- A call makes a step over rows, is answered, and is then the last one. An enter touches its group in any journal.
+-- A call makes a step over rows, is answered, and is then the last one. An enter touches some group, in some journal.
 abbrev pub MakesStep : List RowWrite → Call → Next → Answer → Call → Type 0
 MakesStep rows call (next.Enter c m) a after =
     (a ≡ answer.Entered) × ((es : List Entry) × (g : ℕ) × (after ≡ entered es g c call))

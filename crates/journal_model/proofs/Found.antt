@@ -1,5 +1,5 @@
 -- The touch that an enter leaves, and the commit that is found for a request.
-use Rattle.std.proofs.Common.{◌≡◌, ◌≢◌, ℕ, zero, suc, ◌==◌, Bool, true, false, cond, List, [], ◌∷◌, ◌++◌, Option, Some, None, All, option_map, refl, sym, ap, ◌∙◌, subst, slice_get}
+use Rattle.std.proofs.Common.{◌≡◌, ◌≢◌, ◌↔◌, ℕ, zero, suc, ◌==◌, Bool, true, false, cond, List, [], ◌∷◌, ◌++◌, Option, Some, None, All, option_map, refl, sym, ap, ◌∙◌, subst, slice_get}
 use Rattle.std.specs.List.{Any, position}
 use Rattle.std.proofs.lemmas.Bool.{eqb-true, false_from_ne_true}
 use Rattle.std.proofs.lemmas.List.Elements.{All-weaker}
@@ -13,9 +13,10 @@ use Rattle.journal_model.specs.declared.entry.Entry.{Entry}
 use Rattle.journal_model.specs.declared.entry.Entry.TheVariants.{Commit, Down, Up}
 use Rattle.journal_model.specs.declared.entry.Touch.{Touch}
 use Rattle.journal_model.specs.Calls.{is_touched, touched_with}
-use Rattle.journal_model.specs.Requests.{is_commit_of, commit_of, place_no}
+use Rattle.journal_model.specs.Requests.{same_request, is_commit_of, commit_of, place_no}
 use Rattle.journal_model.specs.Stale.{new_touch}
 use Rattle.journal_model.proofs.Exactly.{same_request-is}
+use Rattle.journal_model.proofs.Serially.{not_committed}
 
 -- a touch is of a group
 abbrev IsOfGroup : ℕ → Touch → Type 0
@@ -70,3 +71,19 @@ commit_there es r place found = go (position (is_commit_of r) es) refl found
         let same : n ≡ place.0 = cc in
         let there = passes_there (is_commit_of r) es n is in
         subst (CommitsAt es r) same (commits_at es r n there.0 there.1 there.2)
+
+none_there : (es : List Entry) (r : RequestNo) → commit_of es r ≡ None → (i : ℕ) (e : CommitEntry) → slice_get es i ≡ Some (Commit e) → e.request ≢ r
+none_there es r none i e at is =
+    let other : same_request e.request r ≡ false = not_committed es r i e none at in
+    let same : same_request e.request r ≡ true = (same_request-is e.request r).1 is in
+    cc
+
+none_found : (es : List Entry) (r : RequestNo) → ((i : ℕ) (e : CommitEntry) → slice_get es i ≡ Some (Commit e) → e.request ≢ r) → commit_of es r ≡ None
+none_found es r none = go (commit_of es r) refl
+  where
+    go : (o : Option Place) → commit_of es r ≡ o → o ≡ None
+    go None is = refl
+    go (Some place) is = let there = commit_there es r place is in absurd (none place.0 there.0 there.1 there.2)
+
+pub none_is : (es : List Entry) (r : RequestNo) → (commit_of es r ≡ None) ↔ ((i : ℕ) (e : CommitEntry) → slice_get es i ≡ Some (Commit e) → e.request ≢ r)
+none_is es r = (none_there es r, none_found es r)

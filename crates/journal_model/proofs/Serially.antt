@@ -68,7 +68,7 @@ none_passes {A} p (y ∷ ys) i x none there = go (p y) refl (position p ys) refl
     go false is None later h rest zero at = let same : y ≡ x = cc in ap p (sym same) ∙ is
     go false is None later h rest (suc k) at = rest k x later at
 
-not_committed : (es : List Entry) (r : RequestNo) (i : ℕ) (d : CommitEntry) → commit_of es r ≡ None → slice_get es i ≡ Some (Commit d) → same_request d.request r ≡ false
+pub not_committed : (es : List Entry) (r : RequestNo) (i : ℕ) (d : CommitEntry) → commit_of es r ≡ None → slice_get es i ≡ Some (Commit d) → same_request d.request r ≡ false
 not_committed es r i d none there = go (position (is_commit_of r) es) refl none
   where
     go : (o : Option ℕ) → position (is_commit_of r) es ≡ o → option_map place_no o ≡ None → same_request d.request r ≡ false
