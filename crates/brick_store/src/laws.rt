@@ -12,7 +12,7 @@ ghost use Rattle.ssm_frames.specs.declared.frame.Frame.TheVariants as frame;
 ghost use Rattle.brick_store.specs.declared.kept.Kept.{Kept};
 ghost use Rattle.brick_store.specs.declared.kept.TheConstants.{MAX_BRICK_VALUES, MAX_BRICK_BYTES};
 ghost use Rattle.brick_store.specs.declared.event.BrickEvent.{BrickEvent};
-ghost use Rattle.brick_store.specs.declared.event.BrickEvent.TheVariants.{Sweep, Crash};
+ghost use Rattle.brick_store.specs.declared.event.BrickEvent.TheVariants.{Stored, Sweep, Crash};
 ghost use Rattle.brick_store.specs.Bricks.{BrickValue, new_brick, put_value, swept_at, crashed, answered, get_reply, reply};
 ghost use Rattle.brick_store.specs.History.{held, all_held, incarnation_after, swept_after};
 ghost use Rattle.brick_store.specs.Kept.{AreInOrder, is_under, kept_under, bytes_of, size_of, is_full};
@@ -93,10 +93,12 @@ pub fn held_values_are_found()
     ensures ordered { (h : List BrickEvent) → AreInOrder (all_held h) }
 {}
 
-/// A value is under a key and a version exactly where both are its own, and what is held under them is.
+/// A value is under a key and a version exactly where both are its own, and what is held under them is. A value that is
+/// stored is held, whatever was held under its pair. It refuses a store that leaves the older value.
 pub fn held_values_are_under_their_pair()
     ensures under { (key : SessionKey) (version : Version) (s : Kept)
         → (is_under key version s ≡ true) ↔ ((key ≡ s.key) × (version ≡ s.version)) }
     ensures held { (h : List BrickEvent) (key : SessionKey) (version : Version) (s : Kept)
         → held h key version ≡ Some s → (key ≡ s.key) × (version ≡ s.version) }
+    ensures last { (h : List BrickEvent) (s : Kept) → held (Stored s ∷ h) s.key s.version ≡ Some s }
 {}
