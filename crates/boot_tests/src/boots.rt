@@ -2,12 +2,13 @@
 
 ghost use Rattle.commit_journal.specs.Journal.{IsScope};
 
-use crate::fixtures::{boot_of, name};
+use crate::boot_fixtures::{boot_of, name};
+use crate::boot_steps::{begin, call, do_steps};
 use crate::journals::expect_entries;
-use crate::steps::{begin, call, do_steps};
-use crate::words::{add_named, add_number, add_pair, add_row, add_word, expect_words};
+use crate::names::add_binding;
+use crate::words::{add_named, add_number, add_pair, add_row, expect_words};
 use boot_core::{
-    Binding, Boot, MAX_ENTRIES, MAX_FRAMES, MAX_JOURNAL_BYTES, MAX_MARKS, MAX_STEPS, MAX_WRITES,
+    Boot, MAX_ENTRIES, MAX_FRAMES, MAX_JOURNAL_BYTES, MAX_MARKS, MAX_STEPS, MAX_WRITES,
 };
 use crash_base::{GroupNo, Place, Scope};
 use deployment::MAX_METHODS;
@@ -72,23 +73,6 @@ pub fn begin_reboot(rt: &impl Abort, boot: &mut Boot, scope: Scope) -> Place
 pub fn end_reboot(rt: &impl Abort, boot: &mut Boot, down: Place) -> Place {
     assert!(rt; boot.is_undone(down));
     boot.end_reboot(down)
-}
-
-/// Adds what a name is bound to: `1.2` is component 1, whose group was rebooted twice, `0!7` a
-/// sentinel for group 0, which is down by the Down at 7, and `-` nothing.
-fn add_binding(rt: &impl Abort, words: &mut String, binding: Option<Binding>) {
-    match binding {
-        Some(
-            Binding::Live {
-                component,
-                generation,
-            },
-        ) => add_pair(rt, words, u64::from(component.0), ".", generation),
-        Some(Binding::Sentinel { group, down }) => {
-            add_pair(rt, words, u64::from(group.0), "!", down.0)
-        }
-        None => add_word(rt, words, "-"),
-    }
 }
 
 /// Adds what the name of component 1 is bound to, and the place of the Down of its group if it is down.

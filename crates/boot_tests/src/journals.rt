@@ -2,9 +2,9 @@
 
 ghost use Rattle.commit_journal.specs.Journal.{IsScope};
 
+use crate::boot_fixtures::{LIMITS, boot_of, request};
+use crate::boot_steps::call;
 use crate::boots::{begin_reboot, end_reboot};
-use crate::fixtures::{LIMITS, boot_of, request};
-use crate::steps::call;
 use crate::words::{add_number, add_pair, add_row, add_word, cut, expect_words, number, short};
 use boot_core::Boot;
 use commit_journal::{CommitEntry, Entry, FullAt, Journal};

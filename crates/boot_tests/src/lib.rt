@@ -1,19 +1,57 @@
-//! Tests of boots and their journals, through public calls.
+//! Tests of deployments, of their descriptors and names, of rows, of requests, of tickets, of programs and plans, of
+//! boots and their journals, and of containers over their keepers, through public calls.
 //!
 //! Most tests go through a table of rows. What a row's calls answer is put into words, each with a
 //! space before it, and these are compared with the words that the row wants. A row that fails is
-//! shown whole.
+//! shown whole. What an index finds is compared with what a plain scan finds over generated journals.
 #![tactic(auto)]
 
 #[cfg(test)]
+mod boot_calls;
+#[cfg(test)]
+mod boot_fixtures;
+#[cfg(test)]
+mod boot_steps;
+#[cfg(test)]
 mod boots;
 #[cfg(test)]
-mod calls;
+mod container_fixtures;
 #[cfg(test)]
-mod fixtures;
+mod container_steps;
+#[cfg(test)]
+mod containers;
+#[cfg(test)]
+mod deploy_words;
+#[cfg(test)]
+mod deployments;
+#[cfg(test)]
+mod descriptors;
 #[cfg(test)]
 mod journals;
 #[cfg(test)]
-mod steps;
+mod keepers;
+#[cfg(test)]
+mod kept_words;
+#[cfg(test)]
+mod names;
+#[cfg(test)]
+mod parts;
+#[cfg(test)]
+mod programs;
+#[cfg(test)]
+mod requests;
+#[cfg(test)]
+mod row_index;
+#[cfg(test)]
+mod rows;
+#[cfg(test)]
+mod scripts;
+mod stamps;
+#[cfg(test)]
+mod starts;
+#[cfg(test)]
+mod tickets;
 #[cfg(test)]
 mod words;
+
+pub use stamps::Stamp;

@@ -1,7 +1,8 @@
 //! Words that a test finds, and what the parts of a row spell.
+//!
 //! Each crate of tests has its own, since only a test may end the process.
 
-use crash_base::{RowId, RowWrite};
+use crash_base::{ComponentNo, RowId, RowWrite};
 use std::fmt::Write;
 use std::process::Abort;
 
@@ -25,6 +26,11 @@ pub fn short(rt: &impl Abort, text: &str) -> u16 {
     u16::try_from(number(rt, text)).expect(rt, text)
 }
 
+/// The component whose number a text spells.
+pub fn component(rt: &impl Abort, text: &str) -> ComponentNo {
+    ComponentNo(short(rt, text))
+}
+
 /// The byte whose number a text spells.
 pub fn byte(rt: &impl Abort, text: &str) -> u8 {
     u8::try_from(number(rt, text)).expect(rt, text)
@@ -37,6 +43,11 @@ pub fn id(rt: &impl Abort, text: &str) -> RowId {
         table: byte(rt, table),
         key: number(rt, key),
     }
+}
+
+/// The text that bytes spell.
+pub fn text<'a>(rt: &impl Abort, bytes: &'a [u8]) -> &'a str {
+    std::str::from_utf8(bytes).expect(rt, "a text")
 }
 
 pub fn add_word(rt: &impl Abort, words: &mut String, word: &str) {

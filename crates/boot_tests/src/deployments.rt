@@ -1,0 +1,395 @@
+//! Parts that are accepted, with their groups, parts that are refused, and what a deployment answers.
+
+use crate::deploy_words::{add_methods, add_refusal};
+use crate::parts::{add_reference, checked, deployment_of, parts_of};
+use crate::words::{add_number, add_text, add_word, byte, component, cut, expect_words, short};
+use crash_base::{ComponentNo, GroupNo, MAX_GROUPS, Scope};
+use deployment::{Deployment, Parts, one_call};
+use std::alloc::Global;
+use std::process::Abort;
+
+/// Adds the group of each component.
+fn add_groups(rt: &impl Abort, words: &mut String, deployment: &Deployment) {
+    for c in 0..deployment.count() {
+        let group = deployment.group_of(ComponentNo(c));
+        add_number(rt, words, u64::from(group.0));
+    }
+}
+
+/// Adds the group of each component, or why the parts are refused.
+fn add_check(rt: &impl Abort, words: &mut String, parts: Parts) {
+    match Deployment::check(parts) {
+        Ok(deployment) => add_groups(rt, words, &deployment),
+        Err(refusal) => add_refusal(rt, words, refusal),
+    }
+}
+
+fn expect_check(rt: &impl Abort, alloc: Global, row: &str) {
+    let (text, want) = cut(rt, row, '|');
+    let mut words = String::new(alloc);
+    add_check(rt, &mut words, parts_of(rt, alloc, text));
+    expect_words(rt, &words, want, row);
+}
+
+/// A row has parts, and after a bar the group of each component in turn, or why the parts are refused.
+fn expect_checks(rt: &impl Abort, alloc: Global, table: &str) {
+    for row in table.split('\n') {
+        expect_check(rt, alloc, row);
+    }
+}
+
+const NO_REFERENCES: &str = "|
+*1|0
+*3|0 1 2";
+
+#[test]
+fn components_without_references_are_their_own_groups(rt: HostRuntime) {
+    expect_checks(&rt, rt.alloc(), NO_REFERENCES);
+}
+
+/// Pairs, chains forward and back, and chains that are declared from their far end.
+const CHAINS: &str = "*2 0-1|0 0
+*2 1-0|0 0
+*4 0-1 1-2 2-3|0 0 0 0
+*4 3-2 2-1 1-0|0 0 0 0
+*4 2-3 1-2 0-1|0 0 0 0
+*6 4-5 3-4 2-3 1-2 0-1|0 0 0 0 0 0";
+
+#[test]
+fn chains_are_one_group(rt: HostRuntime) {
+    expect_checks(&rt, rt.alloc(), CHAINS);
+}
+
+/// References to itself, and the same one twice.
+const NEEDLESS: &str = "*3 1-1|0 1 2
+*3 1-1 2-2 1-2|0 1 1
+*3 1-2 1-2 2-1|0 1 1";
+
+#[test]
+fn needless_references_change_nothing(rt: HostRuntime) {
+    expect_checks(&rt, rt.alloc(), NEEDLESS);
+}
+
+/// Soft references alone, and between groups.
+const SOFT: &str = "*4 0~1 1~2 2~3 3~0|0 1 2 3
+*4 0-1 1~2 2-3|0 0 2 2
+*5 0-1 3-4 1~2|0 0 2 3 3";
+
+#[test]
+fn soft_references_join_nothing(rt: HostRuntime) {
+    expect_checks(&rt, rt.alloc(), SOFT);
+}
+
+const RINGS: &str = "*4 0-1 1-2 2-3 3-0|0 0 0 0
+*6 1-3 3-5 5-1 0~1 2~3|0 1 2 1 4 1";
+
+#[test]
+fn rings_are_one_group(rt: HostRuntime) {
+    expect_checks(&rt, rt.alloc(), RINGS);
+}
+
+const STARS: &str = "*7 6-5 6-4 6-3 6-2|0 1 2 2 2 2 2
+*7 5-6 4-6 3-6 2-6|0 1 2 2 2 2 2";
+
+#[test]
+fn stars_are_one_group(rt: HostRuntime) {
+    expect_checks(&rt, rt.alloc(), STARS);
+}
+
+/// Groups that the last reference joins, and the highest numbers joined first.
+const JOINED_LATE: &str = "*6 0-1 1-2 3-4 4-5 5-0|0 0 0 0 0 0
+*6 2-1 1-0 5-4 4-3 2-5|0 0 0 0 0 0
+*6 5-4 4-3 5-3 2-5 1~2 0~1|0 1 2 2 2 2
+*8 7-0 6-1 5-2 4-3|0 1 2 3 3 2 1 0
+*8 7-0 6-1 5-2 4-3 7-6 5-4|0 0 2 2 2 2 0 0";
+
+#[test]
+fn groups_are_joined_in_any_order(rt: HostRuntime) {
+    expect_checks(&rt, rt.alloc(), JOINED_LATE);
+}
+
+/// Two paths to one component, and one through a component that is reached by soft ones too.
+const PATHS: &str = "*5 4-1 1-3 4-2 2-3|0 1 1 1 1
+*5 4-2 2~3 3-1|0 1 2 1 2";
+
+#[test]
+fn paths_through_hard_references_join(rt: HostRuntime) {
+    expect_checks(&rt, rt.alloc(), PATHS);
+}
+
+const ALL: &str =
+    "*64 63-62|0 1 2 3 4 5 6 7 8 9 10 11 12 13 14 15 16 17 18 19 20 21 22 23 24 25 26 27 28 29 30 31 32 33 34 35 36 37 38 39 40 41 42 43 44 45 46 47 48 49 50 51 52 53 54 55 56 57 58 59 60 61 62 62";
+
+#[test]
+fn sixty_four_components_are_accepted(rt: HostRuntime) {
+    expect_checks(&rt, rt.alloc(), ALL);
+}
+
+/// 64 components, each of which needs the one so many before it.
+fn in_steps(rt: &impl Abort, alloc: Global, step: u16) -> Parts {
+    let mut parts = parts_of(rt, alloc, "*64");
+    for from in 0..MAX_GROUPS {
+        if let Some(to) = from.checked_sub(step) {
+            add_reference(rt, &mut parts, ComponentNo(from), ComponentNo(to), true);
+        }
+    }
+    parts
+}
+
+/// 64 components, each of which is needed by one of them.
+fn star(rt: &impl Abort, alloc: Global, hub: u16) -> Parts {
+    let mut parts = parts_of(rt, alloc, "*64");
+    for c in 0..MAX_GROUPS {
+        add_reference(rt, &mut parts, ComponentNo(hub), ComponentNo(c), true);
+    }
+    parts
+}
+
+fn expect_group(rt: &impl Abort, found: GroupNo, want: u16, case: &str, n: u16, c: u16) {
+    assert!(rt;
+        found.0 == want,
+        "component {c} in {case} {n} is of group {}",
+        found.0
+    );
+}
+
+/// In steps of n, a component's group is its remainder by n.
+#[test]
+fn sixty_four_components_in_steps(rt: HostRuntime) {
+    for n in 1..MAX_GROUPS {
+        let deployment = checked(&rt, in_steps(&rt, rt.alloc(), n), "steps");
+        for c in 0..deployment.count() {
+            let group = deployment.group_of(ComponentNo(c));
+            expect_group(&rt, group, c % n, "steps of", n, c);
+        }
+    }
+}
+
+#[test]
+fn sixty_four_components_in_a_star(rt: HostRuntime) {
+    for n in 1..MAX_GROUPS {
+        let deployment = checked(&rt, star(&rt, rt.alloc(), n), "a star");
+        for c in 0..deployment.count() {
+            let group = deployment.group_of(ComponentNo(c));
+            expect_group(&rt, group, 0, "the star of", n, c);
+        }
+    }
+}
+
+// Parts that are refused also have faults that are looked for later.
+
+const TOO_MANY: &str = "*65 0-70 0=0|too_many 65
+*100 +a.abcdefghijklmnopq|too_many 101";
+
+#[test]
+fn more_than_sixty_four_components_are_refused(rt: HostRuntime) {
+    expect_checks(&rt, rt.alloc(), TOO_MANY);
+}
+
+const TOO_MANY_METHODS: &str = "+a +b.abcdefghijklmnopq +a +c.abcdefghijklmnopqr|too_many_methods 1
++b.aaaaaaaaaaaaaaaaa|too_many_methods 0";
+
+#[test]
+fn more_than_sixteen_methods_are_refused(rt: HostRuntime) {
+    expect_checks(&rt, rt.alloc(), TOO_MANY_METHODS);
+}
+
+const NAMES_TWICE: &str = "+a +b +c +b +a|duplicate_name 1 3
++a +b.mm +b +b|duplicate_name 1 2
++x +x|duplicate_name 0 1";
+
+#[test]
+fn components_of_one_name_are_refused(rt: HostRuntime) {
+    expect_checks(&rt, rt.alloc(), NAMES_TWICE);
+}
+
+const METHODS_TWICE: &str = "+a +b.xyzyx +c.mm 0-3|duplicate_method 1 3
++a.mm|duplicate_method 0 1
++a.m +b.m +c.xyzXYZmmm 9=9|duplicate_method 2 7";
+
+#[test]
+fn methods_of_one_name_are_refused(rt: HostRuntime) {
+    expect_checks(&rt, rt.alloc(), METHODS_TWICE);
+}
+
+const UNKNOWN_ENDS: &str = "*2 0-1 2-0 0-2 0=0|unknown_reference 1
+*2 0~1 1-0 1~2 5=5|unknown_reference 2
+0-0|unknown_reference 0
+*64 63-64|unknown_reference 0";
+
+#[test]
+fn references_to_no_component_are_refused(rt: HostRuntime) {
+    expect_checks(&rt, rt.alloc(), UNKNOWN_ENDS);
+}
+
+const UNKNOWN_OWNERS: &str = "*2 5=1 5=2 0=0|unknown_owner 1
+5=0|unknown_owner 0";
+
+#[test]
+fn tables_of_no_component_are_refused(rt: HostRuntime) {
+    expect_checks(&rt, rt.alloc(), UNKNOWN_OWNERS);
+}
+
+const SERVICE_TABLES: &str = "*1 5=0 5=0 0=0 0=0|system_table 2
+*1 0=0 0=0|system_table 0";
+
+#[test]
+fn the_services_own_table_is_refused(rt: HostRuntime) {
+    expect_checks(&rt, rt.alloc(), SERVICE_TABLES);
+}
+
+const TABLES_TWICE: &str = "*2 7=0 8=1 9=0 8=0 7=1|table_twice 8
+*2 255=0 1=1 255=1|table_twice 255";
+
+#[test]
+fn tables_of_two_parts_are_refused(rt: HostRuntime) {
+    expect_checks(&rt, rt.alloc(), TABLES_TWICE);
+}
+
+const SHOP: &str = "+shop.bY +stock +mail.X 0-1 1~0 0~2 40=1 7=0 255=0";
+
+fn add_found(rt: &impl Abort, words: &mut String, found: Option<ComponentNo>) {
+    match found {
+        Some(c) => add_number(rt, words, u64::from(c.0)),
+        None => add_word(rt, words, "none"),
+    }
+}
+
+fn may_call(rt: &impl Abort, deployment: &Deployment, pair: &str) -> bool {
+    let (from, to) = cut(rt, pair, ' ');
+    deployment.may_call(component(rt, from), component(rt, to))
+}
+
+fn may_repeat(rt: &impl Abort, deployment: &Deployment, pair: &str) -> bool {
+    let (c, method) = cut(rt, pair, ' ');
+    deployment.idempotent(component(rt, c), byte(rt, method))
+}
+
+fn is_within(rt: &impl Abort, deployment: &Deployment, scope: Scope, group: &str) -> bool {
+    deployment.in_scope(scope, GroupNo(short(rt, group)))
+}
+
+/// Whether what is asked is so.
+fn is_so(rt: &impl Abort, deployment: &Deployment, asked: &str, rest: &str) -> bool {
+    match asked {
+        "call" => may_call(rt, deployment, rest),
+        "again" => may_repeat(rt, deployment, rest),
+        "app" => is_within(rt, deployment, Scope::App, rest),
+        _ => is_within(rt, deployment, Scope::Group(GroupNo(2)), rest),
+    }
+}
+
+fn add_answer(rt: &impl Abort, words: &mut String, deployment: &Deployment, question: &str) {
+    let (asked, rest) = cut(rt, question, ' ');
+    match asked {
+        "named" => add_found(rt, words, deployment.named(rest.as_bytes())),
+        "owner" => add_found(rt, words, deployment.owner_of(byte(rt, rest))),
+        _ => {
+            let so = is_so(rt, deployment, asked, rest);
+            add_word(rt, words, if so { "true" } else { "false" });
+        }
+    }
+}
+
+fn expect_answer(rt: &impl Abort, alloc: Global, deployment: &Deployment, row: &str) {
+    let (question, want) = cut(rt, row, '|');
+    let mut words = String::new(alloc);
+    add_answer(rt, &mut words, deployment, question);
+    expect_words(rt, &words, want, row);
+}
+
+/// A row has a question to the shop, and after a bar the answer.
+fn expect_answers(rt: &impl Abort, alloc: Global, table: &str) {
+    let shop = deployment_of(rt, alloc, SHOP);
+    for row in table.split('\n') {
+        expect_answer(rt, alloc, &shop, row);
+    }
+}
+
+const NAMED: &str = "named stock|1
+named sto|none";
+
+#[test]
+fn components_are_found_by_name(rt: HostRuntime) {
+    expect_answers(&rt, rt.alloc(), NAMED);
+}
+
+const OWNERS: &str = "owner 40|1
+owner 7|0
+owner 255|0
+owner 0|none
+owner 41|none";
+
+#[test]
+fn tables_have_owners(rt: HostRuntime) {
+    expect_answers(&rt, rt.alloc(), OWNERS);
+}
+
+const CALLS: &str = "call 0 1|true
+call 1 0|true
+call 0 2|true
+call 2 0|false
+call 0 0|false";
+
+#[test]
+fn components_call_what_they_refer_to(rt: HostRuntime) {
+    expect_answers(&rt, rt.alloc(), CALLS);
+}
+
+const REPEATS: &str = "again 0 0|false
+again 0 1|true
+again 0 2|false
+again 1 0|false
+again 2 0|true
+again 3 0|false";
+
+#[test]
+fn idempotent_methods_are_called_again(rt: HostRuntime) {
+    expect_answers(&rt, rt.alloc(), REPEATS);
+}
+
+/// Whether the scope of the application or of group 2 holds a group.
+const SCOPES: &str = "app 63|true
+app 64|false
+group 2|true
+group 0|false";
+
+#[test]
+fn scopes_hold_groups(rt: HostRuntime) {
+    expect_answers(&rt, rt.alloc(), SCOPES);
+}
+
+fn add_parts(rt: &impl Abort, words: &mut String, shop: &Deployment) {
+    add_number(rt, words, u64::from(shop.count()));
+    add_number(rt, words, shop.parts().references.len() as u64);
+}
+
+#[test]
+fn a_deployment_has_its_parts(rt: HostRuntime) {
+    let shop = deployment_of(&rt, rt.alloc(), SHOP);
+    let mut words = String::new(rt.alloc());
+    add_parts(&rt, &mut words, &shop);
+    expect_words(&rt, &words, "3 3", "components and references");
+}
+
+fn add_mail(rt: &impl Abort, words: &mut String, shop: &Deployment) {
+    assert!(rt; shop.parts().named(b"mail") == Some(2));
+    assert!(rt; 2 < shop.count());
+    add_text(rt, words, "", shop.name(ComponentNo(2)).as_slice());
+}
+
+#[test]
+fn a_component_has_its_name(rt: HostRuntime) {
+    let shop = deployment_of(&rt, rt.alloc(), SHOP);
+    let mut words = String::new(rt.alloc());
+    add_mail(&rt, &mut words, &shop);
+    expect_words(&rt, &words, "mail", "component 2");
+}
+
+#[test]
+fn one_call_is_idempotent(rt: HostRuntime) {
+    let methods = one_call(rt.alloc()).expect(&rt, "one method");
+    let mut words = String::new(rt.alloc());
+    add_methods(&rt, &mut words, methods.as_slice());
+    expect_words(&rt, &words, ".call!", "one method");
+}

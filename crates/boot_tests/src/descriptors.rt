@@ -1,0 +1,349 @@
+//! Descriptor texts, each with what it says.
+//!
+//! `A#0.m!` is a component `A` of group 0 with a method `m` that is idempotent. `0-1` is a hard
+//! reference, `0~1` a soft one, and `40=1` says that component 1 owns table 40.
+
+use crate::deploy_words::{add_methods, add_refusal};
+use crate::words::{add_number, add_pair, add_text, add_word, expect_words};
+use crash_base::ComponentNo;
+use deployment::{Deployment, Parts};
+use descriptor_text::{FieldName, TextRefusal, read_descriptors};
+use std::alloc::Global;
+use std::fmt::Write;
+use std::process::Abort;
+
+/// Adds each component with its group and its methods.
+fn add_components(rt: &impl Abort, words: &mut String, deployment: &Deployment) {
+    let components = deployment.parts().components.as_slice();
+    for number in 0..deployment.count() {
+        let c = &components[number as usize];
+        let group = deployment.group_of(ComponentNo(number));
+        add_text(rt, words, " ", c.name.as_slice());
+        write!(words, "#{}", group.0).expect(rt, "a group");
+        add_methods(rt, words, c.methods.as_slice());
+    }
+}
+
+/// Adds references and tables.
+fn add_links(rt: &impl Abort, words: &mut String, parts: &Parts) {
+    for r in parts.references.as_slice() {
+        let sign = if r.hard { "-" } else { "~" };
+        add_pair(rt, words, u64::from(r.from.0), sign, u64::from(r.to.0));
+    }
+    for t in parts.tables.as_slice() {
+        add_pair(rt, words, u64::from(t.table), "=", u64::from(t.owner.0));
+    }
+}
+
+fn key_of(field: FieldName) -> &'static str {
+    match field {
+        FieldName::Component => "component",
+        FieldName::Name => "name",
+        FieldName::Hard => "hard",
+        FieldName::Soft => "soft",
+        FieldName::Tables => "tables",
+        FieldName::Methods => "methods",
+    }
+}
+
+/// Adds why a text is refused.
+fn add_cause(rt: &impl Abort, words: &mut String, refusal: TextRefusal) {
+    match refusal {
+        TextRefusal::NotToml => add_word(rt, words, "not_toml"),
+        TextRefusal::Field { component, field } => {
+            add_word(rt, words, "wrong");
+            add_number(rt, words, component as u64);
+            add_word(rt, words, key_of(field));
+        }
+        TextRefusal::Deploy(refusal) => {
+            add_word(rt, words, "deploy");
+            add_refusal(rt, words, refusal);
+        }
+        TextRefusal::OutOfMemory => add_word(rt, words, "out_of_memory"),
+    }
+}
+
+fn add_deployment(rt: &impl Abort, words: &mut String, deployment: &Deployment) {
+    add_components(rt, words, deployment);
+    add_links(rt, words, deployment.parts());
+}
+
+/// Adds what bytes say: the deployment, or why they are refused.
+fn add_answer(rt: &impl Abort, alloc: Global, words: &mut String, bytes: &[u8]) {
+    match read_descriptors(alloc, bytes) {
+        Ok(deployment) => add_deployment(rt, words, &deployment),
+        Err(refusal) => add_cause(rt, words, refusal),
+    }
+}
+
+/// A row has on its first line what it says, and then the text.
+fn expect_text(rt: &impl Abort, alloc: Global, row: &str) {
+    let (want, text) = row.split_once('\n').unwrap_or((row, ""));
+    let mut words = String::new(alloc);
+    add_answer(rt, alloc, &mut words, text.as_bytes());
+    expect_words(rt, &words, want, row);
+}
+
+/// The rows of a table have lines of three hyphens between them.
+fn expect_texts(rt: &impl Abort, alloc: Global, table: &str) {
+    for row in table.split("\n---\n") {
+        expect_text(rt, alloc, row);
+    }
+}
+
+const NO_COMPONENTS: &str = "
+---
+
+# no component
+title = 'shop'
+---
+
+component = []";
+
+#[test]
+fn texts_without_components_are_deployments(rt: HostRuntime) {
+    expect_texts(&rt, rt.alloc(), NO_COMPONENTS);
+}
+
+const NO_DOCUMENTS: &str = "not_toml
+= 1
+---
+not_toml
+a = 1
+a = 2
+---
+not_toml
+component = [{ name = 'A' }";
+
+#[test]
+fn texts_that_are_no_documents_are_refused(rt: HostRuntime) {
+    expect_texts(&rt, rt.alloc(), NO_DOCUMENTS);
+}
+
+const NO_TABLES: &str = "wrong 0 component
+component = 5
+---
+wrong 0 component
+component = 'A'
+---
+wrong 0 component
+component = [1]
+---
+wrong 0 component
+component = [{ name = 5 }, { name = 'B' }, 'C']
+---
+wrong 0 component
+[component]
+name = 'A'";
+
+#[test]
+fn components_are_an_array_of_tables(rt: HostRuntime) {
+    expect_texts(&rt, rt.alloc(), NO_TABLES);
+}
+
+/// One component, written in both ways, and keys that are passed over.
+const FORMS: &str = "A#0.call!
+[[component]]
+name = 'A'
+---
+A#0.call!
+component = [{ name = 'A' }]
+---
+A#0.m! B#1.call! 0~1 7=0
+name = 5
+tables = 'x'
+component = [{ colour = 1, name = 'A', Hard = 3, soft = ['B'], tables = [7], methods = [{ name = 'm', idempotent = true, cost = [] }] }, { name = 'B' }]
+[other]
+hard = 1";
+
+#[test]
+fn components_have_two_forms(rt: HostRuntime) {
+    expect_texts(&rt, rt.alloc(), FORMS);
+}
+
+const NAMES: &str = "abcdefghijklmnopqrstuvwxyz_ABC09#0.call!
+[[component]]
+name = 'abcdefghijklmnopqrstuvwxyz_ABC09'
+---
+App#0.call! apps#1.call! ap#2.call!
+component = [{ name = 'App' }, { name = 'apps' }, { name = 'ap' }]";
+
+#[test]
+fn names_have_32_bytes_and_may_resemble_app(rt: HostRuntime) {
+    expect_texts(&rt, rt.alloc(), NAMES);
+}
+
+const WRONG_NAMES: &str = "wrong 0 name
+[[component]]
+name = 'abcdefghijklmnopqrstuvwxyz_ABC099'
+---
+wrong 0 name
+[[component]]
+---
+wrong 0 name
+[[component]]
+name = 5
+---
+wrong 0 name
+[[component]]
+name = ''
+---
+wrong 0 name
+[[component]]
+name = 'a-b'
+---
+wrong 0 name
+[[component]]
+name = 'ä'
+---
+wrong 0 name
+[[component]]
+name = 'app'";
+
+#[test]
+fn other_names_are_refused(rt: HostRuntime) {
+    expect_texts(&rt, rt.alloc(), WRONG_NAMES);
+}
+
+const WRONG_REFERENCES: &str = "wrong 0 hard
+component = [{ name = 'A', hard = 'A' }]
+---
+wrong 0 hard
+component = [{ name = 'A', hard = ['A', 1] }]
+---
+wrong 0 soft
+component = [{ name = 'A', soft = { A = 1 } }]
+---
+wrong 0 soft
+component = [{ name = 'A', soft = [['A']] }]";
+
+#[test]
+fn references_are_arrays_of_texts(rt: HostRuntime) {
+    expect_texts(&rt, rt.alloc(), WRONG_REFERENCES);
+}
+
+const TABLES: &str = "A#0.call! 255=0 1=0
+component = [{ name = 'A', tables = [0xff, 1] }]";
+
+#[test]
+fn tables_are_numbered_up_to_255(rt: HostRuntime) {
+    expect_texts(&rt, rt.alloc(), TABLES);
+}
+
+const WRONG_TABLES: &str = "wrong 0 tables
+component = [{ name = 'A', tables = 5 }]
+---
+wrong 0 tables
+component = [{ name = 'A', tables = [256] }]
+---
+wrong 0 tables
+component = [{ name = 'A', tables = [-1] }]
+---
+wrong 0 tables
+component = [{ name = 'A', tables = [1.0] }]";
+
+#[test]
+fn other_tables_are_refused(rt: HostRuntime) {
+    expect_texts(&rt, rt.alloc(), WRONG_TABLES);
+}
+
+const METHODS: &str = "A#0 B#1.get!.app
+[[component]]
+name = 'A'
+methods = []
+[[component]]
+name = 'B'
+[[component.methods]]
+name = 'get'
+idempotent = true
+[[component.methods]]
+name = 'app'
+idempotent = false";
+
+#[test]
+fn methods_are_written_in_two_ways(rt: HostRuntime) {
+    expect_texts(&rt, rt.alloc(), METHODS);
+}
+
+const WRONG_METHODS: &str = "wrong 0 methods
+component = [{ name = 'A', methods = true }]
+---
+wrong 0 methods
+component = [{ name = 'A', methods = ['m'] }]
+---
+wrong 0 methods
+component = [{ name = 'A', methods = [{ name = 'm' }] }]
+---
+wrong 0 methods
+component = [{ name = 'A', methods = [{ idempotent = true }] }]
+---
+wrong 0 methods
+component = [{ name = 'A', methods = [{ name = 'm', idempotent = 1 }] }]
+---
+wrong 0 methods
+component = [{ name = 'A', methods = [{ name = 'm', idempotent = true }, { name = 'a b', idempotent = true }] }]";
+
+#[test]
+fn other_methods_are_refused(rt: HostRuntime) {
+    expect_texts(&rt, rt.alloc(), WRONG_METHODS);
+}
+
+const FIRST_WRONG: &str = "wrong 1 hard
+component = [{ name = 'A' }, { methods = 1, tables = 1, soft = 1, hard = 1, name = 'B' }, { name = 1 }]
+---
+wrong 1 tables
+component = [{ name = 'A' }, { methods = 1, tables = 1, name = 'B' }, { name = 1 }]";
+
+#[test]
+fn the_first_wrong_key_is_reported(rt: HostRuntime) {
+    expect_texts(&rt, rt.alloc(), FIRST_WRONG);
+}
+
+const LINKS: &str = "A#0.call! B#0.call! C#2.call! 0-1 0~2 1~2 1~0 2~2 3=0 2=0 1=2
+[[component]]
+name = 'A'
+soft = ['C']
+hard = ['B']
+tables = [3, 2]
+[[component]]
+name = 'B'
+soft = ['C', 'A']
+[[component]]
+name = 'C'
+soft = ['C']
+tables = [1]";
+
+#[test]
+fn references_and_tables_are_in_order(rt: HostRuntime) {
+    expect_texts(&rt, rt.alloc(), LINKS);
+}
+
+const NO_DEPLOYMENTS: &str = "deploy unknown_reference 1
+component = [{ name = 'A', hard = ['A'], soft = ['B'] }]
+---
+deploy unknown_reference 0
+component = [{ name = 'A', hard = ['a'] }]
+---
+deploy duplicate_name 0 2
+component = [{ name = 'A' }, { name = 'B' }, { name = 'A', hard = ['A'] }]
+---
+deploy duplicate_method 1 1
+component = [{ name = 'A' }, { name = 'B', methods = [{ name = 'm', idempotent = true }, { name = 'm', idempotent = false }] }]
+---
+deploy system_table 0
+component = [{ name = 'A', tables = [0] }]
+---
+deploy table_twice 9
+component = [{ name = 'A', tables = [9] }, { name = 'B', tables = [9] }]";
+
+#[test]
+fn parts_that_are_no_deployment_are_refused(rt: HostRuntime) {
+    expect_texts(&rt, rt.alloc(), NO_DEPLOYMENTS);
+}
+
+#[test]
+fn bytes_that_are_no_text_are_refused(rt: HostRuntime) {
+    let mut words = String::new(rt.alloc());
+    add_answer(&rt, rt.alloc(), &mut words, b"a = '\xff'");
+    expect_words(&rt, &words, "not_toml", "a = '\\xff'");
+}

@@ -1,0 +1,127 @@
+//! What a ticket holds of its call.
+
+use crate::boot_fixtures::request;
+use crate::words::{add_number, add_pair, add_row, add_text, add_word, expect_words};
+use call_ticket::{MAX_FRAMES, MAX_MARKS, MAX_STEPS, Ticket, TicketParts};
+use commit_journal::{Mark, ReadMark, Touch};
+use crash_base::{ComponentNo, GroupNo, Place, RowBytes, RowId, RowWrite, WorkerNo};
+use std::alloc::Global;
+use std::process::Abort;
+
+const ROW: RowId = RowId { table: 3, key: 7 };
+
+/// Enters component 5 of group 2, which was rebooted four times, and is served by instance 17.
+fn enter(rt: &impl Abort, ticket: &mut Ticket) {
+    assert!(rt; ticket.depth() < MAX_FRAMES && ticket.steps() < MAX_STEPS);
+    assert!(rt; !ticket.is_touched(GroupNo(2)));
+    let touch = Touch {
+        group: GroupNo(2),
+        generation: 4,
+        front: Place(9),
+    };
+    ticket.push_frame(ComponentNo(5), 17, Some(touch));
+}
+
+/// Reads two bytes of a row.
+fn read(rt: &impl Abort, alloc: Global, ticket: &mut Ticket) {
+    let value = RowBytes::copied(alloc, b"ab").expect(rt, "a value");
+    assert!(rt; ticket.steps() < MAX_STEPS && ticket.marks().len() < MAX_MARKS);
+    ticket.add_read(Some(ReadMark::Row(ROW)), Some(value));
+}
+
+/// Puts a row of three bytes.
+fn put(rt: &impl Abort, alloc: Global, ticket: &mut Ticket) {
+    let bytes = RowBytes::copied(alloc, b"xyz").expect(rt, "a row");
+    assert!(rt; ticket.steps() < MAX_STEPS && !ticket.is_full_for(ROW));
+    ticket.add_put(RowWrite { id: ROW, bytes });
+}
+
+/// Leaves a component, and answers its instance.
+fn leave(rt: &impl Abort, ticket: &mut Ticket) -> u64 {
+    assert!(rt; ticket.depth() > 0 && ticket.steps() < MAX_STEPS);
+    ticket.pop_frame()
+}
+
+/// Adds the request, the worker, the place of the begin, the open frames, the steps and the bytes.
+fn add_ticket(rt: &impl Abort, words: &mut String, ticket: &Ticket) {
+    add_number(rt, words, ticket.request().serial);
+    add_pair(rt, words, u64::from(ticket.worker().0), "@", ticket.at().0);
+    add_number(rt, words, ticket.depth() as u64);
+    add_number(rt, words, ticket.steps());
+    add_number(rt, words, ticket.bytes());
+}
+
+/// Adds what the call puts of the row, and whether it read it.
+fn add_row_of(rt: &impl Abort, words: &mut String, ticket: &Ticket) {
+    match ticket.own_put(ROW) {
+        Some(bytes) => add_text(rt, words, " ", bytes.as_slice()),
+        None => add_word(rt, words, "none"),
+    }
+    let marked = ticket.marked(&ReadMark::Row(ROW));
+    add_word(rt, words, if marked { "read" } else { "unread" });
+}
+
+fn add_mark(rt: &impl Abort, words: &mut String, mark: &Mark) {
+    if let Some(value) = &mark.value {
+        add_text(rt, words, " ", value.as_slice());
+    }
+}
+
+/// Adds the instances, the groups, the values that were read and the rows of a call that ended.
+fn add_parts(rt: &impl Abort, words: &mut String, parts: &TicketParts) {
+    for instance in parts.instances.as_slice() {
+        add_number(rt, words, *instance);
+    }
+    for touch in parts.touched.as_slice() {
+        add_pair(rt, words, u64::from(touch.group.0), "#", touch.generation);
+    }
+    for mark in parts.marks.as_slice() {
+        add_mark(rt, words, mark);
+    }
+    for write in parts.writes.as_slice() {
+        add_row(rt, words, write);
+    }
+}
+
+#[test]
+fn a_ticket_holds_its_call(rt: HostRuntime) {
+    let mut words = String::new(rt.alloc());
+    let mut ticket = Ticket::new(rt.alloc(), request(70), WorkerNo(4), Place(9)).expect(
+        &rt, "a ticket",
+    );
+    add_row_of(&rt, &mut words, &ticket);
+    enter(&rt, &mut ticket);
+    read(&rt, rt.alloc(), &mut ticket);
+    put(&rt, rt.alloc(), &mut ticket);
+    add_row_of(&rt, &mut words, &ticket);
+    add_ticket(&rt, &mut words, &ticket);
+    add_number(&rt, &mut words, leave(&rt, &mut ticket));
+    expect_words(
+        &rt,
+        &words,
+        "none unread xyz read 70 4@9 1 3 5 17",
+        "a ticket",
+    );
+}
+
+#[test]
+fn a_ticket_is_used_again(rt: HostRuntime) {
+    let mut words = String::new(rt.alloc());
+    let mut ticket = Ticket::new(rt.alloc(), request(70), WorkerNo(4), Place(9)).expect(
+        &rt, "a ticket",
+    );
+    enter(&rt, &mut ticket);
+    read(&rt, rt.alloc(), &mut ticket);
+    put(&rt, rt.alloc(), &mut ticket);
+    let parts = ticket.take_parts(rt.alloc()).expect(&rt, "the parts");
+    add_parts(&rt, &mut words, &parts);
+    add_ticket(&rt, &mut words, &ticket);
+    ticket.renew(request(71), WorkerNo(5), Place(10));
+    add_ticket(&rt, &mut words, &ticket);
+    expect_words(
+        &rt,
+        &words,
+        "17 2#4 ab 3.7=xyz 70 4@9 0 0 0 71 5@10 0 0 0",
+        "a ticket",
+    );
+}

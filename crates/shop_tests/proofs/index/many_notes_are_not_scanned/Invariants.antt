@@ -1,6 +1,0 @@
-use Rattle.std.proofs.Common.{◌<◌, All}
-use Rattle.row_store.specs.declared.noted.Noted.{Noted}
-use Rattle.shop_tests.proofs.index.many_notes_are_not_scanned.Given as goal
-
-abbrev pub invariant-loop-n : goal.invariant-loop-n
-invariant-loop-n l = All (λ (n : Noted). n.place.0 < l.n) l.rows.noted
