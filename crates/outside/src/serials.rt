@@ -20,7 +20,7 @@ pub struct Spent {
 /// What gives serial numbers, each once.
 ///
 /// A draw looks at a number, and then draws one or none. Where the numbers are shared, other draws may
-/// come between the look and the draw, so that the number drawn is beyond the one looked at.
+/// come between the look and the draw, so that the number drawn may be beyond the one looked at.
 pub trait Serials {
     /// This number may still be drawn.
     ghost undrawn: { Self → ℕ → Type 0 };
@@ -43,7 +43,7 @@ pub trait Serials {
     ghost goes_on: { (old new : Self) (seen : ℕ) (drawn : Option ℕ) → looks old seen drawn new
         → Looked undrawn old seen new };
 
-    /// A number that is drawn might be drawn before, and may not be drawn again.
+    /// A number that is drawn was still to be drawn, and is not any more.
     ghost once: { (old new : Self) (seen serial : ℕ) → looks old seen (Some serial) new
         → IsDrawn undrawn old new serial };
 }
@@ -96,8 +96,10 @@ impl Serials for PlainSerials {
     ghost once = { plain_once };
 }
 
-/// Over any draws the numbers drawn differ.
+/// `SERIALS_END` is 2^62, and over any draws the numbers drawn differ. It refuses another end, and a number that is
+/// drawn twice.
 pub fn serials_differ<S: Serials>(_serials: &S)
-    ensures { (old new : S) (draws : List (Option ℕ)) → Draws S.looks old draws new
+    ensures end { SERIALS_END ≡ 2 ^ 62 }
+    ensures differ { (old new : S) (draws : List (Option ℕ)) → Draws S.looks old draws new
         → AllDiffer (filter_map (λ drawn. drawn) draws) }
 {}
