@@ -90,8 +90,8 @@ pub trait Link {
         → Tallied event (tally old) (tally new) };
 }
 
-/// Over any calls of a link a brick's count of silences has risen by at least the number of those in which
-/// it was silent, and the counts over all bricks by at least the number of silences and of frames.
+/// Over any calls of a link each brick's count of silences, and the counts of silences and of frames over all
+/// bricks, have risen by at least as many as came, or are at 2^64 - 1.
 pub fn links_count_their_events<L: Link>(_link: &L)
     ensures brick { (old new : L) (events : List LinkEvent) (brick : ℕ) → Made L.makes old events new
         → RoseBy (count_by (is_silence_of brick) events) ((L.tally old).silences brick) ((L.tally new).silences brick) }
