@@ -37,6 +37,7 @@ acknowledged_line s key value t text sound a = record {
   expiry_is = a.expiry_is;
   askable = made_askable a.later.world a.cookie value (sound_of t.store a.later a.later_is sound).made a.acknowledged;
   enough = a.enough;
+  among = a.among;
   others = λ other apart. other_cookie s t key a.cookie other a.cookies_are apart;
   text_is = a.text_is;
 }

@@ -1,8 +1,10 @@
 -- What a write line leaves that was done: the cookie with which its value is acknowledged, or the cookies as they were.
-use Rattle.std.proofs.Common.{◌≡◌, ◌⊎◌, inl, inr, ℕ, ◌<◌, true, if◌then◌else◌, nat_lt, List, [], ◌∷◌, ◌++◌, length, take, arith, Some, Ok, Err, sym, ap, ◌∙◌}
-use Rattle.std.specs.Prelude.{slice_get, slice_set, nat_le}
+use Rattle.std.proofs.Common.{◌≡◌, ◌⊎◌, inl, inr, ℕ, ◌<◌, true, if◌then◌else◌, nat_lt, List, [], ◌∷◌, ◌++◌, length, take, arith, Some, Ok, Err, sym, ap, ◌∙◌, subst}
+use Rattle.std.specs.Prelude.{slice_get, slice_set, nat_le, option_map}
 use Rattle.std.specs.List.{filter_map}
 use Rattle.std.proofs.lemmas.List.{length-take-le}
+use Rattle.std.proofs.lemmas.Option.{slice_get-map}
+use Rattle.crash_base.specs.declared.numbers.BrickNo.{BrickNo}
 use Rattle.std.proofs.lemmas.Bool.Decides.{nat_tests}
 use Rattle.scenario_text.specs.Answer.{Done}
 use Rattle.scenario_text.specs.declared.session_line.SessionLine.TheVariants as lines
@@ -10,6 +12,10 @@ use Rattle.session_cookie.specs.declared.cookie.Cookie.{Cookie}
 use Rattle.session_cookie.specs.declared.cookie.Holder.{Holder}
 use Rattle.ssm_frames.specs.declared.frame.Frame.TheVariants.{Put}
 use Rattle.send_windows.specs.Facts.{open_count}
+use Rattle.send_windows.specs.Windows.{chosen}
+use Rattle.send_windows.specs.declared.pass.Pass.{Pass}
+use Rattle.ssm_stub.specs.declared.ask.Ask.{Ask}
+use Rattle.ssm_stub.specs.Ends.{bricks_of}
 use Rattle.ssm_stub.specs.declared.reply.WriteReply.{WriteReply}
 use Rattle.ssm_stub.specs.declared.write_call.WriteRefusal.TheVariants as missing
 use Rattle.ssm_stub.specs.Turns.{none_asked}
@@ -24,9 +30,9 @@ use Rattle.ssm_world.proofs.Asks.{asked_none}
 use Rattle.ssm_world.proofs.Growing.{same_bricks}
 use Rattle.ssm_world.proofs.Lists.{get_new}
 use Rattle.ssm_world.proofs.Steps.{after_stays}
-use Rattle.ssm_world.proofs.Holding.{answer_cookie}
+use Rattle.ssm_world.proofs.Holding.{HolderAsk, holder_ask, get_taken, answer_cookie}
 use Rattle.ssm_world.proofs.Missing.{missed_for}
-use Rattle.session_steps.specs.Promise.{Does, SaysWhy, WasMissed}
+use Rattle.session_steps.specs.Promise.{Does, AreAmong, SaysWhy, WasMissed}
 use Rattle.session_steps.specs.Sessions.{SessionsState, with_store, drawn, nonce, session_key, expiry, padded, spent_by, write_line}
 use Rattle.session_steps.specs.Store.{StoreState}
 use Rattle.session_steps.specs.Texts.{version_text}
@@ -46,6 +52,7 @@ pub record Acknowledged (s : SessionsState) (key : ℕ) (value : List ℕ) (t : 
   pub version_is : cookie.version ≡ nonce s
   pub expiry_is : cookie.expiry ≡ expiry s
   pub enough : (st : StoreState) → s.store ≡ Some st → length cookie.bricks ≡ st.windows.wq
+  pub among : (st : StoreState) → s.store ≡ Some st → AreAmong cookie.bricks (chosen st.windows (nonce s).serial)
   pub cookies_are : t.cookies ≡ slice_set (padded s.cookies key) key (Some cookie)
   pub text_is : text ≡ version_text key cookie
 
@@ -56,6 +63,13 @@ pub record Unacknowledged (s : SessionsState) (key : ℕ) (value : List ℕ) (t 
 
 taken_count : (n : ℕ) (holders : List Holder) → nat_le n (length holders) ≡ true → length (take n holders) ≡ n
 taken_count n holders enough = length-take-le n holders (grind (arith, nat_tests))
+
+-- the holders that a write takes are of bricks that it asked
+among_asked : (asks : List (Ask BrickNo WriteReply)) (passes : List Pass) (least : ℕ) → asked_of asks ≡ bricks_of passes → AreAmong (take least (filter_map holder_of asks)) passes
+among_asked asks passes least are place holder at =
+    let who : Ask BrickNo WriteReply → BrickNo = λ ask. ask.who in
+    let ask : HolderAsk asks holder = holder_ask asks place holder (get_taken least (filter_map holder_of asks) place holder at) in
+    (ask.place, ap (λ (bricks : List BrickNo). slice_get bricks ask.place) (sym are) ∙ slice_get-map who asks ask.place ∙ ap (option_map who) ask.there ∙ ap (λ b. Some b) ask.who_is)
 
 acknowledged_by : (s : SessionsState) (key : ℕ) (value : List ℕ) (st : StoreState) (t : SessionsState) (text : List ℕ) → s.store ≡ Some st → StoreIsSound st → (a : HasAnswered s key value st t text)
     → IsAcknowledgedAs (with_store (drawn s) (spent_by a.write (passes_of s st) (store_after_write s key value st))) key a.answer t text → Acknowledged s key value t text
@@ -69,6 +83,9 @@ acknowledged_by s key value st t text store_is sound a ok =
     let both = answer_cookie gone.end ok.cookie answers in
     let is = both.0 in
     let count : length ok.cookie.bricks ≡ st.windows.wq = ap (λ (c : Cookie). length c.bricks) (sym is) ∙ taken_count gone.end.least (filter_map holder_of gone.end.asks) both.1 ∙ gone.least_is in
+    let A : Cookie → Type 0 = λ c. AreAmong c.bricks (passes_of s st) in
+    let among : AreAmong ok.cookie.bricks (passes_of s st) =
+    subst A is (among_asked gone.end.asks (passes_of s st) gone.end.least (gone.asked_are ∙ asked_none WriteReply (bricks_of_write s st))) in
     record {
       cookie = ok.cookie;
       later = spent_by a.write (passes_of s st) (store_after_write s key value st);
@@ -87,6 +104,11 @@ acknowledged_by s key value st t text store_is sound a ok =
           let one : Some st ≡ Some x = sym store_is ∙ has in
           let store : st ≡ x = cc in
           count ∙ ap (λ (y : StoreState). y.windows.wq) store);
+      among = λ x has. (
+          let one : Some st ≡ Some x = sym store_is ∙ has in
+          let store : st ≡ x = cc in
+          let S : StoreState → Type 0 = λ y. AreAmong ok.cookie.bricks (passes_of s y) in
+          subst S store among);
       cookies_are = ap (λ (x : SessionsState). x.cookies) ok.state_is;
       text_is = ok.text_is;
     }

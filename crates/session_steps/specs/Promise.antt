@@ -11,6 +11,7 @@ use Rattle.session_cookie.specs.declared.cookie.Holder.{Holder}
 use Rattle.ssm_frames.specs.declared.frame.TheConstants.{SWEEP_GRACE}
 use Rattle.send_windows.specs.Facts.{open_count, full_facts}
 use Rattle.send_windows.specs.Windows.{chosen}
+use Rattle.send_windows.specs.declared.pass.Pass.{Pass}
 use Rattle.ssm_stub.specs.declared.cause.BrickCause.{BrickCause}
 use Rattle.ssm_stub.specs.declared.cause.Cause.{Cause}
 use Rattle.ssm_stub.specs.declared.cause.Cause.TheVariants as cause
@@ -202,9 +203,16 @@ abbrev pub lanes_of : Option StoreState → List LaneState
 lanes_of None = []
 lanes_of (Some st) = st.lanes
 
+-- each holder is of a brick of these passes
+abbrev pub AreAmong : List Holder → List Pass → Type 0
+AreAmong holders passes =
+    (place : ℕ) (holder : Holder) → slice_get holders place ≡ Some holder
+    → (i : ℕ) × (slice_get (bricks_of_passes passes) i ≡ Some holder.brick)
+
 -- A write line that was acknowledged: the key has a cookie whose version is the nonce that the write drew, which
--- expires a lease after the write, and names 1 to 16 distinct bricks, just as many as are to store a value; each other
--- key has the cookie that it had; and the line wrote the version.
+-- expires a lease after the write, and names 1 to 16 distinct bricks, just as many as are to store a value, all of them
+-- of the passes that are chosen from the nonce's serial on; each other key has the cookie that it had; and the line
+-- wrote the version.
 pub record IsAcknowledged (s : SessionsState) (key : ℕ) (t : SessionsState) (text : List ℕ) : Type 0 where
   pub cookie : Cookie
   pub cookie_is : cookie_of t key ≡ Some cookie
@@ -213,6 +221,7 @@ pub record IsAcknowledged (s : SessionsState) (key : ℕ) (t : SessionsState) (t
   pub expiry_is : cookie.expiry ≡ expiry s
   pub askable : may_be_asked (bricks_of cookie.bricks) ≡ true
   pub enough : (st : StoreState) → s.store ≡ Some st → length cookie.bricks ≡ st.windows.wq
+  pub among : (st : StoreState) → s.store ≡ Some st → AreAmong cookie.bricks (chosen st.windows (nonce s).serial)
   pub others : (other : ℕ) → (other ≡ key → ⊥) → cookie_of t other ≡ cookie_of s other
   pub text_is : text ≡ version_text key cookie
 

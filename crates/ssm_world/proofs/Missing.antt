@@ -1,5 +1,5 @@
 -- Why a write of a world was missed.
-use Rattle.std.proofs.Common.{◌≡◌, inl, inr, ℕ, ◌+◌, ◌≤◌, true, false, List, ◌∷◌, ◌++◌, length, get_or, map, All, Some, Err, refl, sym, ap, ◌∙◌, subst, arith}
+use Rattle.std.proofs.Common.{◌≡◌, inl, inr, ℕ, ◌≤◌, true, false, List, ◌∷◌, ◌++◌, length, get_or, map, All, Some, Err, refl, sym, ap, ◌∙◌, subst, arith}
 use Rattle.std.specs.Prelude.{slice_get, option_map}
 use Rattle.std.proofs.lemmas.Bool.{cases_lt}
 use Rattle.std.proofs.lemmas.Option.{slice_get-map, slice_get-get_or}
@@ -32,7 +32,6 @@ use Rattle.ssm_stub.specs.Writes.{WriteState, put_lawful, cause_by, with_brick, 
 use Rattle.ssm_stub.proofs.ByEvents.{ask_by, Heard as HeardBy, heard_by_events}
 use Rattle.ssm_stub.proofs.HearingEnds.{heard_so}
 use Rattle.ssm_stub.proofs.OwnEvents.{write_asking}
-use Rattle.ssm_stub.proofs.Searching.{all_heard}
 use Rattle.ssm_stub.proofs.WriteFacts.{told_facts}
 use Rattle.ssm_stub.proofs.WriteOutcomes.{all_found, missed_told}
 use Rattle.ssm_world.specs.declared.call.Call.{Call}
