@@ -15,6 +15,7 @@ use Rattle.send_windows.specs.Facts.{open_count}
 use Rattle.send_windows.specs.Windows.{chosen}
 use Rattle.send_windows.specs.declared.pass.Pass.{Pass}
 use Rattle.ssm_stub.specs.declared.ask.Ask.{Ask}
+use Rattle.ssm_stub.specs.declared.cause.BrickCause.{BrickCause}
 use Rattle.ssm_stub.specs.Ends.{bricks_of}
 use Rattle.ssm_stub.specs.declared.reply.WriteReply.{WriteReply}
 use Rattle.ssm_stub.specs.declared.write_call.WriteRefusal.TheVariants as missing
@@ -129,6 +130,11 @@ asked_in w [] order later place write may place_is there =
     same_bricks c (call.Write write) (ap untold (sym same) ∙ now.2) ∙ asked_none WriteReply order.bricks
 asked_in w (e ∷ earlier) order later place write may place_is there = asked_in (step w e) earlier order later place write may place_is there
 
+asked_when_missed : (n : ℕ) (events : List WorldEvent) (place : ℕ) (write : WriteState) (causes : List BrickCause) (why : WasMissedInWorld n events place write causes)
+    → slice_get (after (new_world n) events).calls place ≡ Some (call.Write write) → asked_of write.asks ≡ why.order.bricks
+asked_when_missed n events place write causes why there =
+    asked_in (new_world n) why.earlier why.order why.later place write why.may_begin why.place_is (ap (λ es. slice_get (after (new_world n) es).calls place) (sym why.parts) ∙ there)
+
 -- the write of the line was missed in the world of the bricks
 missed_by : (s : SessionsState) (key : ℕ) (value : List ℕ) (st : StoreState) (t : SessionsState) (text : List ℕ) → s.store ≡ Some st → StoreIsSound st → (a : HasAnswered s key value st t text)
     → IsMissed (with_store (drawn s) (spent_by a.write (passes_of s st) (store_after_write s key value st))) key a.answer t text → SoundIfAny t.store → WasMissed s key value t text
@@ -152,9 +158,7 @@ missed_by s key value st t text store_is sound a missed after_sound =
     let least_is : order.least ≡ st.windows.wq = ap (λ (r : WriteState). r.least) its ∙ gone.least_is in
     let puts : Put order.nonce order.key order.nonce order.expiry order.value ≡ Put (nonce s) (session_key key) (nonce s) (expiry s) value = ap (λ (r : WriteState). r.ask) its ∙ gone.ask_is in
     let value_is : order.value ≡ value = cc in
-    let where_is : slice_get (after (new_world made.bricks) (why.earlier ++ write_event order ∷ why.later)).calls n ≡ Some (call.Write gone.end) =
-    ap (λ es. slice_get (after (new_world made.bricks) es).calls n) (sym why.parts) ∙ there in
-    let asked : asked_of gone.end.asks ≡ order.bricks = asked_in (new_world made.bricks) why.earlier order why.later n gone.end why.may_begin why.place_is where_is in
+    let asked : asked_of gone.end.asks ≡ order.bricks = asked_when_missed made.bricks made.events n gone.end missed.causes why there in
     let bricks_are : order.bricks ≡ bricks_of_write s st = sym asked ∙ gone.asked_are ∙ asked_none WriteReply (bricks_of_write s st) in
     record {
       before = st;
