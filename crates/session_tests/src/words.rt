@@ -2,7 +2,7 @@
 //!
 //! Each crate of tests has its own, since only a test may end the process.
 
-use crash_base::SessionKey;
+use crash_base::{BrickNo, MAX_SESSION_BYTES, SessionBytes, SessionKey};
 use std::alloc::Global;
 use std::fmt::Write;
 use std::process::Abort;
@@ -22,9 +22,24 @@ pub fn cut<'a>(rt: &impl Abort, row: &'a str, mark: char) -> (&'a str, &'a str) 
     row.split_once(mark).expect(rt, row)
 }
 
+/// The word of a line at a place, counted from 0.
+pub fn word<'a>(rt: &impl Abort, line: &'a str, place: usize) -> &'a str {
+    line.split(' ').nth(place).expect(rt, line)
+}
+
 /// The number that a text spells.
 pub fn number(rt: &impl Abort, text: &str) -> u64 {
     text.parse().expect(rt, text)
+}
+
+/// The small number that a text spells.
+pub fn small(rt: &impl Abort, text: &str) -> u16 {
+    text.parse().expect(rt, text)
+}
+
+/// The brick whose number a text spells.
+pub fn brick(rt: &impl Abort, text: &str) -> BrickNo {
+    BrickNo(small(rt, text))
 }
 
 /// The byte that two digits spell in hexadecimal.
@@ -44,6 +59,18 @@ pub fn hex_bytes(rt: &impl Abort, alloc: Global, text: &str) -> Vec<u8> {
     bytes
 }
 
+/// The value that a text spells in hexadecimal, `-` being the empty one.
+pub fn value(rt: &impl Abort, alloc: Global, text: &str) -> SessionBytes {
+    let bytes = hex_bytes(rt, alloc, text);
+    assert!(rt; bytes.len() <= MAX_SESSION_BYTES);
+    SessionBytes::from_vec(bytes)
+}
+
+/// The key whose 16 bytes are a number below 256.
+pub fn key(number: u8) -> SessionKey {
+    SessionKey([0, 0, 0, 0, 0, 0, 0, 0, 0, 0, 0, 0, 0, 0, 0, number])
+}
+
 pub fn add_word(rt: &impl Abort, words: &mut String, word: &str) {
     write!(words, " {word}").expect(rt, word);
 }
@@ -60,6 +87,12 @@ pub fn add_hex(rt: &impl Abort, words: &mut String, mark: &str, bytes: &[u8]) {
     }
 }
 
+/// Adds bytes in hexadecimal as a word, which is `-` for none.
+pub fn add_value(rt: &impl Abort, words: &mut String, bytes: &[u8]) {
+    let mark = if bytes.is_empty() { "-" } else { "" };
+    add_hex(rt, words, mark, bytes);
+}
+
 /// The key of a session that a text spells in hexadecimal.
 pub fn session(rt: &impl Abort, alloc: Global, text: &str) -> SessionKey {
     let mut key = [0u8; 16];
@@ -72,4 +105,11 @@ pub fn session(rt: &impl Abort, alloc: Global, text: &str) -> SessionKey {
 /// Adds the text that bytes spell.
 pub fn add_text(rt: &impl Abort, words: &mut String, bytes: &[u8]) {
     add_word(rt, words, std::str::from_utf8(bytes).expect(rt, "a text"));
+}
+
+/// Begins a line of a transcript. Lines are parted by a slash.
+pub fn begin_line(rt: &impl Abort, words: &mut String) {
+    if !words.is_empty() {
+        words.push_str(" /").expect(rt, "a line");
+    }
 }

@@ -1,6 +1,7 @@
 //! A brick that is full: many writes to one brick, each with a nonce that comes after those before it.
 
-use crate::words::{add_answer, add_count, expect_words};
+use crate::words::expect_words;
+use crate::world_words::{add_answer, add_count};
 use crash_base::{BrickNo, Items, Moment, SessionBytes, SessionKey, Version};
 use ssm_world::{World, WorldEvent};
 use std::alloc::Global;

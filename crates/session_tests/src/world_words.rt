@@ -1,21 +1,9 @@
-//! Words for what calls answer.
-//!
-//! Each crate of tests has its own, since only a test may end the process.
+//! Words for what the calls of a world answer.
 
 use ssm_stub::{BrickCause, Cause, ReadRefusal, StubNext, WriteRefusal};
 use ssm_world::{Packet, World};
 use std::fmt::Write;
 use std::process::Abort;
-
-/// Asserts that these words were found, and shows the row where they were not.
-pub fn expect_words(rt: &impl Abort, found: &str, want: &str, row: &str) {
-    assert_eq!(rt; found.trim_start(), want, "{row}");
-}
-
-/// The number that a text spells.
-pub fn number(rt: &impl Abort, text: &str) -> u64 {
-    text.parse().expect(rt, text)
-}
 
 fn add_cause(rt: &impl Abort, words: &mut String, cause: &BrickCause) {
     let brick = cause.brick.0;

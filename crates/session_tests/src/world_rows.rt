@@ -1,7 +1,17 @@
-//! Rows of events, and what calls answer.
+//! Events in a row in a world, and what calls answer then.
+//!
+//! A row has the number of the world's bricks, the events and the words that are wanted, in this language:
+//! `write N L B..` and `read N C` begin a call with nonce N, a write of the text `a` with least L to bricks
+//! B.., and a read of the cookie that call C answered, at moment 5, or M in `read N C M`; `send C`, `lose C`
+//! and `half C` are its sends that meet no silence, that meet silence and whose packet is not sent, and that
+//! meet silence while the packet is sent; `deliver P`, `hear C P`, `hush C`, `crash B` and `sweep B M` are the
+//! events of these names, and `hear C P N` is N of them; `tell C` adds words for the call's answer, and
+//! `next C`, `packet P`, `bricks`, `calls`, `packets`, `values B`, `incarnation B` and `new N` for what the
+//! world's functions of these names answer.
 
-use crate::words::{add_answer, add_brick, add_count, add_new, add_next, expect_words, number};
-use crash_base::{BrickNo, Items, Moment, SessionBytes, SessionKey, Version};
+use crate::words::{brick, expect_words, number};
+use crate::world_words::{add_answer, add_brick, add_count, add_new, add_next};
+use crash_base::{Items, Moment, SessionBytes, SessionKey, Version};
 use session_cookie::Cookie;
 use ssm_stub::BrickList;
 use ssm_world::{World, WorldEvent};
@@ -34,10 +44,6 @@ fn version(serial: u64) -> Version {
         boot: 1,
         serial,
     }
-}
-
-fn brick(rt: &impl Abort, text: &str) -> BrickNo {
-    BrickNo(text.parse().expect(rt, text))
 }
 
 fn bricks(rt: &impl Abort, alloc: Global, texts: &[&str]) -> BrickList {

@@ -1,7 +1,7 @@
 //! The step machines, told events by hand.
 
-use crate::causes::{add_missed, add_read};
-use crate::replies::{Wanted, event_of};
+use crate::stub_causes::{add_missed, add_read};
+use crate::stub_replies::{Wanted, event_of};
 use crate::words::{add_number, add_word, brick, cut, expect_words, key, number, small, value};
 use crash_base::{BrickNo, Moment, Version, is_same_key, is_same_version};
 use send_windows::PassMark;

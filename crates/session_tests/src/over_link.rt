@@ -5,8 +5,8 @@
 
 ghost use Rattle.send_windows.specs.Passes.{AreUnheard};
 
-use crate::causes::{add_read, add_windows, add_written};
-use crate::stepping::{bricks_of, step_out, step_read, step_to_answer};
+use crate::stub_causes::{add_read, add_windows, add_written};
+use crate::stub_steps::{bricks_of, step_out, step_read, step_to_answer};
 use crate::windows::opened;
 use crate::words::{expect_words, key};
 use crash_base::{BrickNo, MAX_SESSION_BYTES, Moment, SessionBytes, Version};

@@ -1,7 +1,7 @@
 //! Windows, call by call.
 
-use crate::causes::{add_overload, add_windows};
-use crate::stepping::{brick_at, mark_at};
+use crate::stub_causes::{add_overload, add_windows};
+use crate::stub_steps::{brick_at, mark_at};
 use crate::words::{
     add_number, add_word, begin_line, brick, cut, expect_words, number, small, word,
 };

@@ -1,6 +1,6 @@
 //! The link in memory, call by call.
 
-use crate::replies::{Wanted, bytes_of};
+use crate::stub_replies::{Wanted, bytes_of};
 use crate::words::{
     add_number, add_word, begin_line, brick, cut, expect_words, key, number, small, word,
 };

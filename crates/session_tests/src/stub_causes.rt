@@ -1,6 +1,6 @@
 //! Words for what a write or a read answers.
 
-use crate::words::{add_hex, add_number, add_word};
+use crate::words::{add_number, add_value, add_word};
 use crash_base::{BrickNo, SessionBytes};
 use send_windows::{WindowFact, WindowList};
 use session_cookie::{Cookie, HolderList};
@@ -107,7 +107,7 @@ pub fn add_read(rt: &impl Abort, words: &mut String, answer: &Result<SessionByte
     match answer {
         Ok(value) => {
             add_word(rt, words, "found");
-            add_hex(rt, words, value.as_slice());
+            add_value(rt, words, value.as_slice());
         }
         Err(ReadRefusal::Expired { now, expiry }) => {
             write!(words, " expired {} {}", now.0, expiry.0).expect(rt, "expired");
