@@ -1,16 +1,19 @@
 //! Laws of scenarios. Each is the contract of a function that does nothing: a caller that needs the law calls the
 //! function.
 
-ghost use Rattle.std.specs.Prelude.{◌≡◌, ◌<◌, ◌-◌, ◌^◌, List, Option, Some, All, true};
+ghost use Rattle.std.specs.Prelude.{◌≡◌, ◌≢◌, ◌<◌, ◌-◌, ◌^◌, ℕ, List, Option, Some, All, true};
 ghost use Rattle.boot_core.specs.Sound.{IsSound};
 ghost use Rattle.outside.specs.Keeper.{KeeperTold};
 ghost use Rattle.scenario_engine.specs.KeeperCalls.{TellsCalls};
 ghost use Rattle.scenario_engine.specs.Sound.{CommitsUnrebooted, RunsSerially, CommitsOwnRequests};
+ghost use Rattle.scenario_text.specs.Answer.{Refused};
 ghost use Rattle.scenario_text.specs.declared.line.Line.{Line};
+ghost use Rattle.scenario_text.specs.declared.session_line.SessionLine.TheVariants as lines;
+ghost use Rattle.session_cookie.specs.declared.cookie.Cookie.{Cookie};
 ghost use Rattle.scenario_engine.specs.Sessions.{HasSessions, session_turns};
 ghost use Rattle.scenario_engine.specs.State.{State, RunningState, Running};
 ghost use Rattle.session_steps.specs.Promise.{BootsRise};
-ghost use Rattle.session_steps.specs.Sessions.{nonce};
+ghost use Rattle.session_steps.specs.Sessions.{nonce, cookie_of, session_line};
 ghost use Rattle.session_steps.specs.Store.{StoreState};
 ghost use Rattle.ssm_world.specs.Worlds.{is_new};
 ghost use Rattle.scenario_engine.specs.Telling.{DoesPartly, HoldsRowsButNumber};
@@ -19,7 +22,10 @@ ghost use Rattle.scenario_engine.specs.Transcript.{Turn, lines_in, first, transc
 
 use boot_core::boots_stay_sound;
 use journal_model::{legal_journals_are_serial, no_commit_after_a_reboot};
-use session_steps::{nonces_stay_new, sessions_stand, writes_with_new_nonces_are_done};
+use session_steps::{
+    fetches_with_new_nonces_are_done, nonces_stay_new, sessions_stand,
+    writes_with_new_nonces_are_done,
+};
 
 /// Whatever the turns, each boot is sound, and so is the one at the end, also where they stop at a line: its journal is
 /// legal and within its limits, and each commit wrote only rows of tables whose owners' groups it entered.
@@ -66,8 +72,9 @@ pub fn scenarios_have_sessions()
 }
 
 /// Over a keeper that tells, boots rise: each boot that turns start has a greater number than those before. So while
-/// serials are left, no call to a brick has had the nonce that the next `write` or `fetch` draws. A start that
-/// takes a number twice would break it.
+/// serials are left, no call to a brick has had the nonce that the next `write` or `fetch` draws: a `write` is not
+/// refused where there are bricks, and neither is a `fetch` of a key with a cookie. A start that takes a number twice
+/// would break it.
 pub fn boots_rise()
     ensures rise { (turns : List Turn) (t u : KeeperTold) →
         TellsCalls (calls_from first turns) (Some t) (Some u) → BootsRise 0 (session_turns first turns) }
@@ -75,10 +82,21 @@ pub fn boots_rise()
         TellsCalls (calls_from first turns) (Some t) (Some u) →
         last_state (end_from first 1 turns) ≡ Running r → r.sessions.store ≡ Some st →
         r.sessions.serial < 2 ^ 64 - 1 → is_new st.world (nonce r.sessions) ≡ true }
+    ensures writes { (turns : List Turn) (t u : KeeperTold) (r : RunningState) (st : StoreState)
+        (key : ℕ) (value : List ℕ) →
+        TellsCalls (calls_from first turns) (Some t) (Some u) →
+        last_state (end_from first 1 turns) ≡ Running r → r.sessions.store ≡ Some st →
+        r.sessions.serial < 2 ^ 64 - 1 → session_line r.sessions (lines.Write key value) ≢ Refused }
+    ensures fetches { (turns : List Turn) (t u : KeeperTold) (r : RunningState) (key : ℕ) (cookie : Cookie) →
+        TellsCalls (calls_from first turns) (Some t) (Some u) →
+        last_state (end_from first 1 turns) ≡ Running r → cookie_of r.sessions key ≡ Some cookie →
+        r.sessions.serial < 2 ^ 64 - 1 → session_line r.sessions (lines.Fetch key) ≢ Refused }
 {
     keepers_tell();
     scenarios_have_sessions();
     nonces_stay_new();
+    writes_with_new_nonces_are_done();
+    fetches_with_new_nonces_are_done();
 }
 
 /// Whatever the turns, a keeper that was called as they say, and that tells, holds just the rows that the journal of
