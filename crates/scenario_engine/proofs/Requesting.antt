@@ -261,8 +261,8 @@ own_keeps = record {
   quiet = (λ r line short run. own_quiet r line run);
 }
 
-own_boot : (r : RunningState) → IsOwnRun r → CommitsOwnRequests r.boot
-own_boot r run = λ place e there. all_there (OwnEntry r.boot.start.boot) r.boot.entries place (Commit e) run.entries there
+commits_own : (r : RunningState) → IsOwnRun r → CommitsOwnRequests r.boot
+commits_own r run = λ place e there. all_there (OwnEntry r.boot.start.boot) r.boot.entries place (Commit e) run.entries there
 
 pub own_in_all : (turns : List Turn) → All CommitsOwnRequests (boots_from first turns)
-own_in_all turns = kept_boots (λ head. Unit {0}) IsOwnRun CommitsOwnRequests own_keeps own_boot first turns tt
+own_in_all turns = kept_boots (λ head. Unit {0}) IsOwnRun CommitsOwnRequests own_keeps commits_own first turns tt
