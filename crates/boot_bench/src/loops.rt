@@ -1,4 +1,4 @@
-//! The loops.
+//! The loops, each over a boot that was just started.
 
 ghost use Rattle.std.specs.Prelude.{◌<◌};
 
@@ -67,25 +67,24 @@ fn fill(
 }
 
 /// Makes `count` commits over so many rows, by requests whose numbers rise. How many were answered their places.
-pub(crate) fn commits(alloc: Global, count: u64, rows: u64) -> Result<u64, OutOfMemory> {
-    let Some(mut store) = Store::start(alloc)? else {
-        return Ok(0);
-    };
-    fill(alloc, &mut store, TABLE, rows, 0..count)
+pub(crate) fn commits(
+    alloc: Global,
+    store: &mut Store,
+    count: u64,
+    rows: u64,
+) -> Result<u64, OutOfMemory> {
+    fill(alloc, store, TABLE, rows, 0..count)
 }
 
 /// Makes `count` commits, each of a row of its own, by requests whose numbers fall. How many were answered their places.
-pub(crate) fn falling(alloc: Global, count: u64) -> Result<u64, OutOfMemory> {
-    let Some(mut store) = Store::start(alloc)? else {
-        return Ok(0);
-    };
+pub(crate) fn falling(alloc: Global, store: &mut Store, count: u64) -> Result<u64, OutOfMemory> {
     let mut made: u64 = 0;
     for place in 0..count {
         let id = RowId {
             table: TABLE,
             key: place,
         };
-        if is_committed(alloc, &mut store, count - place, id, place)? {
+        if is_committed(alloc, store, count - place, id, place)? {
             made = made.wrapping_add(1);
         }
     }
@@ -93,13 +92,15 @@ pub(crate) fn falling(alloc: Global, count: u64) -> Result<u64, OutOfMemory> {
 }
 
 /// Lists a table of 1,000 rows `count` times, after commits to another table. How many rows were listed.
-pub(crate) fn lists(alloc: Global, others: u64, count: u64) -> Result<u64, OutOfMemory> {
-    let Some(mut store) = Store::start(alloc)? else {
-        return Ok(0);
-    };
-    fill(alloc, &mut store, TABLE, 0, 0..LISTED_ROWS)?;
+pub(crate) fn lists(
+    alloc: Global,
+    store: &mut Store,
+    others: u64,
+    count: u64,
+) -> Result<u64, OutOfMemory> {
+    fill(alloc, store, TABLE, 0, 0..LISTED_ROWS)?;
     let end = LISTED_ROWS.saturating_add(others);
-    fill(alloc, &mut store, OTHER, 0, LISTED_ROWS..end)?;
+    fill(alloc, store, OTHER, 0, LISTED_ROWS..end)?;
     let mut rows: u64 = 0;
     for _ in 0..count {
         rows = rows.wrapping_add(store.list(alloc, TABLE)? as u64);
@@ -109,11 +110,8 @@ pub(crate) fn lists(alloc: Global, others: u64, count: u64) -> Result<u64, OutOf
 
 /// Makes commits over four rows, and looks at what a row was at `count` places, each before the next commit of that row.
 /// How many looks found the last commit before the place.
-pub(crate) fn looks(alloc: Global, count: u64) -> Result<u64, OutOfMemory> {
-    let Some(mut store) = Store::start(alloc)? else {
-        return Ok(0);
-    };
-    fill(alloc, &mut store, TABLE, LOOK_ROWS, 0..LOOK_COMMITS)?;
+pub(crate) fn looks(alloc: Global, store: &mut Store, count: u64) -> Result<u64, OutOfMemory> {
+    fill(alloc, store, TABLE, LOOK_ROWS, 0..LOOK_COMMITS)?;
     let mut found: u64 = 0;
     for round in 0..count {
         let place = round.wrapping_mul(LOOK_STRIDE) % LOOK_COMMITS;

@@ -19,6 +19,7 @@ use loops::{commits, falling, lists, looks};
 use std::alloc::Global;
 use std::process::ExitCode;
 use std::{env, io};
+use store::Store;
 
 /// A loop and its numbers, of which the second is 0 where there is none.
 fn words(rt: &HostRuntime) -> Option<(String, u64, u64)> {
@@ -32,15 +33,29 @@ fn words(rt: &HostRuntime) -> Option<(String, u64, u64)> {
     Some((name, count, more))
 }
 
-/// The count of a loop. None where there is no such loop.
-fn count_of(alloc: Global, name: &str, count: u64, more: u64) -> Result<Option<u64>, OutOfMemory> {
+/// The count of a loop over a boot. None where there is no such loop.
+fn count_over(
+    alloc: Global,
+    store: &mut Store,
+    name: &str,
+    count: u64,
+    more: u64,
+) -> Result<Option<u64>, OutOfMemory> {
     match name {
-        "commits" => Ok(Some(commits(alloc, count, more)?)),
-        "falling" => Ok(Some(falling(alloc, count)?)),
-        "lists" => Ok(Some(lists(alloc, count, more)?)),
-        "looks" => Ok(Some(looks(alloc, count)?)),
+        "commits" => Ok(Some(commits(alloc, store, count, more)?)),
+        "falling" => Ok(Some(falling(alloc, store, count)?)),
+        "lists" => Ok(Some(lists(alloc, store, count, more)?)),
+        "looks" => Ok(Some(looks(alloc, store, count)?)),
         _ => Ok(None),
     }
+}
+
+/// The count of a loop. None where there is no such loop, or its boot is not started.
+fn count_of(alloc: Global, name: &str, count: u64, more: u64) -> Result<Option<u64>, OutOfMemory> {
+    let Some(mut store) = Store::start(alloc)? else {
+        return Ok(None);
+    };
+    count_over(alloc, &mut store, name, count, more)
 }
 
 /// Tells the count of a loop, and waits for the end of the input.

@@ -137,6 +137,7 @@ fn list(alloc: Global, boot: &Boot, ticket: &mut Ticket, table: u8) -> usize
 impl Store {
     /// A boot over no rows. None where its deployment is refused.
     pub(crate) fn start(alloc: Global) -> Result<Option<Store>, OutOfMemory> {
+        let keeper = MapKeeper::new(alloc, RowList::new(alloc), CallList::new(alloc))?;
         let Ok(deployment) = Deployment::check(parts(alloc)?) else {
             return Ok(None);
         };
@@ -147,7 +148,6 @@ impl Store {
             limits: LIMITS,
         };
         let boot = Boot::start(alloc, start)?;
-        let keeper = MapKeeper::new(alloc, RowList::new(alloc), CallList::new(alloc))?;
         Ok(Some(Store { boot, keeper }))
     }
 
