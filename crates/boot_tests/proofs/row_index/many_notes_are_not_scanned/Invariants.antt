@@ -3,4 +3,4 @@ use Rattle.row_store.specs.declared.noted.Noted.{Noted}
 use Rattle.boot_tests.proofs.row_index.many_notes_are_not_scanned.Given as goal
 
 abbrev pub invariant-loop-n : goal.invariant-loop-n
-invariant-loop-n l = All (λ (n : Noted). n.place.0 < l.n) l.rows.noted
+invariant-loop-n g l = All (λ (n : Noted). n.place.0 < l.n) l.rows.noted
