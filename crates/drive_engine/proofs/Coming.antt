@@ -3,8 +3,8 @@ use Rattle.std.proofs.Common.{◌≡◌, ◌≢◌, ℕ, ◌+◌, ◌-◌, ◌<�
 use Rattle.std.proofs.Math.Seq.{take-add}
 use Rattle.std.proofs.lemmas.List.{length-take-le}
 use Rattle.std.proofs.lemmas.List.Elements.{All-nil, All-cons, All-append}
-use Rattle.boot_core.specs.declared.refusals.StartRefusal.{StartRefusal}
-use Rattle.boot_core.specs.declared.refusals.StartRefusal.TheVariants as refusals
+use Rattle.scenario_engine.specs.declared.failure.UnstartedCause.{UnstartedCause}
+use Rattle.scenario_engine.specs.declared.failure.UnstartedCause.TheVariants as causes
 use Rattle.outside.specs.Keeper.{KeeperTold}
 use Rattle.outside.specs.Sink.{appended}
 use Rattle.outside.specs.Source.{prepended, HasEnded}
@@ -116,7 +116,7 @@ has_done : (left left_now written old new : Option (List ℕ)) (told after : Opt
 has_done left left_now written old new told after turns s done so_far same = record { done = done; written = same ∙ so_far }
 
 -- a boot that it needs was not started
-ends_at_start : (r : StartRefusal) (left left_now written old new : Option (List ℕ)) (told before after : Option KeeperTold) (turns : List Turn) (s t : State) (line : List ℕ) → ScenariosDoStand → end_from first 1 turns ≡ Ended s → old ≡ appended written (transcript first turns) → TellsCalls (calls_from first turns) told before → HasLine (exchange left left_now written new told after) (lines_in turns) line → WritesNoText line old new → Does s (line_of line) (UnstartedIn t r) before after → StopsUnstarted r (exchange left left_now written new told after)
+ends_at_start : (r : UnstartedCause) (left left_now written old new : Option (List ℕ)) (told before after : Option KeeperTold) (turns : List Turn) (s t : State) (line : List ℕ) → ScenariosDoStand → end_from first 1 turns ≡ Ended s → old ≡ appended written (transcript first turns) → TellsCalls (calls_from first turns) told before → HasLine (exchange left left_now written new told after) (lines_in turns) line → WritesNoText line old new → Does s (line_of line) (UnstartedIn t r) before after → StopsUnstarted r (exchange left left_now written new told after)
 ends_at_start r left left_now written old new told before after turns s t line law done so_far tells h (short, same) d = record {
   before = turns;
   turn = record { line = line; replies = d.replies };
@@ -164,8 +164,8 @@ ends_at_line endings.WriteFailed left left_now written old new told before after
   written = is ∙ ap (λ o. appended o prefix) so_far ∙ appended_more written (transcript first turns) prefix;
   stands = law (turns ++ record { line = line; replies = d.replies } ∷ []) told after (told-push s turns line (DoneTo t wrote) told before after done short tells d);
 }
-ends_at_line endings.KeeperFailed left left_now written old new told before after turns s number line law done next so_far tells h (none, (t, d)) = (refl, ends_at_start refusals.KeeperFailed left left_now written old new told before after turns s t line law done so_far tells h none d)
-ends_at_line (endings.BadRow id) left left_now written old new told before after turns s number line law done next so_far tells h (none, (t, d)) = (refl, ends_at_start (refusals.BadRow id) left left_now written old new told before after turns s t line law done so_far tells h none d)
+ends_at_line endings.KeeperFailed left left_now written old new told before after turns s number line law done next so_far tells h (none, (t, d)) = (refl, ends_at_start causes.KeeperFailed left left_now written old new told before after turns s t line law done so_far tells h none d)
+ends_at_line (endings.BadRow id) left left_now written old new told before after turns s number line law done next so_far tells h (none, (t, d)) = (refl, ends_at_start (causes.BadRow id) left left_now written old new told before after turns s t line law done so_far tells h none d)
 ends_at_line (endings.LineTooLong n) left left_now written old new told before after turns s number line law done next so_far tells h (is, long, same, unasked) = record {
   before = turns;
   line = line;
@@ -190,7 +190,7 @@ ends_at_line endings.OutOfMemory left left_now written old new told before after
   last = inr (record { line = line; read = h.read; short = short; partly = partly; rows = numbers_alone s (line_of line) before after partly });
 }
 ends_at_line endings.DescriptorsRefused left left_now written old new told before after turns s number line law done next so_far tells h ends = absurd ends
-ends_at_line endings.BootsSpent left left_now written old new told before after turns s number line law done next so_far tells h (none, (t, d)) = (refl, ends_at_start refusals.BootsSpent left left_now written old new told before after turns s t line law done so_far tells h none d)
+ends_at_line endings.BootsSpent left left_now written old new told before after turns s number line law done next so_far tells h (none, (t, d)) = (refl, ends_at_start causes.BootsSpent left left_now written old new told before after turns s t line law done so_far tells h none d)
 ends_at_line endings.ScenarioTooLong left left_now written old new told before after turns s number line law done next so_far tells h ends = absurd ends
 
 -- a line that ends in a piece ends the scenario

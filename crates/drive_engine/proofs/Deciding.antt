@@ -4,8 +4,8 @@ use Rattle.std.specs.Prelude.{IfSome}
 use Rattle.std.proofs.lemmas.Bool.{cases_lt}
 use Rattle.std.proofs.lemmas.Bool.Decides.{nat_tests}
 use Rattle.std.proofs.Math.Seq.{take-append-add, take-append_seam}
-use Rattle.boot_core.specs.declared.refusals.StartRefusal.{StartRefusal}
-use Rattle.boot_core.specs.declared.refusals.StartRefusal.TheVariants as refusals
+use Rattle.scenario_engine.specs.declared.failure.UnstartedCause.{UnstartedCause}
+use Rattle.scenario_engine.specs.declared.failure.UnstartedCause.TheVariants as causes
 use Rattle.outside.specs.Keeper.{KeeperTold}
 use Rattle.outside.specs.Source.{prepended}
 use Rattle.scenario_text.specs.Cutting.{lines_of, text_of_lines, IsOneLine, IsCut}
@@ -22,7 +22,7 @@ use Rattle.drive_engine.specs.declared.words.Command.{Command}
 use Rattle.drive_engine.specs.declared.words.Command.TheVariants.{Drive, Groups}
 use Rattle.drive_engine.specs.declared.ending.Ending.{Ending}
 use Rattle.drive_engine.specs.declared.ending.Ending.TheVariants as endings
-use Rattle.drive_engine.specs.Command.{DescriptorsCallFor, IsCalledFor, Runs, Ends, status_of_refusal, status_of_end, status_past_limit}
+use Rattle.drive_engine.specs.Command.{DescriptorsCallFor, IsCalledFor, Runs, Ends, status_of_unstarted, status_of_end, status_past_limit}
 use Rattle.drive_engine.specs.Drive.{AreRead, HasDone, ScenarioStands, StopsAtLine, StopsUnstarted, StopsAtLongLine, StopsPastLimit, WritesTranscript}
 use Rattle.drive_engine.specs.Ending.{status, IsReported}
 use Rattle.drive_engine.specs.Exchange.{Exchange, IsRead}
@@ -114,7 +114,7 @@ decided_at_line : (x : Exchange) (text : List ℕ) (n : ℕ) → x.left_before �
 decided_at_line x text n is h = decided_at_turn x text h.before h.turn h.state (RefusedAt h.after (1 + length h.before)) is h.read h.done (end_from-refused h.state h.after (1 + length h.before) h.turn h.short h.refused) tt h.stands
 
 -- a boot was not started
-decided_at_start : (x : Exchange) (text : List ℕ) (r : StartRefusal) → x.left_before ≡ Some text → StopsUnstarted r x → IsCalledFor Drive text x.told_before x.told_after (status_of_refusal r)
+decided_at_start : (x : Exchange) (text : List ℕ) (r : UnstartedCause) → x.left_before ≡ Some text → StopsUnstarted r x → IsCalledFor Drive text x.told_before x.told_after (status_of_unstarted r)
 decided_at_start x text r is h = decided_at_turn x text h.before h.turn h.state (Unstarted h.after r) is h.read h.done (end_from-unstarted h.state h.after (1 + length h.before) h.turn r h.short h.unstarted) tt h.stands
 
 -- lines whose first, or else what follows them, is too long
@@ -244,9 +244,9 @@ decided Drive (endings.LineRefused n) x text is unasked h = inl (decided_at_line
 decided Groups (endings.LineRefused n) x text is unasked h = cc
 decided command endings.ReadFailed x text is unasked h = inr (inr (inl refl))
 decided command endings.WriteFailed x text is unasked h = inr (inr (inr refl))
-decided Drive endings.KeeperFailed x text is unasked h = inl (decided_at_start x text refusals.KeeperFailed is h.1)
+decided Drive endings.KeeperFailed x text is unasked h = inl (decided_at_start x text causes.KeeperFailed is h.1)
 decided Groups endings.KeeperFailed x text is unasked h = cc
-decided Drive (endings.BadRow id) x text is unasked h = inl (decided_at_start x text (refusals.BadRow id) is h.1)
+decided Drive (endings.BadRow id) x text is unasked h = inl (decided_at_start x text (causes.BadRow id) is h.1)
 decided Groups (endings.BadRow id) x text is unasked h = cc
 decided Drive (endings.LineTooLong n) x text is unasked h = inl (decided_at_long_line x text n is h)
 decided Groups (endings.LineTooLong n) x text is unasked h = inl (decided_for_groups x text 8 unasked (inl (refl, subst (λ (o : Option (List ℕ)). IfSome o (λ text. MAX_DESCRIPTOR_BYTES < length text)) is h.1.long)))
@@ -255,7 +255,7 @@ decided Drive endings.DescriptorsRefused x text is unasked h = cc
 decided Groups endings.DescriptorsRefused x text is unasked h =
     let whole = told_whole x MAX_DESCRIPTOR_BYTES text h.1.text is h.1.read in
     inl (decided_for_groups x text 10 unasked (inr (inr (refl, (omega (arith, h.1.read.short, ap length whole), subst IsRefused (sym whole) h.1.refused)))))
-decided Drive endings.BootsSpent x text is unasked h = inl (decided_at_start x text refusals.BootsSpent is h.1)
+decided Drive endings.BootsSpent x text is unasked h = inl (decided_at_start x text causes.BootsSpent is h.1)
 decided Groups endings.BootsSpent x text is unasked h = cc
 decided Drive endings.ScenarioTooLong x text is unasked h = inl (decided_past_limit x text is h.1)
 decided Groups endings.ScenarioTooLong x text is unasked h = cc

@@ -1,7 +1,7 @@
 -- What a command reads, writes and asks of its keeper until it ends, and which status words, text and keeper call for.
 use Rattle.std.specs.Prelude.{◌≡◌, ℕ, ◌<◌, ◌≤◌, nat_lt, ◌⊎◌, if◌then◌else◌, List, [], length, take, Option, Some, None}
-use Rattle.boot_core.specs.declared.refusals.StartRefusal.{StartRefusal}
-use Rattle.boot_core.specs.declared.refusals.StartRefusal.TheVariants as refusals
+use Rattle.scenario_engine.specs.declared.failure.UnstartedCause.{UnstartedCause}
+use Rattle.scenario_engine.specs.declared.failure.UnstartedCause.TheVariants as causes
 use Rattle.deployment.specs.declared.parts.Parts.{Parts}
 use Rattle.outside.specs.Keeper.{KeeperTold}
 use Rattle.scenario_text.specs.Cutting.{lines_of, IsCut}
@@ -56,12 +56,12 @@ Runs command UnknownCommand x = ⊥
 Runs command (LineRefused n) x = (command ≡ Drive) × StopsAtLine n x
 Runs command ReadFailed x = FailsToRead command x
 Runs command WriteFailed x = FailsToWrite command x
-Runs command KeeperFailed x = (command ≡ Drive) × StopsUnstarted refusals.KeeperFailed x
-Runs command (BadRow id) x = (command ≡ Drive) × StopsUnstarted (refusals.BadRow id) x
+Runs command KeeperFailed x = (command ≡ Drive) × StopsUnstarted causes.KeeperFailed x
+Runs command (BadRow id) x = (command ≡ Drive) × StopsUnstarted (causes.BadRow id) x
 Runs command (LineTooLong n) x = HasLongLine command n x
 Runs command OutOfMemory x = RunsOutOfMemory command x
 Runs command DescriptorsRefused x = (command ≡ Groups) × RefusesDescriptors x
-Runs command BootsSpent x = (command ≡ Drive) × StopsUnstarted refusals.BootsSpent x
+Runs command BootsSpent x = (command ≡ Drive) × StopsUnstarted causes.BootsSpent x
 Runs command ScenarioTooLong x = (command ≡ Drive) × StopsPastLimit x
 
 -- The words spell no command, or their command ends so.
@@ -69,19 +69,18 @@ abbrev pub Ends : Option Command → Ending → Exchange → Type 0
 Ends None ending x = ending ≡ UnknownCommand
 Ends (Some command) ending x = Runs command ending x
 
--- the status that a boot calls for that was not started
-abbrev pub status_of_refusal : StartRefusal → ℕ
-status_of_refusal refusals.KeeperFailed = 6
-status_of_refusal (refusals.BadRow id) = 7
-status_of_refusal refusals.BootsSpent = 11
-status_of_refusal refusals.OutOfMemory = 9
+-- the status that a boot calls for that was left unstarted
+abbrev pub status_of_unstarted : UnstartedCause → ℕ
+status_of_unstarted causes.KeeperFailed = 6
+status_of_unstarted (causes.BadRow id) = 7
+status_of_unstarted causes.BootsSpent = 11
 
 -- the status that the end of a scenario calls for
 abbrev pub status_of_end : End → ℕ
 status_of_end (Ended state) = 0
 status_of_end (RefusedAt state n) = 3
 status_of_end (TooLong state n) = 8
-status_of_end (Unstarted state refusal) = status_of_refusal refusal
+status_of_end (Unstarted state cause) = status_of_unstarted cause
 
 -- the status of a scenario that goes on past the limit, by the end of its lines within it and the bytes of the next
 -- line
@@ -89,7 +88,7 @@ abbrev pub status_past_limit : End → ℕ → ℕ
 status_past_limit (Ended state) bytes = if nat_lt MAX_LINE_BYTES bytes then 8 else 12
 status_past_limit (RefusedAt state n) bytes = 3
 status_past_limit (TooLong state n) bytes = 8
-status_past_limit (Unstarted state refusal) bytes = status_of_refusal refusal
+status_past_limit (Unstarted state cause) bytes = status_of_unstarted cause
 
 -- A scenario has no more bytes than one may have; these are its lines with what the keeper replies, which call for this
 -- status.

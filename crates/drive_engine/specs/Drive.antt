@@ -4,8 +4,8 @@ use mathlib.Core.List.{IsPrefix}
 use Rattle.outside.specs.Keeper.{KeeperTold}
 use Rattle.outside.specs.Source.{prepended}
 use Rattle.boot_core.specs.Sound.{IsSound}
-use Rattle.boot_core.specs.declared.refusals.StartRefusal.{StartRefusal}
-use Rattle.boot_core.specs.declared.refusals.StartRefusal.TheVariants as refusals
+use Rattle.scenario_engine.specs.declared.failure.UnstartedCause.{UnstartedCause}
+use Rattle.scenario_engine.specs.declared.failure.UnstartedCause.TheVariants as causes
 use Rattle.crash_base.specs.declared.row_id.RowId.{RowId}
 use Rattle.scenario_text.specs.Cutting.{lines_of, text_of_lines, IsOneLine, IsCut}
 use Rattle.scenario_text.specs.Reading.{line_of}
@@ -78,9 +78,9 @@ pub record StopsAtLine (n : ℕ) (x : Exchange) : Type 0 where
   pub refused : turn_outcome state turn ≡ RefusedIn after
   pub stands : ScenarioStands (before ++ turn ∷ []) x.told_before x.told_after
 
--- A line was read to its end and needs a boot that was not started for this refusal, after the lines before it were
--- done.
-pub record StopsUnstarted (refusal : StartRefusal) (x : Exchange) : Type 0 where
+-- A line was read to its end and needs a boot that was left unstarted for this cause, after the lines before it
+-- were done.
+pub record StopsUnstarted (cause : UnstartedCause) (x : Exchange) : Type 0 where
   pub before : List Turn
   pub turn : Turn
   pub state : State
@@ -88,7 +88,7 @@ pub record StopsUnstarted (refusal : StartRefusal) (x : Exchange) : Type 0 where
   pub read : AreRead x (lines_in before ++ turn.line ∷ [])
   pub done : HasDone x before state
   pub short : length turn.line ≤ MAX_LINE_BYTES
-  pub unstarted : turn_outcome state turn ≡ UnstartedIn after refusal
+  pub unstarted : turn_outcome state turn ≡ UnstartedIn after cause
   pub stands : ScenarioStands (before ++ turn ∷ []) x.told_before x.told_after
 
 -- More bytes than a line may have were read of the line of this number, after the lines before it were done.
@@ -163,7 +163,7 @@ abbrev pub HasNoReport : Exchange → Type 0
 HasNoReport x =
     ((n : ℕ) × StopsAtLine n x)
     ⊎ (((n : ℕ) × StopsAtLongLine n x)
-    ⊎ ((id : RowId) × StopsUnstarted (refusals.BadRow id) x))
+    ⊎ ((id : RowId) × StopsUnstarted (causes.BadRow id) x))
 
 -- More bytes were read than a scenario may have, after the lines that end within its limit were done.
 pub record StopsPastLimit (x : Exchange) : Type 0 where

@@ -1,6 +1,6 @@
 -- How far a scenario has come, and what a line and a piece of it do.
 use Rattle.std.specs.Prelude.{◌≡◌, ℕ, ◌+◌, ◌<◌, ◌≤◌, List, ◌++◌, length, All, Option}
-use Rattle.boot_core.specs.declared.refusals.StartRefusal.TheVariants as refusals
+use Rattle.scenario_engine.specs.declared.failure.UnstartedCause.TheVariants as causes
 use Rattle.outside.specs.Keeper.{KeeperTold}
 use Rattle.outside.specs.Sink.{appended, AppendsPrefix}
 use Rattle.outside.specs.Source.{prepended}
@@ -49,16 +49,16 @@ EndsAtLine endings.WriteFailed number s line old new before after =
     (t : State) × (text : List ℕ) × (length line ≤ MAX_LINE_BYTES)
     × Does s (line_of line) (DoneTo t text) before after × AppendsPrefix old new text
 EndsAtLine endings.KeeperFailed number s line old new before after =
-    WritesNoText line old new × Ends (failures.Unstarted refusals.KeeperFailed) s (line_of line) before after
+    WritesNoText line old new × Ends (failures.Unstarted causes.KeeperFailed) s (line_of line) before after
 EndsAtLine (endings.BadRow id) number s line old new before after =
-    WritesNoText line old new × Ends (failures.Unstarted (refusals.BadRow id)) s (line_of line) before after
+    WritesNoText line old new × Ends (failures.Unstarted (causes.BadRow id)) s (line_of line) before after
 EndsAtLine (endings.LineTooLong n) number s line old new before after =
     (n ≡ number) × (MAX_LINE_BYTES < length line) × (new ≡ old) × (after ≡ before)
 EndsAtLine endings.OutOfMemory number s line old new before after =
     WritesNoText line old new × DoesPartly s (line_of line) before after
 EndsAtLine endings.DescriptorsRefused number s line old new before after = ⊥
 EndsAtLine endings.BootsSpent number s line old new before after =
-    WritesNoText line old new × Ends (failures.Unstarted refusals.BootsSpent) s (line_of line) before after
+    WritesNoText line old new × Ends (failures.Unstarted causes.BootsSpent) s (line_of line) before after
 EndsAtLine endings.ScenarioTooLong number s line old new before after = ⊥
 
 -- A scenario has come so far: of what was taken from the input, first come the lines of turns, which were done; then a

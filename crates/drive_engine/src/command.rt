@@ -2,7 +2,7 @@
 
 ghost use Rattle.std.specs.Prelude.{codes, ◌≡◌, ◌≢◌, ◌≤◌, ◌↔◌, ◌⊎◌, ℕ, ◌==◌, true, [], ◌∷◌, Some, None, IfOk, IfSome, string_bytes};
 ghost use Rattle.std.specs.List.{list_any};
-ghost use Rattle.boot_core.specs.declared.refusals.StartRefusal.{StartRefusal};
+ghost use Rattle.scenario_engine.specs.declared.failure.UnstartedCause.{UnstartedCause};
 ghost use Rattle.outside.specs.Faults.{Rose};
 ghost use Rattle.outside.specs.Sink.{AppendsOrFails};
 ghost use Rattle.drive_engine.specs.Command.{WritesAll, FailsToRead, FailsToWrite, HasLongLine, EndsOutOfMemory, Runs, Ends, IsCalledFor};
@@ -16,9 +16,9 @@ use crate::drive::drive;
 use crate::ending::Ending;
 use crate::groups::groups;
 use crate::words::{Command, USAGE, command_of};
-use boot_core::StartRefusal;
 use crash_base::{OutOfMemory, RowId, WordText};
 use outside::{Keeper, Sink, Source, write_all};
+use scenario_engine::UnstartedCause;
 use std::alloc::Global;
 use std::fmt::Write;
 
@@ -238,19 +238,19 @@ pub fn run_command<S: Source, T: Sink, E: Sink, K: Keeper>(
     // written. At 6 the keeper's count of faults rose, at 7 it gave a bad row, and at 11 no number is left.
     ensures keeper_failed { result.0 ≡ 6 → (command_of words.now ≡ Some Command.Drive)
         × Rose (K.faults keeper) (K.faults result.1)
-        × StopsUnstarted StartRefusal.KeeperFailed
+        × StopsUnstarted UnstartedCause.KeeperFailed
         (exchange (S.left input.old) (S.left input.new) (T.written out.old) (T.written out.new)
         (K.told keeper) (K.told result.1))
         × AppendsOrFails (E.written errors.old) (E.written errors.new)
         (E.faults errors.old) (E.faults errors.new) (codes "keeper failed\n") }
     ensures bad_row { result.0 ≡ 7 → (command_of words.now ≡ Some Command.Drive)
-        × ((id : RowId) × StopsUnstarted (StartRefusal.BadRow id)
+        × ((id : RowId) × StopsUnstarted (UnstartedCause.BadRow id)
         (exchange (S.left input.old) (S.left input.new) (T.written out.old) (T.written out.new)
         (K.told keeper) (K.told result.1))
         × AppendsOrFails (E.written errors.old) (E.written errors.new)
         (E.faults errors.old) (E.faults errors.new) (bad_row_report id)) }
     ensures boots_spent { result.0 ≡ 11 → (command_of words.now ≡ Some Command.Drive)
-        × StopsUnstarted StartRefusal.BootsSpent
+        × StopsUnstarted UnstartedCause.BootsSpent
         (exchange (S.left input.old) (S.left input.new) (T.written out.old) (T.written out.new)
         (K.told keeper) (K.told result.1))
         × AppendsOrFails (E.written errors.old) (E.written errors.new)

@@ -13,10 +13,9 @@ use crate::drive::MAX_SCENARIO_BYTES;
 use crate::ending::Ending;
 use crate::laws::scenarios_stand;
 use crate::words::Command;
-use boot_core::StartRefusal;
 use crash_base::OutOfMemory;
 use outside::{Keeper, Sink, write_all};
-use scenario_engine::{Engine, LineFailure};
+use scenario_engine::{Engine, LineFailure, UnstartedCause};
 use scenario_text::{LineAnswer, MAX_LINE_BYTES, ended_line};
 use std::alloc::Global;
 use std::marker::Model;
@@ -68,10 +67,9 @@ fn do_line<T: Sink, K: Keeper>(
         return Err(Ending::LineTooLong(number));
     }
     match engine.do_text(alloc, line, keeper) {
-        Err(LineFailure::Unstarted(StartRefusal::KeeperFailed)) => Err(Ending::KeeperFailed),
-        Err(LineFailure::Unstarted(StartRefusal::BadRow { id })) => Err(Ending::BadRow(id)),
-        Err(LineFailure::Unstarted(StartRefusal::BootsSpent)) => Err(Ending::BootsSpent),
-        Err(LineFailure::Unstarted(StartRefusal::OutOfMemory)) => unreachable!(),
+        Err(LineFailure::Unstarted(UnstartedCause::KeeperFailed)) => Err(Ending::KeeperFailed),
+        Err(LineFailure::Unstarted(UnstartedCause::BadRow { id })) => Err(Ending::BadRow(id)),
+        Err(LineFailure::Unstarted(UnstartedCause::BootsSpent)) => Err(Ending::BootsSpent),
         Err(LineFailure::OutOfMemory) => Err(Ending::OutOfMemory),
         Ok(LineAnswer::Refused) => Err(Ending::LineRefused(number)),
         Ok(LineAnswer::Done) => Ok(()),

@@ -12,22 +12,23 @@ use Rattle.outside.specs.Faults.{counted}
 use Rattle.outside.specs.Keeper.{KeeperTold, after_call, after_writes, after_fault}
 use Rattle.boot_core.specs.declared.refusals.CommitRefusal.{CommitRefusal}
 use Rattle.boot_core.specs.declared.refusals.CommitRefusal.TheVariants as commits
-use Rattle.boot_core.specs.declared.refusals.StartRefusal.TheVariants as refusals
+use Rattle.scenario_engine.specs.declared.failure.UnstartedCause.TheVariants as causes
 use Rattle.container_core.specs.Start.{first_bad, last_boot, boot_row, start_over}
+use Rattle.scenario_text.specs.Answer.{within}
 use Rattle.scenario_text.specs.declared.line.Line.{Line}
+use Rattle.scenario_text.specs.declared.line.Line.TheVariants as lines
 use Rattle.scenario_text.specs.declared.line.TheConstants.{MAX_LINE_BYTES}
 use Rattle.scenario_text.specs.Line.{is_event}
 use Rattle.scenario_text.specs.Reading.{line_of}
 use Rattle.line_steps.specs.declared.callers.Caller.{Caller}
 use Rattle.line_steps.specs.declared.callers.Caller.TheVariants.{Absent, Live}
-use Rattle.line_steps.specs.Callers.{caller_at}
+use Rattle.line_steps.specs.Callers.{caller_at, call_step}
 use Rattle.line_steps.specs.Head.{head_line}
-use Rattle.scenario_engine.specs.declared.kind.LineKind.{LineKind}
-use Rattle.scenario_engine.specs.declared.kind.LineKind.TheVariants as kinds
-use Rattle.scenario_engine.specs.Engine.{Replies, Target, TheHead, TheBoot, TheUnstarted, opened_target, target_of, target_calls, kind_of, in_head, in_boot, next_opening, reopens, line_over, line_on, step, calls_over as calls_of_kind, calls_on, line_calls}
+use Rattle.session_steps.specs.Sessions.{session_line}
+use Rattle.scenario_engine.specs.Engine.{Replies, Target, TheHead, TheBoot, TheUnstarted, opened_target, target_of, target_calls, in_head, in_boot, next_opening, reopens, line_over, line_on, step, calls_over, calls_on, line_calls}
 use Rattle.scenario_engine.specs.KeeperCalls.{KeeperCall, Gave, Kept, Failed, apply_calls, TellsCalls}
 use Rattle.scenario_engine.specs.Opening.{StartReplies, Opened, UnstartedBoot, is_spent, opening, opening_of, opening_over, calls_over_rows, start_calls, start_calls_of}
-use Rattle.scenario_engine.specs.Running.{commit_ends, with_keeper, boot_refusal, keep_calls, caller_commits, caller_calls, commit_step, commit_calls, quiet_line}
+use Rattle.scenario_engine.specs.Running.{commit_ends, with_keeper, boot_refusal, keep_calls, caller_commits, caller_calls, commit_step, with_callers, with_sessions, commit_calls, boot_line}
 use Rattle.scenario_engine.specs.State.{RunningState, State, Heading, Running, Outcome, RefusedIn, DoneTo, UnstartedIn}
 use Rattle.scenario_engine.specs.Transcript.{Turn, lines_in, first, answer_to, turn_outcome, calls_to, turn_calls, calls_from, transcript, End, end_from, Ended, RefusedAt, TooLong, Unstarted}
 use Rattle.scenario_engine.proofs.Telling.{none_after}
@@ -185,16 +186,16 @@ apply_decided ws false true calls others v a b twins = absurd (cc (lost_left (Ke
 
 unspent_decided : (parts : Parts) (limits : JournalLimits) (rows : List RowWrite) (spent keeps other : Bool) (calls others : List KeeperCall) (v a b : KeeperTold)
     → Twins ((if spent then [] else apply_calls (boot_row (last_boot rows + 1) ∷ []) keeps) ++ calls) ((if spent then [] else apply_calls (boot_row (last_boot rows + 1) ∷ []) other) ++ others) v a b
-    → Decided (if spent then UnstartedBoot refusals.BootsSpent else (if keeps then Opened (start_over parts limits rows) else UnstartedBoot refusals.KeeperFailed)) (if spent then UnstartedBoot refusals.BootsSpent else (if other then Opened (start_over parts limits rows) else UnstartedBoot refusals.KeeperFailed)) calls others a b
-unspent_decided parts limits rows true keeps other calls others v a b twins = undecided (UnstartedBoot refusals.BootsSpent) calls others v a b twins
+    → Decided (if spent then UnstartedBoot causes.BootsSpent else (if keeps then Opened (start_over parts limits rows) else UnstartedBoot causes.KeeperFailed)) (if spent then UnstartedBoot causes.BootsSpent else (if other then Opened (start_over parts limits rows) else UnstartedBoot causes.KeeperFailed)) calls others a b
+unspent_decided parts limits rows true keeps other calls others v a b twins = undecided (UnstartedBoot causes.BootsSpent) calls others v a b twins
 unspent_decided parts limits rows false keeps other calls others v a b twins =
-    decided_as (λ (keeps : Bool). if keeps then Opened (start_over parts limits rows) else UnstartedBoot refusals.KeeperFailed) keeps other calls others a b
+    decided_as (λ (keeps : Bool). if keeps then Opened (start_over parts limits rows) else UnstartedBoot causes.KeeperFailed) keeps other calls others a b
     (apply_decided (boot_row (last_boot rows + 1) ∷ []) keeps other calls others v a b twins)
 
 over_decided : (parts : Parts) (limits : JournalLimits) (rows : List RowWrite) (bad : Option RowId) (keeps other : Bool) (calls others : List KeeperCall) (v a b : KeeperTold)
     → Twins (calls_over_rows rows keeps bad ++ calls) (calls_over_rows rows other bad ++ others) v a b
     → Decided (opening_over parts limits rows keeps bad) (opening_over parts limits rows other bad) calls others a b
-over_decided parts limits rows (Some id) keeps other calls others v a b twins = undecided (UnstartedBoot (refusals.BadRow id)) calls others v a b twins
+over_decided parts limits rows (Some id) keeps other calls others v a b twins = undecided (UnstartedBoot (causes.BadRow id)) calls others v a b twins
 over_decided parts limits rows None keeps other calls others v a b twins =
     unspent_decided parts limits rows (is_spent rows) keeps other calls others v a b twins
 
@@ -266,24 +267,30 @@ commit_decided r n keeps other calls others v a b twins = caller_decided r n kee
 
 -- a turn
 
-kind_decided : (r : RunningState) (kind : LineKind) (line : Line) (replies other : Replies) (calls others : List KeeperCall) (v a b : KeeperTold)
-    → Twins (calls_of_kind r kind replies ++ calls) (calls_of_kind r kind other ++ others) v a b
-    → Decided (line_over r kind line replies) (line_over r kind line other) calls others a b
-kind_decided r (kinds.Commits n) line replies other calls others v a b twins =
+boot_decided : (r : RunningState) (line : Line) (replies other : Replies) (calls others : List KeeperCall) (v a b : KeeperTold)
+    → Twins (calls_over r line replies ++ calls) (calls_over r line other ++ others) v a b
+    → Decided (line_over r line replies) (line_over r line other) calls others a b
+boot_decided r lines.Pass replies other calls others v a b twins = undecided (DoneTo (Running r) []) calls others v a b twins
+boot_decided r (lines.Head line) replies other calls others v a b twins = undecided (RefusedIn (Running r)) calls others v a b twins
+boot_decided r (lines.Call n line) replies other calls others v a b twins =
+    undecided (in_boot r (within (with_callers r) (call_step r.boot r.callers n line))) calls others v a b twins
+boot_decided r (lines.Boot line) replies other calls others v a b twins =
+    undecided (in_boot r (boot_line r line)) calls others v a b twins
+boot_decided r (lines.Session line) replies other calls others v a b twins =
+    undecided (in_boot r (within (with_sessions r) (session_line r.sessions line))) calls others v a b twins
+boot_decided r (lines.Commit n) replies other calls others v a b twins =
     decided_as (in_boot r) (commit_step r n replies.keeps) (commit_step r n other.keeps) calls others a b
     (commit_decided r n replies.keeps other.keeps calls others v a b twins)
-kind_decided r kinds.Reopens line replies other calls others v a b twins =
+boot_decided r lines.Reopen replies other calls others v a b twins =
     decided_as (reopens r) (next_opening r replies.again) (next_opening r other.again) calls others a b
     (start_decided r.boot.start.deployment r.boot.start.limits replies.again other.again calls others v a b twins)
-kind_decided r kinds.Quiet line replies other calls others v a b twins =
-    undecided (in_boot r (quiet_line r line)) calls others v a b twins
 
 line_decided : (target : Target) (line : Line) (replies other : Replies) (calls others : List KeeperCall) (v a b : KeeperTold)
     → Twins (calls_on target line replies ++ calls) (calls_on target line other ++ others) v a b
     → Decided (line_on target line replies) (line_on target line other) calls others a b
 line_decided (TheHead head) line replies other calls others v a b twins =
     undecided (in_head head (head_line head line)) calls others v a b twins
-line_decided (TheBoot r) line replies other calls others v a b twins = kind_decided r (kind_of line) line replies other calls others v a b twins
+line_decided (TheBoot r) line replies other calls others v a b twins = boot_decided r line replies other calls others v a b twins
 line_decided (TheUnstarted head refusal) line replies other calls others v a b twins =
     undecided (UnstartedIn (Heading head) refusal) calls others v a b twins
 

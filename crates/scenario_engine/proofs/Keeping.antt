@@ -10,20 +10,22 @@ use Rattle.scenario_text.specs.declared.line.TheConstants.{MAX_LINE_BYTES}
 use Rattle.scenario_text.specs.Line.{is_event}
 use Rattle.scenario_text.specs.Reading.{line_of}
 use Rattle.scenario_text.specs.Spelling.{IsInRange, IsCallInRange}
+use Rattle.scenario_text.specs.declared.boot_line.BootLine.{BootLine}
+use Rattle.scenario_text.specs.declared.session_line.SessionLine.{SessionLine}
 use Rattle.scenario_text.specs.declared.call_line.CallLine.{CallLine}
 use Rattle.scenario_text.specs.declared.call_line.CallLine.TheVariants as calls
 use Rattle.line_steps.proofs.Stepping.{IsShortCall}
 use Rattle.scenario_text.proofs.Spelled.{line_in_range}
 use Rattle.line_steps.specs.declared.head.Head.{Head}
-use Rattle.scenario_text.specs.Answer.{Answer, Refused, Done}
+use Rattle.scenario_text.specs.Answer.{Answer, Refused, Done, within}
+use Rattle.line_steps.specs.Callers.{call_step}
 use Rattle.line_steps.specs.Head.{head_line}
 use Rattle.scenario_text.proofs.Leaving.{Leaves}
-use Rattle.scenario_engine.specs.declared.kind.LineKind.{LineKind}
-use Rattle.scenario_engine.specs.declared.kind.LineKind.TheVariants as kinds
-use Rattle.scenario_engine.specs.Engine.{Replies, Target, TheHead, TheBoot, TheUnstarted, opened_target, target_of, kind_of, in_head, in_boot, next_opening, reopens, line_over, line_on, step, ended_by, ends_over, ends_on, ended_boots}
+use Rattle.scenario_engine.specs.Engine.{Replies, Target, TheHead, TheBoot, TheUnstarted, opened_target, target_of, in_head, in_boot, next_opening, reopens, line_over, line_on, step, ended_by, ends_over, ends_on, ended_boots}
 use Rattle.scenario_engine.specs.Opening.{StartReplies, Opening, Opened, UnstartedBoot, opening}
+use Rattle.session_steps.specs.Sessions.{session_line}
 use Rattle.session_steps.specs.Setup.{set_up}
-use Rattle.scenario_engine.specs.Running.{started, commit_step, quiet_line}
+use Rattle.scenario_engine.specs.Running.{started, with_callers, with_sessions, commit_step, boot_line}
 use Rattle.scenario_engine.specs.State.{RunningState, State, Heading, Running, Outcome, RefusedIn, DoneTo, UnstartedIn}
 use Rattle.scenario_engine.specs.Transcript.{Turn, answer_to, turn_outcome, ends_to, turn_ends, boots_in, boots_from, end_from, last_state, RefusedAt, TooLong, Unstarted}
 
@@ -56,7 +58,9 @@ pub record Keeps (H : Head → Type 0) (R : RunningState → Type 0) : Type 0 wh
   pub opens : (head : Head) (replies : StartReplies) (start : Start) → H head → opening head.parts head.limits replies ≡ Opened start → R (started (set_up head.setup 0) start)
   pub reopens : (r : RunningState) (replies : StartReplies) (start : Start) → R r → next_opening r replies ≡ Opened start → R (started r.sessions start)
   pub commits : (r : RunningState) (n : ℕ) (keeps : Bool) → R r → Leaves R (commit_step r n keeps)
-  pub quiet : (r : RunningState) (line : Line) → IsShortLine line → R r → Leaves R (quiet_line r line)
+  pub calls : (r : RunningState) (n : ℕ) (line : CallLine) → IsShortCall line → R r → Leaves R (within (with_callers r) (call_step r.boot r.callers n line))
+  pub boots : (r : RunningState) (line : BootLine) → R r → Leaves R (boot_line r line)
+  pub sessions : (r : RunningState) (line : SessionLine) → R r → Leaves R (within (with_sessions r) (session_line r.sessions line))
 
 -- it holds of the head or the boot of a state
 abbrev pub HoldsIn : (Head → Type 0) → (RunningState → Type 0) → State → Type 0
@@ -91,17 +95,22 @@ module _ (H : Head → Type 0) (R : RunningState → Type 0) (B : BootValue → 
   kept_reopens r replies (Opened start) opens holds = keeps.reopens r replies start holds opens
   kept_reopens r replies (UnstartedBoot refusal) opens holds = holds
 
-  kept_line_over : (r : RunningState) (kind : LineKind) (line : Line) (replies : Replies) → IsShortLine line → R r → LeavesTo (HoldsIn H R) (line_over r kind line replies)
-  kept_line_over r (kinds.Commits caller) line replies short holds =
-      kept_in_boot r (commit_step r caller replies.keeps) holds (keeps.commits r caller replies.keeps holds)
-  kept_line_over r kinds.Reopens line replies short holds =
+  kept_line_over : (r : RunningState) (line : Line) (replies : Replies) → IsShortLine line → R r → LeavesTo (HoldsIn H R) (line_over r line replies)
+  kept_line_over r lines.Pass replies short holds = holds
+  kept_line_over r (lines.Head line) replies short holds = holds
+  kept_line_over r (lines.Call n line) replies short holds =
+      kept_in_boot r (within (with_callers r) (call_step r.boot r.callers n line)) holds (keeps.calls r n line short holds)
+  kept_line_over r (lines.Commit n) replies short holds =
+      kept_in_boot r (commit_step r n replies.keeps) holds (keeps.commits r n replies.keeps holds)
+  kept_line_over r (lines.Boot line) replies short holds = kept_in_boot r (boot_line r line) holds (keeps.boots r line holds)
+  kept_line_over r lines.Reopen replies short holds =
       kept_reopens r replies.again (next_opening r replies.again) refl holds
-  kept_line_over r kinds.Quiet line replies short holds =
-      kept_in_boot r (quiet_line r line) holds (keeps.quiet r line short holds)
+  kept_line_over r (lines.Session line) replies short holds =
+      kept_in_boot r (within (with_sessions r) (session_line r.sessions line)) holds (keeps.sessions r line holds)
 
   kept_line_on : (target : Target) (line : Line) (replies : Replies) → IsShortLine line → HoldsOf H R target → LeavesTo (HoldsIn H R) (line_on target line replies)
   kept_line_on (TheHead head) line replies short holds = kept_in_head head (head_line head line) holds (keeps.heads head line holds)
-  kept_line_on (TheBoot r) line replies short holds = kept_line_over r (kind_of line) line replies short holds
+  kept_line_on (TheBoot r) line replies short holds = kept_line_over r line replies short holds
   kept_line_on (TheUnstarted head refusal) line replies short holds = holds
 
   kept_step : (s : State) (line : Line) (replies : Replies) → IsShortLine line → HoldsIn H R s → LeavesTo (HoldsIn H R) (step s line replies)
@@ -124,14 +133,18 @@ module _ (H : Head → Type 0) (R : RunningState → Type 0) (B : BootValue → 
   kept_ended_by r (Opened start) holds = All-cons B r.boot [] (of_boot r holds) (All-nil B)
   kept_ended_by r (UnstartedBoot refusal) holds = All-nil B
 
-  kept_ends_over : (r : RunningState) (kind : LineKind) (replies : Replies) → R r → All B (ends_over r kind replies)
-  kept_ends_over r (kinds.Commits caller) replies holds = All-nil B
-  kept_ends_over r kinds.Reopens replies holds = kept_ended_by r (next_opening r replies.again) holds
-  kept_ends_over r kinds.Quiet replies holds = All-nil B
+  kept_ends_over : (r : RunningState) (line : Line) (replies : Replies) → R r → All B (ends_over r line replies)
+  kept_ends_over r lines.Pass replies holds = All-nil B
+  kept_ends_over r (lines.Head line) replies holds = All-nil B
+  kept_ends_over r (lines.Call n line) replies holds = All-nil B
+  kept_ends_over r (lines.Commit n) replies holds = All-nil B
+  kept_ends_over r (lines.Boot line) replies holds = All-nil B
+  kept_ends_over r lines.Reopen replies holds = kept_ended_by r (next_opening r replies.again) holds
+  kept_ends_over r (lines.Session line) replies holds = All-nil B
 
   kept_ends_on : (target : Target) (line : Line) (replies : Replies) → HoldsOf H R target → All B (ends_on target line replies)
   kept_ends_on (TheHead head) line replies holds = All-nil B
-  kept_ends_on (TheBoot r) line replies holds = kept_ends_over r (kind_of line) replies holds
+  kept_ends_on (TheBoot r) line replies holds = kept_ends_over r line replies holds
   kept_ends_on (TheUnstarted head refusal) line replies holds = All-nil B
 
   kept_ended_boots : (s : State) (line : Line) (replies : Replies) → HoldsIn H R s → All B (ended_boots s line replies)

@@ -31,7 +31,7 @@ use Rattle.journal_model.specs.declared.limits.TheConstants.{MAX_ENTRIES, MAX_JO
 use Rattle.scenario_text.specs.Setup.{SetupState, HasCounts, no_setup, bricks_step, key_step}
 use Rattle.session_steps.specs.Setup.{set_up}
 use Rattle.session_steps.proofs.Leading.{lead_on}
-use Rattle.scenario_engine.specs.Engine.{Replies, target_of, opened_target, kind_of, in_head, in_boot, next_opening, reopens, line_over, line_on, step}
+use Rattle.scenario_engine.specs.Engine.{Replies, target_of, opened_target, in_head, in_boot, next_opening, reopens, line_over, line_on, step}
 use Rattle.scenario_engine.specs.Opening.{Opening, Opened, UnstartedBoot, opening}
 use Rattle.scenario_engine.specs.Running.{started, with_callers, with_sessions, commit_ends, with_keeper, boot_refusal, caller_commits, caller_drops, commit_step, drop_step, scope_of, goes_down, reboots, down_step, up_step, reboot_step, table_step, journal_step, boot_line}
 use Rattle.scenario_engine.specs.Sessions.{AreSessionsOf, turns_by, first_start, starts_by, starts_on, turns_to, turn_on_sessions, session_turns}
@@ -126,7 +126,7 @@ same_boot r (boots.Reboot name) = same_reboot r name
 same_boot r boots.Table = refl
 same_boot r boots.Journal = refl
 
-leads_over : (r : RunningState) (line : Line) (replies : Replies) → LeadsOver r line (line_over r (kind_of line) line replies)
+leads_over : (r : RunningState) (line : Line) (replies : Replies) → LeadsOver r line (line_over r line replies)
 leads_over r lines.Pass replies = (r, refl, refl)
 leads_over r (lines.Head line) replies = refl
 leads_over r (lines.Call c line) replies = leads_same r (lines.Call c line) _ (λ t text. refl) (same_called r (call_step r.boot r.callers c line))
@@ -233,13 +233,13 @@ leads_first head start line (UnstartedIn t refusal) is =
 leads_opened : (head : Head) (how : Opening) (line : Line) (replies : Replies)
     → LeadsTo (Heading head) (first_start (Heading head) (opened_target head how)) (λ t text. first_start (Heading head) (opened_target head how) ++ turns_by line t text) (line_on (opened_target head how) line replies)
 leads_opened head (Opened start) line replies =
-    leads_first head start line (line_over (started (set_up head.setup 0) start) (kind_of line) line replies) (leads_over (started (set_up head.setup 0) start) line replies)
+    leads_first head start line (line_over (started (set_up head.setup 0) start) line replies) (leads_over (started (set_up head.setup 0) start) line replies)
 leads_opened head (UnstartedBoot refusal) line replies = stays (Heading head)
 
 leads_step : CountsLaw → (s : State) (line : Line) (replies : Replies)
     → LeadsTo s (first_start s (target_of s (is_event line) replies.first)) (λ t text. first_start s (target_of s (is_event line) replies.first) ++ turns_by line t text) (step s line replies)
 unfolding step
-leads_step law (Running r) line replies = leads_running r line (line_over r (kind_of line) line replies) (leads_over r line replies)
+leads_step law (Running r) line replies = leads_running r line (line_over r line replies) (leads_over r line replies)
 leads_step law (Heading head) line replies = go (is_event line)
   where
     go : (event : Bool) → LeadsTo (Heading head) (first_start (Heading head) (target_of (Heading head) event replies.first)) (λ t text. first_start (Heading head) (target_of (Heading head) event replies.first) ++ turns_by line t text) (line_on (target_of (Heading head) event replies.first) line replies)

@@ -37,7 +37,7 @@ use Rattle.line_steps.specs.Tables.{table_of}
 use Rattle.line_steps.specs.Texts.{row_answer_text, list_answer_text}
 use Rattle.line_steps.proofs.Stepping.{is_outside}
 use Rattle.scenario_text.proofs.Leaving.{Leaves, leaves-refused_if, leaves-or_refused, leaves-within, leaves-weaker, leaves-nothing}
-use Rattle.scenario_engine.specs.Running.{with_callers, with_sessions, with_boot_entry, commit_ends, with_keeper, boot_refusal, caller_commits, caller_drops, commit_step, drop_step, scope_of, goes_down, reboots, down_step, up_step, reboot_step, table_step, journal_step, boot_line, quiet_line}
+use Rattle.scenario_engine.specs.Running.{with_callers, with_sessions, with_boot_entry, commit_ends, with_keeper, boot_refusal, caller_commits, caller_drops, commit_step, drop_step, scope_of, goes_down, reboots, down_step, up_step, reboot_step, table_step, journal_step, boot_line}
 use Rattle.scenario_engine.specs.Sound.{CommitsOwnRequests}
 use Rattle.scenario_engine.specs.State.{RunningState}
 use Rattle.scenario_engine.specs.Transcript.{Turn, first, boots_from}
@@ -241,15 +241,6 @@ own_boot r (boots.Reboot name) run = own_reboot r name run
 own_boot r boots.Table run = run
 own_boot r boots.Journal run = run
 
-own_quiet : (r : RunningState) (line : Line) → IsOwnRun r → Leaves IsOwnRun (quiet_line r line)
-own_quiet r lines.Pass run = run
-own_quiet r (lines.Head line) run = tt
-own_quiet r (lines.Call c line) run = own_call r c line run
-own_quiet r (lines.Commit c) run = tt
-own_quiet r (lines.Boot line) run = own_boot r line run
-own_quiet r lines.Reopen run = tt
-own_quiet r (lines.Session line) run = own_session r (session_line r.sessions line) run
-
 -- all turns
 
 own_keeps : Keeps (λ head. Unit {0}) IsOwnRun
@@ -258,7 +249,9 @@ own_keeps = record {
   opens = (λ head replies start h opened. record { entries = All-nil (OwnEntry start.boot); callers = All-nil (OwnCaller start.boot) });
   reopens = (λ r replies start run opened. record { entries = All-nil (OwnEntry start.boot); callers = All-nil (OwnCaller start.boot) });
   commits = own_commit;
-  quiet = (λ r line short run. own_quiet r line run);
+  calls = (λ r n line short run. own_call r n line run);
+  boots = own_boot;
+  sessions = (λ r line run. own_session r (session_line r.sessions line) run);
 }
 
 commits_own : (r : RunningState) → IsOwnRun r → CommitsOwnRequests r.boot

@@ -7,12 +7,12 @@ use Rattle.boot_core.specs.declared.refusals.CommitRefusal.{CommitRefusal}
 use Rattle.call_ticket.specs.Ticket.{TicketValue}
 use Rattle.container_core.specs.Start.{last_boot}
 use Rattle.crash_base.specs.declared.rows.RowWrite.{RowWrite}
-use Rattle.line_steps.specs.Callers.{caller_at}
+use Rattle.line_steps.specs.Callers.{caller_at, call_step}
 use Rattle.line_steps.specs.Head.{head_line, head_step}
 use Rattle.line_steps.specs.declared.callers.Caller.{Caller}
 use Rattle.line_steps.specs.declared.callers.Caller.TheVariants.{Absent, Live}
 use Rattle.line_steps.specs.declared.head.Head.{Head}
-use Rattle.scenario_text.specs.Answer.{Answer, Refused, Done}
+use Rattle.scenario_text.specs.Answer.{Answer, Refused, Done, within}
 use Rattle.scenario_text.specs.Line.{is_event}
 use Rattle.scenario_text.specs.Reading.{line_of}
 use Rattle.scenario_text.specs.declared.line.Line.{Line}
@@ -21,15 +21,16 @@ use Rattle.scenario_text.specs.declared.line.TheConstants.{MAX_LINE_BYTES}
 use Rattle.scenario_text.proofs.Leaving.{Leaves, leaves-weaker}
 use Rattle.outside.specs.Keeper.{KeeperTold}
 use Rattle.session_steps.specs.Promise.{SessionTurn, Does, Boots, BootsRise}
+use Rattle.session_steps.specs.Sessions.{session_line}
 use Rattle.session_steps.specs.Setup.{set_up}
-use Rattle.scenario_engine.specs.Engine.{Replies, target_of, opened_target, kind_of, in_head, in_boot, next_opening, reopens, line_over, line_on, step, ended_by, ends_over, ends_on, ended_boots}
+use Rattle.scenario_engine.specs.Engine.{Replies, target_of, opened_target, in_head, in_boot, next_opening, reopens, line_over, line_on, step, ended_by, ends_over, ends_on, ended_boots}
 use Rattle.scenario_engine.specs.Opening.{Opening, Opened, UnstartedBoot, opening}
-use Rattle.scenario_engine.specs.Running.{started, commit_ends, with_keeper, boot_refusal, caller_commits, commit_step, quiet_line}
+use Rattle.scenario_engine.specs.Running.{started, commit_ends, with_keeper, boot_refusal, caller_commits, with_callers, with_sessions, commit_step, boot_line}
 use Rattle.scenario_engine.specs.Sessions.{turns_by, first_start, starts_by, starts_on, turns_to, turn_on_sessions, session_turns}
 use Rattle.scenario_engine.specs.State.{RunningState, State, Heading, Running, Outcome, RefusedIn, DoneTo, UnstartedIn}
 use Rattle.scenario_engine.specs.Told.{IsOver, Follows, AreChained, Tells}
 use Rattle.scenario_engine.specs.Transcript.{Turn, first, answer_to, turn_outcome, ends_to, turn_ends, boots_in, boots_from}
-use Rattle.scenario_engine.proofs.Telling.{HasSameRows, rows_quiet}
+use Rattle.scenario_engine.proofs.Telling.{HasSameRows, rows_called, rows_boot, rows_session}
 
 -- numbers of boots: those that start in turns of sessions, and those of boots
 
@@ -56,8 +57,8 @@ numbers-append (b ∷ bs) cs = ap (λ ns. b.start.boot ∷ ns) (numbers-append b
 abbrev HasSameStart : RunningState → RunningState → Type 0
 HasSameStart old new = new.boot.start ≡ old.boot.start
 
-start_quiet : (r : RunningState) (line : Line) → Leaves (HasSameStart r) (quiet_line r line)
-start_quiet r line = leaves-weaker (HasSameRows r) (HasSameStart r) (quiet_line r line) (λ q same. same.0) (rows_quiet r line)
+start_kept : (r : RunningState) (a : Answer RunningState) → Leaves (HasSameRows r) a → Leaves (HasSameStart r) a
+start_kept r a same = leaves-weaker (HasSameRows r) (HasSameStart r) a (λ q same. same.0) same
 
 start_committed : (r : RunningState) (n : ℕ) (ticket : TicketValue) (refusal : Option CommitRefusal) → Leaves (HasSameStart r) (commit_ends r n ticket refusal)
 start_committed r n ticket None = refl
@@ -86,14 +87,19 @@ counts_reopen : (r : RunningState) (how : Opening) → Counts (Running r) (ended
 counts_reopen r (Opened start) = refl
 counts_reopen r (UnstartedBoot refusal) = refl
 
-counts_over : (r : RunningState) (line : Line) (replies : Replies) → Counts (Running r) (ends_over r (kind_of line) replies) [] (turns_by line) (line_over r (kind_of line) line replies)
-counts_over r lines.Pass replies = counts_same r lines.Pass (quiet_line r lines.Pass) (λ t text. refl) (start_quiet r lines.Pass)
-counts_over r (lines.Head line) replies = counts_same r (lines.Head line) (quiet_line r (lines.Head line)) (λ t text. refl) (start_quiet r (lines.Head line))
-counts_over r (lines.Call c line) replies = counts_same r (lines.Call c line) (quiet_line r (lines.Call c line)) (λ t text. refl) (start_quiet r (lines.Call c line))
+counts_over : (r : RunningState) (line : Line) (replies : Replies) → Counts (Running r) (ends_over r line replies) [] (turns_by line) (line_over r line replies)
+counts_over r lines.Pass replies = refl
+counts_over r (lines.Head line) replies = refl
+counts_over r (lines.Call c line) replies =
+    let a : Answer RunningState = within (with_callers r) (call_step r.boot r.callers c line) in
+    counts_same r (lines.Call c line) a (λ t text. refl) (start_kept r a (rows_called r (call_step r.boot r.callers c line)))
 counts_over r (lines.Commit c) replies = counts_same r (lines.Commit c) (commit_step r c replies.keeps) (λ t text. refl) (start_commit r c replies.keeps)
-counts_over r (lines.Boot line) replies = counts_same r (lines.Boot line) (quiet_line r (lines.Boot line)) (λ t text. refl) (start_quiet r (lines.Boot line))
+counts_over r (lines.Boot line) replies =
+    counts_same r (lines.Boot line) (boot_line r line) (λ t text. refl) (start_kept r (boot_line r line) (rows_boot r line))
 counts_over r lines.Reopen replies = counts_reopen r (next_opening r replies.again)
-counts_over r (lines.Session line) replies = counts_same r (lines.Session line) (quiet_line r (lines.Session line)) (λ t text. refl) (start_quiet r (lines.Session line))
+counts_over r (lines.Session line) replies =
+    let a : Answer RunningState = within (with_sessions r) (session_line r.sessions line) in
+    counts_same r (lines.Session line) a (λ t text. refl) (start_kept r a (rows_session r (session_line r.sessions line)))
 
 counts_in_head : (head : Head) (line : Line) → Counts (Heading head) [] [] (turns_by line) (in_head head (head_line head line))
 counts_in_head head lines.Pass = refl
@@ -119,7 +125,7 @@ counts_opened : (head : Head) (how : Opening) (line : Line) (replies : Replies)
     → Counts (Heading head) (ends_on (opened_target head how) line replies) (first_start (Heading head) (opened_target head how)) (λ t text. first_start (Heading head) (opened_target head how) ++ turns_by line t text) (line_on (opened_target head how) line replies)
 counts_opened head (Opened start) line replies =
     let r : RunningState = started (set_up head.setup 0) start in
-    counts_first head start line (ends_over r (kind_of line) replies) (line_over r (kind_of line) line replies) (counts_over r line replies)
+    counts_first head start line (ends_over r line replies) (line_over r line replies) (counts_over r line replies)
 counts_opened head (UnstartedBoot refusal) line replies = refl
 
 counts_step : (s : State) (line : Line) (replies : Replies)

@@ -30,7 +30,7 @@ use Rattle.boot_core.specs.Refusals.{commit_refusal, reboot_refusal}
 use Rattle.boot_core.specs.Sound.{IsSound}
 use Rattle.boot_core.specs.declared.refusals.CommitRefusal.{CommitRefusal}
 use Rattle.boot_core.specs.declared.refusals.RebootRefusal.{RebootRefusal}
-use Rattle.boot_core.specs.declared.refusals.StartRefusal.TheVariants as refusals
+use Rattle.scenario_engine.specs.declared.failure.UnstartedCause.TheVariants as causes
 use Rattle.container_core.specs.Start.{first_bad, start_over}
 use Rattle.scenario_text.specs.declared.line.Line.{Line}
 use Rattle.scenario_text.specs.declared.boot_line.BootLine.{BootLine}
@@ -52,7 +52,7 @@ use Rattle.line_steps.specs.Head.{no_head}
 use Rattle.scenario_engine.proofs.Keeping.{IsShortLine, Keeps, kept_boots, kept_at_end}
 use Rattle.scenario_engine.proofs.Rebooting.{undone_last}
 use Rattle.scenario_engine.specs.Opening.{StartReplies, Opening, Opened, UnstartedBoot, is_spent, opening, opening_of, opening_over}
-use Rattle.scenario_engine.specs.Running.{started, with_callers, with_sessions, with_boot_entry, commit_ends, with_keeper, boot_refusal, caller_commits, caller_drops, commit_step, drop_step, scope_of, goes_down, reboots, down_step, up_step, reboot_step, table_step, journal_step, boot_line, quiet_line}
+use Rattle.scenario_engine.specs.Running.{started, with_callers, with_sessions, with_boot_entry, commit_ends, with_keeper, boot_refusal, caller_commits, caller_drops, commit_step, drop_step, scope_of, goes_down, reboots, down_step, up_step, reboot_step, table_step, journal_step, boot_line}
 use Rattle.scenario_engine.specs.Sound.{CommitsUnrebooted, RunsSerially}
 use Rattle.scenario_engine.specs.State.{RunningState}
 use Rattle.scenario_engine.specs.Transcript.{Turn, first, boots_in, boots_from, end_from, last_state}
@@ -184,15 +184,6 @@ sound_boot laws r (boots.Reboot name) run = sound_reboot laws r name run
 sound_boot laws r boots.Table run = run
 sound_boot laws r boots.Journal run = run
 
-sound_quiet : (laws : BootLaws) (r : RunningState) (line : Line) → IsShortLine line → IsSoundRun r → Leaves IsSoundRun (quiet_line r line)
-sound_quiet laws r lines.Pass short run = run
-sound_quiet laws r (lines.Head line) short run = tt
-sound_quiet laws r (lines.Call c line) short run = sound_call r c line short run
-sound_quiet laws r (lines.Commit c) short run = tt
-sound_quiet laws r (lines.Boot line) short run = sound_boot laws r line run
-sound_quiet laws r lines.Reopen short run = tt
-sound_quiet laws r (lines.Session line) short run = sound_session r (session_line r.sessions line) run
-
 -- a boot opens with few components
 abbrev OpensFew : Opening → Type 0
 OpensFew (Opened start) = AreFew start.deployment
@@ -201,7 +192,7 @@ OpensFew (UnstartedBoot refusal) = Unit {0}
 few_opening : (parts : Parts) (limits : JournalLimits) (replies : StartReplies) → AreFew parts → OpensFew (opening parts limits replies)
 few_opening parts limits replies few = given replies.rows
   where
-    kept : (rows : List RowWrite) (spent keeps : Bool) → OpensFew (if spent then UnstartedBoot refusals.BootsSpent else (if keeps then Opened (start_over parts limits rows) else UnstartedBoot refusals.KeeperFailed))
+    kept : (rows : List RowWrite) (spent keeps : Bool) → OpensFew (if spent then UnstartedBoot causes.BootsSpent else (if keeps then Opened (start_over parts limits rows) else UnstartedBoot causes.KeeperFailed))
     kept rows true keeps = tt
     kept rows false true = few
     kept rows false false = tt
@@ -229,7 +220,9 @@ sound_keeps laws = record {
       let P : Opening → Type 0 = λ how. OpensFew how in
       sound_started laws r.sessions start (subst P opened (few_opening r.boot.start.deployment r.boot.start.limits replies run.few)));
   commits = sound_commit laws;
-  quiet = sound_quiet laws;
+  calls = sound_call;
+  boots = sound_boot laws;
+  sessions = (λ r line run. sound_session r (session_line r.sessions line) run);
 }
 
 first_few : AreFew no_head.parts

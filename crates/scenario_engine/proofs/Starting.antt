@@ -11,9 +11,10 @@ use Rattle.boot_core.specs.declared.boot.Start.{Start}
 use Rattle.boot_core.specs.declared.refusals.StartRefusal.{StartRefusal}
 use Rattle.boot_core.specs.declared.refusals.StartRefusal.TheVariants as refusals
 use Rattle.container_core.specs.Start.{boot_row, first_bad, last_boot, greatest_boot, start_over, IsOpened, IsRefusedStart}
+use Rattle.scenario_engine.specs.declared.failure.UnstartedCause.TheVariants as causes
 use Rattle.scenario_engine.specs.KeeperCalls.{KeeperCall, Gave, TellsCalls, apply_calls}
 use Rattle.scenario_engine.specs.Opening.{StartReplies, Opened, UnstartedBoot, is_spent, opening_over, opening_of, calls_over_rows, start_calls_of}
-use Rattle.scenario_engine.specs.Telling.{Opens, OpensPartly, IsUnstarted}
+use Rattle.scenario_engine.specs.Telling.{Opens, OpensPartly, FailsToOpen, failure_of}
 
 -- whether a number has come up to another
 
@@ -24,10 +25,10 @@ same_number : (n m : ℕ) → n ≡ m → nat_le m n ≡ true
 same_number n m same = grind (arith, nat_tests)
 
 -- how a boot opens over good rows
-good_opening : (parts : Parts) (limits : JournalLimits) (rows : List RowWrite) (keeps : Bool) → first_bad rows ≡ None → last_boot rows < greatest_boot → cond keeps (Opened (start_over parts limits rows)) (UnstartedBoot refusals.KeeperFailed) ≡ opening_of parts limits (Some rows) keeps
+good_opening : (parts : Parts) (limits : JournalLimits) (rows : List RowWrite) (keeps : Bool) → first_bad rows ≡ None → last_boot rows < greatest_boot → cond keeps (Opened (start_over parts limits rows)) (UnstartedBoot causes.KeeperFailed) ≡ opening_of parts limits (Some rows) keeps
 good_opening parts limits rows keeps good left =
     sym (ap (λ o. opening_over parts limits rows keeps o) good
-    ∙ ap (λ b. cond b (UnstartedBoot refusals.BootsSpent) (cond keeps (Opened (start_over parts limits rows)) (UnstartedBoot refusals.KeeperFailed))) (below (last_boot rows) greatest_boot left))
+    ∙ ap (λ b. cond b (UnstartedBoot causes.BootsSpent) (cond keeps (Opened (start_over parts limits rows)) (UnstartedBoot causes.KeeperFailed))) (below (last_boot rows) greatest_boot left))
 
 good_calls : (rows : List RowWrite) (keeps : Bool) → first_bad rows ≡ None → last_boot rows < greatest_boot → Gave rows ∷ apply_calls (boot_row (last_boot rows + 1) ∷ []) keeps ≡ start_calls_of (Some rows) keeps
 good_calls rows keeps good left =
@@ -50,7 +51,7 @@ opened parts limits old new boot h =
       },
     )
 
-pub left_unstarted : (parts : Parts) (limits : JournalLimits) (old new : Option KeeperTold) (refusal : StartRefusal) → IsRefusedStart refusal old new → IsUnstarted refusal parts limits old new
+pub left_unstarted : (parts : Parts) (limits : JournalLimits) (old new : Option KeeperTold) (refusal : StartRefusal) → IsRefusedStart refusal old new → FailsToOpen (failure_of refusal) parts limits old new
 left_unstarted parts limits old new refusals.KeeperFailed (inl tells) = record {
   replies = record { rows = None; keeps = true };
   opens = refl;
@@ -75,7 +76,7 @@ left_unstarted parts limits old new refusals.BootsSpent (rows, given, good, last
     let P : List KeeperCall → Type 0 = λ calls. TellsCalls calls old new in
     let spent : is_spent rows ≡ true = same_number (last_boot rows) greatest_boot last in
     let none : start_calls_of (Some rows) true ≡ Gave rows ∷ [] = ap (λ o. Gave rows ∷ calls_over_rows rows true o) good ∙ ap (λ b. Gave rows ∷ cond b [] (apply_calls (boot_row (last_boot rows + 1) ∷ []) true)) spent in
-    let stays_unstarted : opening_of parts limits (Some rows) true ≡ UnstartedBoot refusals.BootsSpent = ap (λ o. opening_over parts limits rows true o) good ∙ ap (λ b. cond b (UnstartedBoot refusals.BootsSpent) (Opened (start_over parts limits rows))) spent in
+    let stays_unstarted : opening_of parts limits (Some rows) true ≡ UnstartedBoot causes.BootsSpent = ap (λ o. opening_over parts limits rows true o) good ∙ ap (λ b. cond b (UnstartedBoot causes.BootsSpent) (Opened (start_over parts limits rows))) spent in
     record {
       replies = record { rows = Some rows; keeps = true };
       opens = sym stays_unstarted;

@@ -22,7 +22,7 @@ use Rattle.boot_core.specs.Refusals.{reboot_refusal}
 use Rattle.boot_core.specs.Sound.{IsSound}
 use Rattle.boot_core.specs.declared.refusals.CommitRefusal.{CommitRefusal}
 use Rattle.boot_core.specs.declared.refusals.RebootRefusal.{RebootRefusal}
-use Rattle.boot_core.specs.declared.refusals.StartRefusal.TheVariants as refusals
+use Rattle.scenario_engine.specs.declared.failure.UnstartedCause.TheVariants as causes
 use Rattle.container_core.specs.Start.{first_bad, last_boot, greatest_boot, boot_row, start_over}
 use Rattle.container_core.proofs.Raising.{start_rows}
 use Rattle.scenario_text.specs.declared.line.Line.{Line}
@@ -40,12 +40,10 @@ use Rattle.session_steps.specs.Sessions.{SessionsState, session_line}
 use Rattle.line_steps.specs.Callers.{caller_at, begin_step, call_step}
 use Rattle.line_steps.specs.Head.{head_line}
 use Rattle.scenario_text.proofs.Leaving.{Leaves, leaves-or_refused, leaves-within, leaves-weaker, leaves-nothing}
-use Rattle.scenario_engine.specs.declared.kind.LineKind.{LineKind}
-use Rattle.scenario_engine.specs.declared.kind.LineKind.TheVariants as kinds
-use Rattle.scenario_engine.specs.Engine.{Replies, Target, TheHead, TheBoot, TheUnstarted, opened_target, target_of, target_calls, kind_of, in_head, in_boot, next_opening, reopens, line_over, line_on, step, calls_over as calls_of_kind, calls_on, line_calls, ended_by, ends_over, ends_on, ended_boots}
+use Rattle.scenario_engine.specs.Engine.{Replies, Target, TheHead, TheBoot, TheUnstarted, opened_target, target_of, target_calls, in_head, in_boot, next_opening, reopens, line_over, line_on, step, calls_over, calls_on, line_calls, ended_by, ends_over, ends_on, ended_boots}
 use Rattle.scenario_engine.specs.KeeperCalls.{KeeperCall, Gave, Kept, Failed, apply_calls, TellsCall, TellsCalls}
 use Rattle.scenario_engine.specs.Opening.{StartReplies, Opening, Opened, UnstartedBoot, is_spent, opening, opening_of, opening_over, calls_over_rows, start_calls, start_calls_of}
-use Rattle.scenario_engine.specs.Running.{with_callers, with_sessions, with_boot_entry, commit_ends, with_keeper, boot_refusal, keep_calls, caller_commits, caller_calls, caller_drops, commit_step, commit_calls, drop_step, scope_of, goes_down, reboots, down_step, up_step, reboot_step, table_step, journal_step, boot_line, quiet_line}
+use Rattle.scenario_engine.specs.Running.{with_callers, with_sessions, with_boot_entry, commit_ends, with_keeper, boot_refusal, keep_calls, caller_commits, caller_calls, caller_drops, commit_step, commit_calls, drop_step, scope_of, goes_down, reboots, down_step, up_step, reboot_step, table_step, journal_step, boot_line}
 use Rattle.scenario_engine.specs.State.{RunningState, State, Heading, Running, Outcome, RefusedIn, DoneTo, UnstartedIn}
 use Rattle.scenario_engine.specs.Told.{HoldsStateRows, IsOver, IsChained, Tells}
 use Rattle.scenario_engine.specs.Transcript.{Turn, first, answer_to, turn_outcome, calls_to, turn_calls, ends_to, turn_ends, calls_from, boots_in, boots_from, end_from, last_state, RefusedAt, TooLong, Unstarted}
@@ -129,7 +127,7 @@ is_left rows left = above greatest_boot (last_boot rows) left
 start_kept : (parts : Parts) (limits : JournalLimits) (rows : List RowWrite) (t v u : KeeperTold) (keeps : Bool) → rows ≡ t.rows → AreOrdered rows → v.rows ≡ t.rows
     → first_bad rows ≡ None → is_spent rows ≡ false
     → TellsCalls (apply_calls (boot_row (last_boot rows + 1) ∷ []) keeps) (Some v) (Some u)
-    → StartLeaves parts limits t u (if keeps then Opened (start_over parts limits rows) else UnstartedBoot refusals.KeeperFailed)
+    → StartLeaves parts limits t u (if keeps then Opened (start_over parts limits rows) else UnstartedBoot causes.KeeperFailed)
 start_kept parts limits rows t v u true given ordered same good left told =
     let row : List RowWrite = boot_row (last_boot rows + 1) ∷ [] in
     let put : u.rows ≡ put_all row v.rows = ap rows_told told.2 ∙ ap rows_told told.1 in
@@ -145,7 +143,7 @@ start_kept parts limits rows t v u false given ordered same good left told = row
 start_unspent : (parts : Parts) (limits : JournalLimits) (rows : List RowWrite) (t v u : KeeperTold) (spent keeps : Bool) → rows ≡ t.rows → AreOrdered rows → v.rows ≡ t.rows
     → first_bad rows ≡ None → is_spent rows ≡ spent
     → TellsCalls (if spent then [] else apply_calls (boot_row (last_boot rows + 1) ∷ []) keeps) (Some v) (Some u)
-    → StartLeaves parts limits t u (if spent then UnstartedBoot refusals.BootsSpent else (if keeps then Opened (start_over parts limits rows) else UnstartedBoot refusals.KeeperFailed))
+    → StartLeaves parts limits t u (if spent then UnstartedBoot causes.BootsSpent else (if keeps then Opened (start_over parts limits rows) else UnstartedBoot causes.KeeperFailed))
 start_unspent parts limits rows t v u true keeps given ordered same good left told = ap rows_told told ∙ same
 start_unspent parts limits rows t v u false keeps given ordered same good left told = start_kept parts limits rows t v u keeps given ordered same good left told
 
@@ -218,7 +216,7 @@ rows_pushed r e none =
     let es = r.boot.entries in
     (refl, rows_after-push base es e ∙ ap (λ ws. put_all ws (rows_after base es)) none)
 
-rows_called : (r : RunningState) (a : Answer (List Caller)) → Leaves (HasSameRows r) (within (with_callers r) a)
+pub rows_called : (r : RunningState) (a : Answer (List Caller)) → Leaves (HasSameRows r) (within (with_callers r) a)
 rows_called r a =
     leaves-within (HasSameRows r) (with_callers r) a
     (leaves-weaker (λ callers. Unit {0}) (λ callers. HasSameRows r (with_callers r callers)) a (λ callers h. (refl, refl)) (leaves-nothing a))
@@ -261,11 +259,11 @@ rows_reboot r name =
     leaves-or_refused (HasSameRows r) (scope_of r.boot.start.deployment name) (λ s. reboots r s (reboot_refusal r.boot.start.limits r.boot.entries s)) (λ s found.
     rows_rebooted r s (reboot_refusal r.boot.start.limits r.boot.entries s))
 
-rows_session : (r : RunningState) (a : Answer SessionsState) → Leaves (HasSameRows r) (within (with_sessions r) a)
+pub rows_session : (r : RunningState) (a : Answer SessionsState) → Leaves (HasSameRows r) (within (with_sessions r) a)
 rows_session r Refused = tt
 rows_session r (Done sessions text) = (refl, refl)
 
-rows_boot : (r : RunningState) (line : BootLine) → Leaves (HasSameRows r) (boot_line r line)
+pub rows_boot : (r : RunningState) (line : BootLine) → Leaves (HasSameRows r) (boot_line r line)
 unfolding table_step journal_step
 rows_boot r (boots.Begin c) = rows_called r (begin_step r.boot r.callers c)
 rows_boot r (boots.Drop c) = rows_drop r c
@@ -274,15 +272,6 @@ rows_boot r (boots.Up name) = rows_up r name
 rows_boot r (boots.Reboot name) = rows_reboot r name
 rows_boot r boots.Table = (refl, refl)
 rows_boot r boots.Journal = (refl, refl)
-
-pub rows_quiet : (r : RunningState) (line : Line) → Leaves (HasSameRows r) (quiet_line r line)
-rows_quiet r lines.Pass = (refl, refl)
-rows_quiet r (lines.Head line) = tt
-rows_quiet r (lines.Call c line) = rows_called r (call_step r.boot r.callers c line)
-rows_quiet r (lines.Commit c) = tt
-rows_quiet r (lines.Boot line) = rows_boot r line
-rows_quiet r lines.Reopen = tt
-rows_quiet r (lines.Session line) = rows_session r (session_line r.sessions line)
 
 -- a commit
 
@@ -370,24 +359,32 @@ left_reopened held P t u r (Opened start) holds leaves =
     (holds.0, (next, leaves.rows))
 left_reopened held P t u r (UnstartedBoot refusal) holds leaves = (holds.0, leaves ∙ holds.1)
 
-left_over : (held : List RowWrite) (P : Start → Type 0) (t u : KeeperTold) (r : RunningState) (kind : LineKind) (line : Line) (replies : Replies) → HoldsBoot P t r.boot
-    → TellsCalls (calls_of_kind r kind replies) (Some t) (Some u)
-    → AreLinkedTo P (ends_over r kind replies) (IsLeft held u (line_over r kind line replies))
-left_over held P t u r (kinds.Commits n) line replies holds told =
+left_over : (held : List RowWrite) (P : Start → Type 0) (t u : KeeperTold) (r : RunningState) (line : Line) (replies : Replies) → HoldsBoot P t r.boot
+    → TellsCalls (calls_over r line replies) (Some t) (Some u)
+    → AreLinkedTo P (ends_over r line replies) (IsLeft held u (line_over r line replies))
+left_over held P t u r lines.Pass replies holds told =
+    left_in_boot held P t u r (Done r []) holds (ap rows_told told) (refl, refl)
+left_over held P t u r (lines.Head line) replies holds told =
+    left_in_boot held P t u r Refused holds (ap rows_told told) tt
+left_over held P t u r (lines.Call n line) replies holds told =
+    left_in_boot held P t u r (within (with_callers r) (call_step r.boot r.callers n line)) holds (ap rows_told told) (rows_called r (call_step r.boot r.callers n line))
+left_over held P t u r (lines.Boot line) replies holds told =
+    left_in_boot held P t u r (boot_line r line) holds (ap rows_told told) (rows_boot r line)
+left_over held P t u r (lines.Session line) replies holds told =
+    left_in_boot held P t u r (within (with_sessions r) (session_line r.sessions line)) holds (ap rows_told told) (rows_session r (session_line r.sessions line))
+left_over held P t u r (lines.Commit n) replies holds told =
     left_by_commit held P t u r (commit_step r n replies.keeps) holds (commit_refused r n replies.keeps t u told)
     (holds_commit_step r n replies.keeps t u holds.1 told)
-left_over held P t u r kinds.Reopens line replies holds told =
+left_over held P t u r lines.Reopen replies holds told =
     left_reopened held P t u r (next_opening r replies.again) holds
     (start_leaves r.boot.start.deployment r.boot.start.limits replies.again t u told)
-left_over held P t u r kinds.Quiet line replies holds told =
-    left_in_boot held P t u r (quiet_line r line) holds (ap rows_told told) (rows_quiet r line)
 
 left_on : (held : List RowWrite) (P : Start → Type 0) (t u : KeeperTold) (target : Target) (line : Line) (replies : Replies) → IsOn held P t target
     → TellsCalls (calls_on target line replies) (Some t) (Some u)
     → AreLinkedTo P (ends_on target line replies) (IsLeft held u (line_on target line replies))
 left_on held P t u (TheHead head) line replies on told =
     left_in_head held P u head (head_line head line) (same_told (HoldsFirst held P) t u told on)
-left_on held P t u (TheBoot r) line replies on told = left_over held P t u r (kind_of line) line replies on told
+left_on held P t u (TheBoot r) line replies on told = left_over held P t u r line replies on told
 left_on held P t u (TheUnstarted head refusal) line replies on told = same_told (HoldsFirst held P) t u told on
 
 left_by_step : (held : List RowWrite) (P : Start → Type 0) (t u : KeeperTold) (s : State) (line : Line) (replies : Replies) → IsAt held P t s

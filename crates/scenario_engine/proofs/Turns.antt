@@ -2,7 +2,7 @@
 use Rattle.std.proofs.Common.{◌≡◌, ℕ, suc, ◌+◌, ◌<◌, ◌≤◌, Bool, true, false, cond, nat_lt, List, [], ◌∷◌, ◌++◌, length, Option, None, refl, ap, sym, subst, ◌∙◌, append_assoc, append-nil, arith}
 use Rattle.std.proofs.lemmas.Bool.Decides.{nat_tests}
 use Rattle.std.proofs.lemmas.List.{map-append}
-use Rattle.boot_core.specs.declared.refusals.StartRefusal.{StartRefusal}
+use Rattle.scenario_engine.specs.declared.failure.UnstartedCause.{UnstartedCause}
 use Rattle.outside.specs.Keeper.{KeeperTold}
 use Rattle.scenario_text.specs.Reading.{line_of}
 use Rattle.scenario_text.specs.declared.line.TheConstants.{MAX_LINE_BYTES}
@@ -117,7 +117,7 @@ pub end_from-refused : (s t : State) (n : ℕ) (turn : Turn) → length turn.lin
 end_from-refused s t n turn short refused = rw (short_test turn.line short, refused) refl
 
 -- a turn that needs a boot which was not started
-pub end_from-unstarted : (s t : State) (n : ℕ) (turn : Turn) (r : StartRefusal) → length turn.line ≤ MAX_LINE_BYTES → turn_outcome s turn ≡ UnstartedIn t r → end_from s n (turn ∷ []) ≡ Unstarted t r
+pub end_from-unstarted : (s t : State) (n : ℕ) (turn : Turn) (r : UnstartedCause) → length turn.line ≤ MAX_LINE_BYTES → turn_outcome s turn ≡ UnstartedIn t r → end_from s n (turn ∷ []) ≡ Unstarted t r
 end_from-unstarted s t n turn r short refused = rw (short_test turn.line short, refused) refl
 
 -- a turn whose line is too long

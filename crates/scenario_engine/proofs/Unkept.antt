@@ -13,9 +13,8 @@ use Rattle.line_steps.specs.declared.callers.Caller.{Caller}
 use Rattle.line_steps.specs.declared.callers.Caller.TheVariants.{Live, Absent}
 use Rattle.scenario_text.specs.declared.line.Line.{Line}
 use Rattle.scenario_text.specs.Line.{is_event}
-use Rattle.scenario_engine.specs.declared.kind.LineKind.{LineKind}
-use Rattle.scenario_engine.specs.declared.kind.LineKind.TheVariants as kinds
-use Rattle.scenario_engine.specs.Engine.{Replies, Target, TheHead, TheBoot, TheUnstarted, target_of, target_calls, calls_over, calls_on, kind_of, line_calls}
+use Rattle.scenario_text.specs.declared.line.Line.TheVariants as lines
+use Rattle.scenario_engine.specs.Engine.{Replies, Target, TheHead, TheBoot, TheUnstarted, target_of, target_calls, calls_over, calls_on, line_calls}
 use Rattle.scenario_engine.specs.KeeperCalls.{KeeperCall, Gave, Kept, Failed, TellsCalls, apply_calls}
 use Rattle.scenario_engine.specs.Opening.{StartReplies, is_spent, start_calls, start_calls_of}
 use Rattle.scenario_engine.specs.Opening as opening
@@ -72,14 +71,18 @@ commit_unkept r caller = go (caller_at r.callers caller)
     go Absent = tt
     go (Live ticket) = keep (boot_refusal r ticket) ticket.call.writes
 
-over_boot : (r : RunningState) (kind : LineKind) (replies : Replies) → replies.keeps ≡ false → AreOfNumber (calls_over r kind replies)
-over_boot r (kinds.Commits caller) replies unkept = subst (λ (k : Bool). AreOfNumber (commit_calls r caller k)) (sym unkept) (commit_unkept r caller)
-over_boot r kinds.Reopens replies unkept = start_of replies.again.rows replies.again.keeps
-over_boot r kinds.Quiet replies unkept = tt
+over_boot : (r : RunningState) (line : Line) (replies : Replies) → replies.keeps ≡ false → AreOfNumber (calls_over r line replies)
+over_boot r lines.Pass replies unkept = tt
+over_boot r (lines.Head line) replies unkept = tt
+over_boot r (lines.Call caller line) replies unkept = tt
+over_boot r (lines.Boot line) replies unkept = tt
+over_boot r (lines.Session line) replies unkept = tt
+over_boot r (lines.Commit caller) replies unkept = subst (λ (k : Bool). AreOfNumber (commit_calls r caller k)) (sym unkept) (commit_unkept r caller)
+over_boot r lines.Reopen replies unkept = start_of replies.again.rows replies.again.keeps
 
 on_target : (target : Target) (line : Line) (replies : Replies) → replies.keeps ≡ false → AreOfNumber (calls_on target line replies)
 on_target (TheHead head) line replies unkept = tt
-on_target (TheBoot r) line replies unkept = over_boot r (kind_of line) replies unkept
+on_target (TheBoot r) line replies unkept = over_boot r line replies unkept
 on_target (TheUnstarted head refusal) line replies unkept = tt
 
 until_target : (s : State) (event : Bool) (replies : StartReplies) → AreOfNumber (target_calls s event replies)

@@ -1,23 +1,23 @@
 -- What a line does to the state of a scenario, and what it asks of the keeper.
 use Rattle.std.specs.Prelude.{◌≡◌, Bool, true, false, List, [], ◌∷◌, ◌++◌, None}
 use Rattle.boot_core.specs.Boot.{BootValue}
-use Rattle.boot_core.specs.declared.refusals.StartRefusal.{StartRefusal}
+use Rattle.scenario_engine.specs.declared.failure.UnstartedCause.{UnstartedCause}
 use Rattle.deployment.specs.Refusals.{deploy_refusal}
 use Rattle.line_steps.specs.declared.head.Head.{Head}
-use Rattle.scenario_text.specs.Answer.{Answer, Refused, Done}
+use Rattle.scenario_text.specs.Answer.{Answer, Refused, Done, within}
+use Rattle.line_steps.specs.Callers.{call_step}
 use Rattle.line_steps.specs.Head.{head_line}
 use Rattle.line_steps.specs.Texts.{boot_text}
 use Rattle.scenario_text.specs.declared.line.Line.{Line}
 use Rattle.scenario_text.specs.declared.line.Line.TheVariants as lines
 use Rattle.scenario_text.specs.Line.{is_event}
+use Rattle.session_steps.specs.Sessions.{session_line}
 use Rattle.session_steps.specs.Setup.{set_up}
 use Rattle.scenario_engine.specs.declared.engine.Stage.{Stage}
 use Rattle.scenario_engine.specs.declared.engine.Stage.TheVariants as stages
-use Rattle.scenario_engine.specs.declared.kind.LineKind.{LineKind}
-use Rattle.scenario_engine.specs.declared.kind.LineKind.TheVariants as kinds
 use Rattle.scenario_engine.specs.KeeperCalls.{KeeperCall}
 use Rattle.scenario_engine.specs.Opening.{StartReplies, Opening, Opened, UnstartedBoot, opening, start_calls}
-use Rattle.scenario_engine.specs.Running.{started, quiet_line, commit_step, commit_calls}
+use Rattle.scenario_engine.specs.Running.{started, with_callers, with_sessions, commit_step, commit_calls, boot_line}
 use Rattle.scenario_engine.specs.State.{RunningState, State, Heading, Running, Outcome, RefusedIn, DoneTo, UnstartedIn}
 
 -- What the keeper replies while one line is done: to the start that the first event line makes, to the start that a
@@ -41,7 +41,7 @@ IsAccepted (stages.Run r) = Unit {0}
 pub data Target : Type 0 where
   TheHead : (head : Head) → Target
   TheBoot : (running : RunningState) → Target
-  TheUnstarted : (head : Head) (refusal : StartRefusal) → Target
+  TheUnstarted : (head : Head) (cause : UnstartedCause) → Target
 
 -- what a line is done to in a state that does not change before it
 abbrev pub target_in : State → Target
@@ -51,7 +51,7 @@ target_in (Running r) = TheBoot r
 -- the boot over a head that opens so
 abbrev pub opened_target : Head → Opening → Target
 opened_target head (Opened start) = TheBoot (started (set_up head.setup 0) start)
-opened_target head (UnstartedBoot refusal) = TheUnstarted head refusal
+opened_target head (UnstartedBoot cause) = TheUnstarted head cause
 
 -- what a line is done to that is an event line, or is none
 abbrev pub target_of : State → Bool → StartReplies → Target
@@ -65,16 +65,6 @@ abbrev pub target_calls : State → Bool → StartReplies → List KeeperCall
 target_calls (Running r) event replies = []
 target_calls (Heading head) false replies = []
 target_calls (Heading head) true replies = start_calls replies
-
--- what kind a line is of: it commits the call of a caller, starts the next boot, or calls no keeper
-abbrev pub kind_of : Line → LineKind
-kind_of lines.Pass = kinds.Quiet
-kind_of (lines.Head line) = kinds.Quiet
-kind_of (lines.Call caller line) = kinds.Quiet
-kind_of (lines.Commit caller) = kinds.Commits caller
-kind_of (lines.Boot line) = kinds.Quiet
-kind_of lines.Reopen = kinds.Reopens
-kind_of (lines.Session line) = kinds.Quiet
 
 -- a line of the head, by its answer
 abbrev pub in_head : Head → Answer Head → Outcome
@@ -93,35 +83,45 @@ next_opening r replies = opening r.boot.start.deployment r.boot.start.limits rep
 -- the next boot, where it opens so; the callers of the boot before are gone, and the sessions stay
 abbrev pub reopens : RunningState → Opening → Outcome
 reopens r (Opened start) = DoneTo (Running (started r.sessions start)) (boot_text start.boot)
-reopens r (UnstartedBoot refusal) = UnstartedIn (Running r) refusal
+reopens r (UnstartedBoot cause) = UnstartedIn (Running r) cause
 
--- a line over a boot, by its kind
-abbrev pub line_over : RunningState → LineKind → Line → Replies → Outcome
-line_over r (kinds.Commits caller) line replies = in_boot r (commit_step r caller replies.keeps)
-line_over r kinds.Reopens line replies = reopens r (next_opening r replies.again)
-line_over r kinds.Quiet line replies = in_boot r (quiet_line r line)
+-- a line over a boot; a line of the head is refused there
+abbrev pub line_over : RunningState → Line → Replies → Outcome
+line_over r lines.Pass replies = DoneTo (Running r) []
+line_over r (lines.Head line) replies = RefusedIn (Running r)
+line_over r (lines.Call caller line) replies =
+    in_boot r (within (with_callers r) (call_step r.boot r.callers caller line))
+line_over r (lines.Commit caller) replies = in_boot r (commit_step r caller replies.keeps)
+line_over r (lines.Boot line) replies = in_boot r (boot_line r line)
+line_over r lines.Reopen replies = reopens r (next_opening r replies.again)
+line_over r (lines.Session line) replies =
+    in_boot r (within (with_sessions r) (session_line r.sessions line))
 
 -- a line that is done to a target
 abbrev pub line_on : Target → Line → Replies → Outcome
 line_on (TheHead head) line replies = in_head head (head_line head line)
-line_on (TheBoot r) line replies = line_over r (kind_of line) line replies
-line_on (TheUnstarted head refusal) line replies = UnstartedIn (Heading head) refusal
+line_on (TheBoot r) line replies = line_over r line replies
+line_on (TheUnstarted head cause) line replies = UnstartedIn (Heading head) cause
 
 -- What a line answers, where the keeper replies so. The first event line starts the boot before it is itself judged.
 unfoldable pub step : State → Line → Replies → Outcome
 step s line replies = line_on (target_of s (is_event line) replies.first) line replies
 
--- the calls of the keeper that a line over a boot makes, by its kind
-abbrev pub calls_over : RunningState → LineKind → Replies → List KeeperCall
-calls_over r (kinds.Commits caller) replies = commit_calls r caller replies.keeps
-calls_over r kinds.Reopens replies = start_calls replies.again
-calls_over r kinds.Quiet replies = []
+-- the calls of the keeper that a line over a boot makes
+abbrev pub calls_over : RunningState → Line → Replies → List KeeperCall
+calls_over r lines.Pass replies = []
+calls_over r (lines.Head line) replies = []
+calls_over r (lines.Call caller line) replies = []
+calls_over r (lines.Commit caller) replies = commit_calls r caller replies.keeps
+calls_over r (lines.Boot line) replies = []
+calls_over r lines.Reopen replies = start_calls replies.again
+calls_over r (lines.Session line) replies = []
 
 -- the calls of the keeper that a line makes which is done to a target
 abbrev pub calls_on : Target → Line → Replies → List KeeperCall
 calls_on (TheHead head) line replies = []
-calls_on (TheBoot r) line replies = calls_over r (kind_of line) replies
-calls_on (TheUnstarted head refusal) line replies = []
+calls_on (TheBoot r) line replies = calls_over r line replies
+calls_on (TheUnstarted head cause) line replies = []
 
 -- The calls of the keeper that a line makes: those of a start, one for a commit with writes that the boot does not
 -- refuse, and none else.
@@ -133,19 +133,23 @@ line_calls s line replies =
 -- the boot that a start of the next one ends
 abbrev pub ended_by : RunningState → Opening → List BootValue
 ended_by r (Opened start) = r.boot ∷ []
-ended_by r (UnstartedBoot refusal) = []
+ended_by r (UnstartedBoot cause) = []
 
--- the boot that a line over it ends, by the line's kind
-abbrev pub ends_over : RunningState → LineKind → Replies → List BootValue
-ends_over r (kinds.Commits caller) replies = []
-ends_over r kinds.Reopens replies = ended_by r (next_opening r replies.again)
-ends_over r kinds.Quiet replies = []
+-- the boot that a line over it ends
+abbrev pub ends_over : RunningState → Line → Replies → List BootValue
+ends_over r lines.Pass replies = []
+ends_over r (lines.Head line) replies = []
+ends_over r (lines.Call caller line) replies = []
+ends_over r (lines.Commit caller) replies = []
+ends_over r (lines.Boot line) replies = []
+ends_over r lines.Reopen replies = ended_by r (next_opening r replies.again)
+ends_over r (lines.Session line) replies = []
 
 -- the boot that a line ends which is done to a target
 abbrev pub ends_on : Target → Line → Replies → List BootValue
 ends_on (TheHead head) line replies = []
-ends_on (TheBoot r) line replies = ends_over r (kind_of line) replies
-ends_on (TheUnstarted head refusal) line replies = []
+ends_on (TheBoot r) line replies = ends_over r line replies
+ends_on (TheUnstarted head cause) line replies = []
 
 -- The boot that a line ends: `reopen` ends one where the next one starts.
 unfoldable pub ended_boots : State → Line → Replies → List BootValue

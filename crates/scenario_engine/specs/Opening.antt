@@ -5,9 +5,9 @@ use Rattle.crash_base.specs.declared.rows.RowWrite.{RowWrite}
 use Rattle.deployment.specs.declared.parts.Parts.{Parts}
 use Rattle.journal_model.specs.declared.limits.JournalLimits.{JournalLimits}
 use Rattle.boot_core.specs.declared.boot.Start.{Start}
-use Rattle.boot_core.specs.declared.refusals.StartRefusal.{StartRefusal}
-use Rattle.boot_core.specs.declared.refusals.StartRefusal.TheVariants as refusals
 use Rattle.container_core.specs.Start.{first_bad, last_boot, greatest_boot, boot_row, start_over}
+use Rattle.scenario_engine.specs.declared.failure.UnstartedCause.{UnstartedCause}
+use Rattle.scenario_engine.specs.declared.failure.UnstartedCause.TheVariants as causes
 use Rattle.scenario_engine.specs.KeeperCalls.{KeeperCall, Gave, Failed, apply_calls}
 
 -- What the keeper replies to a start: the rows that it gives, unless it fails, and whether it keeps the number of the
@@ -16,10 +16,10 @@ pub record StartReplies : Type 0 where
   pub rows : Option (List RowWrite)
   pub keeps : Bool
 
--- a boot opens so, or is left unstarted for this refusal
+-- a boot opens so, or is left unstarted for this cause
 pub data Opening : Type 0 where
   Opened : (start : Start) → Opening
-  UnstartedBoot : (refusal : StartRefusal) → Opening
+  UnstartedBoot : (cause : UnstartedCause) → Opening
 
 -- whether the last boot of these rows leaves no number for a next one
 abbrev pub is_spent : List RowWrite → Bool
@@ -27,14 +27,14 @@ is_spent rows = nat_le greatest_boot (last_boot rows)
 
 -- over rows of which this is the id of the first bad one: it takes the number after that of the last boot
 abbrev pub opening_over : Parts → JournalLimits → List RowWrite → Bool → Option RowId → Opening
-opening_over parts limits rows keeps (Some id) = UnstartedBoot (refusals.BadRow id)
+opening_over parts limits rows keeps (Some id) = UnstartedBoot (causes.BadRow id)
 opening_over parts limits rows keeps None =
-    if is_spent rows then UnstartedBoot refusals.BootsSpent else (
-    if keeps then Opened (start_over parts limits rows) else UnstartedBoot refusals.KeeperFailed)
+    if is_spent rows then UnstartedBoot causes.BootsSpent else (
+    if keeps then Opened (start_over parts limits rows) else UnstartedBoot causes.KeeperFailed)
 
 -- over the rows that the keeper gives, if it does
 abbrev pub opening_of : Parts → JournalLimits → Option (List RowWrite) → Bool → Opening
-opening_of parts limits None keeps = UnstartedBoot refusals.KeeperFailed
+opening_of parts limits None keeps = UnstartedBoot causes.KeeperFailed
 opening_of parts limits (Some rows) keeps = opening_over parts limits rows keeps (first_bad rows)
 
 -- How a boot of these parts and limits opens, where the keeper replies so.

@@ -13,8 +13,6 @@ use Rattle.journal_model.specs.declared.entry.Entry.TheVariants.{Commit, Down, U
 use Rattle.journal_model.specs.Calls.{entry_of}
 use Rattle.journal_model.specs.Reboots.{undone_of}
 use Rattle.journal_model.specs.Rows.{rows_after}
-use Rattle.scenario_text.specs.declared.line.Line.{Line}
-use Rattle.scenario_text.specs.declared.line.Line.TheVariants as lines
 use Rattle.boot_core.specs.Boot.{new_boot, with_entry}
 use Rattle.boot_core.specs.declared.boot.Start.{Start}
 use Rattle.boot_core.specs.Refusals.{commit_refusal, reboot_refusal}
@@ -27,9 +25,9 @@ use Rattle.line_steps.specs.declared.callers.Caller.{Caller}
 use Rattle.line_steps.specs.declared.callers.Caller.TheVariants.{Absent, Live}
 use Rattle.scenario_engine.specs.KeeperCalls.{KeeperCall, apply_calls}
 use Rattle.scenario_engine.specs.State.{RunningState}
-use Rattle.session_steps.specs.Sessions.{SessionsState, reopened, session_line}
+use Rattle.session_steps.specs.Sessions.{SessionsState, reopened}
 use Rattle.scenario_text.specs.Answer.{Answer, Refused, Done, or_refused, within}
-use Rattle.line_steps.specs.Callers.{caller_at, ended, begin_step, call_step}
+use Rattle.line_steps.specs.Callers.{caller_at, ended, begin_step}
 use Rattle.line_steps.specs.Texts.{committed_text, commit_refusal_text, down_text, up_text, reboot_refusal_text, table_text, journal_text}
 
 -- a boot that was just started over these sessions, without callers
@@ -162,13 +160,3 @@ boot_line r (boots.Up name) = up_step r name
 boot_line r (boots.Reboot name) = reboot_step r name
 boot_line r boots.Table = table_step r
 boot_line r boots.Journal = journal_step r
-
--- a line that calls no keeper, where a boot is started, which no head line is
-abbrev pub quiet_line : RunningState → Line → Answer RunningState
-quiet_line r lines.Pass = Done r []
-quiet_line r (lines.Head line) = Refused
-quiet_line r (lines.Call c line) = within (with_callers r) (call_step r.boot r.callers c line)
-quiet_line r (lines.Commit c) = Refused
-quiet_line r (lines.Boot line) = boot_line r line
-quiet_line r lines.Reopen = Refused
-quiet_line r (lines.Session line) = within (with_sessions r) (session_line r.sessions line)

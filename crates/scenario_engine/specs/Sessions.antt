@@ -34,7 +34,7 @@ turns_by (lines.Session line) t text = Does line text ∷ []
 abbrev pub first_start : State → Target → List SessionTurn
 first_start (Heading head) (TheHead h) = []
 first_start (Heading head) (TheBoot r) = Boots r.boot.start.boot ∷ []
-first_start (Heading head) (TheUnstarted h refusal) = []
+first_start (Heading head) (TheUnstarted h cause) = []
 first_start (Running r) target = []
 
 -- the same of a text that spells this line, or none
@@ -65,7 +65,7 @@ session_turns s (turn ∷ turns) =
     (elim (turn_outcome s turn) [
       | RefusedIn t ↦ starts_on s turn
       | DoneTo t text ↦ turn_on_sessions s turn t text ++ session_turns t turns
-      | UnstartedIn t refusal ↦ starts_on s turn
+      | UnstartedIn t cause ↦ starts_on s turn
     ])
 
 -- the sessions of a state are these, of this setup: those beside its boot, or those that its head sets up

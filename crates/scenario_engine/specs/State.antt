@@ -1,10 +1,10 @@
 -- The state of a scenario, and how a line ends in it.
 use Rattle.std.specs.Prelude.{ℕ, List}
 use Rattle.boot_core.specs.Boot.{BootValue}
-use Rattle.boot_core.specs.declared.refusals.StartRefusal.{StartRefusal}
 use Rattle.line_steps.specs.declared.callers.Caller.{Caller}
 use Rattle.line_steps.specs.declared.head.Head.{Head}
 use Rattle.session_steps.specs.Sessions.{SessionsState}
+use Rattle.scenario_engine.specs.declared.failure.UnstartedCause.{UnstartedCause}
 
 -- a boot that is started, its callers, and the sessions
 pub record RunningState : Type 0 where
@@ -18,8 +18,9 @@ pub data State : Type 0 where
   Running : (running : RunningState) → State
 
 -- A line is refused, in this state: an event line has a boot there, which it has started where there was none. Or it is
--- done, which leaves this state, and writes this text. Or the boot that it needs was left unstarted.
+-- done, which leaves this state, and writes this text. Or the boot that it needs was left unstarted, for
+-- this cause.
 pub data Outcome : Type 0 where
   RefusedIn : (state : State) → Outcome
   DoneTo : (state : State) (text : List ℕ) → Outcome
-  UnstartedIn : (state : State) (refusal : StartRefusal) → Outcome
+  UnstartedIn : (state : State) (cause : UnstartedCause) → Outcome

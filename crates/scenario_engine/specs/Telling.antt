@@ -13,6 +13,8 @@ use Rattle.scenario_text.specs.declared.answer.LineAnswer.{LineAnswer}
 use Rattle.scenario_text.specs.declared.answer.LineAnswer.TheVariants as answers
 use Rattle.line_steps.specs.declared.head.Head.{Head}
 use Rattle.scenario_text.specs.declared.line.Line.{Line}
+use Rattle.scenario_engine.specs.declared.failure.UnstartedCause.{UnstartedCause}
+use Rattle.scenario_engine.specs.declared.failure.UnstartedCause.TheVariants as causes
 use Rattle.scenario_engine.specs.declared.failure.LineFailure.{LineFailure}
 use Rattle.scenario_engine.specs.declared.failure.LineFailure.TheVariants as failures
 use Rattle.scenario_engine.specs.Engine.{Replies, Target, TheUnstarted, target_of, target_calls, line_on, calls_on}
@@ -33,16 +35,12 @@ pub record OpensPartly (old new : Option KeeperTold) : Type 0 where
   pub replies : StartReplies
   pub told : TellsSome (start_calls replies) old new
 
--- A boot was left unstarted, for this refusal.
-abbrev pub IsUnstarted : StartRefusal → Parts → JournalLimits
+-- A boot was not opened: it was left unstarted, or memory ran out.
+abbrev pub FailsToOpen : LineFailure → Parts → JournalLimits
     → Option KeeperTold → Option KeeperTold → Type 0
-IsUnstarted refusals.KeeperFailed parts limits old new =
-    Opens parts limits (UnstartedBoot refusals.KeeperFailed) old new
-IsUnstarted (refusals.BadRow id) parts limits old new =
-    Opens parts limits (UnstartedBoot (refusals.BadRow id)) old new
-IsUnstarted refusals.BootsSpent parts limits old new =
-    Opens parts limits (UnstartedBoot refusals.BootsSpent) old new
-IsUnstarted refusals.OutOfMemory parts limits old new = OpensPartly old new
+FailsToOpen (failures.Unstarted cause) parts limits old new =
+    Opens parts limits (UnstartedBoot cause) old new
+FailsToOpen failures.OutOfMemory parts limits old new = OpensPartly old new
 
 -- The call of a caller committed, or was refused, with this answer.
 pub record Commits (r : RunningState) (caller : ℕ) (answer : Answer RunningState) (old new : Option KeeperTold) : Type 0 where
@@ -65,16 +63,12 @@ pub record ReachesPartly (s : State) (event : Bool) (old new : Option KeeperTold
   pub replies : StartReplies
   pub told : TellsSome (target_calls s event replies) old new
 
--- A line has no boot to be done to: it was left unstarted, for this refusal.
-abbrev pub ReachesUnstarted : StartRefusal → State → Bool
+-- A line has no boot to be done to: it was left unstarted, or memory ran out.
+abbrev pub FailsToReach : LineFailure → State → Bool
     → Option KeeperTold → Option KeeperTold → Type 0
-ReachesUnstarted refusals.KeeperFailed s event old new =
-    (head : Head) × Reaches s event (TheUnstarted head refusals.KeeperFailed) old new
-ReachesUnstarted (refusals.BadRow id) s event old new =
-    (head : Head) × Reaches s event (TheUnstarted head (refusals.BadRow id)) old new
-ReachesUnstarted refusals.BootsSpent s event old new =
-    (head : Head) × Reaches s event (TheUnstarted head refusals.BootsSpent) old new
-ReachesUnstarted refusals.OutOfMemory s event old new = ReachesPartly s event old new
+FailsToReach (failures.Unstarted cause) s event old new =
+    (head : Head) × Reaches s event (TheUnstarted head cause) old new
+FailsToReach failures.OutOfMemory s event old new = ReachesPartly s event old new
 
 -- A line was done to a target, with this outcome.
 pub record DoesOn (target : Target) (line : Line) (outcome : Outcome) (old new : Option KeeperTold) : Type 0 where
@@ -96,17 +90,17 @@ pub record DoesPartlyOn (target : Target) (line : Line) (old new : Option Keeper
   pub unkept : replies.keeps ≡ false
   pub told : TellsSome (calls_on target line replies) old new
 
--- why a line was not done whose boot was left unstarted for this refusal
+-- why a line was not done, whose boot was refused so
 abbrev pub failure_of : StartRefusal → LineFailure
-failure_of refusals.KeeperFailed = failures.Unstarted refusals.KeeperFailed
-failure_of (refusals.BadRow id) = failures.Unstarted (refusals.BadRow id)
-failure_of refusals.BootsSpent = failures.Unstarted refusals.BootsSpent
+failure_of refusals.KeeperFailed = failures.Unstarted causes.KeeperFailed
+failure_of (refusals.BadRow id) = failures.Unstarted (causes.BadRow id)
+failure_of refusals.BootsSpent = failures.Unstarted causes.BootsSpent
 failure_of refusals.OutOfMemory = failures.OutOfMemory
 
 -- A line was not done to a target: the boot that it needs was left unstarted, or memory ran out.
 abbrev pub EndsOn : LineFailure → Target → Line → Option KeeperTold → Option KeeperTold → Type 0
-EndsOn (failures.Unstarted refusal) target line old new =
-    (state : State) × DoesOn target line (UnstartedIn state refusal) old new
+EndsOn (failures.Unstarted cause) target line old new =
+    (state : State) × DoesOn target line (UnstartedIn state cause) old new
 EndsOn failures.OutOfMemory target line old new = DoesPartlyOn target line old new
 
 -- A text that spells this line, or none, was done, with this outcome.
@@ -139,6 +133,6 @@ HoldsRowsButNumber old new =
 
 -- A text that spells this line, or none, was not done: the boot that it needs was left unstarted, or memory ran out.
 abbrev pub Ends : LineFailure → State → Option Line → Option KeeperTold → Option KeeperTold → Type 0
-Ends (failures.Unstarted refusal) s line old new =
-    (state : State) × Does s line (UnstartedIn state refusal) old new
+Ends (failures.Unstarted cause) s line old new =
+    (state : State) × Does s line (UnstartedIn state cause) old new
 Ends failures.OutOfMemory s line old new = DoesPartly s line old new

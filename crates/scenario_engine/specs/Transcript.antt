@@ -1,11 +1,11 @@
 -- The transcript of a scenario, how the scenario ends, and what it asks of its keeper.
 use Rattle.std.specs.Prelude.{ℕ, ◌+◌, nat_lt, if◌then◌else◌, List, [], ◌∷◌, ◌++◌, length, map, Option, Some, None}
 use Rattle.boot_core.specs.Boot.{BootValue}
-use Rattle.boot_core.specs.declared.refusals.StartRefusal.{StartRefusal}
 use Rattle.scenario_text.specs.declared.line.Line.{Line}
 use Rattle.scenario_text.specs.declared.line.TheConstants.{MAX_LINE_BYTES}
 use Rattle.scenario_text.specs.Reading.{line_of}
 use Rattle.line_steps.specs.Head.{no_head}
+use Rattle.scenario_engine.specs.declared.failure.UnstartedCause.{UnstartedCause}
 use Rattle.scenario_engine.specs.Engine.{Replies, step, line_calls, ended_boots}
 use Rattle.scenario_engine.specs.KeeperCalls.{KeeperCall}
 use Rattle.scenario_engine.specs.State.{State, Heading, Running, Outcome, RefusedIn, DoneTo, UnstartedIn}
@@ -56,7 +56,7 @@ transcript s [] = []
 transcript s (turn ∷ turns) = elim (turn_outcome s turn) [
   | RefusedIn t ↦ []
   | DoneTo t text ↦ text ++ transcript t turns
-  | UnstartedIn t refusal ↦ []
+  | UnstartedIn t cause ↦ []
 ]
 
 -- A scenario comes to its end, to a line that is refused or too long, which has this number, or to a boot that was not
@@ -65,7 +65,7 @@ pub data End : Type 0 where
   Ended : (state : State) → End
   RefusedAt : (state : State) (number : ℕ) → End
   TooLong : (state : State) (number : ℕ) → End
-  Unstarted : (state : State) (refusal : StartRefusal) → End
+  Unstarted : (state : State) (cause : UnstartedCause) → End
 
 -- How turns end from here on, the next of which has this number.
 abbrev pub end_from : State → ℕ → List Turn → End
@@ -75,7 +75,7 @@ end_from s n (turn ∷ turns) =
     (elim (turn_outcome s turn) [
       | RefusedIn t ↦ RefusedAt t n
       | DoneTo t text ↦ end_from t (n + 1) turns
-      | UnstartedIn t refusal ↦ Unstarted t refusal
+      | UnstartedIn t cause ↦ Unstarted t cause
     ])
 
 -- The calls of the keeper that turns make from here on, up to where the scenario ends.
@@ -86,7 +86,7 @@ calls_from s (turn ∷ turns) =
     (turn_calls s turn ++ (elim (turn_outcome s turn) [
       | RefusedIn t ↦ []
       | DoneTo t text ↦ calls_from t turns
-      | UnstartedIn t refusal ↦ []
+      | UnstartedIn t cause ↦ []
     ]))
 
 -- the boot of a state, where one is started
@@ -103,7 +103,7 @@ boots_from s (turn ∷ turns) =
     (turn_ends s turn ++ (elim (turn_outcome s turn) [
       | RefusedIn t ↦ boots_in t
       | DoneTo t text ↦ boots_from t turns
-      | UnstartedIn t refusal ↦ boots_in t
+      | UnstartedIn t cause ↦ boots_in t
     ]))
 
 -- the state at the end
@@ -111,4 +111,4 @@ abbrev pub last_state : End → State
 last_state (Ended state) = state
 last_state (RefusedAt state number) = state
 last_state (TooLong state number) = state
-last_state (Unstarted state refusal) = state
+last_state (Unstarted state cause) = state

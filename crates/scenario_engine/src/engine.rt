@@ -1,20 +1,17 @@
 //! One scenario, line by line.
 
-ghost use Rattle.std.specs.Prelude.{◌≡◌, ◌≢◌, ◌≤◌, true, IfOk, Option, Some, MatchResult};
+ghost use Rattle.std.specs.Prelude.{◌≡◌, ◌≤◌, true, Some, Ok, Err, MatchResult};
 ghost use Rattle.outside.specs.Faults.{Rose};
-ghost use Rattle.outside.specs.Keeper.{KeeperTold};
-ghost use Rattle.scenario_text.specs.declared.line.Line.{Line};
+ghost use Rattle.scenario_text.specs.declared.line.Line.TheVariants as lines;
 ghost use Rattle.scenario_text.specs.Reading.{line_of};
 ghost use Rattle.scenario_engine.specs.declared.failure.LineFailure.{LineFailure};
-ghost use Rattle.scenario_engine.specs.declared.kind.LineKind.{LineKind};
-ghost use Rattle.scenario_engine.specs.Engine.{target_in, kind_of};
-ghost use Rattle.scenario_engine.specs.Telling.{Reaches, ReachesUnstarted, AnswersOn, EndsOn, Answers, Ends};
+ghost use Rattle.scenario_engine.specs.declared.failure.UnstartedCause.{UnstartedCause};
+ghost use Rattle.scenario_engine.specs.Engine.{target_in};
+ghost use Rattle.scenario_engine.specs.Telling.{Reaches, FailsToReach, AnswersOn, EndsOn, Answers, Ends};
 ghost use Rattle.scenario_engine.specs.Transcript.{first};
 
-use crate::failure::{LineFailure, failure_of};
-use crate::kind::{LineKind, kind_of};
+use crate::failure::{LineFailure, UnstartedCause};
 use crate::running::Running;
-use boot_core::StartRefusal;
 use crash_base::OutOfMemory;
 use line_steps::{Head, boot_text, head_line};
 use outside::Keeper;
@@ -47,6 +44,16 @@ impl Model for Engine {
     ghost invariant = { λ e. IsAccepted e.stage };
 }
 
+/// What a line answers, or that there was no memory for it.
+fn answered(answer: Result<LineAnswer, OutOfMemory>) -> Result<LineAnswer, LineFailure>
+    ensures { MatchResult answer (λ a. result ≡ Ok a) (λ _. result ≡ Err LineFailure.OutOfMemory) }
+{
+    match answer {
+        Ok(answer) => Ok(answer),
+        Err(OutOfMemory) => Err(LineFailure::OutOfMemory),
+    }
+}
+
 impl Engine {
     /// A scenario before its first line. It takes no memory.
     pub fn new(alloc: Global) -> Engine
@@ -58,13 +65,13 @@ impl Engine {
     }
 
     /// Starts the boot over the head, where none is started.
-    fn start<K: Keeper>(&mut self, alloc: Global, keeper: &mut K) -> Result<(), StartRefusal>
+    fn start<K: Keeper>(&mut self, alloc: Global, keeper: &mut K) -> Result<(), LineFailure>
         ensures starts { MatchResult result
             (λ _. Reaches self.old true (target_in self.new)
             (K.told keeper.old) (K.told keeper.new))
-            (λ refusal. ReachesUnstarted refusal self.old true
+            (λ failure. FailsToReach failure self.old true
             (K.told keeper.old) (K.told keeper.new)) }
-        ensures failed { result ≡ Err StartRefusal.KeeperFailed
+        ensures failed { result ≡ Err (LineFailure.Unstarted UnstartedCause.KeeperFailed)
             → Rose (K.faults keeper.old) (K.faults keeper.new) }
         ensures count { K.faults keeper.old ≤ K.faults keeper.new }
     {
@@ -77,7 +84,7 @@ impl Engine {
                         self.stage = Stage::Run(running);
                         Ok(())
                     }
-                    Err(refusal) => Err(refusal),
+                    Err(failure) => Err(failure),
                 }
             }
         }
@@ -89,13 +96,13 @@ impl Engine {
         alloc: Global,
         event: bool,
         keeper: &mut K,
-    ) -> Result<(), StartRefusal>
+    ) -> Result<(), LineFailure>
         ensures reaches { MatchResult result
             (λ _. Reaches self.old event (target_in self.new)
             (K.told keeper.old) (K.told keeper.new))
-            (λ refusal. ReachesUnstarted refusal self.old event
+            (λ failure. FailsToReach failure self.old event
             (K.told keeper.old) (K.told keeper.new)) }
-        ensures failed { result ≡ Err StartRefusal.KeeperFailed
+        ensures failed { result ≡ Err (LineFailure.Unstarted UnstartedCause.KeeperFailed)
             → Rose (K.faults keeper.old) (K.faults keeper.new) }
         ensures count { K.faults keeper.old ≤ K.faults keeper.new }
     {
@@ -106,47 +113,19 @@ impl Engine {
         }
     }
 
-    /// Commits the call of a caller, where there is a boot.
-    fn commit<K: Keeper>(
-        &mut self,
-        alloc: Global,
-        caller: u64,
-        keeper: &mut K,
-    ) -> Result<LineAnswer, LineFailure>
-        ensures answer { (line : Line) → kind_of line ≡ LineKind.Commits caller
-            → MatchResult result
-            (λ a. AnswersOn a self.new (target_in self.old) line
-            (K.told keeper.old) (K.told keeper.new))
-            (λ failure. EndsOn failure (target_in self.old) line
-            (K.told keeper.old) (K.told keeper.new)) }
-        ensures failed { result ≢ Err (LineFailure.Unstarted StartRefusal.KeeperFailed) }
-        ensures memory { result ≢ Err (LineFailure.Unstarted StartRefusal.OutOfMemory) }
-        ensures count { K.faults keeper.old ≤ K.faults keeper.new }
-    {
-        match &mut self.stage {
-            Stage::Head(_) => Ok(LineAnswer::Refused),
-            Stage::Run(running) => match running.commit_step(alloc, caller, keeper) {
-                Ok(answer) => Ok(answer),
-                Err(OutOfMemory) => Err(LineFailure::OutOfMemory),
-            },
-        }
-    }
-
     /// Starts the next boot, where there is one, and writes its number.
     fn reopen<K: Keeper>(
         &mut self,
         alloc: Global,
         keeper: &mut K,
     ) -> Result<LineAnswer, LineFailure>
-        ensures answer { (line : Line) → kind_of line ≡ LineKind.Reopens
-            → MatchResult result
-            (λ a. AnswersOn a self.new (target_in self.old) line
+        ensures answer { MatchResult result
+            (λ a. AnswersOn a self.new (target_in self.old) lines.Reopen
             (K.told keeper.old) (K.told keeper.new))
-            (λ failure. EndsOn failure (target_in self.old) line
+            (λ failure. EndsOn failure (target_in self.old) lines.Reopen
             (K.told keeper.old) (K.told keeper.new)) }
-        ensures failed { result ≡ Err (LineFailure.Unstarted StartRefusal.KeeperFailed)
+        ensures failed { result ≡ Err (LineFailure.Unstarted UnstartedCause.KeeperFailed)
             → Rose (K.faults keeper.old) (K.faults keeper.new) }
-        ensures memory { result ≢ Err (LineFailure.Unstarted StartRefusal.OutOfMemory) }
         ensures count { K.faults keeper.old ≤ K.faults keeper.new }
     {
         match mem::replace(&mut self.stage, Stage::Head(Head::new(alloc))) {
@@ -163,20 +142,8 @@ impl Engine {
                         Err(OutOfMemory) => Err(LineFailure::OutOfMemory),
                     }
                 }
-                Err(refusal) => Err(failure_of(refusal)),
+                Err(failure) => Err(failure),
             },
-        }
-    }
-
-    /// Does a line that calls no keeper.
-    fn quiet_line(&mut self, alloc: Global, line: Line) -> Result<LineAnswer, OutOfMemory>
-        requires { kind_of line ≡ LineKind.Quiet }
-        ensures { (old : Option KeeperTold) → IfOk result (λ a.
-            AnswersOn a self.new (target_in self.old) line old old) }
-    {
-        match &mut self.stage {
-            Stage::Head(head) => head_line(alloc, head, line),
-            Stage::Run(running) => running.quiet_line(alloc, line),
         }
     }
 
@@ -192,17 +159,20 @@ impl Engine {
             (K.told keeper.old) (K.told keeper.new))
             (λ failure. EndsOn failure (target_in self.old) line
             (K.told keeper.old) (K.told keeper.new)) }
-        ensures failed { result ≡ Err (LineFailure.Unstarted StartRefusal.KeeperFailed)
+        ensures failed { result ≡ Err (LineFailure.Unstarted UnstartedCause.KeeperFailed)
             → Rose (K.faults keeper.old) (K.faults keeper.new) }
-        ensures memory { result ≢ Err (LineFailure.Unstarted StartRefusal.OutOfMemory) }
         ensures count { K.faults keeper.old ≤ K.faults keeper.new }
     {
-        match kind_of(&line) {
-            LineKind::Commits(caller) => self.commit(alloc, caller, keeper),
-            LineKind::Reopens => self.reopen(alloc, keeper),
-            LineKind::Quiet => match self.quiet_line(alloc, line) {
-                Ok(answer) => Ok(answer),
-                Err(OutOfMemory) => Err(LineFailure::OutOfMemory),
+        match &mut self.stage {
+            Stage::Head(head) => answered(head_line(alloc, head, line)),
+            Stage::Run(running) => match line {
+                Line::Pass => Ok(LineAnswer::Done),
+                Line::Head(_) => Ok(LineAnswer::Refused),
+                Line::Call(caller, line) => answered(running.call_step(alloc, caller, line)),
+                Line::Commit(caller) => answered(running.commit_step(alloc, caller, keeper)),
+                Line::Boot(line) => answered(running.boot_line(alloc, line)),
+                Line::Reopen => self.reopen(alloc, keeper),
+                Line::Session(line) => answered(running.session_line(alloc, line)),
             },
         }
     }
@@ -219,14 +189,13 @@ impl Engine {
             (K.told keeper.old) (K.told keeper.new))
             (λ failure. Ends failure self.old (Some line)
             (K.told keeper.old) (K.told keeper.new)) }
-        ensures failed { result ≡ Err (LineFailure.Unstarted StartRefusal.KeeperFailed)
+        ensures failed { result ≡ Err (LineFailure.Unstarted UnstartedCause.KeeperFailed)
             → Rose (K.faults keeper.old) (K.faults keeper.new) }
-        ensures memory { result ≢ Err (LineFailure.Unstarted StartRefusal.OutOfMemory) }
         ensures count { K.faults keeper.old ≤ K.faults keeper.new }
     {
         match self.reach(alloc, line.is_event(), keeper) {
             Ok(()) => self.line_on(alloc, line, keeper),
-            Err(refusal) => Err(failure_of(refusal)),
+            Err(failure) => Err(failure),
         }
     }
 
@@ -249,9 +218,8 @@ impl Engine {
             (K.told keeper.old) (K.told keeper.new))
             (λ failure. Ends failure self.old (line_of text.now)
             (K.told keeper.old) (K.told keeper.new)) }
-        ensures failed { result ≡ Err (LineFailure.Unstarted StartRefusal.KeeperFailed)
+        ensures failed { result ≡ Err (LineFailure.Unstarted UnstartedCause.KeeperFailed)
             → Rose (K.faults keeper.old) (K.faults keeper.new) }
-        ensures memory { result ≢ Err (LineFailure.Unstarted StartRefusal.OutOfMemory) }
         ensures count { K.faults keeper.old ≤ K.faults keeper.new }
     {
         match read_line(alloc, text) {

@@ -1,32 +1,40 @@
 //! Why lines are not done.
 
-ghost use Rattle.std.specs.Prelude.{◌≡◌, ◌≢◌};
+ghost use Rattle.std.specs.Prelude.{◌≡◌};
 ghost use Rattle.boot_core.specs.declared.refusals.StartRefusal.{StartRefusal};
-ghost use Rattle.scenario_engine.specs.declared.failure.LineFailure.{LineFailure};
 ghost use Rattle.scenario_engine.specs.Telling.{failure_of};
 
 use boot_core::StartRefusal;
+use crash_base::RowId;
+
+/// Why a boot was left unstarted.
+#[derive(Clone, Copy)]
+pub enum UnstartedCause {
+    /// The keeper failed.
+    KeeperFailed,
+    /// The keeper gave the row of this id, which may not be loaded.
+    BadRow { id: RowId },
+    /// The number of the last boot is the greatest that there is.
+    BootsSpent,
+}
 
 /// Why a line was not done.
 #[derive(Clone, Copy)]
 pub enum LineFailure {
-    /// The boot that the line needs was left unstarted, for this refusal, which is never want of memory.
-    Unstarted(StartRefusal),
+    /// The boot that the line needs was left unstarted.
+    Unstarted(UnstartedCause),
     /// Memory ran out, while a boot was started or later.
     OutOfMemory,
 }
 
-/// Why a line was not done whose boot was left unstarted for this refusal.
+/// Why a line was not done, whose boot was refused so.
 pub(crate) fn failure_of(refusal: StartRefusal) -> LineFailure
-    ensures value { result ≡ failure_of refusal }
-    ensures failed { result ≡ LineFailure.Unstarted StartRefusal.KeeperFailed
-        → refusal ≡ StartRefusal.KeeperFailed }
-    ensures memory { result ≢ LineFailure.Unstarted StartRefusal.OutOfMemory }
+    ensures { result ≡ failure_of refusal }
 {
     match refusal {
-        StartRefusal::KeeperFailed => LineFailure::Unstarted(StartRefusal::KeeperFailed),
-        StartRefusal::BadRow { id } => LineFailure::Unstarted(StartRefusal::BadRow { id }),
-        StartRefusal::BootsSpent => LineFailure::Unstarted(StartRefusal::BootsSpent),
+        StartRefusal::KeeperFailed => LineFailure::Unstarted(UnstartedCause::KeeperFailed),
+        StartRefusal::BadRow { id } => LineFailure::Unstarted(UnstartedCause::BadRow { id }),
+        StartRefusal::BootsSpent => LineFailure::Unstarted(UnstartedCause::BootsSpent),
         StartRefusal::OutOfMemory => LineFailure::OutOfMemory,
     }
 }

@@ -21,12 +21,11 @@
 
 mod engine;
 mod failure;
-mod kind;
 mod laws;
 mod running;
 
 pub use engine::Engine;
-pub use failure::LineFailure;
+pub use failure::{LineFailure, UnstartedCause};
 pub use laws::{
     boots_are_sound, boots_rise, commits_are_of_their_boot, keepers_decide, keepers_tell,
     no_commit_is_kept_partly, no_turns_break_the_order, no_turns_commit_after_a_reboot,

@@ -12,12 +12,16 @@ ghost use Rattle.scenario_text.specs.declared.line.TheConstants.{MAX_CALLER};
 ghost use Rattle.boot_core.specs.Boot.{new_boot};
 ghost use Rattle.boot_core.specs.declared.boot.Start.{Start};
 ghost use Rattle.outside.specs.Faults.{Rose};
+ghost use Rattle.session_steps.specs.Sessions.{session_line};
 ghost use Rattle.session_steps.specs.Setup.{set_up};
+ghost use Rattle.scenario_engine.specs.declared.failure.LineFailure.{LineFailure};
+ghost use Rattle.scenario_engine.specs.declared.failure.UnstartedCause.{UnstartedCause};
 ghost use Rattle.scenario_engine.specs.Opening.{Opened};
-ghost use Rattle.scenario_engine.specs.Running.{started, with_callers, scope_of, drop_step, down_step, up_step, reboot_step, table_step, journal_step, boot_line, quiet_line};
-ghost use Rattle.scenario_engine.specs.Telling.{Opens, IsUnstarted, Commits, CommitsPartly};
+ghost use Rattle.scenario_engine.specs.Running.{started, with_callers, with_sessions, scope_of, drop_step, down_step, up_step, reboot_step, table_step, journal_step, boot_line};
+ghost use Rattle.scenario_engine.specs.Telling.{Opens, FailsToOpen, Commits, CommitsPartly};
 
-use boot_core::{Boot, JournalLimits, StartRefusal, Ticket};
+use crate::failure::{LineFailure, UnstartedCause, failure_of};
+use boot_core::{Boot, JournalLimits, Ticket};
 use container_core::start_boot;
 use crash_base::{APPLICATION, ComponentName, LatestRows, OutOfMemory, Place, Scope, WorkerNo};
 use deployment::Deployment;
@@ -26,7 +30,7 @@ use line_steps::{
     reboot_refusal_text, rebooted_text, request_of, table_text, up_text,
 };
 use outside::Keeper;
-use scenario_text::{BootLine, CallLine, Line, LineAnswer, MAX_CALLER};
+use scenario_text::{BootLine, CallLine, LineAnswer, MAX_CALLER, SessionLine};
 use session_steps::Sessions;
 use std::alloc::Global;
 use std::marker::Model;
@@ -103,18 +107,18 @@ impl Running {
         limits: JournalLimits,
         sessions: Sessions,
         keeper: &mut K,
-    ) -> Result<Running, StartRefusal>
+    ) -> Result<Running, LineFailure>
         ensures opens { MatchResult result
             (λ r. (start : Start) × (r ≡ started sessions start)
             × Opens deployment limits (Opened start) (K.told keeper.old) (K.told keeper.new))
-            (λ refusal. IsUnstarted refusal deployment limits (K.told keeper.old) (K.told keeper.new)) }
-        ensures failed { result ≡ Err StartRefusal.KeeperFailed
+            (λ failure. FailsToOpen failure deployment limits (K.told keeper.old) (K.told keeper.new)) }
+        ensures failed { result ≡ Err (LineFailure.Unstarted UnstartedCause.KeeperFailed)
             → Rose (K.faults keeper.old) (K.faults keeper.new) }
         ensures count { K.faults keeper.old ≤ K.faults keeper.new }
     {
         match start_boot(alloc, deployment, limits, keeper) {
             Ok(boot) => Ok(Running::over(alloc, boot, sessions)),
-            Err(refusal) => Err(refusal),
+            Err(refusal) => Err(failure_of(refusal)),
         }
     }
 
@@ -123,20 +127,20 @@ impl Running {
         alloc: Global,
         head: Head,
         keeper: &mut K,
-    ) -> Result<Running, StartRefusal>
+    ) -> Result<Running, LineFailure>
         requires { deploy_refusal head.parts ≡ None }
         ensures opens { MatchResult result
             (λ r. (start : Start) × (r ≡ started (set_up head.setup 0) start)
             × Opens head.parts head.limits (Opened start) (K.told keeper.old) (K.told keeper.new))
-            (λ refusal. IsUnstarted refusal head.parts head.limits
+            (λ failure. FailsToOpen failure head.parts head.limits
             (K.told keeper.old) (K.told keeper.new)) }
-        ensures failed { result ≡ Err StartRefusal.KeeperFailed
+        ensures failed { result ≡ Err (LineFailure.Unstarted UnstartedCause.KeeperFailed)
             → Rose (K.faults keeper.old) (K.faults keeper.new) }
         ensures count { K.faults keeper.old ≤ K.faults keeper.new }
     {
         let limits = head.limits;
         let Ok(sessions) = Sessions::new(alloc, head.setup) else {
-            return Err(StartRefusal::OutOfMemory);
+            return Err(LineFailure::OutOfMemory);
         };
         match Deployment::check(head.parts) {
             Ok(deployment) => Running::open(alloc, deployment, limits, sessions, keeper),
@@ -160,14 +164,14 @@ impl Running {
         self,
         alloc: Global,
         keeper: &mut K,
-    ) -> Result<Running, StartRefusal>
+    ) -> Result<Running, LineFailure>
         ensures opens { MatchResult result
             (λ r. (start : Start) × (r ≡ started self.sessions start)
             × Opens self.boot.start.deployment self.boot.start.limits (Opened start)
             (K.told keeper.old) (K.told keeper.new))
-            (λ refusal. IsUnstarted refusal self.boot.start.deployment self.boot.start.limits
+            (λ failure. FailsToOpen failure self.boot.start.deployment self.boot.start.limits
             (K.told keeper.old) (K.told keeper.new)) }
-        ensures failed { result ≡ Err StartRefusal.KeeperFailed
+        ensures failed { result ≡ Err (LineFailure.Unstarted UnstartedCause.KeeperFailed)
             → Rose (K.faults keeper.old) (K.faults keeper.new) }
         ensures count { K.faults keeper.old ≤ K.faults keeper.new }
     {
@@ -324,7 +328,7 @@ impl Running {
     }
 
     /// A line of a live call.
-    fn call_step(
+    pub(crate) fn call_step(
         &mut self,
         alloc: Global,
         caller: u64,
@@ -338,7 +342,11 @@ impl Running {
     }
 
     /// A line over the boot.
-    fn boot_line(&mut self, alloc: Global, line: BootLine) -> Result<LineAnswer, OutOfMemory>
+    pub(crate) fn boot_line(
+        &mut self,
+        alloc: Global,
+        line: BootLine,
+    ) -> Result<LineAnswer, OutOfMemory>
         ensures answer { IfOk result (λ a. answer_of a self.new ≡ boot_line self.old line) }
         ensures refused { IfOk result (λ a. KeepsRefused a self.old self.new) }
     {
@@ -353,21 +361,16 @@ impl Running {
         }
     }
 
-    /// A line that calls no keeper.
-    pub(crate) fn quiet_line(
+    /// A line about the sessions.
+    pub(crate) fn session_line(
         &mut self,
         alloc: Global,
-        line: Line,
+        line: SessionLine,
     ) -> Result<LineAnswer, OutOfMemory>
-        ensures answer { IfOk result (λ a. answer_of a self.new ≡ quiet_line self.old line) }
+        ensures answer { IfOk result (λ a. answer_of a self.new ≡ within (with_sessions self.old)
+            (session_line self.old.sessions line)) }
         ensures refused { IfOk result (λ a. KeepsRefused a self.old self.new) }
     {
-        match line {
-            Line::Pass => Ok(LineAnswer::Done),
-            Line::Head(_) | Line::Commit(_) | Line::Reopen => Ok(LineAnswer::Refused),
-            Line::Call(caller, line) => self.call_step(alloc, caller, line),
-            Line::Boot(line) => self.boot_line(alloc, line),
-            Line::Session(line) => self.sessions.step(alloc, line),
-        }
+        self.sessions.step(alloc, line)
     }
 }

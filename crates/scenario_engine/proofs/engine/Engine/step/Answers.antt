@@ -1,8 +1,7 @@
-use Rattle.std.proofs.Common.{Bool, Some, subst, sym}
-use Rattle.scenario_engine.specs.declared.failure.LineFailure.{LineFailure}
+use Rattle.std.proofs.Common.{Bool, subst}
 use Rattle.scenario_engine.specs.Engine.{target_in}
-use Rattle.scenario_engine.specs.Telling.{Reaches, ReachesUnstarted, Ends}
-use Rattle.scenario_engine.proofs.Stepping.{line_done, ends_unstarted}
+use Rattle.scenario_engine.specs.Telling.{Reaches, FailsToReach}
+use Rattle.scenario_engine.proofs.Stepping.{line_done, ends_before}
 use Rattle.scenario_engine.proofs.engine.Engine.step.Goals as goal
 
 pub returns-in-Ok-clause-answer : goal.returns-in-Ok-clause-answer
@@ -17,6 +16,5 @@ pub returns-in-Err-clause-answer : goal.returns-in-Err-clause-answer
 returns-in-Err-clause-answer g c =
     let old = g.K.Keeper.told c.args.keeper.now in
     let new = g.K.Keeper.told c.reach.new.keeper in
-    let P : Bool → Type 0 = λ event. ReachesUnstarted c.in-Err.refusal c.args.self.now event old new in
-    let Q : LineFailure → Type 0 = λ f. Ends f c.args.self.now (Some c.args.line) old new in
-    subst Q (sym c.failure_of.ensures.value) (ends_unstarted c.in-Err.refusal c.args.self.now c.args.line old new (subst P c.is_event.ensures c.in-Err.ensures.reaches))
+    let P : Bool → Type 0 = λ event. FailsToReach c.in-Err.failure c.args.self.now event old new in
+    ends_before c.in-Err.failure c.args.self.now c.args.line old new (subst P c.is_event.ensures c.in-Err.ensures.reaches)
