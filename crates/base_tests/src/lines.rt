@@ -65,8 +65,8 @@ fn add_session_line(rt: &impl Abort, words: &mut String, line: &SessionLine) {
         SessionLine::Mute(brick, count) => add_pair(rt, words, "mute", *brick, *count),
         SessionLine::Repeat(brick, index) => add_pair(rt, words, "repeat", *brick, *index),
         SessionLine::Crash(brick) => add_numbered(rt, words, "crash", *brick),
-        SessionLine::Sweep(brick) => add_numbered(rt, words, "sweep", *brick),
-        SessionLine::SweepAt(brick, moment) => add_pair(rt, words, "sweep_at", *brick, *moment),
+        SessionLine::Sweep(brick, None) => add_numbered(rt, words, "sweep", *brick),
+        SessionLine::Sweep(brick, Some(moment)) => add_pair(rt, words, "sweep", *brick, *moment),
         SessionLine::Values(brick) => add_numbered(rt, words, "values", *brick),
         SessionLine::Windows => add_word(rt, words, "windows"),
         SessionLine::Hold(brick) => add_numbered(rt, words, "hold", *brick),
@@ -120,9 +120,9 @@ fn add_boot_line(rt: &impl Abort, words: &mut String, line: &BootLine) {
     match line {
         BootLine::Begin(caller) => add_numbered(rt, words, "begin", *caller),
         BootLine::Drop(caller) => add_numbered(rt, words, "drop", *caller),
-        BootLine::Down(name) => add_named(rt, words, "down", name.as_slice()),
-        BootLine::Up(name) => add_named(rt, words, "up", name.as_slice()),
-        BootLine::Reboot(name) => add_named(rt, words, "reboot", name.as_slice()),
+        BootLine::Down(word) => add_named(rt, words, "down", word.as_slice()),
+        BootLine::Up(word) => add_named(rt, words, "up", word.as_slice()),
+        BootLine::Reboot(word) => add_named(rt, words, "reboot", word.as_slice()),
         BootLine::Table => add_word(rt, words, "table"),
         BootLine::Journal => add_word(rt, words, "journal"),
     }
@@ -172,6 +172,8 @@ pub fn expect_refused(rt: &impl Abort, alloc: Global, lines: &str) {
 /// How many bytes a line gives: 0 where it is another line.
 fn given(line: &Line) -> usize {
     match line {
+        Line::Boot(BootLine::Down(word) | BootLine::Up(word) | BootLine::Reboot(word)) =>
+            word.len(),
         Line::Call(_, CallLine::Put(_, _, bytes)) => bytes.as_slice().len(),
         Line::Head(HeadLine::Key(bytes)) => bytes.as_slice().len(),
         Line::Session(SessionLine::Write(_, bytes)) => bytes.as_slice().len(),

@@ -40,6 +40,12 @@ event up Az_09|up Az_09
 event up app|up app
 event reboot Az_09|reboot Az_09
 event reboot app|reboot app
+event down @NAME|down @NAME
+event down a-b|down a-b
+event up a.b|up a.b
+event up -|up -
+event reboot app!|reboot app!
+event reboot !\"#$%&'()*,:;<=>?@[\\]^`{}~\t\x00\x7f|reboot !\"#$%&'()*,:;<=>?@[\\]^`{}~\t\x00\x7f
 event table|table
 event journal|journal
 event reopen|reopen";
@@ -98,7 +104,7 @@ fn refuses_other_hexadecimal(rt: HostRuntime) {
 }
 
 const NAMES: &str =
-    "component /component a-b/component a.b/enter c1 /owns  1/hard a-b c/hard a b.c/soft a. b/soft a b-/down /down a-b/up /up a.b/reboot /reboot app!/hard ZZZZZZZZZZZZZZZZZZZZZZZZZZZZZZZZZ b/soft ZZZZZZZZZZZZZZZZZZZZZZZZZZZZZZZZZ b/owns ZZZZZZZZZZZZZZZZZZZZZZZZZZZZZZZZZ 1";
+    "component /component a-b/component a.b/enter c1 /owns  1/hard a-b c/hard a b.c/soft a. b/soft a b-/down /up /reboot /down \u{e9}/up a\r/reboot \r/hard ZZZZZZZZZZZZZZZZZZZZZZZZZZZZZZZZZ b/soft ZZZZZZZZZZZZZZZZZZZZZZZZZZZZZZZZZ b/owns ZZZZZZZZZZZZZZZZZZZZZZZZZZZZZZZZZ 1";
 
 #[test]
 fn refuses_other_names(rt: HostRuntime) {
@@ -121,6 +127,7 @@ fn refuses_further_words(rt: HostRuntime) {
     expect_refused(&rt, rt.alloc(), FURTHER);
 }
 
+/// A name has at most 32 bytes. What goes down or comes up is any word.
 const NAME_LENGTHS: &str = "component |Z|32|0
 component |Z|33|refused
 enter c1 |Z|33|refused
@@ -128,12 +135,9 @@ hard a |Z|32|0
 hard a |Z|33|refused
 soft a |Z|32|0
 soft a |Z|33|refused
-down |Z|32|0
-down |Z|33|refused
-up |Z|32|0
-up |Z|33|refused
-reboot |Z|32|0
-reboot |Z|33|refused";
+down |Z|33|33
+up |Z|33|33
+reboot |Z|33|33";
 
 #[test]
 fn reads_names_up_to_the_limit(rt: HostRuntime) {
@@ -151,7 +155,13 @@ fn reads_bytes_up_to_the_limit(rt: HostRuntime) {
 
 const LINE_LENGTHS: &str = "#|#|8191|0
 #|#|8192|refused
-begin c1| |8185|refused";
+begin c1| |8185|refused
+down |@|8187|8187
+down |@|8188|refused
+up |@|8189|8189
+up |@|8190|refused
+reboot |@|8185|8185
+reboot |@|8186|refused";
 
 #[test]
 fn reads_lines_up_to_the_limit(rt: HostRuntime) {

@@ -2,7 +2,7 @@
 use Rattle.std.proofs.Common.{◌≡◌, ◌⊎◌, inl, inr, ℕ, List, [], ◌∷◌, Option, Some, None, codes, refl}
 use Rattle.std.specs.Option.{option_map, option_or}
 use Rattle.scenario_text.specs.declared.session_line.SessionLine.{SessionLine}
-use Rattle.scenario_text.specs.declared.session_line.SessionLine.TheVariants.{Now, Write, Fetch, Cookie, Present, Lose, Mute, Repeat, Crash, Sweep, SweepAt, Values, Windows, Hold, Free}
+use Rattle.scenario_text.specs.declared.session_line.SessionLine.TheVariants.{Now, Write, Fetch, Cookie, Present, Lose, Mute, Repeat, Crash, Sweep, Values, Windows, Hold, Free}
 use Rattle.scenario_text.specs.declared.line.Line.{Line}
 use Rattle.scenario_text.specs.declared.line.Line.TheVariants.{Session}
 use Rattle.scenario_text.specs.Arguments.{one_brick, brick_and_number}
@@ -22,11 +22,11 @@ one_of (Some x) p y h = inl h
 
 -- a sweep has a brick, or a brick and a moment
 sweep_spelled : (words : List (List ℕ)) (line : SessionLine) → sweep_line words ≡ Some line → AreWords sessions (codes "sweep" ∷ words) line
-sweep_spelled words line h = go (one_of (option_map (λ b. Sweep b) (one_brick words)) (option_map (λ p. SweepAt p.0 p.1) (brick_and_number words)) line h)
+sweep_spelled words line h = go (one_of (option_map (λ b. Sweep b None) (one_brick words)) (option_map (λ p. Sweep p.0 (Some p.1)) (brick_and_number words)) line h)
   where
-    go : (option_map (λ b. Sweep b) (one_brick words) ≡ Some line) ⊎ (option_map (λ p. SweepAt p.0 p.1) (brick_and_number words) ≡ Some line) → AreWords sessions (codes "sweep" ∷ words) line
-    go (inl k) = made_words sessions (codes "sweep") (λ b. Sweep b) (λ b. bricks.word b ∷ []) bricks.IsIn (λ _ r. (r, refl)) words line (one_brick words) (one_spelled bricks words) k
-    go (inr k) = made_words sessions (codes "sweep") (λ p. SweepAt p.0 p.1) (λ p. bricks.word p.0 ∷ numbers.word p.1 ∷ []) (λ p. bricks.IsIn p.0 × numbers.IsIn p.1) (λ _ r. (r, refl)) words line (brick_and_number words) (two_spelled bricks numbers words) k
+    go : (option_map (λ b. Sweep b None) (one_brick words) ≡ Some line) ⊎ (option_map (λ p. Sweep p.0 (Some p.1)) (brick_and_number words) ≡ Some line) → AreWords sessions (codes "sweep" ∷ words) line
+    go (inl k) = made_words sessions (codes "sweep") (λ b. Sweep b None) (λ b. bricks.word b ∷ []) bricks.IsIn (λ _ r. (r, refl)) words line (one_brick words) (one_spelled bricks words) k
+    go (inr k) = made_words sessions (codes "sweep") (λ p. Sweep p.0 (Some p.1)) (λ p. bricks.word p.0 ∷ numbers.word p.1 ∷ []) (λ p. bricks.IsIn p.0 × numbers.IsIn p.1) (λ _ r. (r, refl)) words line (brick_and_number words) (two_spelled bricks numbers words) k
 
 -- what words read as, they spell
 pub session_spelled : (first : List ℕ) (words : List (List ℕ)) (line : SessionLine) → session_line first words ≡ Some line → AreWords sessions (first ∷ words) line
@@ -62,8 +62,8 @@ session_read (Lose brick count) (h, k) = two_read bricks numbers (Session (Lose 
 session_read (Mute brick count) (h, k) = two_read bricks numbers (Session (Mute brick count)) (codes "mute") brick count h k (as_line (λ p. Mute p.0 p.1)) refl refl refl refl refl
 session_read (Repeat brick index) (h, k) = two_read bricks numbers (Session (Repeat brick index)) (codes "repeat") brick index h k (as_line (λ p. Repeat p.0 p.1)) refl refl refl refl refl
 session_read (Crash brick) h = one_read bricks (Session (Crash brick)) (codes "crash") brick h (as_line (λ a. Crash a)) refl refl refl refl refl
-session_read (Sweep brick) h = one_read bricks (Session (Sweep brick)) (codes "sweep") brick h (λ o. option_map (λ s. Session s) (option_or (option_map (λ b. Sweep b) o) None)) refl refl refl refl refl
-session_read (SweepAt brick moment) (h, k) = two_read bricks numbers (Session (SweepAt brick moment)) (codes "sweep") brick moment h k (as_line (λ p. SweepAt p.0 p.1)) refl refl refl refl refl
+session_read (Sweep brick None) h = one_read bricks (Session (Sweep brick None)) (codes "sweep") brick h (λ o. option_map (λ s. Session s) (option_or (option_map (λ b. Sweep b None) o) None)) refl refl refl refl refl
+session_read (Sweep brick (Some moment)) (h, k) = two_read bricks numbers (Session (Sweep brick (Some moment))) (codes "sweep") brick moment h k (as_line (λ p. Sweep p.0 (Some p.1))) refl refl refl refl refl
 session_read (Values brick) h = one_read bricks (Session (Values brick)) (codes "values") brick h (as_line (λ a. Values a)) refl refl refl refl refl
 session_read Windows h = no_read (Session Windows) (codes "windows") refl refl refl refl
 session_read (Hold brick) h = one_read bricks (Session (Hold brick)) (codes "hold") brick h (as_line (λ a. Hold a)) refl refl refl refl refl

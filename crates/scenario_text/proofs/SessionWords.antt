@@ -1,4 +1,4 @@
--- Texts to present, and how a pass is spent: what one word says, and what spells it.
+-- Texts, and how a pass is spent: what one word says, and what spells it.
 use Rattle.std.proofs.Common.{◌≡◌, ◌≢◌, ℕ, ◌<◌, ◌≤◌, ◌&&◌, Bool, true, false, cond, nat_le, List, length, Some, None, codes, refl, arith}
 use Rattle.std.specs.Bool.{Decides}
 use Rattle.std.specs.List.{list_all, All}
@@ -9,34 +9,34 @@ use Rattle.std.proofs.lemmas.Bool.Decides.{nat_tests, Decides-by_and}
 use Rattle.std.proofs.lemmas.Slice.Eq.{bytes_eq-Decides}
 use Rattle.scenario_text.specs.declared.session_line.Freed.{Freed}
 use Rattle.scenario_text.specs.declared.session_line.Freed.TheVariants.{Answered, Silent}
-use Rattle.scenario_text.specs.Fields.{is_presented_byte, presented_text, freed_of}
-use Rattle.scenario_text.specs.FieldSpelling.{IsPresented, freed_word}
+use Rattle.scenario_text.specs.Fields.{is_text_byte, text_of, freed_of}
+use Rattle.scenario_text.specs.FieldSpelling.{IsText, freed_word}
 use Rattle.scenario_text.proofs.Splits.{is_whole, tested_whole}
 
 -- the test of a byte of such a text decides what the grammar says of it, and so for texts
-presented_byte_decides : (b : ℕ) → Decides (is_presented_byte b) ((b < 128) × (b ≢ 32) × (b ≢ 13))
-presented_byte_decides b = (λ h. grind (arith, nat_tests), λ h. grind (arith, nat_tests))
+text_byte_decides : (b : ℕ) → Decides (is_text_byte b) ((b < 128) × (b ≢ 32) × (b ≢ 13))
+text_byte_decides b = (λ h. grind (arith, nat_tests), λ h. grind (arith, nat_tests))
 
-presented_bytes_decide : (bs : List ℕ) → Decides (list_all is_presented_byte bs) (All (λ b. (b < 128) × (b ≢ 32) × (b ≢ 13)) bs)
-presented_bytes_decide bs = Decides-by_and is_presented_byte (λ b. (b < 128) × (b ≢ 32) × (b ≢ 13)) (list_all is_presented_byte) presented_byte_decides refl (λ _ _. refl) bs
+text_bytes_decide : (bs : List ℕ) → Decides (list_all is_text_byte bs) (All (λ b. (b < 128) × (b ≢ 32) × (b ≢ 13)) bs)
+text_bytes_decide bs = Decides-by_and is_text_byte (λ b. (b < 128) × (b ≢ 32) × (b ≢ 13)) (list_all is_text_byte) text_byte_decides refl (λ _ _. refl) bs
 
 -- a word that says a text is that text
-pub presented_spelled : (word text : List ℕ) → presented_text word ≡ Some text → (word ≡ text) × IsPresented text
-presented_spelled word text h =
-    let g = cond_some (nat_le 1 (length word) && list_all is_presented_byte word) word text h in
-    let t = and_parts (nat_le 1 (length word)) (list_all is_presented_byte word) g.0 in
+pub text_spelled : (word text : List ℕ) → text_of word ≡ Some text → (word ≡ text) × IsText text
+text_spelled word text h =
+    let g = cond_some (nat_le 1 (length word) && list_all is_text_byte word) word text h in
+    let t = and_parts (nat_le 1 (length word)) (list_all is_text_byte word) g.0 in
     let some : 1 ≤ length word = grind (arith, nat_tests) in
-    (g.1, rw (← g.1) (some, (presented_bytes_decide word).0 t.1))
+    (g.1, rw (← g.1) (some, (text_bytes_decide word).0 t.1))
 
 -- and a text says itself
-pub presented_read : (text : List ℕ) → IsPresented text → presented_text text ≡ Some text
-presented_read text (some, each) =
+pub text_read : (text : List ℕ) → IsText text → text_of text ≡ Some text
+text_read text (some, each) =
     let long : nat_le 1 (length text) ≡ true = grind (arith, nat_tests) in
-    rw (long, (presented_bytes_decide text).1 each) refl
+    rw (long, (text_bytes_decide text).1 each) refl
 
 -- it has no space
-pub presented_whole : (text : List ℕ) → IsPresented text → is_whole text ≡ true
-presented_whole text (some, each) = tested_whole is_presented_byte (λ b p. grind (arith, nat_tests)) text ((presented_bytes_decide text).1 each)
+pub text_whole : (text : List ℕ) → IsText text → is_whole text ≡ true
+text_whole text (some, each) = tested_whole is_text_byte (λ b p. grind (arith, nat_tests)) text ((text_bytes_decide text).1 each)
 
 -- a word that says how a pass is spent is the word for it
 pub freed_spelled : (word : List ℕ) (freed : Freed) → freed_of word ≡ Some freed → (word ≡ freed_word freed) × Unit {0}

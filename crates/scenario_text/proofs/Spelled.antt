@@ -25,7 +25,7 @@ use Rattle.scenario_text.specs.declared.boot_line.BootLine.{BootLine}
 use Rattle.scenario_text.specs.declared.boot_line.BootLine.TheVariants.{Begin, Drop, Down, Up, Reboot, Table, Journal}
 use Rattle.crash_base.proofs.Options.{then_some, map_some}
 use Rattle.scenario_text.proofs.Splits.{words_joined}
-use Rattle.scenario_text.proofs.WordKinds.{names, numbers, callers, bytes, four_are}
+use Rattle.scenario_text.proofs.WordKinds.{names, numbers, callers, texts, bytes, four_are}
 use Rattle.scenario_text.proofs.LineForms.{Grammar, AreWords, same_line, form, no_form, one_form, two_form, three_form}
 use Rattle.scenario_text.proofs.LineReads.{IsRead, no_read, one_read, two_read}
 use Rattle.scenario_text.proofs.SessionSpelled.{one_of, session_spelled, session_read}
@@ -86,9 +86,9 @@ boot_spelled : (first : List ℕ) (words : List (List ℕ)) (line : BootLine) �
 boot_spelled first words line h =
     one_form boots callers (codes "begin") (λ c. Begin c) (λ _ r. (r, refl)) first words line _ (
     one_form boots callers (codes "drop") (λ c. Drop c) (λ _ r. (r, refl)) first words line _ (
-    one_form boots names (codes "down") (λ n. Down n) (λ _ r. (r, refl)) first words line _ (
-    one_form boots names (codes "up") (λ n. Up n) (λ _ r. (r, refl)) first words line _ (
-    one_form boots names (codes "reboot") (λ n. Reboot n) (λ _ r. (r, refl)) first words line _ (
+    one_form boots texts (codes "down") (λ t. Down t) (λ _ r. (r, refl)) first words line _ (
+    one_form boots texts (codes "up") (λ t. Up t) (λ _ r. (r, refl)) first words line _ (
+    one_form boots texts (codes "reboot") (λ t. Reboot t) (λ _ r. (r, refl)) first words line _ (
     no_form boots (codes "table") Table (tt, refl) first words line _ (
     no_form boots (codes "journal") Journal (tt, refl) first words line _ (
     λ k. cc))))))) h
@@ -212,9 +212,9 @@ call_read caller (Put table key row) h (t, k, b) = (refl, words_joined (codes "p
 boot_read : (line : BootLine) → IsBootInRange line → IsRead (Boot line)
 boot_read (Begin caller) h = one_read callers (Boot (Begin caller)) (codes "begin") caller h (as_boot (λ a. Begin a)) refl refl refl refl refl
 boot_read (Drop caller) h = one_read callers (Boot (Drop caller)) (codes "drop") caller h (as_boot (λ a. Drop a)) refl refl refl refl refl
-boot_read (Down name) h = one_read names (Boot (Down name)) (codes "down") name h (as_boot (λ a. Down a)) refl refl refl refl refl
-boot_read (Up name) h = one_read names (Boot (Up name)) (codes "up") name h (as_boot (λ a. Up a)) refl refl refl refl refl
-boot_read (Reboot name) h = one_read names (Boot (Reboot name)) (codes "reboot") name h (as_boot (λ a. Reboot a)) refl refl refl refl refl
+boot_read (Down word) h = one_read texts (Boot (Down word)) (codes "down") word h (as_boot (λ a. Down a)) refl refl refl refl refl
+boot_read (Up word) h = one_read texts (Boot (Up word)) (codes "up") word h (as_boot (λ a. Up a)) refl refl refl refl refl
+boot_read (Reboot word) h = one_read texts (Boot (Reboot word)) (codes "reboot") word h (as_boot (λ a. Reboot a)) refl refl refl refl refl
 boot_read Table h = no_read (Boot Table) (codes "table") refl refl refl refl
 boot_read Journal h = no_read (Boot Journal) (codes "journal") refl refl refl refl
 

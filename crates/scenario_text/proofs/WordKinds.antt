@@ -8,13 +8,13 @@ use Rattle.crash_base.specs.Names.{is_name_byte}
 use Rattle.scenario_text.specs.declared.line.TheConstants.{MAX_CALLER}
 use Rattle.scenario_text.specs.declared.session_line.TheConstants.{MAX_KEY}
 use Rattle.scenario_text.specs.declared.session_line.Freed.{Freed}
-use Rattle.scenario_text.specs.Fields.{name_of, decimal_number, brick_number, caller_number, key_number, hex_bytes, presented_text, freed_of}
+use Rattle.scenario_text.specs.Fields.{name_of, decimal_number, brick_number, caller_number, key_number, hex_bytes, text_of, freed_of}
 use Rattle.scenario_text.specs.Texts.{hex_text}
-use Rattle.scenario_text.specs.FieldSpelling.{IsName, IsNumber, IsBrick, IsCaller, IsSessionKey, IsPresented, AreBytes, caller_word, key_word, freed_word}
+use Rattle.scenario_text.specs.FieldSpelling.{IsName, IsNumber, IsBrick, IsCaller, IsSessionKey, IsText, AreBytes, caller_word, key_word, freed_word}
 use Rattle.scenario_text.specs.Words.{one_word, two_words, three_words, four_words}
 use Rattle.scenario_text.proofs.OneWord.{number_read, number_spelled, brick_read, brick_spelled, decimal_digits, lettered_read, lettered_spelled, is_name_read, name_read, name_spelled}
 use Rattle.scenario_text.proofs.Splits.{is_whole, whole_more, digits_whole, name_whole}
-use Rattle.scenario_text.proofs.SessionWords.{presented_read, presented_spelled, presented_whole, freed_read, freed_spelled, freed_whole}
+use Rattle.scenario_text.proofs.SessionWords.{text_read, text_spelled, text_whole, freed_read, freed_spelled, freed_whole}
 use Rattle.scenario_text.proofs.Hexadecimal.{hex_spelled, hex_read, hex_whole}
 
 -- A kind of words: what one says, the word of what it says, and what that may be. Each of both follows from the other.
@@ -57,7 +57,7 @@ abbrev pub keys : Kind ℕ
 keys = record { says = key_number; word = key_word; IsIn = IsSessionKey; spelled = lettered_spelled 107 MAX_KEY; read = lettered_read 107 MAX_KEY (omega arith); whole = key_whole }
 
 abbrev pub texts : Kind (List ℕ)
-texts = record { says = presented_text; word = λ t. t; IsIn = IsPresented; spelled = presented_spelled; read = presented_read; whole = presented_whole }
+texts = record { says = text_of; word = λ t. t; IsIn = IsText; spelled = text_spelled; read = text_read; whole = text_whole }
 
 abbrev pub outcomes : Kind Freed
 outcomes = record { says = freed_of; word = freed_word; IsIn = λ _. Unit {0}; spelled = freed_spelled; read = λ f _. freed_read f; whole = λ f _. freed_whole f }

@@ -2,7 +2,7 @@
 use Rattle.std.specs.Prelude.{ℕ, List, Option, option_and_then}
 use Rattle.std.specs.Option.{option_zip}
 use Rattle.scenario_text.specs.declared.session_line.Freed.{Freed}
-use Rattle.scenario_text.specs.Fields.{name_of, decimal_number, brick_number, caller_number, key_number, hex_bytes, presented_text, freed_of}
+use Rattle.scenario_text.specs.Fields.{name_of, decimal_number, brick_number, caller_number, key_number, hex_bytes, text_of, freed_of}
 use Rattle.scenario_text.specs.Words.{one_word, two_words, three_words}
 
 -- the name that is the only word
@@ -59,7 +59,7 @@ one_key words = option_and_then key_number (one_word words)
 
 -- the text that is the only word
 abbrev pub one_text : List (List ℕ) → Option (List ℕ)
-one_text words = option_and_then presented_text (one_word words)
+one_text words = option_and_then text_of (one_word words)
 
 -- two words, a session key and bytes
 abbrev pub key_and_bytes : List (List ℕ) → Option (ℕ × List ℕ)

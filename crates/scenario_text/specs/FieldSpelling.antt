@@ -39,9 +39,9 @@ IsSessionKey key = IsWithin 1 MAX_KEY key
 abbrev pub AreBytes : List ℕ → Type 0
 AreBytes bytes = (length bytes ≤ MAX_HEX_BYTES) × All (λ b. b < 256) bytes
 
--- what a line may present: some bytes of ASCII, none of them a space or a carriage return
-abbrev pub IsPresented : List ℕ → Type 0
-IsPresented text =
+-- what a text may be, as any word: some bytes of ASCII, none of them a space or a carriage return
+abbrev pub IsText : List ℕ → Type 0
+IsText text =
     (1 ≤ length text) × All (λ b. (b < 128) × (b ≢ 32) × (b ≢ 13)) text
 
 -- a caller's word: c and its number

@@ -81,13 +81,13 @@ hex_bytes word =
     else None)
 
 -- ASCII, and no space and no carriage return
-abbrev pub is_presented_byte : ℕ → Bool
-is_presented_byte b = is_ascii b && (not (b == 32) && not (b == 13))
+abbrev pub is_text_byte : ℕ → Bool
+is_text_byte b = is_ascii b && (not (b == 32) && not (b == 13))
 
--- a word that is a text to present: some such bytes
-abbrev pub presented_text : List ℕ → Option (List ℕ)
-presented_text word =
-    if nat_le 1 (length word) && list_all is_presented_byte word then Some word else None
+-- a word that is a text: some such bytes
+abbrev pub text_of : List ℕ → Option (List ℕ)
+text_of word =
+    if nat_le 1 (length word) && list_all is_text_byte word then Some word else None
 
 -- how a pass is spent, by the word for it
 abbrev pub freed_of : List ℕ → Option Freed

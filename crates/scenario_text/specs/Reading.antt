@@ -15,7 +15,7 @@ use Rattle.scenario_text.specs.declared.boot_line.BootLine.{BootLine}
 use Rattle.scenario_text.specs.declared.boot_line.BootLine.TheVariants.{Begin, Drop, Down, Up, Reboot, Table, Journal}
 use Rattle.scenario_text.specs.Fields.{decimal_number, caller_number, hex_bytes}
 use Rattle.scenario_text.specs.Words.{words_of, no_words, four_words}
-use Rattle.scenario_text.specs.Arguments.{one_name, one_caller, one_bytes, two_names, two_numbers, name_and_number, caller_and_name, caller_and_number, caller_and_two_numbers, three_numbers}
+use Rattle.scenario_text.specs.Arguments.{one_name, one_caller, one_bytes, one_text, two_names, two_numbers, name_and_number, caller_and_name, caller_and_number, caller_and_two_numbers, three_numbers}
 use Rattle.scenario_text.specs.SessionReading.{session_line}
 
 -- the line of put and these words: a caller, the numbers of a table and a key, and bytes
@@ -42,9 +42,9 @@ abbrev pub boot_line : List ℕ → List (List ℕ) → Option BootLine
 boot_line first words =
     if bytes_eq first (codes "begin") then option_map (λ c. Begin c) (one_caller words) else (
     if bytes_eq first (codes "drop") then option_map (λ c. Drop c) (one_caller words) else (
-    if bytes_eq first (codes "down") then option_map (λ n. Down n) (one_name words) else (
-    if bytes_eq first (codes "up") then option_map (λ n. Up n) (one_name words) else (
-    if bytes_eq first (codes "reboot") then option_map (λ n. Reboot n) (one_name words) else (
+    if bytes_eq first (codes "down") then option_map (λ t. Down t) (one_text words) else (
+    if bytes_eq first (codes "up") then option_map (λ t. Up t) (one_text words) else (
+    if bytes_eq first (codes "reboot") then option_map (λ t. Reboot t) (one_text words) else (
     if bytes_eq first (codes "table") then option_map (λ _. Table) (no_words words) else (
     if bytes_eq first (codes "journal") then option_map (λ _. Journal) (no_words words) else None))))))
 

@@ -1,9 +1,9 @@
 -- Which line about sessions a text spells.
-use Rattle.std.specs.Prelude.{ℕ, if◌then◌else◌, List, Option, None, codes}
+use Rattle.std.specs.Prelude.{ℕ, if◌then◌else◌, List, Option, Some, None, codes}
 use Rattle.std.specs.Option.{option_map, option_or}
 use Rattle.std.specs.Str.{bytes_eq}
 use Rattle.scenario_text.specs.declared.session_line.SessionLine.{SessionLine}
-use Rattle.scenario_text.specs.declared.session_line.SessionLine.TheVariants.{Now, Write, Fetch, Cookie, Present, Lose, Mute, Repeat, Crash, Sweep, SweepAt, Values, Windows, Hold, Free}
+use Rattle.scenario_text.specs.declared.session_line.SessionLine.TheVariants.{Now, Write, Fetch, Cookie, Present, Lose, Mute, Repeat, Crash, Sweep, Values, Windows, Hold, Free}
 use Rattle.scenario_text.specs.Words.{no_words}
 use Rattle.scenario_text.specs.Arguments.{one_number, one_key, one_text, one_brick, brick_and_number, key_and_bytes, brick_and_freed}
 
@@ -11,8 +11,8 @@ use Rattle.scenario_text.specs.Arguments.{one_number, one_key, one_text, one_bri
 abbrev pub sweep_line : List (List ℕ) → Option SessionLine
 sweep_line words =
     option_or
-    (option_map (λ b. Sweep b) (one_brick words))
-    (option_map (λ p. SweepAt p.0 p.1) (brick_and_number words))
+    (option_map (λ b. Sweep b None) (one_brick words))
+    (option_map (λ p. Sweep p.0 (Some p.1)) (brick_and_number words))
 
 -- the line about sessions that a first word and the further words spell
 abbrev pub session_line : List ℕ → List (List ℕ) → Option SessionLine

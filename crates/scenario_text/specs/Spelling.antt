@@ -12,7 +12,7 @@ use Rattle.scenario_text.specs.declared.call_line.CallLine.TheVariants.{Enter, E
 use Rattle.scenario_text.specs.declared.boot_line.BootLine.{BootLine}
 use Rattle.scenario_text.specs.declared.boot_line.BootLine.TheVariants.{Begin, Drop, Down, Up, Reboot, Table, Journal}
 use Rattle.scenario_text.specs.Texts.{hex_text}
-use Rattle.scenario_text.specs.FieldSpelling.{IsName, IsNumber, IsCaller, AreBytes, caller_word}
+use Rattle.scenario_text.specs.FieldSpelling.{IsName, IsNumber, IsCaller, IsText, AreBytes, caller_word}
 use Rattle.scenario_text.specs.SessionSpelling.{IsSessionInRange, words_of_session_line}
 
 -- the numbers, names and bytes of a line of the head are in their ranges
@@ -37,9 +37,9 @@ IsCallInRange (Put table key bytes) = IsNumber table × IsNumber key × AreBytes
 abbrev pub IsBootInRange : BootLine → Type 0
 IsBootInRange (Begin caller) = IsCaller caller
 IsBootInRange (Drop caller) = IsCaller caller
-IsBootInRange (Down name) = IsName name
-IsBootInRange (Up name) = IsName name
-IsBootInRange (Reboot name) = IsName name
+IsBootInRange (Down word) = IsText word
+IsBootInRange (Up word) = IsText word
+IsBootInRange (Reboot word) = IsText word
 IsBootInRange Table = Unit {0}
 IsBootInRange Journal = Unit {0}
 
@@ -78,9 +78,9 @@ words_of_call_line caller (Put table key bytes) =
 abbrev pub words_of_boot_line : BootLine → List (List ℕ)
 words_of_boot_line (Begin caller) = codes "begin" ∷ caller_word caller ∷ []
 words_of_boot_line (Drop caller) = codes "drop" ∷ caller_word caller ∷ []
-words_of_boot_line (Down name) = codes "down" ∷ name ∷ []
-words_of_boot_line (Up name) = codes "up" ∷ name ∷ []
-words_of_boot_line (Reboot name) = codes "reboot" ∷ name ∷ []
+words_of_boot_line (Down word) = codes "down" ∷ word ∷ []
+words_of_boot_line (Up word) = codes "up" ∷ word ∷ []
+words_of_boot_line (Reboot word) = codes "reboot" ∷ word ∷ []
 words_of_boot_line Table = codes "table" ∷ []
 words_of_boot_line Journal = codes "journal" ∷ []
 

@@ -5,13 +5,12 @@ ghost use Rattle.scenario_text.specs.Arguments.{one_name, one_number, one_caller
 ghost use Rattle.scenario_text.specs.Words.{words_after};
 
 use crate::fields::{
-    brick_number, caller_number, decimal_number, freed_of, hex_bytes, key_number, name_of,
-    presented_text,
+    brick_number, caller_number, decimal_number, freed_of, hex_bytes, key_number, name_of, text_of,
 };
 use crate::line::HexBytes;
 use crate::session_line::Freed;
 use crate::words::{one_word, three_words, two_words};
-use crash_base::{ComponentName, CookieText, OutOfMemory};
+use crash_base::{ComponentName, OutOfMemory, WordText};
 use std::alloc::Global;
 
 /// The name that is the only word.
@@ -123,11 +122,11 @@ pub fn one_key(left: &[u8]) -> Option<u64>
 }
 
 /// The text that is the only word.
-pub fn one_text(alloc: Global, left: &[u8]) -> Result<Option<CookieText>, OutOfMemory>
+pub fn one_text(alloc: Global, left: &[u8]) -> Result<Option<WordText>, OutOfMemory>
     ensures { IfOk result (λ text. text ≡ one_text (words_after left.now)) }
 {
     match one_word(left) {
-        Some(text) => presented_text(alloc, text),
+        Some(text) => text_of(alloc, text),
         None => Ok(None),
     }
 }

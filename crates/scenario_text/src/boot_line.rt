@@ -1,20 +1,24 @@
 //! Lines over the boot.
 
-use crash_base::ComponentName;
+use crash_base::WordText;
 
 /// A line over the boot, with what its words say, in their order. A caller `cN` is its number N.
+///
+/// A `begin` and a `drop` are among these since they act on the boot's room for tickets: a call that begins takes its
+/// ticket from there, and one that is dropped gives it back.
 #[derive(Drop)]
 pub enum BootLine {
     /// The caller that begins a call.
     Begin(u64),
     /// The caller whose call is dropped.
     Drop(u64),
-    /// The word for what goes down: a component, or `app` for the whole application.
-    Down(ComponentName),
+    /// The word for what goes down: the name of a component, or `app` for the whole application. A word that is
+    /// neither stands here too, until the boot is asked what it names.
+    Down(WordText),
     /// The word for what comes up.
-    Up(ComponentName),
+    Up(WordText),
     /// The word for what goes down and comes up at once.
-    Reboot(ComponentName),
+    Reboot(WordText),
     /// The current rows are written.
     Table,
     /// The journal is written.

@@ -3,11 +3,11 @@
 ghost use Rattle.std.specs.Prelude.{◌≡◌, ◌<◌, ◌≤◌, ◌*◌, length, IfOk, IfSome, Option};
 ghost use Rattle.std.specs.Option.{option_map};
 ghost use Rattle.std.specs.List.{list_all};
-ghost use Rattle.scenario_text.specs.Fields.{name_of, decimal_number, brick_number, lettered_number, caller_number, key_number, hex_digit, hex_byte, bytes_of_digits, hex_bytes, is_presented_byte, presented_text, freed_of};
+ghost use Rattle.scenario_text.specs.Fields.{name_of, decimal_number, brick_number, lettered_number, caller_number, key_number, hex_digit, hex_byte, bytes_of_digits, hex_bytes, is_text_byte, text_of, freed_of};
 
 use crate::line::{HexBytes, MAX_CALLER, MAX_HEX_BYTES};
 use crate::session_line::{Freed, MAX_KEY};
-use crash_base::{ComponentName, CookieText, OutOfMemory, is_name};
+use crash_base::{ComponentName, OutOfMemory, WordText, is_name};
 use std::alloc::Global;
 
 /// A copy of a word that is a name.
@@ -140,28 +140,28 @@ pub fn hex_bytes(alloc: Global, word: &[u8]) -> Result<Option<HexBytes>, OutOfMe
     Ok(Some(HexBytes::from_vec(bytes)))
 }
 
-/// Whether a text to present may have this byte.
-fn is_presented_byte(b: u8) -> bool
-    ensures { result ≡ is_presented_byte b }
+/// Whether a text may have this byte.
+fn is_text_byte(b: u8) -> bool
+    ensures { result ≡ is_text_byte b }
 {
     b.is_ascii() && b != b' ' && b != b'\r'
 }
 
-/// Whether a text to present may have each of these bytes.
-fn has_presented_bytes(word: &[u8]) -> bool
-    ensures { result ≡ list_all is_presented_byte word.now }
+/// Whether a text may have each of these bytes.
+fn has_text_bytes(word: &[u8]) -> bool
+    ensures { result ≡ list_all is_text_byte word.now }
 {
-    word.iter().all(|b| is_presented_byte(*b))
+    word.iter().all(|b| is_text_byte(*b))
 }
 
-/// A copy of a word that is a text to present.
-pub fn presented_text(alloc: Global, word: &[u8]) -> Result<Option<CookieText>, OutOfMemory>
-    ensures { IfOk result (λ text. text ≡ presented_text word.now) }
+/// A copy of a word that is a text, as any word of ASCII is.
+pub fn text_of(alloc: Global, word: &[u8]) -> Result<Option<WordText>, OutOfMemory>
+    ensures { IfOk result (λ text. text ≡ text_of word.now) }
 {
-    if word.is_empty() || !has_presented_bytes(word) {
+    if word.is_empty() || !has_text_bytes(word) {
         return Ok(None);
     }
-    Ok(Some(CookieText::copied(alloc, word)?))
+    Ok(Some(WordText::copied(alloc, word)?))
 }
 
 /// How a pass is spent, by the word for it.

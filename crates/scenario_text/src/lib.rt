@@ -51,10 +51,10 @@
 //! is `c` and a number from 1 to 65,535 (`MAX_CALLER`), and a session key is `k` and a number from 1
 //! to 65,535 (`MAX_KEY`); numbers are decimal without leading zeros, and below 2^64, and a brick is a
 //! number from 1 on; bytes are in lower case hexadecimal, at most 4,000 (`MAX_HEX_BYTES`), and `-` where
-//! there are none. The text of `present` is one word that is not empty, of ASCII without spaces and
-//! carriage returns. A pass is freed as `answered` or as `silent`. An empty line passes, and so does a
-//! comment: `#` and then ASCII without a carriage return. A line has at most 8,192 bytes
-//! (`MAX_LINE_BYTES`).
+//! there are none. A text is any word: some bytes of ASCII, none of them a space or a carriage return. So
+//! `present` has a text, and so have `down`, `up` and `reboot`, whose text the boot is asked for. A pass
+//! is freed as `answered` or as `silent`. An empty line passes, and so does a comment: `#` and then ASCII
+//! without a carriage return. A line has at most 8,192 bytes (`MAX_LINE_BYTES`).
 //!
 //! A line is sorted when it is read, by what it acts on: the head, the live call of a caller, the boot,
 //! or the sessions. So a new form has its place in one of `HeadLine`, `CallLine`, `BootLine` and
@@ -64,7 +64,7 @@
 //! exactly where the text is the words of that line, with its numbers, names, bytes and text in
 //! their ranges; so only a line that passes has more than one spelling. `lines_law` says the same of
 //! cutting. Reading visits each byte of a line a few times, and takes memory only for the names, the
-//! bytes and the text that the line says, without spare room. `write_hex` writes bytes as a line
+//! bytes and the texts that the line says, without spare room. `write_hex` writes bytes as a line
 //! spells them.
 #![tactic(auto)]
 

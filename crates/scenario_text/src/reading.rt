@@ -7,7 +7,7 @@ ghost use Rattle.scenario_text.specs.Reading.{line_of, passes, is_comment_byte, 
 
 use crate::arguments::{
     caller_and_name, caller_and_number, caller_and_two_numbers, name_and_number, one_bytes,
-    one_caller, one_name, three_numbers, two_names, two_numbers,
+    one_caller, one_name, one_text, three_numbers, two_names, two_numbers,
 };
 use crate::boot_line::BootLine;
 use crate::call_line::CallLine;
@@ -71,11 +71,11 @@ fn boot_line(alloc: Global, first: &[u8], left: &[u8]) -> Result<Option<BootLine
     } else if first == b"drop".as_slice() {
         Ok(one_caller(left).map(BootLine::Drop))
     } else if first == b"down".as_slice() {
-        Ok(one_name(alloc, left)?.map(BootLine::Down))
+        Ok(one_text(alloc, left)?.map(BootLine::Down))
     } else if first == b"up".as_slice() {
-        Ok(one_name(alloc, left)?.map(BootLine::Up))
+        Ok(one_text(alloc, left)?.map(BootLine::Up))
     } else if first == b"reboot".as_slice() {
-        Ok(one_name(alloc, left)?.map(BootLine::Reboot))
+        Ok(one_text(alloc, left)?.map(BootLine::Reboot))
     } else if first == b"table".as_slice() {
         Ok(no_words(left).map(|()| BootLine::Table))
     } else if first == b"journal".as_slice() {

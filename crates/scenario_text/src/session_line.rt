@@ -36,10 +36,8 @@ pub enum SessionLine {
     Repeat(u64, u64),
     /// The brick.
     Crash(u64),
-    /// The brick, which is swept at the present moment.
-    Sweep(u64),
-    /// The brick, and the moment at which it is swept.
-    SweepAt(u64, u64),
+    /// The brick, and the moment at which it is swept, where it is not the present one.
+    Sweep(u64, Option<u64>),
     /// The brick.
     Values(u64),
     /// Nothing: the windows of all bricks are written.

@@ -16,8 +16,10 @@ use std::alloc::Global;
 fn sweep_line(left: &[u8]) -> Option<SessionLine>
     ensures { result ≡ sweep_line (words_after left.now) }
 {
-    let at = brick_and_number(left).map(|(brick, moment)| SessionLine::SweepAt(brick, moment));
-    one_brick(left).map(SessionLine::Sweep).or(at)
+    let at = brick_and_number(left).map(|(brick, moment)| SessionLine::Sweep(brick, Some(moment)));
+    one_brick(left)
+        .map(|brick| SessionLine::Sweep(brick, None))
+        .or(at)
 }
 
 /// The line about sessions that a first word and the words after it spell.

@@ -1,5 +1,5 @@
 -- Each line, and each boot, leaves worlds that events made, and lanes that name replies of their bricks.
-use Rattle.std.proofs.Common.{◌≡◌, ℕ, zero, suc, ◌-◌, ◌^◌, Bool, true, false, not, nat_lt, if◌then◌else◌, List, [], ◌∷◌, length, map, Option, Some, None, Result, Ok, Err, All, refl, sym, subst, ◌∙◌}
+use Rattle.std.proofs.Common.{◌≡◌, ℕ, zero, suc, ◌-◌, ◌^◌, Bool, true, false, not, nat_lt, if◌then◌else◌, List, [], ◌∷◌, length, map, Option, unwrap_or, Some, None, Result, Ok, Err, All, refl, sym, subst, ◌∙◌}
 use Rattle.std.specs.Prelude.{slice_get}
 use Rattle.std.proofs.lemmas.List.{length-replicate}
 use Rattle.std.proofs.lemmas.List.Elements.{All-nil, All-push, All-get_or}
@@ -296,8 +296,7 @@ line_keeps s (lines.Lose brick more) sound = lose_keeps s brick more sound
 line_keeps s (lines.Mute brick more) sound = mute_keeps s brick more sound
 line_keeps s (lines.Repeat brick number) sound = repeat_keeps s brick number sound
 line_keeps s (lines.Crash brick) sound = crash_keeps s brick sound
-line_keeps s (lines.Sweep brick) sound = sweep_keeps s brick s.moment.0 sound
-line_keeps s (lines.SweepAt brick moment) sound = sweep_keeps s brick moment sound
+line_keeps s (lines.Sweep brick moment) sound = sweep_keeps s brick (unwrap_or moment s.moment.0) sound
 line_keeps s (lines.Values brick) sound = values_keep s brick sound
 line_keeps s lines.Windows sound = window_texts_keep s sound
 line_keeps s (lines.Hold brick) sound = hold_keeps s brick sound

@@ -1,5 +1,5 @@
 -- Each line keeps what holds of sessions between two lines.
-use Rattle.std.proofs.Common.{◌≡◌, ◌≤◌, not, Bool, true, false, if◌then◌else◌, nat_lt, All, ℕ, List, [], length, map, Option, Some, None, Result, Ok, Err, refl, sym, ap, subst, ◌∙◌, arith}
+use Rattle.std.proofs.Common.{◌≡◌, ◌≤◌, not, Bool, true, false, if◌then◌else◌, nat_lt, All, ℕ, List, [], length, map, Option, unwrap_or, Some, None, Result, Ok, Err, refl, sym, ap, subst, ◌∙◌, arith}
 use Rattle.std.specs.Prelude.{slice_get}
 use Rattle.std.proofs.lemmas.Bool.Decides.{nat_tests}
 use Rattle.std.proofs.lemmas.List.Elements.{All-nil}
@@ -149,8 +149,7 @@ line_leaves s (lines.Lose brick more) are sound = lose_leaves s brick more are
 line_leaves s (lines.Mute brick more) are sound = mute_leaves s brick more are
 line_leaves s (lines.Repeat brick number) are sound = repeat_leaves s brick number are
 line_leaves s (lines.Crash brick) are sound = crash_leaves s brick are
-line_leaves s (lines.Sweep brick) are sound = sweep_leaves s brick s.moment.0 are
-line_leaves s (lines.SweepAt brick moment) are sound = sweep_leaves s brick moment are
+line_leaves s (lines.Sweep brick moment) are sound = sweep_leaves s brick (unwrap_or moment s.moment.0) are
 line_leaves s (lines.Values brick) are sound = values_leave s brick are
 line_leaves s lines.Windows are sound = windows_leave s are
 line_leaves s (lines.Hold brick) are sound = hold_leaves s brick are

@@ -1,6 +1,6 @@
 -- What turns add to the histories of the bricks of sessions.
 use Rattle.ssm_stub.specs.Writes.{heard_passes}
-use Rattle.std.proofs.Common.{◌≡◌, ◌⊎◌, inl, inr, ℕ, ◌-◌, ◌^◌, Bool, true, false, not, if◌then◌else◌, nat_lt, List, [], ◌∷◌, length, Option, Some, None, refl, sym, ap, ◌∙◌, subst}
+use Rattle.std.proofs.Common.{◌≡◌, ◌⊎◌, inl, inr, ℕ, ◌-◌, ◌^◌, Bool, true, false, not, if◌then◌else◌, nat_lt, List, [], ◌∷◌, length, Option, unwrap_or, Some, None, refl, sym, ap, ◌∙◌, subst}
 use Rattle.std.specs.Prelude.{slice_get}
 use Rattle.crash_base.specs.declared.numbers.Moment.{Moment}
 use Rattle.crash_base.specs.declared.numbers.Version.{Version}
@@ -357,8 +357,7 @@ turn_goes s (Does (lines.Lose brick more) text) t sound is = lose_goes s brick m
 turn_goes s (Does (lines.Mute brick more) text) t sound is = mute_goes s brick more t text is
 turn_goes s (Does (lines.Repeat brick number) text) t sound is = repeat_goes s brick number t text is
 turn_goes s (Does (lines.Crash brick) text) t sound is = crash_goes s brick t text is
-turn_goes s (Does (lines.Sweep brick) text) t sound is = sweep_goes s brick s.moment.0 (lines.Sweep brick) t text (record { crash = λ b. refl; sweep = λ b. refl }) refl is
-turn_goes s (Does (lines.SweepAt brick moment) text) t sound is = sweep_goes s brick moment (lines.SweepAt brick moment) t text (record { crash = λ b. refl; sweep = λ b. refl }) refl is
+turn_goes s (Does (lines.Sweep brick moment) text) t sound is = sweep_goes s brick (unwrap_or moment s.moment.0) (lines.Sweep brick moment) t text (record { crash = λ b. refl; sweep = λ b. refl }) refl is
 turn_goes s (Does (lines.Values brick) text) t sound is = values_goes s brick t text is
 turn_goes s (Does lines.Windows text) t sound is = windows_goes s t text is
 turn_goes s (Does (lines.Hold brick) text) t sound is = hold_goes s brick t text is

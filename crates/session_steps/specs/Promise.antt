@@ -1,5 +1,5 @@
 -- What a scenario promises of its sessions, by its lines and what they wrote.
-use Rattle.std.specs.Prelude.{◌≡◌, ℕ, ◌+◌, ◌<◌, ◌≤◌, ◌==◌, ◌⊎◌, Bool, true, false, if◌then◌else◌, List, [], ◌∷◌, ◌++◌, length, slice_get, Option, Some, None}
+use Rattle.std.specs.Prelude.{◌≡◌, ℕ, ◌+◌, ◌<◌, ◌≤◌, ◌==◌, ◌⊎◌, Bool, true, false, if◌then◌else◌, List, [], ◌∷◌, ◌++◌, length, slice_get, Option, unwrap_or, Some, None}
 use Rattle.std.specs.List.{count_by}
 use Rattle.crash_base.specs.declared.numbers.Moment.{Moment}
 use Rattle.brick_store.specs.History.{later}
@@ -61,8 +61,8 @@ moment_after now (Boots number) = now
 
 -- the moment at which a turn sweeps the brick of a number, where it does
 abbrev pub sweep_by : Moment → ℕ → SessionTurn → List Moment
-sweep_by now brick (Does (lines.Sweep b) text) = if b == brick then now ∷ [] else []
-sweep_by now brick (Does (lines.SweepAt b moment) text) = if b == brick then record { 0 = moment } ∷ [] else []
+sweep_by now brick (Does (lines.Sweep b moment) text) =
+    if b == brick then record { 0 = unwrap_or moment now.0 } ∷ [] else []
 sweep_by now brick (Does line text) = []
 sweep_by now brick (Boots number) = []
 

@@ -1,5 +1,5 @@
 -- The sessions of a scenario, and what each line about them does and writes.
-use Rattle.std.specs.Prelude.{ℕ, suc, ◌+◌, ◌-◌, ◌^◌, min, nat_lt, not, if◌then◌else◌, List, [], ◌++◌, length, slice_get, slice_set, Option, Some, None, Result, Ok, Err}
+use Rattle.std.specs.Prelude.{ℕ, suc, ◌+◌, ◌-◌, ◌^◌, min, nat_lt, not, if◌then◌else◌, List, [], ◌++◌, length, slice_get, slice_set, Option, unwrap_or, Some, None, Result, Ok, Err}
 use Rattle.std.specs.Int.{w128, to_be_bytes}
 use Rattle.std.specs.Option.{option_and_then}
 use lib.ListN.{replicate}
@@ -290,8 +290,7 @@ session_line s (lines.Lose brick more) = lose_line s brick more
 session_line s (lines.Mute brick more) = mute_line s brick more
 session_line s (lines.Repeat brick number) = repeat_line s brick number
 session_line s (lines.Crash brick) = crash_line s brick
-session_line s (lines.Sweep brick) = sweep_line s brick s.moment.0
-session_line s (lines.SweepAt brick moment) = sweep_line s brick moment
+session_line s (lines.Sweep brick moment) = sweep_line s brick (unwrap_or moment s.moment.0)
 session_line s (lines.Values brick) = values_line s brick
 session_line s lines.Windows = windows_line s
 session_line s (lines.Hold brick) = hold_line s brick
