@@ -10,6 +10,9 @@ use std::ops::Range;
 /// How many rows the table has that is listed.
 const LISTED_ROWS: u64 = 1_000;
 
+/// How many rows are committed over where there may be no memory.
+const SHARED_ROWS: u64 = 3;
+
 /// How many rows are looked at.
 const LOOK_ROWS: u64 = 4;
 
@@ -85,6 +88,73 @@ pub(crate) fn falling(alloc: Global, store: &mut Store, count: u64) -> Result<u6
             key: place,
         };
         if is_committed(alloc, store, count - place, id, place)? {
+            made = made.wrapping_add(1);
+        }
+    }
+    Ok(made)
+}
+
+/// The row of the commit at a place, which is one of three.
+fn shared(place: u64) -> RowId
+    ensures { 0 < result.table }
+{
+    RowId {
+        table: TABLE,
+        key: place % SHARED_ROWS,
+    }
+}
+
+/// Whether the boot has just the commits at the places before this one: its journal ends there, and each of their rows
+/// is what its commit wrote, until the next commit of that row.
+fn has_just(store: &Store, end: u64) -> bool {
+    if store.entries() != end {
+        return false;
+    }
+    for place in 0..end {
+        if !store.has(shared(place), Place(place + 1), place) {
+            return false;
+        }
+    }
+    for key in 0..SHARED_ROWS {
+        let id = RowId { table: TABLE, key };
+        if store.newest(id) != newest_before(end, key) {
+            return false;
+        }
+    }
+    true
+}
+
+/// The place after the last commit before `end` of the row of a key, else 0.
+fn newest_before(end: u64, key: u64) -> u64 {
+    let mut newest = 0;
+    for place in 0..end {
+        if place % SHARED_ROWS == key {
+            newest = place + 1;
+        }
+    }
+    newest
+}
+
+/// Makes a commit at a place, and where there is no memory for it, once more over the boot as it was. Whether it was
+/// answered its place, and nothing else changed.
+fn is_retried(alloc: Global, store: &mut Store, place: u64) -> Result<bool, OutOfMemory> {
+    match is_committed(alloc, store, place, shared(place), place) {
+        Ok(made) => Ok(made && has_just(store, place.wrapping_add(1))),
+        Err(OutOfMemory) => {
+            if !has_just(store, place) {
+                return Ok(false);
+            }
+            is_committed(alloc, store, place, shared(place), place)
+        }
+    }
+}
+
+/// Makes `count` commits over three rows, each once more where there was no memory for it. How many were answered their
+/// places and left the others as they were.
+pub(crate) fn retries(alloc: Global, store: &mut Store, count: u64) -> Result<u64, OutOfMemory> {
+    let mut made: u64 = 0;
+    for place in 0..count {
+        if is_retried(alloc, store, place)? {
             made = made.wrapping_add(1);
         }
     }

@@ -1,9 +1,10 @@
-//! A boot of two components over a keeper in memory, and whole calls of it.
+//! A boot of two components over a keeper that keeps nothing, and whole calls of it.
 
 ghost use Rattle.std.specs.Prelude.{◌<◌, IfOk};
 ghost use Rattle.boot_core.specs.Fits.{FitsIn};
 ghost use Rattle.journal_model.specs.Fits.{IsWrite};
 
+use crate::null_keeper::NullKeeper;
 use boot_core::{
     Boot, CommitRefusal, JournalLimits, MAX_ENTRIES, MAX_JOURNAL_BYTES, MAX_STEPS, Start, Ticket,
 };
@@ -12,7 +13,6 @@ use crash_base::{
     WorkerNo,
 };
 use deployment::{ComponentPart, Deployment, MethodList, Parts, TablePart};
-use outside::{CallList, MapKeeper};
 use std::alloc::Global;
 
 /// The component that owns both tables.
@@ -33,11 +33,11 @@ const LIMITS: JournalLimits = JournalLimits {
     bytes: MAX_JOURNAL_BYTES,
 };
 
-/// A boot, and what keeps its rows.
+/// A boot, and its keeper.
 #[derive(Drop)]
 pub(crate) struct Store {
     boot: Boot,
-    keeper: MapKeeper,
+    keeper: NullKeeper,
 }
 
 fn add_component(alloc: Global, parts: &mut Parts, name: &[u8]) -> Result<(), OutOfMemory> {
@@ -137,7 +137,6 @@ fn list(alloc: Global, boot: &Boot, ticket: &mut Ticket, table: u8) -> usize
 impl Store {
     /// A boot over no rows. None where its deployment is refused.
     pub(crate) fn start(alloc: Global) -> Result<Option<Store>, OutOfMemory> {
-        let keeper = MapKeeper::new(alloc, RowList::new(alloc), CallList::new(alloc))?;
         let Ok(deployment) = Deployment::check(parts(alloc)?) else {
             return Ok(None);
         };
@@ -148,7 +147,10 @@ impl Store {
             limits: LIMITS,
         };
         let boot = Boot::start(alloc, start)?;
-        Ok(Some(Store { boot, keeper }))
+        Ok(Some(Store {
+            boot,
+            keeper: NullKeeper {},
+        }))
     }
 
     /// A call of this request that has done nothing yet.
@@ -197,5 +199,15 @@ impl Store {
             Some(bytes) => bytes.as_slice() == number.to_be_bytes().as_slice(),
             None => false,
         }
+    }
+
+    /// How many entries the journal has.
+    pub(crate) fn entries(&self) -> u64 {
+        self.boot.journal().len()
+    }
+
+    /// The place after the last commit of a row, else 0.
+    pub(crate) fn newest(&self, id: RowId) -> u64 {
+        self.boot.rows().newest(id).0
     }
 }
