@@ -1,5 +1,5 @@
 -- Rows are exact: what is read is spelled so, and what is spelled so is read.
-use Rattle.std.proofs.Common.{◌≡◌, ℕ, ◌^◌, ◌<◌, true, List, ◌++◌, Option, Some, IfSome, refl, subst, append_assoc, arith}
+use Rattle.std.proofs.Common.{◌≡◌, ℕ, ◌^◌, ◌<◌, true, List, ◌++◌, Option, Some, IfSome, refl, subst, sym, ◌∙◌, append_assoc, arith}
 use Rattle.std.specs.Str.{is_utf8}
 use Rattle.auction_rows.specs.declared.rows.BidRow.{BidRow}
 use Rattle.auction_rows.specs.declared.rows.CategoryRow.{CategoryRow}
@@ -12,11 +12,12 @@ use Rattle.auction_rows.specs.declared.rows.OwnItemRow.{OwnItemRow}
 use Rattle.auction_rows.specs.declared.rows.UserRow.{UserRow}
 use Rattle.auction_rows.specs.Bounds.{AreBytes, fits_a_row, is_user, is_name, is_counter, is_item, is_category, is_bid, is_entry, is_feedback, is_own_item, IsUser, IsName, IsCounter, IsItem, IsCategory, IsBid, IsEntry, IsFeedback, IsOwnItem}
 use Rattle.auction_rows.specs.Reading.{user_at, name_at, counter_at, item_at, category_at, bid_at, entry_at, feedback_at, own_item_at, user_of, name_of, counter_of, item_of, category_of, bid_of, entry_of, feedback_of, own_item_of}
-use Rattle.auction_rows.specs.Spelling.{item_numbers, user_bytes, name_bytes, counter_bytes, item_bytes, category_bytes, bid_bytes, entry_bytes, feedback_bytes, own_item_bytes}
+use Rattle.auction_rows.specs.Spelling.{item_to_category, item_to_bids, item_numbers, user_bytes, name_bytes, counter_bytes, item_bytes, category_bytes, bid_bytes, entry_bytes, feedback_bytes, own_item_bytes}
 use Rattle.byte_fields.proofs.Exact.{start, taken, again}
 use Rattle.byte_fields.proofs.ExactFields.{bytes_exact, u32_exact, u64_exact, id_exact, IsText, text_exact, flag_exact}
 use Rattle.auction_rows.proofs.Exact.{both_true, split, Reads, AreExact, whole_takes, whole_again, IsExactRow, found_within}
 use Rattle.auction_rows.proofs.ExactFields.{state_exact, given_exact}
+use Rattle.auction_rows.proofs.RowFields.{user_fields, user_by_fields, item_fields, item_by_fields}
 use Rattle.auction_rows.proofs.Sizes.{user_short, name_short, item_short, category_short, feedback_short, counter_few, bid_few, entry_few, own_item_few}
 
 -- a number below 2^32 is one below 2^64
@@ -29,9 +30,10 @@ user_text row h = record { utf8 = (split (is_utf8 row.name) (fits_a_row (user_by
 
 -- its fields
 user_taken : (bytes : List ℕ) (y : UserRow × List ℕ) → AreBytes bytes → user_at bytes ≡ Some y → Reads user_bytes IsUser bytes y.0 y.1
-unfolding user_at user_bytes
-user_taken bytes y are e =
+unfolding user_bytes
+user_taken bytes y are is =
     let G : Type 0 = Reads user_bytes IsUser bytes y.0 y.1 in
+    let e : user_fields bytes ≡ Some y = sym (user_by_fields bytes) ∙ is in
     taken text_exact bytes _ bytes _ y G (start bytes are) e (λ name_ r1 t1 h1 e1.
     taken (bytes_exact 8) bytes _ r1 _ y G t1 e1 (λ salt_ r2 t2 h2 e2.
     taken (bytes_exact 32) bytes _ r2 _ y G t2 e2 (λ digest_ r3 t3 h3 e3.
@@ -44,16 +46,18 @@ user_taken bytes y are e =
     subst P same (record { takes = t6; is_in = λ few. record { within = both_true (is_utf8 name_) (fits_a_row (user_bytes row)) h1.utf8 few; salt = h2; digest = h3; good = h4; bad = h5; items = h6 } })))))))
 
 user_again : (row : UserRow) (rest : List ℕ) → IsUser row → user_at (user_bytes row ++ rest) ≡ Some (row, rest)
-unfolding user_at user_bytes
+unfolding user_bytes
 user_again row rest h =
     let text : IsText row.name = user_text row h in
+    let read : user_fields (user_bytes row ++ rest) ≡ Some (row, rest) =
     simp append_assoc
     (again text_exact row.name _ _ _ text
     (again (bytes_exact 8) row.salt _ _ _ h.salt
     (again (bytes_exact 32) row.digest _ _ _ h.digest
     (again u32_exact row.good _ _ _ h.good
     (again u32_exact row.bad _ _ _ h.bad
-    (again u32_exact row.items _ _ _ h.items refl))))))
+    (again u32_exact row.items _ _ _ h.items refl)))))) in
+    user_by_fields (user_bytes row ++ rest) ∙ read
 
 pub user_exact : IsExactRow user_of user_bytes IsUser
 unfolding user_of
@@ -119,9 +123,10 @@ item_text row h = record { utf8 = (split (is_utf8 row.title) (fits_a_row (item_b
 
 -- its fields
 item_taken : (bytes : List ℕ) (y : ItemRow × List ℕ) → AreBytes bytes → item_at bytes ≡ Some y → Reads item_bytes IsItem bytes y.0 y.1
-unfolding item_at item_bytes item_numbers
-item_taken bytes y are e =
+unfolding item_bytes item_numbers item_to_bids item_to_category
+item_taken bytes y are is =
     let G : Type 0 = Reads item_bytes IsItem bytes y.0 y.1 in
+    let e : item_fields bytes ≡ Some y = sym (item_by_fields bytes) ∙ is in
     taken state_exact bytes _ bytes _ y G (start bytes are) e (λ state_ r1 t1 h1 e1.
     taken id_exact bytes _ r1 _ y G t1 e1 (λ seller_ r2 t2 h2 e2.
     taken id_exact bytes _ r2 _ y G t2 e2 (λ category_ r3 t3 h3 e3.
@@ -140,9 +145,10 @@ item_taken bytes y are e =
     subst P same (record { takes = t12; is_in = λ few. record { within = both_true (is_utf8 title_) (fits_a_row (item_bytes row)) h12.utf8 few; seller = h2; category = h3; start = h4; buy_now = h5; best = h6; best_bidder = h7; bids = h8; ends = h9; buyer = h10 } })))))))))))))
 
 item_again : (row : ItemRow) (rest : List ℕ) → IsItem row → item_at (item_bytes row ++ rest) ≡ Some (row, rest)
-unfolding item_at item_bytes item_numbers
+unfolding item_bytes item_numbers item_to_bids item_to_category
 item_again row rest h =
     let text : IsText row.title = item_text row h in
+    let read : item_fields (item_bytes row ++ rest) ≡ Some (row, rest) =
     simp append_assoc
     (again state_exact row.state _ _ _ tt
     (again id_exact row.seller _ _ _ h.seller
@@ -155,7 +161,8 @@ item_again row rest h =
     (again u64_exact row.ends.0 _ _ _ h.ends
     (again id_exact row.buyer _ _ _ h.buyer
     (again given_exact row.given _ _ _ tt
-    (again text_exact row.title _ _ _ text refl))))))))))))
+    (again text_exact row.title _ _ _ text refl)))))))))))) in
+    item_by_fields (item_bytes row ++ rest) ∙ read
 
 pub item_exact : IsExactRow item_of item_bytes IsItem
 unfolding item_of

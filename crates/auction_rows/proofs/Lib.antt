@@ -3,5 +3,6 @@ pub mod Exact
 pub mod ExactFields
 pub mod ExactRows
 pub mod RowBytes
+pub mod RowFields
 pub mod Sizes
 pub mod Values

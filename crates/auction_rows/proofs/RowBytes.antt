@@ -16,7 +16,7 @@ use Rattle.auction_rows.specs.declared.rows.OwnItemRow.{OwnItemRow}
 use Rattle.auction_rows.specs.declared.rows.UserRow.{UserRow}
 use Rattle.auction_rows.specs.Bounds.{AreBytes, fits_a_row, is_name, is_item, is_category, is_feedback, IsUser}
 use Rattle.auction_rows.specs.Reading.{user_of}
-use Rattle.auction_rows.specs.Spelling.{flag, state_number, given_number, u8_bytes, u32_bytes, text16, user_bytes, name_bytes, counter_bytes, item_numbers, item_bytes, category_bytes, bid_bytes, entry_bytes, feedback_bytes, own_item_bytes}
+use Rattle.auction_rows.specs.Spelling.{flag, state_number, given_number, u8_bytes, u32_bytes, text16, user_bytes, name_bytes, counter_bytes, item_to_category, item_to_bids, item_numbers, item_bytes, category_bytes, bid_bytes, entry_bytes, feedback_bytes, own_item_bytes}
 use Rattle.auction_rows.proofs.Exact.{split}
 use Rattle.auction_rows.proofs.ExactRows.{user_exact}
 
@@ -74,7 +74,7 @@ given_are : (given : GivenFeedback) → AreBytes (u8_bytes (given_number given))
 given_are given = u8_are (given_number given) (given_few given.by_buyer given.by_seller)
 
 numbers_are : (item : ItemRow) → AreBytes (item_numbers item)
-unfolding item_numbers
+unfolding item_numbers item_to_bids item_to_category
 numbers_are item =
     let first = append_are _ _ (append_are _ _ (state_are item.state) (u64_are item.seller)) (u64_are item.category) in
     let prices = append_are _ _ (append_are _ _ (append_are _ _ first (u64_are item.start)) (u64_are item.buy_now)) (u64_are item.best) in

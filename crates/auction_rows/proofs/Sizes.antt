@@ -15,7 +15,7 @@ use Rattle.auction_rows.specs.declared.rows.OwnItemRow.{OwnItemRow}
 use Rattle.auction_rows.specs.declared.rows.UserRow.{UserRow}
 use Rattle.byte_fields.specs.Spelling.{u16_bytes}
 use Rattle.auction_rows.specs.Bounds.{fits_a_row, is_user, is_name, is_item, is_category, is_feedback}
-use Rattle.auction_rows.specs.Spelling.{u8_bytes, u32_bytes, u64_bytes, text16, user_bytes, name_bytes, counter_bytes, item_numbers, item_bytes, category_bytes, bid_bytes, entry_bytes, feedback_bytes, own_item_bytes}
+use Rattle.auction_rows.specs.Spelling.{u8_bytes, u32_bytes, u64_bytes, text16, user_bytes, name_bytes, counter_bytes, item_to_category, item_to_bids, item_numbers, item_bytes, category_bytes, bid_bytes, entry_bytes, feedback_bytes, own_item_bytes}
 use Rattle.auction_rows.proofs.Exact.{split}
 
 pub user_size : (user : UserRow) → length (user_bytes user) ≡ 14 + (length user.name + (length user.salt + length user.digest))
@@ -27,7 +27,7 @@ unfolding name_bytes text16 u16_bytes u64_bytes
 name_size name = grind (arith, length-append)
 
 pub item_size : (item : ItemRow) → length (item_bytes item) ≡ 72 + length item.title
-unfolding item_bytes item_numbers text16 u16_bytes u8_bytes u32_bytes u64_bytes
+unfolding item_bytes item_numbers item_to_bids item_to_category text16 u16_bytes u8_bytes u32_bytes u64_bytes
 item_size item = omega arith
 
 pub category_size : (category : CategoryRow) → length (category_bytes category) ≡ 2 + length category.name

@@ -5,6 +5,9 @@ use Rattle.std.specs.Option.{option_map}
 use Rattle.crash_base.specs.declared.rows.TheConstants.{MAX_ROW_BYTES}
 unfoldable pub use Rattle.byte_fields.specs.Reading.{bytes_at, number_at, u8_at, id_at, text_at}
 pub use Rattle.byte_fields.specs.Reading.{◌>>=◌, Field, flag_of, byte_as}
+use Rattle.auction_rows.specs.declared.item_parts.ItemAmounts.{ItemAmounts}
+use Rattle.auction_rows.specs.declared.item_parts.ItemEnd.{ItemEnd}
+use Rattle.auction_rows.specs.declared.item_parts.ItemHead.{ItemHead}
 use Rattle.auction_rows.specs.declared.rows.AuctionRow.{AuctionRow}
 use Rattle.auction_rows.specs.declared.rows.AuctionRow.TheVariants as row
 use Rattle.auction_rows.specs.declared.rows.BidRow.{BidRow}
@@ -20,6 +23,7 @@ use Rattle.auction_rows.specs.declared.rows.NameRow.{NameRow}
 use Rattle.auction_rows.specs.declared.rows.OwnItemRow.{OwnItemRow}
 use Rattle.auction_rows.specs.declared.rows.TheConstants.{USER_TABLE, NAME_TABLE, COUNTER_TABLE, ITEM_TABLE, CATEGORY_TABLE, BID_TABLE, ENTRY_TABLE, FEEDBACK_TABLE, OWN_ITEM_TABLE}
 use Rattle.auction_rows.specs.declared.rows.UserRow.{UserRow}
+use Rattle.auction_rows.specs.declared.users.UserTail.{UserTail}
 
 -- the state of this number
 abbrev pub state_of : ℕ → Option ItemState
@@ -36,16 +40,22 @@ given_of n =
     if n == 2 then Some (record { by_buyer = false; by_seller = true }) else (
     if n == 3 then Some (record { by_buyer = true; by_seller = true }) else None)))
 
--- a user at the front of bytes
-unfoldable pub user_at : Field UserRow
-user_at bytes = do
-  name ← text_at bytes
-  salt ← bytes_at 8 name.1
+-- what a user has behind its name
+unfoldable pub user_tail_at : Field UserTail
+user_tail_at bytes = do
+  salt ← bytes_at 8 bytes
   digest ← bytes_at 32 salt.1
   good ← number_at w32 digest.1
   bad ← number_at w32 good.1
   items ← number_at w32 bad.1
-  Some (record { name = name.0; salt = salt.0; digest = digest.0; good = good.0; bad = bad.0; items = items.0 }, items.1)
+  Some (record { salt = salt.0; digest = digest.0; good = good.0; bad = bad.0; items = items.0 }, items.1)
+
+-- a user at the front of bytes
+unfoldable pub user_at : Field UserRow
+user_at bytes = do
+  name ← text_at bytes
+  tail ← user_tail_at name.1
+  Some (record { name = name.0; salt = tail.0.salt; digest = tail.0.digest; good = tail.0.good; bad = tail.0.bad; items = tail.0.items }, tail.1)
 
 -- a name at the front of bytes
 unfoldable pub name_at : Field NameRow
@@ -60,22 +70,40 @@ counter_at bytes = do
   count ← number_at w64 bytes
   Some (record { count = count.0 }, count.1)
 
--- an item at the front of bytes
-unfoldable pub item_at : Field ItemRow
-item_at bytes = do
+-- what an item has up to its category
+unfoldable pub item_head_at : Field ItemHead
+item_head_at bytes = do
   state ← byte_as state_of bytes
   seller ← id_at state.1
   category ← id_at seller.1
-  start ← number_at w64 category.1
+  Some (record { state = state.0; seller = seller.0; category = category.0 }, category.1)
+
+-- the prices of an item, and its bids
+unfoldable pub item_amounts_at : Field ItemAmounts
+item_amounts_at bytes = do
+  start ← number_at w64 bytes
   buy_now ← number_at w64 start.1
   best ← number_at w64 buy_now.1
   best_bidder ← id_at best.1
   bids ← number_at w32 best_bidder.1
-  ends ← number_at w64 bids.1
+  Some (record { start = start.0; buy_now = buy_now.0; best = best.0; best_bidder = best_bidder.0; bids = bids.0 }, bids.1)
+
+-- when an item ends, its buyer, and the feedback given
+unfoldable pub item_end_at : Field ItemEnd
+item_end_at bytes = do
+  ends ← number_at w64 bytes
   buyer ← id_at ends.1
   given ← byte_as given_of buyer.1
-  title ← text_at given.1
-  Some (record { state = state.0; seller = seller.0; category = category.0; start = start.0; buy_now = buy_now.0; best = best.0; best_bidder = best_bidder.0; bids = bids.0; ends = record { 0 = ends.0 }; buyer = buyer.0; given = given.0; title = title.0 }, title.1)
+  Some (record { ends = record { 0 = ends.0 }; buyer = buyer.0; given = given.0 }, given.1)
+
+-- an item at the front of bytes
+unfoldable pub item_at : Field ItemRow
+item_at bytes = do
+  head ← item_head_at bytes
+  amounts ← item_amounts_at head.1
+  end ← item_end_at amounts.1
+  title ← text_at end.1
+  Some (record { state = head.0.state; seller = head.0.seller; category = head.0.category; start = amounts.0.start; buy_now = amounts.0.buy_now; best = amounts.0.best; best_bidder = amounts.0.best_bidder; bids = amounts.0.bids; ends = end.0.ends; buyer = end.0.buyer; given = end.0.given; title = title.0 }, title.1)
 
 -- a category at the front of bytes
 unfoldable pub category_at : Field CategoryRow

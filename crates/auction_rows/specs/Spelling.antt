@@ -42,13 +42,22 @@ name_bytes name = text16 name.name ++ u64_bytes name.user
 unfoldable pub counter_bytes : CounterRow → List ℕ
 counter_bytes counter = u64_bytes counter.count
 
+-- the bytes of an item up to its category
+unfoldable pub item_to_category : ItemRow → List ℕ
+item_to_category item =
+    u8_bytes (state_number item.state) ++ u64_bytes item.seller ++ u64_bytes item.category
+
+-- the bytes of an item up to its bids
+unfoldable pub item_to_bids : ItemRow → List ℕ
+item_to_bids item =
+    item_to_category item ++ u64_bytes item.start ++ u64_bytes item.buy_now ++ u64_bytes item.best
+    ++ u64_bytes item.best_bidder ++ u32_bytes item.bids
+
 -- the bytes of an item up to its title
 unfoldable pub item_numbers : ItemRow → List ℕ
 item_numbers item =
-    u8_bytes (state_number item.state) ++ u64_bytes item.seller ++ u64_bytes item.category
-    ++ u64_bytes item.start ++ u64_bytes item.buy_now ++ u64_bytes item.best
-    ++ u64_bytes item.best_bidder ++ u32_bytes item.bids ++ u64_bytes item.ends.0
-    ++ u64_bytes item.buyer ++ u8_bytes (given_number item.given)
+    item_to_bids item ++ u64_bytes item.ends.0 ++ u64_bytes item.buyer
+    ++ u8_bytes (given_number item.given)
 
 -- the bytes of an item
 unfoldable pub item_bytes : ItemRow → List ℕ

@@ -3,25 +3,25 @@
 
 ghost use Rattle.std.specs.Prelude.{◌≡◌, ◌==◌, nat_lt, if◌then◌else◌, length, Some, None};
 ghost use Rattle.crash_base.specs.declared.rows.TheConstants.{MAX_ROW_BYTES};
-ghost use Rattle.byte_fields.specs.Answers.{Answers};
+ghost use Rattle.byte_fields.specs.Answers.{Answers, Reads};
 ghost use Rattle.byte_fields.specs.Reading.{byte_as};
 ghost use Rattle.auction_rows.specs.Reading.{state_of, given_of};
 ghost use Rattle.auction_rows.specs.Spelling.{state_number, given_number};
 
 use crate::rows::{GivenFeedback, ItemState};
-use byte_fields::{ReadError, u8_at};
+use byte_fields::{NoField, ReadError, u8_at};
 use crash_base::MAX_ROW_BYTES;
 
 /// A state, as one byte.
-pub(crate) fn state_at(bytes: &[u8]) -> Result<(ItemState, &[u8]), ReadError>
-    ensures { Answers (λ f. (f.0, f.1.now)) result (byte_as state_of bytes.now) }
+pub(crate) fn state_at(bytes: &[u8]) -> Result<(ItemState, &[u8]), NoField>
+    ensures { Reads (λ f. (f.0, f.1.now)) result (byte_as state_of bytes.now) }
 {
     let (byte, rest) = u8_at(bytes)?;
     match byte {
         0 => Ok((ItemState::Running, rest)),
         1 => Ok((ItemState::Closed, rest)),
         2 => Ok((ItemState::Sold, rest)),
-        _ => Err(ReadError::Bad),
+        _ => Err(NoField),
     }
 }
 
@@ -36,8 +36,8 @@ fn given(by_buyer: bool, by_seller: bool) -> GivenFeedback
 }
 
 /// Who has given feedback, as one byte.
-pub(crate) fn given_at(bytes: &[u8]) -> Result<(GivenFeedback, &[u8]), ReadError>
-    ensures { Answers (λ f. (f.0, f.1.now)) result (byte_as given_of bytes.now) }
+pub(crate) fn given_at(bytes: &[u8]) -> Result<(GivenFeedback, &[u8]), NoField>
+    ensures { Reads (λ f. (f.0, f.1.now)) result (byte_as given_of bytes.now) }
 {
     let (byte, rest) = u8_at(bytes)?;
     match byte {
@@ -45,7 +45,7 @@ pub(crate) fn given_at(bytes: &[u8]) -> Result<(GivenFeedback, &[u8]), ReadError
         1 => Ok((given(true, false), rest)),
         2 => Ok((given(false, true), rest)),
         3 => Ok((given(true, true), rest)),
-        _ => Err(ReadError::Bad),
+        _ => Err(NoField),
     }
 }
 

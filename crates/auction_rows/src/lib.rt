@@ -40,6 +40,7 @@ mod entries;
 mod feedback;
 mod fields;
 mod ids;
+mod item_parts;
 mod items;
 mod laws;
 mod names;

@@ -1,5 +1,5 @@
 -- Users and items that bytes spell are within their bounds, whatever the bytes are.
-use Rattle.std.proofs.Common.{◌≡◌, ℕ, ◌+◌, ◌^◌, ◌==◌, ◌≤◌, nat_lt, Bool, true, false, cond, List, [], ◌∷◌, length, take, drop, Option, Some, None, refl, ap, subst, ◌∙◌, arith}
+use Rattle.std.proofs.Common.{◌≡◌, ℕ, ◌+◌, ◌^◌, ◌==◌, ◌≤◌, nat_lt, Bool, true, false, cond, List, [], ◌∷◌, length, take, drop, Option, Some, None, refl, sym, ap, subst, ◌∙◌, arith}
 use Rattle.std.proofs.lemmas.Bool.Decides.{nat_tests}
 use Rattle.std.proofs.lemmas.List.{length-take-le, length-drop}
 use Rattle.std.specs.Cmp.Derive.{both_true}
@@ -10,6 +10,7 @@ use Rattle.auction_rows.specs.Reading.{◌>>=◌, bytes_at, number_at, u8_at, id
 use Rattle.auction_rows.specs.Spelling.{item_bytes, user_bytes}
 use Rattle.auction_rows.specs.declared.rows.ItemRow.{ItemRow}
 use Rattle.auction_rows.specs.declared.rows.UserRow.{UserRow}
+use Rattle.auction_rows.proofs.RowFields.{user_fields, user_by_fields, item_fields, item_by_fields}
 use Rattle.auction_rows.proofs.Sizes.{user_size, item_size}
 use Rattle.auction_site.proofs.Bounds.{are_few_of}
 
@@ -92,10 +93,10 @@ record IsItemOf (bytes : List ℕ) (y : ItemRow × List ℕ) : Type 0 where
   pub utf8 : is_utf8 y.0.title ≡ true
 
 item_sized : (bytes : List ℕ) (y : ItemRow × List ℕ) → item_at bytes ≡ Some y → IsItemOf bytes y
-unfolding item_at
 item_sized bytes y is =
     let G : Type 0 = IsItemOf bytes y in
-    step (byte_as state_of bytes) _ y G is (λ state at1 e1.
+    let e : item_fields bytes ≡ Some y = sym (item_by_fields bytes) ∙ is in
+    step (byte_as state_of bytes) _ y G e (λ state at1 e1.
     step (id_at state.1) _ y G e1 (λ seller at2 e2.
     step (id_at seller.1) _ y G e2 (λ category at3 e3.
     step (number_at w64 category.1) _ y G e3 (λ start at4 e4.
@@ -136,10 +137,10 @@ record IsUserOf (bytes : List ℕ) (y : UserRow × List ℕ) : Type 0 where
   pub utf8 : is_utf8 y.0.name ≡ true
 
 user_sized : (bytes : List ℕ) (y : UserRow × List ℕ) → user_at bytes ≡ Some y → IsUserOf bytes y
-unfolding user_at
 user_sized bytes y is =
     let G : Type 0 = IsUserOf bytes y in
-    step (text_at bytes) _ y G is (λ name at1 e1.
+    let e : user_fields bytes ≡ Some y = sym (user_by_fields bytes) ∙ is in
+    step (text_at bytes) _ y G e (λ name at1 e1.
     step (bytes_at 8 name.1) _ y G e1 (λ salt at2 e2.
     step (bytes_at 32 salt.1) _ y G e2 (λ digest at3 e3.
     step (number_at w32 digest.1) _ y G e3 (λ good at4 e4.
