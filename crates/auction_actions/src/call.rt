@@ -171,7 +171,7 @@ impl Program for ActionProgram {
     /// The site's deployment, for a call whose fields are in their ranges.
     ghost accepts = { λ call parts. (parts ≡ site_parts) × (is_call call ≡ true) };
 
-    /// The step after these answers. Each answer is visited at most nine times. Where the plan decides, each row that
+    /// The step after these answers. Each answer is visited at most ten times. Where the plan decides, each row that
     /// was read is decoded again; an enter of the home, or an exit of another owner, costs no more than the visits.
     fn next(&self, alloc: Global, answers: &AnswerList) -> Result<Next, OutOfMemory> {
         next_of(alloc, self.call.call(), answers)

@@ -7,7 +7,7 @@ ghost use Rattle.auction_rows.specs.Bounds.{is_user};
 ghost use Rattle.auction_rows.specs.Ids.{items_counter, category_counter, category_id, item_id, entry_id, user_id, own_item_id};
 ghost use Rattle.auction_rows.specs.Spelling.{item_bytes, entry_bytes, user_bytes, own_item_bytes};
 ghost use Rattle.auction_site.specs.Outcomes.{row, counter_row, new_item, with_items, offered};
-ghost use Rattle.auction_site.specs.Planned.{sell_plan};
+ghost use Rattle.auction_site.specs.Planned.{offer_plan, sell_plan};
 ghost use Rattle.auction_site.specs.Rules.{sells_too_low};
 ghost use Rattle.auction_site.specs.declared.limits.TheConstants.{LAST_NUMBER};
 
@@ -179,6 +179,30 @@ fn offered(
     Ok(Outcome { writes, done })
 }
 
+/// An item of this number offered: as far as these reads bring it.
+#[tactic(auto, unfolding(auction_site::specs::Planned::offer_plan))]
+fn offer_item(
+    alloc: Global,
+    seller: u32,
+    now: Moment,
+    offer: &Offer<'_>,
+    item: u32,
+    reads: &mut Reads<'_>,
+) -> Result<Outcome, Stop>
+    requires early { now.0 < 2 ^ 62 }
+    requires hours { offer.now.hours ≤ 720 }
+    requires title { is_text 1 80 offer.now.title ≡ true }
+    ensures { HasCome result reads.new (walk (offer_plan seller now.0 offer.now item) reads.old) }
+{
+    let entries = asks_counter(alloc, reads, entries_of(offer))?;
+    refuses_if(alloc, is_last_number(entries), 409, b"No more numbers")?;
+    let user = asks_row::<UserRow>(alloc, reads, user_id(seller))?;
+    refuses_if(alloc, has_last_item(&user), 409, b"No more numbers")?;
+    let entry = next_number(entries);
+    let outcome = offered(alloc, seller, now, offer, item, entry, user)?;
+    Ok(outcome)
+}
+
 /// An item offered: as far as these reads bring it. It reads four rows, and writes six. The title is
 /// copied once.
 #[tactic(auto, unfolding(auction_site::specs::Planned::sell_plan))]
@@ -200,12 +224,6 @@ pub fn sell(
     asks_row_or::<CategoryRow>(alloc, reads, category, 409, b"No such category")?;
     let items = asks_counter(alloc, reads, items_counter())?;
     refuses_if(alloc, is_last_number(items), 409, b"No more numbers")?;
-    let entries = asks_counter(alloc, reads, entries_of(offer))?;
-    refuses_if(alloc, is_last_number(entries), 409, b"No more numbers")?;
-    let user = asks_row::<UserRow>(alloc, reads, user_id(seller))?;
-    refuses_if(alloc, has_last_item(&user), 409, b"No more numbers")?;
     let item = next_number(items);
-    let entry = next_number(entries);
-    let outcome = offered(alloc, seller, now, offer, item, entry, user)?;
-    Ok(outcome)
+    offer_item(alloc, seller, now, offer, item, reads)
 }

@@ -38,7 +38,7 @@ use Rattle.auction_site.specs.Answers.{not_there, sign_in_first, no_more_numbers
 use Rattle.auction_site.specs.Numbers.{count_up, count_down}
 use Rattle.auction_site.specs.Outcomes.{digest_of, categories_shown, category_shown, user_items_shown, registered, category_added, offered, bid_made, bought, closed, feedback_given}
 use Rattle.auction_site.specs.Pieces.{row_answer, refuses_if, refuses_by, decoded, decoded_or, asks_row_or, none_decoded, asks_no_row, count_decoded, asks_counter, asks_table, asks_each}
-use Rattle.auction_site.specs.Planned.{register_plan, sign_in_plan, category_link_plan, categories_plan, add_category_plan, entry_link_plan, browse_plan, show_item_plan, show_user_plan, own_item_link_plan, show_own_items_plan, sell_plan, bid_plan, buy_plan, close_plan, give_feedback_plan}
+use Rattle.auction_site.specs.Planned.{register_plan, sign_in_plan, category_link_plan, categories_plan, add_category_plan, entry_link_plan, browse_plan, show_item_plan, show_user_plan, own_item_link_plan, show_own_items_plan, offer_plan, sell_plan, bid_plan, buy_plan, close_plan, give_feedback_plan}
 use Rattle.auction_site.specs.Reached.{Reach, is_among, stays_within, reach_of}
 use Rattle.auction_site.specs.Rules.{sells_too_low}
 use Rattle.page_text.specs.declared.page_line.PageLine.{PageLine}
@@ -235,7 +235,7 @@ show_own_items_acts number =
 
 sell_acts : (seller now : ℕ) (title : List ℕ) (category start buy_now hours : ℕ)
     → Acts (action.Sell title category start buy_now hours) (sell_plan seller now (offer_of title category start buy_now hours))
-unfolding sell_plan offered
+unfolding sell_plan offer_plan offered
 sell_acts seller now title category start buy_now hours =
     let a : Action = action.Sell title category start buy_now hours in
     if_acts a (seller == 0) sign_in_first _ (λ signed.

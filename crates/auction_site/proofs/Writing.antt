@@ -18,7 +18,7 @@ use Rattle.auction_site.specs.Actions.{through}
 use Rattle.auction_site.specs.Answers.{not_there, sign_in_first, no_more_numbers, name_taken, not_allowed, bad_buy_now, no_such_category}
 use Rattle.auction_site.specs.Found.{finished}
 use Rattle.auction_site.specs.Outcomes.{Offer, new_user, new_item, with_items, registered, category_added, offered, bid_made, with_bid, bought, sold_to, closed, after_close, feedback_given, with_feedback, with_given}
-use Rattle.auction_site.specs.Planned.{register_plan, add_category_plan, sell_plan, bid_plan, buy_plan, close_plan, give_feedback_plan}
+use Rattle.auction_site.specs.Planned.{register_plan, add_category_plan, offer_plan, sell_plan, bid_plan, buy_plan, close_plan, give_feedback_plan}
 use Rattle.auction_site.specs.Rules.{register, add_category, sell, sells_too_low, bid, buy, close, give_feedback}
 use Rattle.auction_site.proofs.Bounds.{with_bid_is, sold_to_is, after_close_is, with_given_is, with_items_is, with_feedback_is, new_item_is, category_is, feedback_is, new_user_is, name_is, few_item, few_user, few_name, few_category, few_feedback}
 use Rattle.auction_site.proofs.Within.{item_within, user_within}
@@ -141,7 +141,7 @@ sell_writes rows seller now offer item entry user short known =
 
 pub sell_comes : (seller now : ℕ) (offer : Offer) (rows : List RowWrite) → is_text 1 80 offer.title ≡ true
     → outcome_of site_parts None rows (sell_plan seller now offer) ≡ Some (finished (sell seller now offer rows))
-unfolding outcome_of sell_plan sell site_components site_references site_tables
+unfolding outcome_of sell_plan offer_plan sell site_components site_references site_tables
 sell_comes seller now offer rows short =
     refuses_if_comes 41 None rows (seller == 0) sign_in_first _ _ (λ signed.
     refuses_if_comes 41 None rows (sells_too_low offer) bad_buy_now _ _ (λ priced.

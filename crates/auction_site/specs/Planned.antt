@@ -98,6 +98,15 @@ show_own_items_plan number = do
   links ← asks_each (own_item_link_plan number) (count_down user.items (min PAGE_ITEMS user.items))
   Gives (user_items_shown user links)
 
+-- an item of this number offered, where numbers are left for its entry and the own item
+unfoldable pub offer_plan : ℕ → ℕ → Offer → ℕ → Plan Outcome
+offer_plan seller now offer item = do
+  entries ← asks_counter (category_counter offer.category)
+  entered ← refuses_if (nat_le LAST_NUMBER entries) no_more_numbers
+  user ← asks_row user_of (user_id seller)
+  owned ← refuses_if (nat_le LAST_NUMBER user.items) no_more_numbers
+  Gives (offered seller now offer item (entries + 1) user)
+
 -- Sell: in a category that is there, where numbers are left for the item, its entry and the own item.
 unfoldable pub sell_plan : ℕ → ℕ → Offer → Plan Outcome
 sell_plan seller now offer = do
@@ -106,11 +115,7 @@ sell_plan seller now offer = do
   category ← asks_row_or category_of (category_id offer.category) no_such_category
   items ← asks_counter items_counter
   numbered ← refuses_if (nat_le LAST_NUMBER items) no_more_numbers
-  entries ← asks_counter (category_counter offer.category)
-  entered ← refuses_if (nat_le LAST_NUMBER entries) no_more_numbers
-  user ← asks_row user_of (user_id seller)
-  owned ← refuses_if (nat_le LAST_NUMBER user.items) no_more_numbers
-  Gives (offered seller now offer (items + 1) (entries + 1) user)
+  offer_plan seller now offer (items + 1)
 
 -- Bid: on an item that is running and another's, more than was bid before and not less than the start.
 unfoldable pub bid_plan : ℕ → ℕ → ℕ → ℕ → Plan Outcome

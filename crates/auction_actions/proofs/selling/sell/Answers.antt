@@ -22,22 +22,6 @@ pub returns-in_err-refuses_if-3 : goal.returns-in_err-refuses_if-3
 unfolding sell_plan
 returns-in_err-refuses_if-3 c = simp (walk_bind, c.in_ok-refuses_if.ensures.has, walk_gives, ← c.sells_too_low.ensures, c.in_ok-refuses_if-2.ensures.has, ← c.category_of-category.ensures, c.in_ok-asks_row_or.ensures.come, ← c.items_counter.ensures, c.in_ok-items.ensures, ← c.is_last_number.ensures) (out_has _ _ _ _ _ _ c.from_residual-in_err-refuses_if-3.ensures.1 c.in_err-refuses_if-3.ensures.has)
 
-pub returns-in_err-entries : goal.returns-in_err-entries
-unfolding sell_plan
-returns-in_err-entries c = simp (walk_bind, c.in_ok-refuses_if.ensures.has, walk_gives, ← c.sells_too_low.ensures, c.in_ok-refuses_if-2.ensures.has, ← c.category_of-category.ensures, c.in_ok-asks_row_or.ensures.come, ← c.items_counter.ensures, c.in_ok-items.ensures, ← c.is_last_number.ensures, c.in_ok-refuses_if-3.ensures.has, ← c.entries_of.ensures) (out_come _ _ _ _ _ _ c.from_residual-in_err-entries.ensures.1 c.in_err-entries.ensures)
-
-pub returns-in_err-refuses_if-4 : goal.returns-in_err-refuses_if-4
-unfolding sell_plan
-returns-in_err-refuses_if-4 c = simp (walk_bind, c.in_ok-refuses_if.ensures.has, walk_gives, ← c.sells_too_low.ensures, c.in_ok-refuses_if-2.ensures.has, ← c.category_of-category.ensures, c.in_ok-asks_row_or.ensures.come, ← c.items_counter.ensures, c.in_ok-items.ensures, ← c.is_last_number.ensures, c.in_ok-refuses_if-3.ensures.has, ← c.entries_of.ensures, c.in_ok-entries.ensures, ← c.is_last_number-2.ensures) (out_has _ _ _ _ _ _ c.from_residual-in_err-refuses_if-4.ensures.1 c.in_err-refuses_if-4.ensures.has)
-
-pub returns-in_err-user : goal.returns-in_err-user
-unfolding sell_plan
-returns-in_err-user c = simp (walk_bind, c.in_ok-refuses_if.ensures.has, walk_gives, ← c.sells_too_low.ensures, c.in_ok-refuses_if-2.ensures.has, ← c.category_of-category.ensures, c.in_ok-asks_row_or.ensures.come, ← c.items_counter.ensures, c.in_ok-items.ensures, ← c.is_last_number.ensures, c.in_ok-refuses_if-3.ensures.has, ← c.entries_of.ensures, c.in_ok-entries.ensures, ← c.is_last_number-2.ensures, c.in_ok-refuses_if-4.ensures.has, ← c.user_id.ensures) (out_come _ _ _ _ _ _ c.from_residual-in_err-user.ensures.1 c.in_err-user.ensures.come)
-
-pub returns-in_err-refuses_if-5 : goal.returns-in_err-refuses_if-5
-unfolding sell_plan
-returns-in_err-refuses_if-5 c = simp (walk_bind, c.in_ok-refuses_if.ensures.has, walk_gives, ← c.sells_too_low.ensures, c.in_ok-refuses_if-2.ensures.has, ← c.category_of-category.ensures, c.in_ok-asks_row_or.ensures.come, ← c.items_counter.ensures, c.in_ok-items.ensures, ← c.is_last_number.ensures, c.in_ok-refuses_if-3.ensures.has, ← c.entries_of.ensures, c.in_ok-entries.ensures, ← c.is_last_number-2.ensures, c.in_ok-refuses_if-4.ensures.has, ← c.user_id.ensures, c.in_ok-user.ensures.come, ← c.has_last_item.ensures) (out_has _ _ _ _ _ _ c.from_residual-in_err-refuses_if-5.ensures.1 c.in_err-refuses_if-5.ensures.has)
-
 pub returns : goal.returns
 unfolding sell_plan
-returns c = simp (walk_bind, c.in_ok-refuses_if.ensures.has, walk_gives, ← c.sells_too_low.ensures, c.in_ok-refuses_if-2.ensures.has, ← c.category_of-category.ensures, c.in_ok-asks_row_or.ensures.come, ← c.items_counter.ensures, c.in_ok-items.ensures, ← c.is_last_number.ensures, c.in_ok-refuses_if-3.ensures.has, ← c.entries_of.ensures, c.in_ok-entries.ensures, ← c.is_last_number-2.ensures, c.in_ok-refuses_if-4.ensures.has, ← c.user_id.ensures, c.in_ok-user.ensures.come, ← c.has_last_item.ensures, c.in_ok-refuses_if-5.ensures.has, c.in_ok-outcome.ensures, c.next_number-item.ensures, c.next_number-entry.ensures)
+returns c = simp (walk_bind, c.in_ok-refuses_if.ensures.has, walk_gives, ← c.sells_too_low.ensures, c.in_ok-refuses_if-2.ensures.has, ← c.category_of-category.ensures, c.in_ok-asks_row_or.ensures.come, ← c.items_counter.ensures, c.in_ok-items.ensures, ← c.is_last_number.ensures, c.in_ok-refuses_if-3.ensures.has, ← c.next_number-item.ensures) c.offer_item.ensures
