@@ -4,7 +4,7 @@
 //! into row 0, and one that is not kept leaves neither. The keeper's calls 1 and 2, 6 and 7, 10 and 11 are those of the
 //! three starts, and the others are those of the eight commits that have rows.
 
-use crate::keepers::{BackwardKeeper, ListKeeper, TestKeeper};
+use crate::keepers::{BackwardKeeper, ForwardKeeper, TestKeeper};
 use crate::running::{Case, SURE};
 use crate::table::expect_kept;
 use outside::MapKeeper;
@@ -75,7 +75,7 @@ fn expect_each<K: TestKeeper>(rt: &impl Abort, alloc: Global) {
         let want = format!(in alloc; "|{row}").expect(rt, row);
         let case = Case {
             row,
-            words: &["drive"],
+            words: "drive",
             text: SCENARIO,
             outside: SURE,
         };
@@ -91,6 +91,6 @@ fn each_call_of_a_keeper_fails_in_turn(rt: HostRuntime) {
 /// What a keeper tells of its rows, and in which order it gives them, changes nothing.
 #[test]
 fn each_call_of_a_keeper_that_tells_nothing_fails_in_turn(rt: HostRuntime) {
-    expect_each::<ListKeeper>(&rt, rt.alloc());
+    expect_each::<ForwardKeeper>(&rt, rt.alloc());
     expect_each::<BackwardKeeper>(&rt, rt.alloc());
 }

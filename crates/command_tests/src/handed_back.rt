@@ -1,8 +1,8 @@
 //! The keeper that a command hands back: as it was, where the command has no use for it, and ready for another run.
 
-use crate::keepers::{BackwardKeeper, ListKeeper, TestKeeper};
+use crate::keepers::{BackwardKeeper, ForwardKeeper, TestKeeper};
 use crate::running::{Case, SURE};
-use crate::table::{Keeping, Want, expect_rows, expect_run, keeper_of, keeping_of, want_of};
+use crate::table::{expect_kept, expect_rows, expect_run, keeper_of};
 use crate::words::times;
 use outside::MapKeeper;
 use std::alloc::Global;
@@ -16,50 +16,33 @@ const GROUPS: &str =
 
 #[test]
 fn groups_leave_the_keeper(rt: HostRuntime) {
-    expect_rows::<MapKeeper>(&rt, rt.alloc(), "groups", "", GROUPS);
-    let long = times(&rt, rt.alloc(), ";", 1_048_577);
-    let row = format!(in rt.alloc(); "40 7 61;|1|0|40 7 61;|8|line 1 too long;||{long}").expect(
+    let alloc = rt.alloc();
+    expect_rows::<MapKeeper>(&rt, alloc, "groups", "", GROUPS);
+    let long = times(&rt, alloc, ";", 1_048_577);
+    let row = format!(in alloc; "40 7 61;|1|0|40 7 61;|8|line 1 too long;||{long}").expect(
         &rt, "a row",
     );
-    expect_rows::<MapKeeper>(&rt, rt.alloc(), "groups", "", &row);
+    expect_rows::<MapKeeper>(&rt, alloc, "groups", "", &row);
 }
 
-/// What words that spell no command should do, whatever the keeper is.
-const USAGE: Want<'static> = Want {
-    status: 2,
-    reported: "usage: crash drive | groups | workload NUMBER COUNT | serve PORT FILE KEYFILE WORKERS;",
-    written: "",
-};
+/// Words that spell no command. The program takes the last two before it looks for one.
+const NO_COMMANDS: &str = "\nDrive\ndrive x\nworkload\n--version\n--help";
 
-/// A keeper of whose calls none is made.
-const UNCALLED: Keeping<'static> = Keeping {
-    given: "0 0 00000003;40 7 61;",
-    failing: 1,
-    calls: 0,
-    kept: "0 0 00000003;40 7 61;",
-};
+/// They make no call of the keeper, whatever it is.
+const UNCALLED: &str = "0 0 00000003;40 7 61;|1|0|0 0 00000003;40 7 61;|2|\
+usage: crash drive | groups | workload NUMBER COUNT | serve PORT FILE KEYFILE WORKERS;|";
 
-/// Asserts that words which spell no command leave the keeper.
-fn expect_no_command(rt: &impl Abort, alloc: Global, words: &[&str]) {
-    let case = Case {
-        row: "words that spell no command",
-        words,
-        text: "table;",
-        outside: SURE,
-    };
-    let keeper = keeper_of::<MapKeeper>(rt, alloc, UNCALLED);
-    expect_run(rt, alloc, case, USAGE, UNCALLED, keeper);
-}
-
-/// The program takes the last two before it looks for a command.
 #[test]
 fn other_words_leave_the_keeper(rt: HostRuntime) {
-    expect_no_command(&rt, rt.alloc(), &[]);
-    expect_no_command(&rt, rt.alloc(), &["Drive"]);
-    expect_no_command(&rt, rt.alloc(), &["drive", "x"]);
-    expect_no_command(&rt, rt.alloc(), &["workload"]);
-    expect_no_command(&rt, rt.alloc(), &["--version"]);
-    expect_no_command(&rt, rt.alloc(), &["--help"]);
+    for words in NO_COMMANDS.split('\n') {
+        let case = Case {
+            row: words,
+            words,
+            text: "table;",
+            outside: SURE,
+        };
+        expect_kept::<MapKeeper>(&rt, rt.alloc(), case, UNCALLED);
+    }
 }
 
 /// Five runs over one keeper: one that ends at a refused line, two of other deployments, one of two boots, and one that
@@ -87,20 +70,18 @@ table;begin c1;commit c1;journal";
 /// Does one of these runs, and hands the keeper back.
 fn expect_next_run<K: TestKeeper>(rt: &impl Abort, alloc: Global, row: &str, keeper: K) -> K {
     let (want, text) = row.rsplit_once('|').expect(rt, row);
-    let (keeping, want) = keeping_of(rt, want);
     let case = Case {
         row,
-        words: &["drive"],
+        words: "drive",
         text,
         outside: SURE,
     };
-    expect_run(rt, alloc, case, want_of(rt, want), keeping, keeper)
+    expect_run(rt, alloc, case, want, keeper)
 }
 
 /// Does these runs over a keeper of this kind.
 fn expect_runs<K: TestKeeper>(rt: &impl Abort, alloc: Global, rows: &str) {
-    let (keeping, _) = keeping_of(rt, rows);
-    let mut keeper = keeper_of::<K>(rt, alloc, keeping);
+    let mut keeper = keeper_of::<K>(rt, alloc, rows);
     for row in rows.split('\n') {
         keeper = expect_next_run(rt, alloc, row, keeper);
     }
@@ -108,14 +89,16 @@ fn expect_runs<K: TestKeeper>(rt: &impl Abort, alloc: Global, rows: &str) {
 
 #[test]
 fn a_keeper_is_for_many_runs(rt: HostRuntime) {
-    expect_runs::<MapKeeper>(&rt, rt.alloc(), RUNS);
-    expect_runs::<MapKeeper>(&rt, rt.alloc(), FAILING_RUNS);
-    expect_runs::<MapKeeper>(&rt, rt.alloc(), FAILING_STARTS);
+    let alloc = rt.alloc();
+    expect_runs::<MapKeeper>(&rt, alloc, RUNS);
+    expect_runs::<MapKeeper>(&rt, alloc, FAILING_RUNS);
+    expect_runs::<MapKeeper>(&rt, alloc, FAILING_STARTS);
 }
 
 #[test]
 fn a_keeper_that_tells_nothing_is_for_many_runs(rt: HostRuntime) {
-    expect_runs::<ListKeeper>(&rt, rt.alloc(), RUNS);
-    expect_runs::<ListKeeper>(&rt, rt.alloc(), FAILING_STARTS);
-    expect_runs::<BackwardKeeper>(&rt, rt.alloc(), RUNS);
+    let alloc = rt.alloc();
+    expect_runs::<ForwardKeeper>(&rt, alloc, RUNS);
+    expect_runs::<ForwardKeeper>(&rt, alloc, FAILING_STARTS);
+    expect_runs::<BackwardKeeper>(&rt, alloc, RUNS);
 }

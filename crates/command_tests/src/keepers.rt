@@ -35,14 +35,20 @@ impl TestKeeper for MapKeeper {
     }
 }
 
-/// Keeps rows in a list, each where it first came, and gives them in this order.
+/// Keeps rows in a list, each where it first came, and gives them in this order, or else from the end to the beginning.
 #[derive(Drop)]
-pub struct ListKeeper {
+pub struct ListKeeper<const BACKWARD: bool> {
     rows: Vec<RowWrite>,
     failing: u64,
     calls: u64,
     faults: u64,
 }
+
+/// A list that is given from its beginning.
+pub type ForwardKeeper = ListKeeper<false>;
+
+/// A list that is given from its end.
+pub type BackwardKeeper = ListKeeper<true>;
 
 /// Counts a call, and answers whether it is the one that fails.
 fn count_call(calls: &mut u64, failing: u64) -> bool {
@@ -73,7 +79,7 @@ fn put_copies(
     Ok(())
 }
 
-impl Keeper for ListKeeper {
+impl<const BACKWARD: bool> Keeper for ListKeeper<BACKWARD> {
     ghost told = { λ _. None };
 
     ghost faults = { λ k. k.faults };
@@ -83,7 +89,11 @@ impl Keeper for ListKeeper {
             self.faults = self.faults.saturating_add(1);
             return Err(KeeperFault::Failed);
         }
-        Ok(copied_rows(alloc, &self.rows)?)
+        let mut rows = copied_rows(alloc, &self.rows)?.into_vec();
+        if BACKWARD {
+            rows.reverse();
+        }
+        Ok(RowList::from_vec(rows))
     }
 
     fn apply(&mut self, alloc: Global, writes: &WriteList) -> Result<(), KeeperFault> {
@@ -95,8 +105,8 @@ impl Keeper for ListKeeper {
     }
 }
 
-impl TestKeeper for ListKeeper {
-    fn made(_rt: &impl Abort, _alloc: Global, rows: RowList, failing: u64) -> ListKeeper {
+impl<const BACKWARD: bool> TestKeeper for ListKeeper<BACKWARD> {
+    fn made(_rt: &impl Abort, _alloc: Global, rows: RowList, failing: u64) -> ListKeeper<BACKWARD> {
         ListKeeper {
             rows: rows.into_vec(),
             failing,
@@ -113,44 +123,5 @@ impl TestKeeper for ListKeeper {
         let copies = copied_rows(alloc, &self.rows).expect(rt, "rows");
         let ordered = MapKeeper::new(alloc, copies, CallList::new(alloc)).expect(rt, "rows");
         ordered.rows(alloc).expect(rt, "rows")
-    }
-}
-
-/// Gives the rows of a list from its end to its beginning.
-#[derive(Drop)]
-pub struct BackwardKeeper {
-    list: ListKeeper,
-}
-
-impl Keeper for BackwardKeeper {
-    ghost told = { λ _. None };
-
-    ghost faults = { λ k. k.list.faults };
-
-    fn load(&mut self, alloc: Global) -> Result<RowList, KeeperFault> {
-        let rows = self.list.load(alloc)?;
-        let mut rows = rows.into_vec();
-        rows.reverse();
-        Ok(RowList::from_vec(rows))
-    }
-
-    fn apply(&mut self, alloc: Global, writes: &WriteList) -> Result<(), KeeperFault> {
-        self.list.apply(alloc, writes)
-    }
-}
-
-impl TestKeeper for BackwardKeeper {
-    fn made(rt: &impl Abort, alloc: Global, rows: RowList, failing: u64) -> BackwardKeeper {
-        BackwardKeeper {
-            list: ListKeeper::made(rt, alloc, rows, failing),
-        }
-    }
-
-    fn calls(&self) -> u64 {
-        self.list.calls
-    }
-
-    fn rows(&self, rt: &impl Abort, alloc: Global) -> RowList {
-        self.list.rows(rt, alloc)
     }
 }

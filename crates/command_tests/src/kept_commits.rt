@@ -1,8 +1,9 @@
 //! What commits hand to the keeper, and what is left where it fails.
 
-use crate::keepers::{BackwardKeeper, ListKeeper};
-use crate::running::{Case, Outside, SURE};
+use crate::keepers::{BackwardKeeper, ForwardKeeper};
+use crate::running::Case;
 use crate::table::{expect_driven, expect_kept, expect_rows};
+use crate::words::cut;
 use outside::MapKeeper;
 use std::alloc::Global;
 use std::process::Abort;
@@ -18,9 +19,10 @@ begin c3;enter c3 A;put c3 40 3 63;commit c3;table";
 
 #[test]
 fn a_purchase_fails_between_two_others(rt: HostRuntime) {
-    expect_driven(&rt, rt.alloc(), "", PURCHASES);
-    expect_rows::<ListKeeper>(&rt, rt.alloc(), "drive", "", PURCHASES);
-    expect_rows::<BackwardKeeper>(&rt, rt.alloc(), "drive", "", PURCHASES);
+    let alloc = rt.alloc();
+    expect_driven(&rt, alloc, "", PURCHASES);
+    expect_rows::<ForwardKeeper>(&rt, alloc, "drive", "", PURCHASES);
+    expect_rows::<BackwardKeeper>(&rt, alloc, "drive", "", PURCHASES);
 }
 
 /// The component A with a table.
@@ -83,10 +85,11 @@ begin c1;enter c1 A;put c1 40 7 61;commit c1;reboot A;begin c2;commit c2";
 
 #[test]
 fn commits_with_rows_call_the_keeper(rt: HostRuntime) {
-    expect_driven(&rt, rt.alloc(), ALONE, CALLS);
-    expect_driven(&rt, rt.alloc(), ALONE, NO_CALLS);
-    expect_driven(&rt, rt.alloc(), ALONE, REFUSED);
-    expect_driven(&rt, rt.alloc(), ALONE, AFTER_FAULTS);
+    let alloc = rt.alloc();
+    expect_driven(&rt, alloc, ALONE, CALLS);
+    expect_driven(&rt, alloc, ALONE, NO_CALLS);
+    expect_driven(&rt, alloc, ALONE, REFUSED);
+    expect_driven(&rt, alloc, ALONE, AFTER_FAULTS);
 }
 
 /// A commit of 16 rows, over four of them that are there: all are kept, or none.
@@ -97,61 +100,44 @@ const SIXTEEN: &str = "40 1 61;40 5 61;40 11 61;40 16 61;|0|3|\
 
 #[test]
 fn all_rows_of_a_commit_are_kept_or_none(rt: HostRuntime) {
+    let alloc = rt.alloc();
     let mut text = "begin c1;enter c1 A;"
-        .to_string(rt.alloc())
+        .to_string(alloc)
         .expect(&rt, "a text");
     for key in 1..=16 {
-        let put = format!(in rt.alloc(); "put c1 40 {key} 62;").expect(&rt, "a put");
+        let put = format!(in alloc; "put c1 40 {key} 62;").expect(&rt, "a put");
         text.push_str(&put).expect(&rt, "a text");
     }
     text.push_str("commit c1").expect(&rt, "a text");
-    let rows = SIXTEEN
-        .replace(rt.alloc(), "TEXT", &text)
-        .expect(&rt, "rows");
-    expect_driven(&rt, rt.alloc(), ALONE, &rows);
+    let rows = SIXTEEN.replace(alloc, "TEXT", &text).expect(&rt, "rows");
+    expect_driven(&rt, alloc, ALONE, &rows);
 }
 
-/// Asserts what a run over this outside leaves of its keeper, and shows what it wants where it does not.
-fn expect_outside(rt: &impl Abort, alloc: Global, outside: Outside, want: &str, text: &str) {
+/// What a call writes is kept before its commit is answered, and the next boot is started before that is told. What comes
+/// behind a read that fails is not done. A row has the outside in front.
+const OUTSIDES: &str = "0 0 1 0||0|3|0 0 00000001;40 7 61;|5|write failed;||begin c1
+0 0 1 0||3|3|0 0 00000001;|5|write failed;||begin c1
+0 0 2 0||0|5|0 0 00000002;40 7 61;|5|write failed;|c1 committed 0;|reopen;begin c1
+0 2 0 0||0|3|0 0 00000001;40 7 61;|4|read failed;|c1 committed 0;|begin c1;enter c1 A;put c1 40 8 62;commit c1";
+
+/// Asserts what such a row wants of a call that commits, and of what comes behind.
+fn expect_outside(rt: &impl Abort, alloc: Global, row: &str) {
+    let (outside, rest) = cut(rt, row, '|');
+    let (want, text) = rest.rsplit_once('|').expect(rt, row);
     let first = "component A;owns A 40;begin c1;enter c1 A;put c1 40 7 61;commit c1;";
-    let text = [first, text].as_slice().concat(alloc).expect(rt, want);
+    let text = [first, text].as_slice().concat(alloc).expect(rt, row);
     let case = Case {
-        row: want,
-        words: &["drive"],
+        row,
+        words: "drive",
         text: &text,
         outside,
     };
     expect_kept::<MapKeeper>(rt, alloc, case, want);
 }
 
-/// The number of a write that fails.
-fn failing_write(failing_write: u64) -> Outside {
-    Outside {
-        failing_write,
-        ..SURE
-    }
-}
-
-/// What a call writes is kept before its commit is answered, and the next boot is started before that is told.
 #[test]
 fn rows_are_kept_before_a_commit_is_answered(rt: HostRuntime) {
-    let first = failing_write(1);
-    let want = "|0|3|0 0 00000001;40 7 61;|5|write failed;|";
-    expect_outside(&rt, rt.alloc(), first, want, "begin c1");
-    let want = "|3|3|0 0 00000001;|5|write failed;|";
-    expect_outside(&rt, rt.alloc(), first, want, "begin c1");
-    let want = "|0|5|0 0 00000002;40 7 61;|5|write failed;|c1 committed 0;";
-    expect_outside(&rt, rt.alloc(), failing_write(2), want, "reopen;begin c1");
-}
-
-/// A scenario whose input fails after the lines before.
-#[test]
-fn a_failed_read_leaves_the_rows_of_the_lines_before_it(rt: HostRuntime) {
-    let outside = Outside {
-        failing_read: 2,
-        ..SURE
-    };
-    let want = "|0|3|0 0 00000001;40 7 61;|4|read failed;|c1 committed 0;";
-    let text = "begin c1;enter c1 A;put c1 40 8 62;commit c1";
-    expect_outside(&rt, rt.alloc(), outside, want, text);
+    for row in OUTSIDES.split('\n') {
+        expect_outside(&rt, rt.alloc(), row);
+    }
 }

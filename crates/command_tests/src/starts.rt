@@ -1,6 +1,6 @@
 //! How the boots of a scenario start over the rows of its keeper, and when they do not.
 
-use crate::keepers::{BackwardKeeper, ListKeeper};
+use crate::keepers::{BackwardKeeper, ForwardKeeper};
 use crate::table::{expect_driven, expect_rows};
 use crate::words::times;
 use std::alloc::Global;
@@ -57,23 +57,12 @@ const TOO_LONG: &str = "40 7 TEXT;|0|1|40 7 TEXT;|7|bad row 40 7;||table";
 
 #[test]
 fn a_boot_is_over_the_rows_of_its_keeper(rt: HostRuntime) {
-    expect_driven(&rt, rt.alloc(), "", GIVEN);
-    expect_driven(&rt, rt.alloc(), "", BAD);
-    expect_driven(&rt, rt.alloc(), "", SPENT);
-    expect_each(
-        &rt,
-        rt.alloc(),
-        "",
-        LONGEST,
-        &times(&rt, rt.alloc(), "61", 4096),
-    );
-    expect_each(
-        &rt,
-        rt.alloc(),
-        "",
-        TOO_LONG,
-        &times(&rt, rt.alloc(), "61", 4097),
-    );
+    let alloc = rt.alloc();
+    expect_driven(&rt, alloc, "", GIVEN);
+    expect_driven(&rt, alloc, "", BAD);
+    expect_driven(&rt, alloc, "", SPENT);
+    expect_each(&rt, alloc, "", LONGEST, &times(&rt, alloc, "61", 4096));
+    expect_each(&rt, alloc, "", TOO_LONG, &times(&rt, alloc, "61", 4097));
 }
 
 /// Rows in any order, and a keeper that gives an id twice, in the order in which it was told them.
@@ -96,8 +85,9 @@ const BACKWARD: &str =
 
 #[test]
 fn rows_come_in_any_order(rt: HostRuntime) {
-    expect_rows::<ListKeeper>(&rt, rt.alloc(), "drive", "", ANY_ORDER);
-    expect_rows::<BackwardKeeper>(&rt, rt.alloc(), "drive", "", BACKWARD);
+    let alloc = rt.alloc();
+    expect_rows::<ForwardKeeper>(&rt, alloc, "drive", "", ANY_ORDER);
+    expect_rows::<BackwardKeeper>(&rt, alloc, "drive", "", BACKWARD);
 }
 
 /// A keeper whose first or second call fails. Rows that start no boot are told before the second.
@@ -126,14 +116,15 @@ const UNREAD_SECOND: &str = "|1|0||3|line 2;||component A;component A
 
 #[test]
 fn other_lines_start_no_boot(rt: HostRuntime) {
-    expect_driven(&rt, rt.alloc(), "", FAILING);
-    expect_each(&rt, rt.alloc(), "", "|1|0||0|||TEXT\n|2|0||0|||TEXT", HEADS);
-    expect_each(&rt, rt.alloc(), "", "|1|0||3|line 1;||TEXT", UNREAD);
-    expect_driven(&rt, rt.alloc(), "", UNREAD_SECOND);
-    let long = times(&rt, rt.alloc(), "#", 8193);
+    let alloc = rt.alloc();
+    expect_driven(&rt, alloc, "", FAILING);
+    expect_each(&rt, alloc, "", "|1|0||0|||TEXT\n|2|0||0|||TEXT", HEADS);
+    expect_each(&rt, alloc, "", "|1|0||3|line 1;||TEXT", UNREAD);
+    expect_driven(&rt, alloc, "", UNREAD_SECOND);
+    let long = times(&rt, alloc, "#", 8193);
     expect_each(
         &rt,
-        rt.alloc(),
+        alloc,
         "",
         "|1|0||8|line 1 too long;||TEXT;table",
         &long,
@@ -143,7 +134,8 @@ fn other_lines_start_no_boot(rt: HostRuntime) {
 /// Event lines that a boot refuses which was just started, those that it does, and those about sessions, most of which
 /// the state would refuse.
 const REFUSED: &str =
-    "enter c1 A|exit c1|read c1 40 7|list c1 40|put c1 40 7 61|commit c1|drop c1|down D|up A|up app|reboot D";
+    "enter c1 A|exit c1|read c1 40 7|list c1 40|put c1 40 7 61|commit c1|drop c1|down D|up A|up app|reboot D|\
+down @A|up a-b|reboot -";
 
 const DONE: &str = "begin c1|down A|reboot app|table|journal|reopen";
 
@@ -162,13 +154,14 @@ const UNSTARTED: &str = "|1|1||6|keeper failed;||TEXT
 /// The boot is started before the line is judged.
 #[test]
 fn each_event_line_starts_the_boot(rt: HostRuntime) {
-    expect_each(&rt, rt.alloc(), PAIR, UNSTARTED, REFUSED);
-    expect_each(&rt, rt.alloc(), PAIR, UNSTARTED, DONE);
-    expect_each(&rt, rt.alloc(), "", UNSTARTED, OF_SESSIONS);
-    expect_each(&rt, rt.alloc(), "bricks 3 3 2;", UNSTARTED, OF_SESSIONS);
+    let alloc = rt.alloc();
+    expect_each(&rt, alloc, PAIR, UNSTARTED, REFUSED);
+    expect_each(&rt, alloc, PAIR, UNSTARTED, DONE);
+    expect_each(&rt, alloc, "", UNSTARTED, OF_SESSIONS);
+    expect_each(&rt, alloc, "bricks 3 3 2;", UNSTARTED, OF_SESSIONS);
     expect_each(
         &rt,
-        rt.alloc(),
+        alloc,
         PAIR,
         "|0|2|0 0 00000001;|3|line 7;||TEXT",
         REFUSED,
@@ -207,9 +200,10 @@ k1 cookie AQAAAAAAAAAAAAAAAAAAAAEAAf____8AAAAAAAAAAAAAAAAAG3dAAgABAAAAAAAAAAEAAg
 
 #[test]
 fn one_line_starts_the_boot(rt: HostRuntime) {
-    expect_driven(&rt, rt.alloc(), PAIR, ONCE);
-    expect_driven(&rt, rt.alloc(), "", UNASKED);
-    expect_driven(&rt, rt.alloc(), "", NUMBERS);
+    let alloc = rt.alloc();
+    expect_driven(&rt, alloc, PAIR, ONCE);
+    expect_driven(&rt, alloc, "", UNASKED);
+    expect_driven(&rt, alloc, "", NUMBERS);
 }
 
 /// The program's stored run, and the next boot after it.
@@ -248,10 +242,11 @@ table;begin c1;commit c1;reopen";
 
 #[test]
 fn a_next_boot_calls_the_keeper_twice(rt: HostRuntime) {
-    expect_driven(&rt, rt.alloc(), "", STORED);
-    expect_rows::<ListKeeper>(&rt, rt.alloc(), "drive", "", STORED);
-    expect_rows::<BackwardKeeper>(&rt, rt.alloc(), "drive", "", STORED);
-    expect_driven(&rt, rt.alloc(), "", FIRST);
-    expect_driven(&rt, rt.alloc(), PAIR, EARLIER_ROWS);
-    expect_driven(&rt, rt.alloc(), PAIR, FAILING_LATER);
+    let alloc = rt.alloc();
+    expect_driven(&rt, alloc, "", STORED);
+    expect_rows::<ForwardKeeper>(&rt, alloc, "drive", "", STORED);
+    expect_rows::<BackwardKeeper>(&rt, alloc, "drive", "", STORED);
+    expect_driven(&rt, alloc, "", FIRST);
+    expect_driven(&rt, alloc, PAIR, EARLIER_ROWS);
+    expect_driven(&rt, alloc, PAIR, FAILING_LATER);
 }

@@ -1,7 +1,7 @@
 //! How the outside is read and written: in pieces of every size, and with each call failing in turn.
 
-use crate::running::{Case, Outside, SURE, run};
-use crate::table::{Want, expect_ran, want_of};
+use crate::running::{Case, run};
+use crate::table::expect_ran;
 use crate::words::{cut, number, times};
 use crash_base::RowList;
 use drive_engine::MAX_SCENARIO_BYTES;
@@ -22,38 +22,23 @@ const ONE: &str = "[[component]];name = \"A\";";
 /// A descriptor text of one group.
 const PAIR: &str = "[[component]];name = \"A\";hard = [\"B\"];[[component]];name = \"B\";";
 
-/// Asserts what a command does over an outside.
-fn expect_case(rt: &impl Abort, alloc: Global, case: Case, want: Want) {
-    let keeper = SureKeeper::new(RowList::new(alloc));
-    let (ran, _) = run(rt, alloc, case, keeper);
-    expect_ran(rt, alloc, &ran, want, case.row);
+/// Asserts what a row `OUTSIDE|STATUS|REPORTED|WRITTEN` wants of a command over one text.
+fn expect_outside(rt: &impl Abort, alloc: Global, words: &str, text: &str, row: &str) {
+    let (outside, want) = cut(rt, row, '|');
+    let case = Case {
+        row,
+        words,
+        text,
+        outside,
+    };
+    let (ran, _) = run(rt, alloc, case, SureKeeper::new(RowList::new(alloc)));
+    expect_ran(rt, alloc, &ran, want, row);
 }
 
-/// The size of the pieces that are read, 0 for all at once, and the numbers of the read, the write and the report that
-/// fail, 0 for none.
-fn outside_of(rt: &impl Abort, text: &str) -> Outside {
-    let (piece, rest) = cut(rt, text, ' ');
-    let (failing_read, rest) = cut(rt, rest, ' ');
-    let (failing_write, failing_report) = cut(rt, rest, ' ');
-    Outside {
-        piece: number(rt, piece),
-        failing_read: number(rt, failing_read),
-        failing_write: number(rt, failing_write),
-        failing_report: number(rt, failing_report),
-    }
-}
-
-/// Rows `OUTSIDE|STATUS|REPORTED|WRITTEN` of a command over one text.
-fn expect_outsides(rt: &impl Abort, alloc: Global, word: &str, text: &str, rows: &str) {
+/// Asserts what rows want of a command over one text.
+fn expect_outsides(rt: &impl Abort, alloc: Global, words: &str, text: &str, rows: &str) {
     for row in rows.split('\n') {
-        let (outside, want) = cut(rt, row, '|');
-        let case = Case {
-            row,
-            words: &[word],
-            text,
-            outside: outside_of(rt, outside),
-        };
-        expect_case(rt, alloc, case, want_of(rt, want));
+        expect_outside(rt, alloc, words, text, row);
     }
 }
 
@@ -70,27 +55,12 @@ fn written_by(bytes: u64) -> &'static str {
 
 /// Asserts what `FIRST` has written when one of so many reads of this size fails, whichever it is.
 fn expect_failed_reads(rt: &impl Abort, alloc: Global, piece: u64, reads: u64) {
-    for failing_read in 1..=reads {
-        let row = format!(in alloc; "read {failing_read} of {piece} bytes fails").expect(
+    for failing in 1..=reads {
+        let written = written_by((failing - 1).saturating_mul(piece));
+        let row = format!(in alloc; "{piece} {failing} 0 0|4|read failed;|{written}").expect(
             rt, "a row",
         );
-        let want = Want {
-            status: 4,
-            reported: "read failed;",
-            written: written_by((failing_read - 1).saturating_mul(piece)),
-        };
-        let outside = Outside {
-            piece,
-            failing_read,
-            ..SURE
-        };
-        let case = Case {
-            row: &row,
-            words: &["drive"],
-            text: FIRST,
-            outside,
-        };
-        expect_case(rt, alloc, case, want);
+        expect_outside(rt, alloc, "drive", FIRST, &row);
     }
 }
 
@@ -124,9 +94,10 @@ const LONG_READS: &str = "1 8193 0 0|4|read failed;|
 
 #[test]
 fn a_line_has_an_end(rt: HostRuntime) {
-    expect_outsides(&rt, rt.alloc(), "drive", WITHOUT_FEED, LAST_READS);
-    let long = times(&rt, rt.alloc(), "#", 8200);
-    expect_outsides(&rt, rt.alloc(), "drive", &long, LONG_READS);
+    let alloc = rt.alloc();
+    expect_outsides(&rt, alloc, "drive", WITHOUT_FEED, LAST_READS);
+    let long = times(&rt, alloc, "#", 8200);
+    expect_outsides(&rt, alloc, "drive", &long, LONG_READS);
 }
 
 /// Five reads of descriptors, of which the last finds the end.
@@ -155,13 +126,14 @@ const REPORTS: &str = "16 1 0 1|4||
 
 #[test]
 fn each_call_of_the_outside_fails_in_turn(rt: HostRuntime) {
-    expect_outsides(&rt, rt.alloc(), "groups", ONE, DESCRIPTOR_READS);
-    expect_outsides(&rt, rt.alloc(), "drive", FIRST, WRITES);
-    expect_outsides(&rt, rt.alloc(), "groups", ONE, GROUP_WRITES);
-    expect_outsides(&rt, rt.alloc(), "drive", FIRST, REPORTS);
-    expect_outsides(&rt, rt.alloc(), "drive", "begin c0", "0 0 0 1|3||");
-    expect_outsides(&rt, rt.alloc(), "groups", ONE, "0 0 1 1|5||");
-    expect_outsides(&rt, rt.alloc(), "groups", "= 1", "0 0 0 1|10||");
+    let alloc = rt.alloc();
+    expect_outsides(&rt, alloc, "groups", ONE, DESCRIPTOR_READS);
+    expect_outsides(&rt, alloc, "drive", FIRST, WRITES);
+    expect_outsides(&rt, alloc, "groups", ONE, GROUP_WRITES);
+    expect_outsides(&rt, alloc, "drive", FIRST, REPORTS);
+    expect_outsides(&rt, alloc, "drive", "begin c0", "0 0 0 1|3||");
+    expect_outsides(&rt, alloc, "groups", ONE, "0 0 1 1|5||");
+    expect_outsides(&rt, alloc, "groups", "= 1", "0 0 0 1|10||");
 }
 
 /// Asserts what a command writes, whose text is read in pieces of each size.
@@ -174,15 +146,16 @@ fn expect_in_pieces(rt: &impl Abort, alloc: Global, word: &str, text: &str, want
 
 #[test]
 fn pieces_change_nothing(rt: HostRuntime) {
-    expect_in_pieces(&rt, rt.alloc(), "drive", FIRST, "c1 committed 0;40 7 6162;");
+    let alloc = rt.alloc();
+    expect_in_pieces(&rt, alloc, "drive", FIRST, "c1 committed 0;40 7 6162;");
     expect_in_pieces(
         &rt,
-        rt.alloc(),
+        alloc,
         "drive",
         WITHOUT_FEED,
         "c1 committed 0;40 7 6162;",
     );
-    expect_in_pieces(&rt, rt.alloc(), "groups", PAIR, "A 0;B 0;");
+    expect_in_pieces(&rt, alloc, "groups", PAIR, "A 0;B 0;");
 }
 
 #[test]
