@@ -14,7 +14,7 @@ ghost use Rattle.scenario_engine.specs.Sessions.{HasSessions, session_turns};
 ghost use Rattle.scenario_engine.specs.State.{State, RunningState, Running};
 ghost use Rattle.session_steps.specs.Promise.{BootsRise};
 ghost use Rattle.session_steps.specs.Sessions.{nonce, cookie_of, session_line};
-ghost use Rattle.session_steps.specs.Store.{StoreState};
+ghost use Rattle.session_lanes.specs.Lanes.{LanesState};
 ghost use Rattle.ssm_world.specs.Worlds.{is_new};
 ghost use Rattle.scenario_engine.specs.Telling.{DoesPartly, HoldsRowsButNumber};
 ghost use Rattle.scenario_engine.specs.Told.{Tells};
@@ -78,11 +78,11 @@ pub fn scenarios_have_sessions()
 pub fn boots_rise()
     ensures rise { (turns : List Turn) (t u : KeeperTold) →
         TellsCalls (calls_from first turns) (Some t) (Some u) → BootsRise 0 (session_turns first turns) }
-    ensures new { (turns : List Turn) (t u : KeeperTold) (r : RunningState) (st : StoreState) →
+    ensures new { (turns : List Turn) (t u : KeeperTold) (r : RunningState) (st : LanesState) →
         TellsCalls (calls_from first turns) (Some t) (Some u) →
         last_state (end_from first 1 turns) ≡ Running r → r.sessions.store ≡ Some st →
         r.sessions.serial < 2 ^ 64 - 1 → is_new st.world (nonce r.sessions) ≡ true }
-    ensures writes { (turns : List Turn) (t u : KeeperTold) (r : RunningState) (st : StoreState)
+    ensures writes { (turns : List Turn) (t u : KeeperTold) (r : RunningState) (st : LanesState)
         (key : ℕ) (value : List ℕ) →
         TellsCalls (calls_from first turns) (Some t) (Some u) →
         last_state (end_from first 1 turns) ≡ Running r → r.sessions.store ≡ Some st →

@@ -15,7 +15,7 @@ use Rattle.ssm_world.proofs.Lists.{none_passes}
 use Rattle.ssm_world.proofs.Tests.{same_number, number_same, version_same}
 use Rattle.session_steps.specs.Promise.{SessionTurn, Does, Boots, Makes, Lead}
 use Rattle.session_steps.specs.Sessions.{SessionsState, session_key, cookie_of}
-use Rattle.session_steps.specs.Store.{StoreState}
+use Rattle.session_lanes.specs.Lanes.{LanesState}
 use Rattle.session_steps.proofs.Cookies.{kept_cookie, other_cookie, same_cookie}
 use Rattle.session_steps.proofs.LanesKept.{SoundIfAny, one_turn_keeps}
 use Rattle.session_steps.proofs.TurnsMade.{GoOn, is_write, TurnGoes, turn_goes}
@@ -79,7 +79,7 @@ cookie_before s turn t key cookie sound leads is = by_kind (is_write turn) refl
 
 -- A cookie of a key is acknowledged in the world of the bricks.
 pub record IsKept (s : SessionsState) (key : ℕ) (cookie : Cookie) : Type 0 where
-  pub store : StoreState
+  pub store : LanesState
   pub store_is : s.store ≡ Some store
   pub value : List ℕ
   pub acknowledged : IsAcknowledged store.world cookie value
@@ -99,7 +99,7 @@ acknowledged_later stay now turns w v cookie value made goes acknowledged =
 pub kept_later : StayLaw → (now : Moment) (turns : List SessionTurn) (s t : SessionsState) (key : ℕ) (cookie : Cookie) → SoundIfAny s.store → GoOn now turns s.store t.store → IsKept s key cookie → IsKept t key cookie
 kept_later stay now turns s t key cookie sound goes kept = go s.store t.store refl refl kept.store_is sound goes
   where
-    go : (a b : Option StoreState) → s.store ≡ a → t.store ≡ b → s.store ≡ Some kept.store → SoundIfAny a → GoOn now turns a b → IsKept t key cookie
+    go : (a b : Option LanesState) → s.store ≡ a → t.store ≡ b → s.store ≡ Some kept.store → SoundIfAny a → GoOn now turns a b → IsKept t key cookie
     go None b at_a at_b is m g = absurd (let clash : None ≡ Some kept.store = sym at_a ∙ is in cc)
     go (Some u) None at_a at_b is m g = absurd g
     go (Some u) (Some v) at_a at_b is m g =
@@ -109,7 +109,7 @@ kept_later stay now turns s t key cookie sound goes kept = go s.store t.store re
           store = v;
           store_is = at_b;
           value = kept.value;
-          acknowledged = acknowledged_later stay now turns u.world v.world cookie kept.value m.made g (subst (λ (x : StoreState). IsAcknowledged x.world cookie kept.value) same kept.acknowledged);
+          acknowledged = acknowledged_later stay now turns u.world v.world cookie kept.value m.made g (subst (λ (x : LanesState). IsAcknowledged x.world cookie kept.value) same kept.acknowledged);
           key_is = kept.key_is;
         }
 
@@ -142,8 +142,8 @@ acknowledged_not_new w cookie value version a new same =
     let clash : true ≡ false = sym equal ∙ apart in
     cc
 
-pub kept_not_new : (s : SessionsState) (st : StoreState) (key : ℕ) (cookie : Cookie) (version : Version) → IsKept s key cookie → s.store ≡ Some st → is_new st.world version ≡ true → cookie.version ≡ version → ⊥
+pub kept_not_new : (s : SessionsState) (st : LanesState) (key : ℕ) (cookie : Cookie) (version : Version) → IsKept s key cookie → s.store ≡ Some st → is_new st.world version ≡ true → cookie.version ≡ version → ⊥
 kept_not_new s st key cookie version kept is new same =
     let one : Some kept.store ≡ Some st = sym kept.store_is ∙ is in
     let store : kept.store ≡ st = cc in
-    acknowledged_not_new st.world cookie kept.value version (subst (λ (x : StoreState). IsAcknowledged x.world cookie kept.value) store kept.acknowledged) new same
+    acknowledged_not_new st.world cookie kept.value version (subst (λ (x : LanesState). IsAcknowledged x.world cookie kept.value) store kept.acknowledged) new same

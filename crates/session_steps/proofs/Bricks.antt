@@ -12,10 +12,10 @@ use Rattle.ssm_world.specs.Worlds.{WorldValue, history, with_history, crashed, s
 use Rattle.ssm_world.proofs.Lists.{history_set_same}
 use Rattle.ssm_world.proofs.Tests.{same_number, number_same}
 use Rattle.session_steps.specs.Promise.{SessionTurn, Does, is_crash_of, sweep_by, Sweeps, later_of}
-use Rattle.session_steps.specs.Sessions.{brick_no}
-use Rattle.session_steps.proofs.Histories.{AreNew}
-use Rattle.session_steps.proofs.LaneLists.{history_set_other}
+use Rattle.session_lanes.proofs.Histories.{AreNew}
+use Rattle.session_lanes.proofs.LaneLists.{history_set_other}
 use Rattle.session_steps.proofs.Went.{Went, Gone, Goes, crashes_one, no_sweep, uncrashed_swept}
+use Rattle.session_lanes.specs.Lane.{brick_no}
 
 -- what a change of the history of one brick leaves of the history of another, and what its own is
 other_history : (w : WorldValue) (k : ℕ) (x : List BrickEvent) (brick : BrickNo) (g : List BrickEvent) → (k == brick.0) ≡ false → history (with_history w (brick_no k) x) brick ≡ Some g → history w brick ≡ Some g

@@ -46,15 +46,16 @@ use Rattle.ssm_world.specs.Worlds.{WorldValue, hear, next_of, history, history_a
 use Rattle.ssm_world.proofs.Lists.{get_front, get_new, get_set_same}
 use Rattle.ssm_world.proofs.Making.{step_made}
 use Rattle.ssm_world.proofs.Tests.{both}
-use Rattle.session_steps.specs.Lanes.{LaneState, lane_at, with_lane_at, with_reply}
-use Rattle.session_steps.specs.Store.{StoreState, after_event, turn_to, gone_on}
-use Rattle.session_steps.specs.Rule.{LanesAreOf, outcome_by_rule, asks_by_rule, found_or_lost, result_by_rule}
-use Rattle.session_steps.proofs.Ending.{Turned, Over, goes_over, made_is_sound}
+use Rattle.session_lanes.specs.Lane.{LaneState, lane_at, with_lane_at, with_reply}
+use Rattle.session_lanes.specs.Lanes.{LanesState, after_event, turn_to, gone_on}
+use Rattle.session_lanes.specs.Sound.{LanesAreOf}
+use Rattle.session_steps.specs.Rule.{outcome_by_rule, asks_by_rule, found_or_lost, result_by_rule}
+use Rattle.session_lanes.proofs.Ending.{Turned, Over, goes_over, made_is_sound}
 use Rattle.session_steps.proofs.Expecting.{frame_at, frames_of, waiting_told, asked_told, frames_stay, lawful_to, reply_of, expected, begins_by_rule, elsewhere_same}
-use Rattle.session_steps.proofs.LaneLists.{lane_set_same, lane_set_other}
-use Rattle.session_steps.proofs.LanesStay.{PacketsStay, same_stay, last_numbered, two_more, lanes_same}
+use Rattle.session_lanes.proofs.LaneLists.{lane_set_same, lane_set_other}
+use Rattle.session_lanes.proofs.LanesStay.{PacketsStay, same_stay, last_numbered, two_more, lanes_same}
 use Rattle.session_steps.proofs.ReadLists.{distinct_at, map_agree, map_set_agree, with_ears, all_heard_same, found_stays}
-use Rattle.session_steps.proofs.Turning.{with_both, sent_world, answered_world, turn_cases}
+use Rattle.session_lanes.proofs.Turning.{with_both, sent_world, answered_world, turn_cases}
 
 -- a history that is put back
 history_back : (hs : List (List BrickEvent)) (k : ℕ) (h : List BrickEvent) → history_at hs k ≡ Some h → with_history_at hs k h ≡ hs
@@ -88,11 +89,11 @@ module _ (nonce : Version) (now : Moment) (cookie : Cookie) (n : ℕ) where
   reads asks = record (read_start now nonce cookie) { asks = asks }
 
   -- those that are asked, each with what the read hears of it in the end
-  abbrev expects : StoreState → List (Ask Holder ReadReply) → List (Ask Holder ReadReply)
+  abbrev expects : LanesState → List (Ask Holder ReadReply) → List (Ask Holder ReadReply)
   expects st asks = with_ears (λ holder ear. expected st nonce cookie holder ear) asks
 
   -- What holds of a read that goes on: it asks in order, what is expected stays, and histories too.
-  record Reading (end : List (Ask Holder ReadReply)) (histories : List (List BrickEvent)) (st : StoreState) (c : Call) : Type 0 where
+  record Reading (end : List (Ask Holder ReadReply)) (histories : List (List BrickEvent)) (st : LanesState) (c : Call) : Type 0 where
     asks : List (Ask Holder ReadReply)
     call_is : c ≡ call.Read (reads asks)
     in_order : InOrder asks
@@ -100,14 +101,14 @@ module _ (nonce : Version) (now : Moment) (cookie : Cookie) (n : ℕ) where
     histories_are : st.world.histories ≡ histories
 
   -- A store after a turn of the read: one ask was told something, by which the same is expected, and all else stays
-  record Hears (st : StoreState) (asks : List (Ask Holder ReadReply)) (at : ℕ) (who : Holder) (stage : Stage) (event : Told) (v : StoreState) : Type 0 where
+  record Hears (st : LanesState) (asks : List (Ask Holder ReadReply)) (at : ℕ) (who : Holder) (stage : Stage) (event : Told) (v : LanesState) : Type 0 where
     calls : v.world.calls ≡ slice_set st.world.calls n (hear (call.Read (reads asks)) event)
     packets : PacketsStay st.world v.world
     histories : v.world.histories ≡ st.world.histories
     lanes : (brick : ℕ) → (brick ≡ who.brick.0 → ⊥) → lane_at v.lanes brick ≡ lane_at st.lanes brick
     same : expected v nonce cookie who (heard (lawful_to nonce cookie who) stage event) ≡ expected st nonce cookie who (Open stage)
 
-  module _ (st : StoreState) (asks : List (Ask Holder ReadReply)) (lanes : LanesAreOf st) (made : IsMade st.world) (there : slice_get st.world.calls n ≡ Some (call.Read (reads asks))) where
+  module _ (st : LanesState) (asks : List (Ask Holder ReadReply)) (lanes : LanesAreOf st) (made : IsMade st.world) (there : slice_get st.world.calls n ≡ Some (call.Read (reads asks))) where
     abbrev c : Call
     c = call.Read (reads asks)
 
@@ -124,14 +125,14 @@ module _ (nonce : Version) (now : Moment) (cookie : Cookie) (n : ℕ) where
     differ i j a b at_i at_j same = distinct_at (bricks_of (asked_of asks)) (both _ _ sound.bricks).1 i j a.who.brick b.who.brick (brick_at i a at_i) (brick_at j b at_j) same
 
     -- what is expected stays, if it does so of the one whose turn it is
-    expects_same : (at : ℕ) (who : Holder) (stage : Stage) (event : Told) (v : StoreState) → turn_of_read (reads asks) ≡ Some (record { at = at; who = who; stage = stage }) → Hears st asks at who stage event v
+    expects_same : (at : ℕ) (who : Holder) (stage : Stage) (event : Told) (v : LanesState) → turn_of_read (reads asks) ≡ Some (record { at = at; who = who; stage = stage }) → Hears st asks at who stage event v
         → expects v (asks_after (lawful_to nonce cookie) event asks (turn_of_read (reads asks))) ≡ expects st asks
     expects_same at who stage event v turn hears =
         let t : Turn Holder = record { at = at; who = who; stage = stage } in
         let old : Ask Holder ReadReply = record { who = who; ear = Open stage } in
         let new : Ask Holder ReadReply = record { who = who; ear = heard (lawful_to nonce cookie who) stage event } in
         let stands : slice_get asks at ≡ Some old = turn_of_read-stands (reads asks) t turn in
-        let E : StoreState → Ask Holder ReadReply → Ask Holder ReadReply = λ u ask. record ask { ear = expected u nonce cookie ask.who ask.ear } in
+        let E : LanesState → Ask Holder ReadReply → Ask Holder ReadReply = λ u ask. record ask { ear = expected u nonce cookie ask.who ask.ear } in
         let put : asks_after (lawful_to nonce cookie) event asks (turn_of_read (reads asks)) ≡ slice_set asks at new =
         ap (asks_after (lawful_to nonce cookie) event asks) turn ∙ with_ear-there asks at new.ear old stands in
         let here : E v new ≡ E st old = ap (λ (ear : Ear ReadReply). record old { ear = ear }) hears.same in
@@ -143,7 +144,7 @@ module _ (nonce : Version) (now : Moment) (cookie : Cookie) (n : ℕ) where
         (elsewhere_same st v nonce cookie a.who a.ear lanes hears.packets (hears.lanes a.who.brick.0 other) (ap (λ hs. history_at hs a.who.brick.0) hears.histories)))
 
     -- so the turn keeps what holds
-    told_one : (end : List (Ask Holder ReadReply)) (histories : List (List BrickEvent)) (at : ℕ) (who : Holder) (stage : Stage) (event : Told) (v : StoreState) → InOrder asks → expects st asks ≡ end → st.world.histories ≡ histories
+    told_one : (end : List (Ask Holder ReadReply)) (histories : List (List BrickEvent)) (at : ℕ) (who : Holder) (stage : Stage) (event : Told) (v : LanesState) → InOrder asks → expects st asks ≡ end → st.world.histories ≡ histories
         → turn_of_read (reads asks) ≡ Some (record { at = at; who = who; stage = stage }) → IsTrue (fits (wanted_of who.brick stage) event) → Hears st asks at who stage event v → Turned (Reading end histories) n c v
     told_one end histories at who stage event v in_order expects_is histories_are turn fit hears =
         let F : Option (Turn Holder) → Type 0 = λ t. IsTrue (fits (wanted (λ (holder : Holder). holder.brick) t) event) in
@@ -162,7 +163,7 @@ module _ (nonce : Version) (now : Moment) (cookie : Cookie) (n : ℕ) where
         }
 
     -- a brick whose ask is dropped or whose reply is lost tells the strays, and then silence
-    silenced : (who : Holder) (lane new : LaneState) (v : StoreState) → lane_at st.lanes who.brick.0 ≡ Some lane → lane_at v.lanes who.brick.0 ≡ Some new → new.queue ≡ lane.queue → PacketsStay st.world v.world
+    silenced : (who : Holder) (lane new : LaneState) (v : LanesState) → lane_at st.lanes who.brick.0 ≡ Some lane → lane_at v.lanes who.brick.0 ≡ Some new → new.queue ≡ lane.queue → PacketsStay st.world v.world
         → (nat_lt 0 lane.to_drop || nat_lt 0 lane.to_lose) ≡ true → expected v nonce cookie who (Open (Asked 0)) ≡ expected st nonce cookie who (Open Unasked)
     silenced who lane new v at now queue stay test =
         let on : Ear ReadReply → List Told → Ear ReadReply = fold (heard_on (lawful_to nonce cookie who)) in
@@ -178,7 +179,7 @@ module _ (nonce : Version) (now : Moment) (cookie : Cookie) (n : ℕ) where
         left ∙ sym right
 
     -- one whose reply waits behind the others tells the strays, the reply, and then silence
-    replying : (who : Holder) (lane : LaneState) (k : ℕ) (frame : Frame) (v : StoreState) → lane_at st.lanes who.brick.0 ≡ Some lane → lane_at v.lanes who.brick.0 ≡ Some (record lane { made = lane.made ++ k ∷ []; queue = lane.queue ++ k ∷ [] })
+    replying : (who : Holder) (lane : LaneState) (k : ℕ) (frame : Frame) (v : LanesState) → lane_at st.lanes who.brick.0 ≡ Some lane → lane_at v.lanes who.brick.0 ≡ Some (record lane { made = lane.made ++ k ∷ []; queue = lane.queue ++ k ∷ [] })
         → PacketsStay st.world v.world → frame_at v.world k ≡ Some frame → reply_of st nonce cookie who ≡ Some frame
         → (nat_lt 0 lane.to_drop || nat_lt 0 lane.to_lose) ≡ false → expected v nonce cookie who (Open (Asked 0)) ≡ expected st nonce cookie who (Open Unasked)
     replying who lane k frame v at now stay framed replies test =
@@ -199,7 +200,7 @@ module _ (nonce : Version) (now : Moment) (cookie : Cookie) (n : ℕ) where
         ∙ ap (λ r. on (Open (Asked 0)) (map told.Came fs ++ told.Came r ∷ told.Silent ∷ [])) replies in
         left ∙ sym right
 
-    answering : (who : Holder) (lane : LaneState) (k : ℕ) (frame : Frame) (v : StoreState) → lane_at st.lanes who.brick.0 ≡ Some lane → lane_at v.lanes who.brick.0 ≡ Some (with_reply k lane) → PacketsStay st.world v.world → frame_at v.world k ≡ Some frame → reply_of st nonce cookie who ≡ Some frame
+    answering : (who : Holder) (lane : LaneState) (k : ℕ) (frame : Frame) (v : LanesState) → lane_at st.lanes who.brick.0 ≡ Some lane → lane_at v.lanes who.brick.0 ≡ Some (with_reply k lane) → PacketsStay st.world v.world → frame_at v.world k ≡ Some frame → reply_of st nonce cookie who ≡ Some frame
         → nat_lt 0 lane.to_drop ≡ false → expected v nonce cookie who (Open (Asked 0)) ≡ expected st nonce cookie who (Open Unasked)
     answering who lane k frame v at now stay framed replies undropped = go (nat_lt 0 lane.to_lose) refl now where
       go : (b : Bool) → nat_lt 0 lane.to_lose ≡ b
@@ -209,7 +210,7 @@ module _ (nonce : Version) (now : Moment) (cookie : Cookie) (n : ℕ) where
       go false is now = replying who lane k frame v at now stay framed replies (λ i. undropped i || is i)
 
     -- what is heard after a frame goes on by those that wait
-    comes : (v : StoreState) (who : Holder) (strays : ℕ) (r : Option ReadReply) → expected v nonce cookie who (after_frame (Asked strays) r) ≡ fold (heard_on (lawful_to nonce cookie who)) (after_frame (Asked strays) r) (waiting_told v.world (lane_at v.lanes who.brick.0))
+    comes : (v : LanesState) (who : Holder) (strays : ℕ) (r : Option ReadReply) → expected v nonce cookie who (after_frame (Asked strays) r) ≡ fold (heard_on (lawful_to nonce cookie who)) (after_frame (Asked strays) r) (waiting_told v.world (lane_at v.lanes who.brick.0))
     comes v who strays r = go r where
       strayed : (b : Bool) → expected v nonce cookie who (if b then Open (Asked (strays + 1)) else Heard outcomes.Strayed) ≡ fold (heard_on (lawful_to nonce cookie who)) (if b then Open (Asked (strays + 1)) else Heard outcomes.Strayed) (waiting_told v.world (lane_at v.lanes who.brick.0))
       strayed true = refl
@@ -220,7 +221,7 @@ module _ (nonce : Version) (now : Moment) (cookie : Cookie) (n : ℕ) where
       go None = strayed (nat_lt strays 63)
 
     -- a frame that comes is one of those that wait
-    coming : (who : Holder) (lane : LaneState) (strays packet : ℕ) (rest : List ℕ) (p : Packet) (v : StoreState) → lane_at st.lanes who.brick.0 ≡ Some lane → lane.queue ≡ packet ∷ rest → slice_get st.world.packets packet ≡ Some p
+    coming : (who : Holder) (lane : LaneState) (strays packet : ℕ) (rest : List ℕ) (p : Packet) (v : LanesState) → lane_at st.lanes who.brick.0 ≡ Some lane → lane.queue ≡ packet ∷ rest → slice_get st.world.packets packet ≡ Some p
         → lane_at v.lanes who.brick.0 ≡ Some (record lane { queue = rest }) → v.world.packets ≡ st.world.packets
         → expected v nonce cookie who (heard (lawful_to nonce cookie who) (Asked strays) (told.Came (Some p.frame))) ≡ expected st nonce cookie who (Open (Asked strays))
     coming who lane strays packet rest p v at queue is now packets =
@@ -237,7 +238,7 @@ module _ (nonce : Version) (now : Moment) (cookie : Cookie) (n : ℕ) where
         left ∙ sym right
 
     module _ (end : List (Ask Holder ReadReply)) (histories : List (List BrickEvent)) (in_order : InOrder asks) (expects_is : expects st asks ≡ end) (histories_are : st.world.histories ≡ histories) (more : read_next (reads asks) ≡ next.Ended → ⊥) where
-      abbrev T : StoreState → Type 0
+      abbrev T : LanesState → Type 0
       T v = Turned (Reading end histories) n c v
 
       abbrev turn : Option (Turn Holder)
@@ -256,7 +257,7 @@ module _ (nonce : Version) (now : Moment) (cookie : Cookie) (n : ℕ) where
           → T (with_both st (sent_world st.world n c who.brick) (with_lane_at st.lanes who.brick.0 (record lane { to_drop = lane.to_drop - 1 })))
       dropped at who lane turn_is lane_is drops =
           let new : LaneState = record lane { to_drop = lane.to_drop - 1 } in
-          let v : StoreState = with_both st (sent_world st.world n c who.brick) (with_lane_at st.lanes who.brick.0 new) in
+          let v : LanesState = with_both st (sent_world st.world n c who.brick) (with_lane_at st.lanes who.brick.0 new) in
           let stay : PacketsStay st.world v.world = λ i p is. get_front st.world.packets _ i p is in
           told_one end histories at who Unasked told.Sent v in_order expects_is histories_are turn_is refl (record {
             calls = refl;
@@ -272,7 +273,7 @@ module _ (nonce : Version) (now : Moment) (cookie : Cookie) (n : ℕ) where
       answered at who lane h frame turn_is lane_is undropped now gives =
           let k : ℕ = length st.world.packets + 1 in
           let new : LaneState = with_reply k lane in
-          let v : StoreState = with_both st (answered_world st.world n c who.brick h frame) (with_lane_at st.lanes who.brick.0 new) in
+          let v : LanesState = with_both st (answered_world st.world n c who.brick h frame) (with_lane_at st.lanes who.brick.0 new) in
           let request : Packet = record { brick = who.brick; frame = Get nonce cookie.key cookie.version } in
           let last : Packet = record { brick = who.brick; frame = frame } in
           let stay : PacketsStay st.world v.world = two_more st.world v.world request last refl in
@@ -308,7 +309,7 @@ module _ (nonce : Version) (now : Moment) (cookie : Cookie) (n : ℕ) where
           → T (with_both st (with_call st.world n (hear c (told.Came (Some p.frame)))) (with_lane_at st.lanes who.brick.0 (record lane { queue = rest })))
       came at who strays lane packet rest p turn_is lane_is queue is =
           let new : LaneState = record lane { queue = rest } in
-          let v : StoreState = with_both st (with_call st.world n (hear c (told.Came (Some p.frame)))) (with_lane_at st.lanes who.brick.0 new) in
+          let v : LanesState = with_both st (with_call st.world n (hear c (told.Came (Some p.frame)))) (with_lane_at st.lanes who.brick.0 new) in
           told_one end histories at who (Asked strays) (told.Came (Some p.frame)) v in_order expects_is histories_are turn_is refl (record {
             calls = refl;
             packets = same_stay st.world;
@@ -345,7 +346,7 @@ module _ (nonce : Version) (now : Moment) (cookie : Cookie) (n : ℕ) where
       })
 
   -- each turn of the read keeps what holds
-  read_turned : (end : List (Ask Holder ReadReply)) (histories : List (List BrickEvent)) (st : StoreState) (c : Call) → LanesAreOf st → IsMade st.world → slice_get st.world.calls n ≡ Some c → (next_of c ≡ next.Ended → ⊥) → Reading end histories st c
+  read_turned : (end : List (Ask Holder ReadReply)) (histories : List (List BrickEvent)) (st : LanesState) (c : Call) → LanesAreOf st → IsMade st.world → slice_get st.world.calls n ≡ Some c → (next_of c ≡ next.Ended → ⊥) → Reading end histories st c
       → Turned (Reading end histories) n c (turn_to st n (next_of c))
   read_turned end histories st c lanes made there more reading =
       let P : Call → Type 0 = λ d. slice_get st.world.calls n ≡ Some d → (next_of d ≡ next.Ended → ⊥) → Turned (Reading end histories) n d (turn_to st n (next_of d)) in
@@ -353,7 +354,7 @@ module _ (nonce : Version) (now : Moment) (cookie : Cookie) (n : ℕ) where
       subst P (sym reading.call_is) mine there more
 
   -- the answer of a read that wants nothing more, by what is expected
-  in_time : (st : StoreState) (asks : List (Ask Holder ReadReply)) → InOrder asks → read_next (reads asks) ≡ next.Ended → nat_lt cookie.expiry.0 now.0 ≡ false
+  in_time : (st : LanesState) (asks : List (Ask Holder ReadReply)) → InOrder asks → read_next (reads asks) ≡ next.Ended → nat_lt cookie.expiry.0 now.0 ≡ false
       → read_answer (reads asks) ≡ Some (found_or_lost (found_in (expects st asks)) (filter_map loss_of (expects st asks)))
   in_time st asks in_order over early = go (found_in asks) refl (turn_in_order asks) refl where
     answer : (found : Option (List ℕ)) (turn : Option (Turn Holder)) → found_in asks ≡ found → turn_in_order asks ≡ turn → read_answer (reads asks) ≡ found_or found (lost_unless turn (filter_map loss_of asks))
@@ -384,7 +385,7 @@ module _ (nonce : Version) (now : Moment) (cookie : Cookie) (n : ℕ) where
         ∙ ap (λ xs. Some (found_or_lost (found_in xs) (filter_map loss_of xs))) (sym same)
 
   -- what is expected before the read is told anything
-  begins : (st : StoreState) (holders : List Holder) → IsMade st.world → LanesAreOf st → is_new st.world nonce ≡ true
+  begins : (st : LanesState) (holders : List Holder) → IsMade st.world → LanesAreOf st → is_new st.world nonce ≡ true
       → expects st (none_asked holders) ≡ map (λ (holder : Holder). record { who = holder; ear = Heard (outcome_by_rule st nonce cookie holder) }) holders
   begins st [] made lanes new = refl
   begins st (holder ∷ holders) made lanes new =
@@ -392,14 +393,14 @@ module _ (nonce : Version) (now : Moment) (cookie : Cookie) (n : ℕ) where
       λ i. record { who = holder; ear = first i } ∷ begins st holders made lanes new i
 
 -- what is expected when the read has begun is by the rule
-starts_by_rule : (st : StoreState) (nonce : Version) (now : Moment) (cookie : Cookie) (n : ℕ) → IsMade st.world → LanesAreOf st → is_new st.world nonce ≡ true
+starts_by_rule : (st : LanesState) (nonce : Version) (now : Moment) (cookie : Cookie) (n : ℕ) → IsMade st.world → LanesAreOf st → is_new st.world nonce ≡ true
     → expects nonce now cookie n (with_both st (with_new_call st.world (call.Read (read_start now nonce cookie))) st.lanes) (none_asked cookie.bricks) ≡ asks_by_rule st nonce cookie
 starts_by_rule st nonce now cookie n made lanes new =
-    let u : StoreState = with_both st (with_new_call st.world (call.Read (read_start now nonce cookie))) st.lanes in
+    let u : LanesState = with_both st (with_new_call st.world (call.Read (read_start now nonce cookie))) st.lanes in
     map_agree _ _ (none_asked cookie.bricks) (λ j a at. ap (λ (ear : Ear ReadReply). record a { ear = ear }) (elsewhere_same st u nonce cookie a.who a.ear lanes (same_stay st.world) refl refl))
     ∙ begins nonce now cookie n st cookie.bricks made lanes new
 
-answer_is : (st v : StoreState) (nonce : Version) (now : Moment) (cookie : Cookie) (n : ℕ) (asks : List (Ask Holder ReadReply)) → InOrder asks → read_next (record (read_start now nonce cookie) { asks = asks }) ≡ next.Ended → expects nonce now cookie n v asks ≡ asks_by_rule st nonce cookie
+answer_is : (st v : LanesState) (nonce : Version) (now : Moment) (cookie : Cookie) (n : ℕ) (asks : List (Ask Holder ReadReply)) → InOrder asks → read_next (record (read_start now nonce cookie) { asks = asks }) ≡ next.Ended → expects nonce now cookie n v asks ≡ asks_by_rule st nonce cookie
     → read_answer (record (read_start now nonce cookie) { asks = asks }) ≡ Some (result_by_rule st nonce now cookie)
 answer_is st v nonce now cookie n asks in_order over expects_is = go (nat_lt cookie.expiry.0 now.0) refl where
   late : Bool → Option (Result (List ℕ) ReadRefusal)
@@ -416,20 +417,20 @@ answer_is st v nonce now cookie n asks in_order over expects_is = go (nat_lt coo
       ∙ ap (λ b. Some (by_rule b)) (sym is)
 
 -- What a read that was made of a store comes to: its answer is by the rule, and no history has changed.
-pub record ReadsByRule (st : StoreState) (nonce : Version) (now : Moment) (cookie : Cookie) (v : StoreState) : Type 0 where
+pub record ReadsByRule (st : LanesState) (nonce : Version) (now : Moment) (cookie : Cookie) (v : LanesState) : Type 0 where
   pub read : ReadState
   pub there : slice_get v.world.calls (length st.world.calls) ≡ Some (call.Read read)
   pub answers : read_answer read ≡ Some (result_by_rule st nonce now cookie)
   pub histories : v.world.histories ≡ st.world.histories
 
-pub reads_by_rule : (st : StoreState) (nonce : Version) (now : Moment) (cookie : Cookie) → IsMade st.world → LanesAreOf st → may_read st.world nonce cookie.bricks ≡ true
+pub reads_by_rule : (st : LanesState) (nonce : Version) (now : Moment) (cookie : Cookie) → IsMade st.world → LanesAreOf st → may_read st.world nonce cookie.bricks ≡ true
     → ReadsByRule st nonce now cookie (gone_on (after_event st (Read nonce now cookie)) (length st.world.calls))
 reads_by_rule st nonce now cookie made lanes may =
     let n : ℕ = length st.world.calls in
     let first : Call = call.Read (read_start now nonce cookie) in
     let w : WorldValue = with_new_call st.world first in
     let begun : step st.world (Read nonce now cookie) ≡ w = ap (λ b. if b then with_new_call st.world first else st.world) may in
-    let u : StoreState = with_both st w st.lanes in
+    let u : LanesState = with_both st w st.lanes in
     let u_made : IsMade w = subst IsMade begun (step_made st.world (Read nonce now cookie) made) in
     let u_lanes : LanesAreOf u = lanes_same st w refl (same_stay st.world) lanes in
     let end : List (Ask Holder ReadReply) = expects nonce now cookie n u (none_asked cookie.bricks) in
@@ -445,7 +446,7 @@ reads_by_rule st nonce now cookie made lanes may =
     let read : ReadState = record (read_start now nonce cookie) { asks = asks } in
     let is_over : read_next read ≡ next.Ended = ap next_of (sym over.holds.call_is) ∙ over.over in
     let end_is : end ≡ asks_by_rule st nonce cookie = starts_by_rule st nonce now cookie n made lanes (both _ _ may).0 in
-    let v : StoreState = gone_on u n in
+    let v : LanesState = gone_on u n in
     let R : WorldValue → Type 0 = λ x. ReadsByRule st nonce now cookie (gone_on (with_both st x st.lanes) n) in
     subst R (sym begun) (record {
       read = read;
@@ -454,7 +455,7 @@ reads_by_rule st nonce now cookie made lanes may =
       histories = over.holds.histories_are;
     })
 
-pub read_by_rule : (st : StoreState) (nonce : Version) (now : Moment) (cookie : Cookie) → IsMade st.world → LanesAreOf st → may_read st.world nonce cookie.bricks ≡ true
+pub read_by_rule : (st : LanesState) (nonce : Version) (now : Moment) (cookie : Cookie) → IsMade st.world → LanesAreOf st → may_read st.world nonce cookie.bricks ≡ true
     → (read : ReadState) × (slice_get (gone_on (after_event st (Read nonce now cookie)) (length st.world.calls)).world.calls (length st.world.calls) ≡ Some (call.Read read)) × (read_answer read ≡ Some (result_by_rule st nonce now cookie))
 read_by_rule st nonce now cookie made lanes may =
     let by : ReadsByRule st nonce now cookie (gone_on (after_event st (Read nonce now cookie)) (length st.world.calls)) = reads_by_rule st nonce now cookie made lanes may in

@@ -4,7 +4,7 @@ use Rattle.std.specs.Prelude.{slice_get, slice_set}
 use Rattle.std.specs.Option.{option_and_then}
 use lib.ListN.{replicate}
 use Rattle.session_cookie.specs.declared.cookie.Cookie.{Cookie}
-use Rattle.session_steps.proofs.LaneLists.{get_set_other}
+use Rattle.session_lanes.proofs.LaneLists.{get_set_other}
 use Rattle.session_steps.specs.Sessions.{SessionsState, cookie_of, padded}
 
 -- the cookie of a key among others, if it has one

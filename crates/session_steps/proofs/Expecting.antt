@@ -37,11 +37,12 @@ use Rattle.ssm_world.proofs.Lists.{none_passes}
 use Rattle.ssm_world.proofs.Replying.{RepliesTo, reply_to as replies_so}
 use Rattle.ssm_world.proofs.Steps.{world_replies}
 use Rattle.ssm_world.proofs.Tests.{version_same}
-use Rattle.session_steps.specs.Lanes.{LaneState, lane_at}
-use Rattle.session_steps.specs.Store.{StoreState}
-use Rattle.session_steps.specs.Rule.{IsReplyOf, LanesAreOf, heard_behind, heard_on_lane, outcome_by_rule}
-use Rattle.session_steps.proofs.Ending.{made_is_sound}
-use Rattle.session_steps.proofs.LanesStay.{PacketsStay}
+use Rattle.session_lanes.specs.Lane.{LaneState, lane_at}
+use Rattle.session_lanes.specs.Lanes.{LanesState}
+use Rattle.session_lanes.specs.Sound.{IsReplyOf, LanesAreOf}
+use Rattle.session_steps.specs.Rule.{heard_behind, heard_on_lane, outcome_by_rule}
+use Rattle.session_lanes.proofs.Ending.{made_is_sound}
+use Rattle.session_lanes.proofs.LanesStay.{PacketsStay}
 
 -- the frame of the packet of a number, if there is one
 abbrev pub frame_at : WorldValue → ℕ → Option Frame
@@ -73,13 +74,13 @@ frames_stay w v brick (k ∷ numbers) stay all =
     let first : frame_at v k ≡ frame_at w k = ap (option_map (λ (p : Packet). p.frame)) (stay k front.packet front.there ∙ sym front.there) in
     λ i. first i ∷ frames_stay w v brick numbers stay (All-tail (IsReplyOf w brick) k numbers all) i
 
-pub waiting_stays : (st : StoreState) (v : WorldValue) (brick : ℕ) → LanesAreOf st → PacketsStay st.world v → waiting_told v (lane_at st.lanes brick) ≡ waiting_told st.world (lane_at st.lanes brick)
+pub waiting_stays : (st : LanesState) (v : WorldValue) (brick : ℕ) → LanesAreOf st → PacketsStay st.world v → waiting_told v (lane_at st.lanes brick) ≡ waiting_told st.world (lane_at st.lanes brick)
 waiting_stays st v brick lanes stay = go (lane_at st.lanes brick) refl where
   go : (o : Option LaneState) → lane_at st.lanes brick ≡ o → waiting_told v o ≡ waiting_told st.world o
   go None at = refl
   go (Some lane) at = ap (λ fs. map Came fs ++ NoneCame ∷ []) (frames_stay st.world v brick lane.queue stay (lanes.queue brick lane at))
 
-pub asked_stays : (st : StoreState) (v : WorldValue) (brick : ℕ) (reply : Option Frame) → LanesAreOf st → PacketsStay st.world v → asked_told v reply (lane_at st.lanes brick) ≡ asked_told st.world reply (lane_at st.lanes brick)
+pub asked_stays : (st : LanesState) (v : WorldValue) (brick : ℕ) (reply : Option Frame) → LanesAreOf st → PacketsStay st.world v → asked_told v reply (lane_at st.lanes brick) ≡ asked_told st.world reply (lane_at st.lanes brick)
 asked_stays st v brick reply lanes stay = go (lane_at st.lanes brick) refl where
   go : (o : Option LaneState) → lane_at st.lanes brick ≡ o → asked_told v reply o ≡ asked_told st.world reply o
   go None at = refl
@@ -194,27 +195,27 @@ abbrev pub lawful_to : Version → Cookie → Holder → Frame → Option ReadRe
 lawful_to nonce cookie = get_lawful nonce cookie.key cookie.version cookie.expiry
 
 -- the reply of a holder's brick to such a read
-abbrev pub reply_of : StoreState → Version → Cookie → Holder → Option Frame
+abbrev pub reply_of : LanesState → Version → Cookie → Holder → Option Frame
 reply_of st nonce cookie holder = reply_to (record { brick = holder.brick; frame = Get nonce cookie.key cookie.version }) (history st.world holder.brick)
 
 -- what a holder is still to tell such a read, by what was heard of it
-abbrev pub to_come : StoreState → Version → Cookie → Holder → Ear ReadReply → List Told
+abbrev pub to_come : LanesState → Version → Cookie → Holder → Ear ReadReply → List Told
 to_come st nonce cookie holder (Open Unasked) = asked_told st.world (reply_of st nonce cookie holder) (lane_at st.lanes holder.brick.0)
 to_come st nonce cookie holder (Open (Asked strays)) = waiting_told st.world (lane_at st.lanes holder.brick.0)
 to_come st nonce cookie holder (Heard outcome) = []
 
 -- what such a read hears of a holder in the end, if it asks it
-abbrev pub expected : StoreState → Version → Cookie → Holder → Ear ReadReply → Ear ReadReply
+abbrev pub expected : LanesState → Version → Cookie → Holder → Ear ReadReply → Ear ReadReply
 expected st nonce cookie holder ear = fold (heard_on (lawful_to nonce cookie holder)) ear (to_come st nonce cookie holder ear)
 
 -- before the read is told anything, that is by the rule
-pub begins_by_rule : (st : StoreState) (nonce : Version) (cookie : Cookie) (holder : Holder) → IsMade st.world → LanesAreOf st → is_new st.world nonce ≡ true → expected st nonce cookie holder (Open Unasked) ≡ Heard (outcome_by_rule st nonce cookie holder)
+pub begins_by_rule : (st : LanesState) (nonce : Version) (cookie : Cookie) (holder : Holder) → IsMade st.world → LanesAreOf st → is_new st.world nonce ≡ true → expected st nonce cookie holder (Open Unasked) ≡ Heard (outcome_by_rule st nonce cookie holder)
 begins_by_rule st nonce cookie holder made lanes new =
     heard_by_rule (lawful_to nonce cookie holder) st.world (reply_of st nonce cookie holder) (lane_at st.lanes holder.brick.0)
     (λ lane at. all_stray st.world holder.brick.0 lane.queue nonce cookie holder made new (lanes.queue holder.brick.0 lane at))
 
 -- what is expected of a brick stays where its lane and its history stay
-pub elsewhere_same : (st v : StoreState) (nonce : Version) (cookie : Cookie) (holder : Holder) (ear : Ear ReadReply) → LanesAreOf st → PacketsStay st.world v.world → lane_at v.lanes holder.brick.0 ≡ lane_at st.lanes holder.brick.0 → history v.world holder.brick ≡ history st.world holder.brick
+pub elsewhere_same : (st v : LanesState) (nonce : Version) (cookie : Cookie) (holder : Holder) (ear : Ear ReadReply) → LanesAreOf st → PacketsStay st.world v.world → lane_at v.lanes holder.brick.0 ≡ lane_at st.lanes holder.brick.0 → history v.world holder.brick ≡ history st.world holder.brick
     → expected v nonce cookie holder ear ≡ expected st nonce cookie holder ear
 elsewhere_same st v nonce cookie holder (Open Unasked) lanes stay lane now =
     let lawful : Frame → Option ReadReply = lawful_to nonce cookie holder in

@@ -34,26 +34,26 @@ use Rattle.ssm_world.specs.declared.event.WorldEvent.TheVariants.{Write, Read, S
 use Rattle.ssm_world.specs.Worlds.{WorldValue, new_world, ask_of, next_of, history, with_history, with_new_call, with_sent, with_told, told_by_send, told_by_hush, told_by_packet, packet_by_send, may_write, may_read, may_happen, is_new, sent, came, hushed, replied, reached, delivered, crashed, swept, brick_after, step, IsMade}
 use Rattle.ssm_world.proofs.Making.{step_made}
 use Rattle.ssm_world.proofs.Steps.{step_stays}
-use Rattle.session_steps.specs.Lanes.{LaneState, raised, new_lane, losing, dropping, waiting, reply_made, lane_at}
+use Rattle.session_lanes.specs.Lane.{LaneState, raised, new_lane, losing, dropping, waiting, reply_made, lane_at, brick_no}
 use Rattle.session_steps.specs.Promise.{SessionTurn, Does, Boots, Makes, Lead}
-use Rattle.session_steps.specs.Rule.{IsReplyOf, LanesAreOf}
-use Rattle.session_steps.specs.Sessions.{SessionsState, with_store, nonce, drawn, session_key, expiry, cookie_of, write_of, read_of, spent_by, written_as, store_written, answered_write, write_line, store_read, fetch_line, cookie_line, now_line, on_lane, lose_line, mute_line, repeat_line, brick_no, crash_line, sweep_line, values_line, windows_line, holds, hold_line, freed_pass, free_line, session_line}
+use Rattle.session_lanes.specs.Sound.{IsReplyOf, LanesAreOf}
+use Rattle.session_steps.specs.Sessions.{SessionsState, with_store, nonce, drawn, session_key, expiry, cookie_of, write_of, read_of, spent_by, written_as, store_written, answered_write, write_line, store_read, fetch_line, cookie_line, now_line, on_lane, lose_line, mute_line, repeat_line, crash_line, sweep_line, values_line, windows_line, holds, hold_line, freed_pass, free_line, session_line}
 use Rattle.scenario_text.specs.Setup.{SetupState}
 use Rattle.session_steps.specs.Setup.{set_up, store_of}
-use Rattle.session_steps.specs.Store.{StoreState, new_store, after_event, with_lane, gone_on}
+use Rattle.session_lanes.specs.Lanes.{LanesState, new_lanes, after_event, with_lane, gone_on}
 use Rattle.session_steps.specs.Texts.{overload_text}
 use Rattle.scenario_text.specs.declared.setup.BrickCounts.{BrickCounts}
 use Rattle.session_steps.specs.declared.sessions.TheConstants.{MAX_MOMENT}
-use Rattle.session_steps.proofs.Ending.{goes_on, goes_nowhere}
-use Rattle.session_steps.proofs.LaneLists.{histories_as_many}
-use Rattle.session_steps.proofs.LanesStay.{same_stay, lanes_same, lanes_set}
+use Rattle.session_lanes.proofs.Ending.{goes_on, goes_nowhere}
+use Rattle.session_lanes.proofs.LaneLists.{histories_as_many}
+use Rattle.session_lanes.proofs.LanesStay.{same_stay, lanes_same, lanes_set}
 
 -- What holds of each store: events made its world, and its lanes name replies of their bricks.
-pub record StoreIsSound (st : StoreState) : Type 0 where
+pub record StoreIsSound (st : LanesState) : Type 0 where
   pub made : IsMade st.world
   pub lanes : LanesAreOf st
 
-abbrev pub SoundIfAny : Option StoreState → Type 0
+abbrev pub SoundIfAny : Option LanesState → Type 0
 SoundIfAny None = Unit {0}
 SoundIfAny (Some st) = StoreIsSound st
 
@@ -120,28 +120,28 @@ module _ (w : WorldValue) where
   step_as_many (Sweep brick moment) = swept_as_many brick moment (history w brick)
 
 -- each event keeps what holds of a store
-pub event_keeps : (st : StoreState) (e : WorldEvent) → StoreIsSound st → StoreIsSound (after_event st e)
+pub event_keeps : (st : LanesState) (e : WorldEvent) → StoreIsSound st → StoreIsSound (after_event st e)
 event_keeps st e sound = record {
   made = step_made st.world e sound.made;
   lanes = lanes_same st (step st.world e) (step_as_many st.world e) (step_stays st.world st.world e).grows.packets sound.lanes;
 }
 
 -- other windows
-pub windows_keep : (st : StoreState) (windows : WindowsValue) → StoreIsSound st → StoreIsSound (record st { windows = windows })
+pub windows_keep : (st : LanesState) (windows : WindowsValue) → StoreIsSound st → StoreIsSound (record st { windows = windows })
 windows_keep st windows sound = record {
   made = sound.made;
   lanes = record { as_many = sound.lanes.as_many; queue = sound.lanes.queue; made = sound.lanes.made };
 }
 
 -- a lane that names no more
-pub lane_keeps : (st : StoreState) (brick : ℕ) (new : LaneState) → StoreIsSound st → All (IsReplyOf st.world brick) new.queue → All (IsReplyOf st.world brick) new.made → StoreIsSound (with_lane st brick new)
+pub lane_keeps : (st : LanesState) (brick : ℕ) (new : LaneState) → StoreIsSound st → All (IsReplyOf st.world brick) new.queue → All (IsReplyOf st.world brick) new.made → StoreIsSound (with_lane st brick new)
 lane_keeps st brick new sound queue made = record {
   made = sound.made;
   lanes = lanes_set st st.world brick new refl (same_stay st.world) queue made sound.lanes;
 }
 
 -- a call that goes on
-pub gone_keeps : (st : StoreState) (n : ℕ) → StoreIsSound st → StoreIsSound (gone_on st n)
+pub gone_keeps : (st : LanesState) (n : ℕ) → StoreIsSound st → StoreIsSound (gone_on st n)
 gone_keeps st n sound = go (slice_get st.world.calls n) refl where
   go : (o : Option Call) → slice_get st.world.calls n ≡ o → StoreIsSound (gone_on st n)
   go None none = subst StoreIsSound (sym (goes_nowhere st n none)) sound
@@ -159,7 +159,7 @@ new_lane_at : (n brick : ℕ) (lane : LaneState) → lane_at (replicate n new_la
 new_lane_at n zero lane is = absurd (cc)
 new_lane_at n (suc i) lane is = new_lane_there n i lane is
 
-pub new_is_sound : (bricks most least : ℕ) → StoreIsSound (new_store bricks most least)
+pub new_is_sound : (bricks most least : ℕ) → StoreIsSound (new_lanes bricks most least)
 new_is_sound bricks most least =
     let R : ℕ → ℕ → Type 0 = λ brick k. IsReplyOf (new_world bricks) brick k in
     record {
@@ -176,11 +176,11 @@ abbrev LeavesSound : Answer SessionsState → Type 0
 LeavesSound answer = Leaves AreSound answer
 
 -- the store of sound sessions
-store_sound : (s : SessionsState) (st : StoreState) → AreSound s → s.store ≡ Some st → StoreIsSound st
-store_sound s st sound is = (let P : Option StoreState → Type 0 = λ o. SoundIfAny o in subst P is sound)
+store_sound : (s : SessionsState) (st : LanesState) → AreSound s → s.store ≡ Some st → StoreIsSound st
+store_sound s st sound is = (let P : Option LanesState → Type 0 = λ o. SoundIfAny o in subst P is sound)
 
 -- a line about a brick's lane
-at_lane : (s : SessionsState) (brick : ℕ) (line : StoreState → LaneState → Answer SessionsState) → AreSound s → ((st : StoreState) (lane : LaneState) → StoreIsSound st → lane_at st.lanes brick ≡ Some lane → LeavesSound (line st lane)) → LeavesSound (on_lane s brick line)
+at_lane : (s : SessionsState) (brick : ℕ) (line : LanesState → LaneState → Answer SessionsState) → AreSound s → ((st : LanesState) (lane : LaneState) → StoreIsSound st → lane_at st.lanes brick ≡ Some lane → LeavesSound (line st lane)) → LeavesSound (on_lane s brick line)
 at_lane s brick line sound leaves =
     leaves-or_refused AreSound s.store _ (λ st is. leaves-or_refused AreSound (lane_at st.lanes brick) (λ lane. line st lane) (λ lane at. leaves st lane (store_sound s st sound is) at))
 
@@ -193,16 +193,16 @@ written_keeps s key (Ok cookie) sound = sound
 written_keeps s key (Err (missing.Missed causes)) sound = sound
 written_keeps s key (Err missing.OutOfMemory) sound = tt
 
-answered_keeps : (s : SessionsState) (key : ℕ) (passes : List Pass) (number : ℕ) (st : StoreState) → StoreIsSound st → LeavesSound (answered_write s key passes number st)
+answered_keeps : (s : SessionsState) (key : ℕ) (passes : List Pass) (number : ℕ) (st : LanesState) → StoreIsSound st → LeavesSound (answered_write s key passes number st)
 answered_keeps s key passes number st sound =
     leaves-or_refused AreSound (write_of (slice_get st.world.calls number)) _ (λ write is.
     leaves-or_refused AreSound (write_answer write) _ (λ answer answers.
     written_keeps (with_store s (spent_by write passes st)) key answer (windows_keep st _ sound)))
 
-store_written_sound : (s : SessionsState) (key : ℕ) (value : List ℕ) (passes : List Pass) (st : StoreState) → StoreIsSound st → StoreIsSound (store_written s key value passes st)
+store_written_sound : (s : SessionsState) (key : ℕ) (value : List ℕ) (passes : List Pass) (st : LanesState) → StoreIsSound st → StoreIsSound (store_written s key value passes st)
 store_written_sound s key value passes st sound =
     let write : WorldEvent = Write (nonce s) (session_key key) value (expiry s) (map (λ (pass : Pass). pass.brick) passes) st.windows.wq in
-    let before : StoreState = record st { windows = taken st.windows passes } in
+    let before : LanesState = record st { windows = taken st.windows passes } in
     gone_keeps (after_event before write) (length st.world.calls) (event_keeps before write (windows_keep st (taken st.windows passes) sound))
 
 write_keeps : (s : SessionsState) (key : ℕ) (value : List ℕ) → AreSound s → LeavesSound (write_line s key value)
@@ -210,7 +210,7 @@ unfolding write_line
 write_keeps s key value sound =
     leaves-or_refused AreSound s.store _ (λ st is.
     leaves-refused_if AreSound (not (is_new st.world (nonce s))) _ (λ new. go st (store_sound s st sound is) (nat_lt (open_count st.windows.facts) st.windows.wq))) where
-      go : (st : StoreState) → StoreIsSound st → (b : Bool) → LeavesSound (if b then Done (with_store (drawn s) (record st { windows = refused st.windows })) (overload_text key (full_facts st.windows.facts))
+      go : (st : LanesState) → StoreIsSound st → (b : Bool) → LeavesSound (if b then Done (with_store (drawn s) (record st { windows = refused st.windows })) (overload_text key (full_facts st.windows.facts))
           else answered_write (drawn s) key (chosen st.windows s.serial) (length st.world.calls) (store_written s key value (chosen st.windows s.serial) st))
       go st sound true = windows_keep st (refused st.windows) sound
       go st sound false =
@@ -272,7 +272,7 @@ window_texts_keep s sound = leaves-or_refused AreSound s.store _ (λ st is. soun
 hold_keeps : (s : SessionsState) (brick : ℕ) → AreSound s → LeavesSound (hold_line s brick)
 unfolding hold_line
 hold_keeps s brick sound = at_lane s brick _ sound (λ st lane its at. go st lane its at (pass_tried st.windows (brick_no brick))) where
-  go : (st : StoreState) (lane : LaneState) → StoreIsSound st → lane_at st.lanes brick ≡ Some lane → (o : Option Pass) → LeavesSound (within (with_store s) (holds st brick lane o))
+  go : (st : LanesState) (lane : LaneState) → StoreIsSound st → lane_at st.lanes brick ≡ Some lane → (o : Option Pass) → LeavesSound (within (with_store s) (holds st brick lane o))
   go st lane its at None = its
   go st lane its at (Some pass) =
       let windows : WindowsValue = after_try st.windows (brick_no brick) in
@@ -317,5 +317,5 @@ set_up_sound setup boot = go setup.counts where
   go None = tt
   go (Some counts) = new_is_sound counts.bricks counts.most counts.least
 
-pub all_sound : (setup : SetupState) (boot : ℕ) (turns : List SessionTurn) (t : SessionsState) (st : StoreState) → Lead (set_up setup boot) turns t → t.store ≡ Some st → StoreIsSound st
+pub all_sound : (setup : SetupState) (boot : ℕ) (turns : List SessionTurn) (t : SessionsState) (st : LanesState) → Lead (set_up setup boot) turns t → t.store ≡ Some st → StoreIsSound st
 all_sound setup boot turns t st lead is = store_sound t st (lead_keeps (set_up setup boot) t turns (set_up_sound setup boot) lead) is

@@ -1,21 +1,16 @@
 mod Acknowledging
-mod Beginning
 mod Bricks
 pub mod ByRule
 mod Calls
 mod CookieBricks
 mod CookieFields
 mod Cookies
-pub mod Ending
 pub mod Expecting
-mod Going
 mod HeardPasses
-mod Histories
 mod Holders
 mod KeptCookies
-pub mod LaneLists
 pub mod LanesKept
-pub mod LanesStay
+mod LaneLines
 pub mod Leading
 mod LineKeeps
 mod Lines
@@ -31,9 +26,6 @@ mod Replies
 mod Serving
 mod Settled
 mod SettledWrites
-mod SpentPasses
-mod Storing
-pub mod Turning
 mod TurnsMade
 mod Went
 mod WriteLines

@@ -24,12 +24,12 @@ use Rattle.ssm_world.specs.declared.call.Call.TheVariants as call
 use Rattle.ssm_world.specs.declared.event.WorldEvent.TheVariants.{Write, Crash}
 use Rattle.ssm_world.specs.Worlds.{is_new, may_read, may_happen, history}
 use Rattle.session_steps.specs.Kept.{HasHolders, HasSoundStore, IsSessions}
-use Rattle.session_steps.specs.Lanes.{LaneState, reply_made, lane_at}
+use Rattle.session_lanes.specs.Lane.{LaneState, reply_made, lane_at, brick_no}
 use Rattle.session_steps.specs.Promise.{Does}
-use Rattle.session_steps.specs.Sessions.{SessionsState, with_store, nonce, drawn, session_key, expiry, cookie_of, write_of, read_of, spent_by, written_as, store_written, answered_write, write_line, store_read, fetch_line, cookie_line, now_line, on_lane, lose_line, mute_line, repeat_line, brick_no, crash_line, sweep_line, values_line, windows_line, holds, hold_line, free_line, session_line}
+use Rattle.session_steps.specs.Sessions.{SessionsState, with_store, nonce, drawn, session_key, expiry, cookie_of, write_of, read_of, spent_by, written_as, store_written, answered_write, write_line, store_read, fetch_line, cookie_line, now_line, on_lane, lose_line, mute_line, repeat_line, crash_line, sweep_line, values_line, windows_line, holds, hold_line, free_line, session_line}
 use Rattle.scenario_text.specs.Setup.{SetupState}
 use Rattle.session_steps.specs.Setup.{set_up}
-use Rattle.session_steps.specs.Store.{StoreState}
+use Rattle.session_lanes.specs.Lanes.{LanesState}
 use Rattle.session_steps.specs.Texts.{overload_text}
 use Rattle.session_steps.specs.declared.sessions.TheConstants.{MAX_MOMENT}
 use Rattle.session_steps.proofs.KeptCookies.{holders_kept}
@@ -45,10 +45,10 @@ abbrev LeavesTimely : Answer SessionsState → Type 0
 LeavesTimely answer = Leaves AreTimely answer
 
 -- another store changes nothing of that
-other : (s : SessionsState) (st : StoreState) → AreTimely s → AreTimely (with_store s st)
+other : (s : SessionsState) (st : LanesState) → AreTimely s → AreTimely (with_store s st)
 other s st are = record { in_time = are.in_time; cookies = are.cookies }
 
-at_lane : (s : SessionsState) (brick : ℕ) (line : StoreState → LaneState → Answer SessionsState) → ((st : StoreState) (lane : LaneState) → LeavesTimely (line st lane)) → LeavesTimely (on_lane s brick line)
+at_lane : (s : SessionsState) (brick : ℕ) (line : LanesState → LaneState → Answer SessionsState) → ((st : LanesState) (lane : LaneState) → LeavesTimely (line st lane)) → LeavesTimely (on_lane s brick line)
 at_lane s brick line leaves = leaves-or_refused AreTimely s.store _ (λ st is. leaves-or_refused AreTimely (lane_at st.lanes brick) (λ lane. line st lane) (λ lane at. leaves st lane))
 
 not_past : (a b : ℕ) → nat_lt b a ≡ false → a ≤ b
@@ -68,19 +68,19 @@ unfolding write_line
 write_leaves s key value are sound =
     leaves-or_refused AreTimely s.store _ (λ st is.
     leaves-refused_if AreTimely (not (is_new st.world (nonce s))) _ (λ new. go st (subst (λ o. SoundIfAny o) is sound) (nat_lt (open_count st.windows.facts) st.windows.wq))) where
-      as_said : (st : StoreState) (write : WriteState) → (answer : Result Cookie WriteRefusal) → ((cookie : Cookie) → answer ≡ Ok cookie → AreHolders cookie.bricks) → LeavesTimely (written_as (with_store (drawn s) st) key answer)
+      as_said : (st : LanesState) (write : WriteState) → (answer : Result Cookie WriteRefusal) → ((cookie : Cookie) → answer ≡ Ok cookie → AreHolders cookie.bricks) → LeavesTimely (written_as (with_store (drawn s) st) key answer)
       as_said st write (Ok cookie) names = record { in_time = are.in_time; cookies = holders_kept s.cookies key cookie are.cookies (names cookie refl) }
       as_said st write (Err (missing.Missed causes)) names = record { in_time = are.in_time; cookies = are.cookies }
       as_said st write (Err missing.OutOfMemory) names = tt
 
-      go : (st : StoreState) → StoreIsSound st → (b : Bool) → LeavesTimely (if b then Done (with_store (drawn s) (record st { windows = refused st.windows })) (overload_text key (full_facts st.windows.facts))
+      go : (st : LanesState) → StoreIsSound st → (b : Bool) → LeavesTimely (if b then Done (with_store (drawn s) (record st { windows = refused st.windows })) (overload_text key (full_facts st.windows.facts))
           else answered_write (drawn s) key (chosen st.windows s.serial) (length st.world.calls) (store_written s key value (chosen st.windows s.serial) st))
       go st its true = record { in_time = are.in_time; cookies = are.cookies }
       go st its false =
           let passes : List Pass = chosen st.windows s.serial in
-          let before : StoreState = record st { windows = taken st.windows passes } in
+          let before : LanesState = record st { windows = taken st.windows passes } in
           let n : ℕ = length st.world.calls in
-          let gone : StoreState = store_written s key value passes st in
+          let gone : LanesState = store_written s key value passes st in
           let ended : StoreIsSound gone = gone_keeps _ n (event_keeps before (Write (nonce s) (session_key key) value (expiry s) (map (λ (pass : Pass). pass.brick) passes) st.windows.wq) (windows_keep st (taken st.windows passes) its)) in
           leaves-or_refused AreTimely (write_of (slice_get gone.world.calls n)) _ (λ write at.
           leaves-or_refused AreTimely (write_answer write) _ (λ answer answers.
@@ -131,7 +131,7 @@ windows_leave s are = leaves-or_refused AreTimely s.store _ (λ st is. are)
 hold_leaves : (s : SessionsState) (brick : ℕ) → AreTimely s → LeavesTimely (hold_line s brick)
 unfolding hold_line
 hold_leaves s brick are = at_lane s brick _ (λ st lane. go st lane (pass_tried st.windows (brick_no brick))) where
-  go : (st : StoreState) (lane : LaneState) (o : Option Pass) → LeavesTimely (within (with_store s) (holds st brick lane o))
+  go : (st : LanesState) (lane : LaneState) (o : Option Pass) → LeavesTimely (within (with_store s) (holds st brick lane o))
   go st lane None = other s _ are
   go st lane (Some pass) = other s _ are
 
@@ -155,11 +155,11 @@ line_leaves s lines.Windows are sound = windows_leave s are
 line_leaves s (lines.Hold brick) are sound = hold_leaves s brick are
 line_leaves s (lines.Free brick how) are sound = free_leaves s brick how are
 
-to_sound : (o : Option StoreState) → HasSoundStore o → SoundIfAny o
+to_sound : (o : Option LanesState) → HasSoundStore o → SoundIfAny o
 to_sound None is = tt
 to_sound (Some st) is = record { made = is.0; lanes = is.1 }
 
-from_sound : (o : Option StoreState) → SoundIfAny o → HasSoundStore o
+from_sound : (o : Option LanesState) → SoundIfAny o → HasSoundStore o
 from_sound None is = tt
 from_sound (Some st) is = (is.made, is.lanes)
 

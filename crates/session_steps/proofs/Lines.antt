@@ -15,9 +15,9 @@ use Rattle.ssm_stub.specs.declared.write_call.WriteRefusal.TheVariants as missin
 use Rattle.ssm_world.specs.declared.call.Call.{Call}
 use Rattle.ssm_world.specs.declared.call.Call.TheVariants as call
 use Rattle.ssm_world.specs.Worlds.{is_new, may_read}
-use Rattle.session_steps.specs.Lanes.{LaneState, lane_at}
+use Rattle.session_lanes.specs.Lane.{LaneState, lane_at}
 use Rattle.session_steps.specs.Sessions.{SessionsState, with_store, nonce, drawn, cookie_of, with_cookie, write_of, read_of, spent_by, written_as, told_write, store_written, answered_write, write_line, fetched_text, store_read, told_read, answered_read, fetch_line, on_lane}
-use Rattle.session_steps.specs.Store.{StoreState}
+use Rattle.session_lanes.specs.Lanes.{LanesState}
 use Rattle.session_steps.specs.Texts.{version_text, overload_text, missed_text}
 
 -- an answer that goes on with something that is there
@@ -42,34 +42,34 @@ not_false true is = refl
 not_false false is = absurd (cc)
 
 -- a line that changes the store, or a brick's lane, was done
-pub record OnLane (s : SessionsState) (brick : ℕ) (line : StoreState → LaneState → Answer SessionsState) (t : SessionsState) (text : List ℕ) : Type 0 where
-  pub store : StoreState
+pub record OnLane (s : SessionsState) (brick : ℕ) (line : LanesState → LaneState → Answer SessionsState) (t : SessionsState) (text : List ℕ) : Type 0 where
+  pub store : LanesState
   pub store_is : s.store ≡ Some store
   pub lane : LaneState
   pub lane_is : lane_at store.lanes brick ≡ Some lane
   pub done : line store lane ≡ Done t text
 
-pub on_a_lane : (s : SessionsState) (brick : ℕ) (line : StoreState → LaneState → Answer SessionsState) (t : SessionsState) (text : List ℕ) → on_lane s brick line ≡ Done t text → OnLane s brick line t text
+pub on_a_lane : (s : SessionsState) (brick : ℕ) (line : LanesState → LaneState → Answer SessionsState) (t : SessionsState) (text : List ℕ) → on_lane s brick line ≡ Done t text → OnLane s brick line t text
 on_a_lane s brick line t text is =
     let first = goes_on_with s.store (λ st. or_refused (lane_at st.lanes brick) (λ lane. line st lane)) t text is in
     let second = goes_on_with (lane_at first.item.lanes brick) (λ lane. line first.item lane) t text first.done in
     record { store = first.item; store_is = first.there; lane = second.item; lane_is = second.there; done = second.done }
 
 -- the passes of a write, and the store after it went on to its end
-abbrev pub passes_of : SessionsState → StoreState → List Pass
+abbrev pub passes_of : SessionsState → LanesState → List Pass
 passes_of s st = chosen st.windows s.serial
 
-abbrev pub store_after_write : SessionsState → ℕ → List ℕ → StoreState → StoreState
+abbrev pub store_after_write : SessionsState → ℕ → List ℕ → LanesState → LanesState
 store_after_write s key value st = store_written s key value (passes_of s st) st
 
 -- a write for which too few windows are open
-pub record IsOverload (s : SessionsState) (key : ℕ) (st : StoreState) (t : SessionsState) (text : List ℕ) : Type 0 where
+pub record IsOverload (s : SessionsState) (key : ℕ) (st : LanesState) (t : SessionsState) (text : List ℕ) : Type 0 where
   pub full : nat_lt (open_count st.windows.facts) st.windows.wq ≡ true
   pub state_is : t ≡ with_store (drawn s) (record st { windows = refused st.windows })
   pub text_is : text ≡ overload_text key (full_facts st.windows.facts)
 
 -- a write that came to its answer
-pub record HasAnswered (s : SessionsState) (key : ℕ) (value : List ℕ) (st : StoreState) (t : SessionsState) (text : List ℕ) : Type 0 where
+pub record HasAnswered (s : SessionsState) (key : ℕ) (value : List ℕ) (st : LanesState) (t : SessionsState) (text : List ℕ) : Type 0 where
   pub enough : nat_lt (open_count st.windows.facts) st.windows.wq ≡ false
   pub write : WriteState
   pub there : slice_get (store_after_write s key value st).world.calls (length st.world.calls) ≡ Some (call.Write write)
@@ -79,7 +79,7 @@ pub record HasAnswered (s : SessionsState) (key : ℕ) (value : List ℕ) (st : 
 
 -- a write line that was done
 pub record WriteDone (s : SessionsState) (key : ℕ) (value : List ℕ) (t : SessionsState) (text : List ℕ) : Type 0 where
-  pub store : StoreState
+  pub store : LanesState
   pub store_is : s.store ≡ Some store
   pub new : is_new store.world (nonce s) ≡ true
   pub by : IsOverload s key store t text ⊎ HasAnswered s key value store t text
@@ -94,10 +94,10 @@ read_there None read is = absurd (cc)
 read_there (Some (call.Write w)) read is = absurd (cc)
 read_there (Some (call.Read r)) read is = let same : r ≡ read = cc in ap (λ x. Some (call.Read x)) same
 
-answered_done : (s : SessionsState) (key : ℕ) (value : List ℕ) (st : StoreState) (t : SessionsState) (text : List ℕ) → nat_lt (open_count st.windows.facts) st.windows.wq ≡ false
+answered_done : (s : SessionsState) (key : ℕ) (value : List ℕ) (st : LanesState) (t : SessionsState) (text : List ℕ) → nat_lt (open_count st.windows.facts) st.windows.wq ≡ false
     → answered_write (drawn s) key (passes_of s st) (length st.world.calls) (store_after_write s key value st) ≡ Done t text → HasAnswered s key value st t text
 answered_done s key value st t text enough is =
-    let after : StoreState = store_after_write s key value st in
+    let after : LanesState = store_after_write s key value st in
     let first = goes_on_with (write_of (slice_get after.world.calls (length st.world.calls))) (λ write. told_write (with_store (drawn s) (spent_by write (passes_of s st) after)) key write) t text is in
     let second = goes_on_with (write_answer first.item) (λ answer. written_as (with_store (drawn s) (spent_by first.item (passes_of s st) after)) key answer) t text first.done in
     record {
@@ -113,7 +113,7 @@ pub write_done : (s : SessionsState) (key : ℕ) (value : List ℕ) (t : Session
 unfolding write_line
 write_done s key value t text is =
     let first : GoesOn s.store rest t text = goes_on_with s.store rest t text is in
-    let st : StoreState = first.item in
+    let st : LanesState = first.item in
     let second = not_refused (not (is_new st.world (nonce s))) (either st (nat_lt (open_count st.windows.facts) st.windows.wq)) t text first.done in
     record {
       store = st;
@@ -122,16 +122,16 @@ write_done s key value t text is =
       by = go st (nat_lt (open_count st.windows.facts) st.windows.wq) refl second.1;
     }
   where
-    either : StoreState → Bool → Answer SessionsState
+    either : LanesState → Bool → Answer SessionsState
     either st full =
         if full
         then Done (with_store (drawn s) (record st { windows = refused st.windows })) (overload_text key (full_facts st.windows.facts))
         else answered_write (drawn s) key (passes_of s st) (length st.world.calls) (store_after_write s key value st)
 
-    rest : StoreState → Answer SessionsState
+    rest : LanesState → Answer SessionsState
     rest st = refused_if (not (is_new st.world (nonce s))) (either st (nat_lt (open_count st.windows.facts) st.windows.wq))
 
-    go : (st : StoreState) (full : Bool) → nat_lt (open_count st.windows.facts) st.windows.wq ≡ full → either st full ≡ Done t text → IsOverload s key st t text ⊎ HasAnswered s key value st t text
+    go : (st : LanesState) (full : Bool) → nat_lt (open_count st.windows.facts) st.windows.wq ≡ full → either st full ≡ Done t text → IsOverload s key st t text ⊎ HasAnswered s key value st t text
     go st true at is =
         let same = done_state (with_store (drawn s) (record st { windows = refused st.windows })) t (overload_text key (full_facts st.windows.facts)) text is in
         inl (record { full = at; state_is = same.0; text_is = same.1 })
@@ -141,7 +141,7 @@ write_done s key value t text is =
 pub record FetchDone (s : SessionsState) (key : ℕ) (t : SessionsState) (text : List ℕ) : Type 0 where
   pub cookie : Cookie
   pub cookie_is : cookie_of s key ≡ Some cookie
-  pub store : StoreState
+  pub store : LanesState
   pub store_is : s.store ≡ Some store
   pub may : may_read store.world (nonce s) cookie.bricks ≡ true
   pub read : ReadState
@@ -157,8 +157,8 @@ fetch_done s key t text is =
     let first : GoesOn (cookie_of s key) rest t text = goes_on_with (cookie_of s key) rest t text is in
     let cookie : Cookie = first.item in
     let second : GoesOn s.store (on_store cookie) t text = goes_on_with s.store (on_store cookie) t text first.done in
-    let st : StoreState = second.item in
-    let after : StoreState = store_read s cookie st in
+    let st : LanesState = second.item in
+    let after : LanesState = store_read s cookie st in
     let number : ℕ = length st.world.calls in
     let third = not_refused (not (may_read st.world (nonce s) cookie.bricks)) (answered_read (drawn s) key number after) t text second.done in
     let fourth = goes_on_with (read_of (slice_get after.world.calls number)) (λ read. told_read (with_store (drawn s) after) key read) t text third.1 in
@@ -178,7 +178,7 @@ fetch_done s key t text is =
       text_is = same.1;
     }
   where
-    on_store : Cookie → StoreState → Answer SessionsState
+    on_store : Cookie → LanesState → Answer SessionsState
     on_store cookie st =
         refused_if (not (may_read st.world (nonce s) cookie.bricks))
         (answered_read (drawn s) key (length st.world.calls) (store_read s cookie st))

@@ -10,9 +10,9 @@ use Rattle.session_steps.specs.Promise.{SessionTurn, Does, Boots, Lead, BootsRis
 use Rattle.session_steps.specs.Sessions.{SessionsState, nonce, drawn}
 use Rattle.scenario_text.specs.Setup.{SetupState}
 use Rattle.session_steps.specs.Setup.{store_of, set_up}
-use Rattle.session_steps.specs.Store.{StoreState}
+use Rattle.session_lanes.specs.Lanes.{LanesState}
 use Rattle.scenario_text.specs.declared.setup.BrickCounts.{BrickCounts}
-use Rattle.session_steps.proofs.Histories.{PassesAt, any_passes}
+use Rattle.session_lanes.proofs.Histories.{PassesAt, any_passes}
 use Rattle.session_steps.proofs.LanesKept.{AreSound, one_turn_keeps, set_up_sound}
 use Rattle.session_steps.proofs.TurnsMade.{HasHad, TurnGoes, turn_goes}
 
@@ -106,7 +106,7 @@ abbrev pub at_serial : SessionsState → ℕ → Version
 at_serial u serial = record (nonce u) { serial = serial }
 
 -- is new, while serials are left
-pub nonce_new : (setup : SetupState) (boot : ℕ) (turns : List SessionTurn) (u : SessionsState) (st : StoreState) (serial : ℕ) → BootsRise boot turns → Lead (set_up setup boot) turns u → u.store ≡ Some st → u.serial < 2 ^ 64 - 1 → u.serial ≤ serial
+pub nonce_new : (setup : SetupState) (boot : ℕ) (turns : List SessionTurn) (u : SessionsState) (st : LanesState) (serial : ℕ) → BootsRise boot turns → Lead (set_up setup boot) turns u → u.store ≡ Some st → u.serial < 2 ^ 64 - 1 → u.serial ≤ serial
     → is_new st.world (at_serial u serial) ≡ true
 nonce_new setup boot turns u st serial rises leads store_is left still = go (list_any (λ (c : Call). same_version (nonce_of c) (at_serial u serial)) st.world.calls) refl
   where

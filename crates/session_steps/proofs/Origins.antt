@@ -13,7 +13,7 @@ use Rattle.session_steps.specs.Rule.{result_by_rule}
 use Rattle.session_steps.specs.Sessions.{SessionsState, with_store, nonce, drawn, cookie_of, read_of, session_line, fetched_text, store_read, answered_read, fetch_line}
 use Rattle.scenario_text.specs.Setup.{SetupState}
 use Rattle.session_steps.specs.Setup.{set_up}
-use Rattle.session_steps.specs.Store.{StoreState}
+use Rattle.session_lanes.specs.Lanes.{LanesState}
 use Rattle.session_steps.proofs.Acknowledging.{StayLaw, MadeCookie, cookie_before, IsKept, turn_keeps, turns_keep, kept_not_new}
 use Rattle.session_steps.proofs.ByRule.{read_by_rule}
 use Rattle.session_steps.proofs.LanesKept.{StoreIsSound, SoundIfAny, one_turn_keeps, lead_keeps, set_up_sound, all_sound}
@@ -116,7 +116,7 @@ pub cookie_from : (setup : SetupState) (boot : ℕ) (turns : List SessionTurn) (
 cookie_from setup boot turns u key cookie leads has = elim (before_or_from turns (set_up setup boot) u key cookie (set_up_sound setup boot) leads has) [ inl none ↦ absurd (cc) | inr from ↦ from ]
 
 -- a fetch with a new nonce is done
-fetches : (u : SessionsState) (key : ℕ) (cookie : Cookie) (st : StoreState) → cookie_of u key ≡ Some cookie → u.store ≡ Some st → StoreIsSound st → may_read st.world (nonce u) cookie.bricks ≡ true → fetch_line u key ≡ Refused → ⊥
+fetches : (u : SessionsState) (key : ℕ) (cookie : Cookie) (st : LanesState) → cookie_of u key ≡ Some cookie → u.store ≡ Some st → StoreIsSound st → may_read st.world (nonce u) cookie.bricks ≡ true → fetch_line u key ≡ Refused → ⊥
 unfolding fetch_line
 fetches u key cookie st has store_is sound may is =
     let by = read_by_rule st (nonce u) u.moment cookie sound.made sound.lanes may in
@@ -127,7 +127,7 @@ fetches u key cookie st has store_is sound may is =
     let clash : Refused ≡ ended = sym is ∙ first ∙ second ∙ third in
     cc
   where
-    after : StoreState
+    after : LanesState
     after = store_read u cookie st
 
     written : Result (List ℕ) ReadRefusal → Answer SessionsState
@@ -136,7 +136,7 @@ fetches u key cookie st has store_is sound may is =
     told : ReadState → Answer SessionsState
     told read = or_refused (read_answer read) written
 
-    on_store : Cookie → StoreState → Answer SessionsState
+    on_store : Cookie → LanesState → Answer SessionsState
     on_store c x =
         refused_if (not (may_read x.world (nonce u) c.bricks))
         (answered_read (drawn u) key (length x.world.calls) (store_read u c x))
@@ -146,7 +146,7 @@ fetches u key cookie st has store_is sound may is =
 
 -- a fetch of a key with a cookie is refused only where a call has had its nonce
 pub fetch_refused : StayLaw → (setup : SetupState) (boot : ℕ) (turns : List SessionTurn) (u : SessionsState) (key : ℕ) (cookie : Cookie) → Lead (set_up setup boot) turns u → cookie_of u key ≡ Some cookie → session_line u (lines.Fetch key) ≡ Refused
-    → (st : StoreState) × (u.store ≡ Some st) × (is_new st.world (nonce u) ≡ false)
+    → (st : LanesState) × (u.store ≡ Some st) × (is_new st.world (nonce u) ≡ false)
 fetch_refused stay setup boot turns u key cookie leads has is = (kept.store, kept.store_is, go (is_new kept.store.world (nonce u)) refl)
   where
     start : SessionsState

@@ -18,11 +18,11 @@ use Rattle.ssm_stub.specs.declared.reply.ReadReply.TheVariants as get
 use Rattle.ssm_stub.specs.Reads.{value_by, value_of, found_in, loss_by, loss_of}
 use Rattle.ssm_stub.specs.Writes.{with_brick}
 use Rattle.ssm_world.proofs.Ending.{FoundAt, found_at, none_found}
-use Rattle.session_steps.specs.Lanes.{LaneState, lane_at}
+use Rattle.session_lanes.specs.Lane.{LaneState, lane_at}
 use Rattle.session_steps.specs.Promise.{FetchMade, HasLane, WasHeard, WasSweptLate, crashes, CanServe, IsCause, AreCauses, IsRight}
 use Rattle.session_steps.specs.Rule.{heard_behind, heard_on_lane, outcome_by_rule, asks_by_rule, found_or_lost, result_by_rule}
 use Rattle.session_steps.specs.Sessions.{fetched_text}
-use Rattle.session_steps.specs.Store.{StoreState}
+use Rattle.session_lanes.specs.Lanes.{LanesState}
 use Rattle.session_steps.specs.Texts.{found_text}
 use Rattle.session_steps.proofs.Replies.{RepliesFound, RepliesCrashed, RepliesSwept}
 
@@ -90,7 +90,7 @@ on_lane_right fetch holder lane reply has right = by_queue (nat_lt (length lane.
     by_queue true few = by_loss (nat_lt 0 lane.to_drop || nat_lt 0 lane.to_lose) refl (grind (arith, nat_tests))
     by_queue false many = inr (record { cause = cause.Strayed; valueless = refl; loss_is = refl; is = record { lane = lane; has_lane = has; many = grind (arith, nat_tests) } })
 
-pub outcome_right : (fetch : FetchMade) (holder : Holder) (st : StoreState) (nonce : Version) (lane : LaneState) (reply : Option ReadReply) → fetch.lanes ≡ st.lanes → lane_at st.lanes holder.brick.0 ≡ Some lane
+pub outcome_right : (fetch : FetchMade) (holder : Holder) (st : LanesState) (nonce : Version) (lane : LaneState) (reply : Option ReadReply) → fetch.lanes ≡ st.lanes → lane_at st.lanes holder.brick.0 ≡ Some lane
     → outcome_by_rule st nonce fetch.cookie holder ≡ heard_on_lane (lane_at st.lanes holder.brick.0) reply → RepliesRight fetch holder reply → IsHeardRight fetch holder (outcome_by_rule st nonce fetch.cookie holder)
 outcome_right fetch holder st nonce lane reply lanes has outcome_is right =
     let its : outcome_by_rule st nonce fetch.cookie holder ≡ heard_on_lane (Some lane) reply = outcome_is ∙ ap (λ l. heard_on_lane l reply) has in
@@ -148,7 +148,7 @@ causes_right fetch heard (h ∷ holders) right none =
         subst P (sym by.loss_is) (refl, by.is, later)
 
 -- what a fetch writes is right, where each holder is heard so
-pub result_right : (fetch : FetchMade) (st : StoreState) (nonce : Version) → AreHeardRight fetch (outcome_by_rule st nonce fetch.cookie) fetch.cookie.bricks
+pub result_right : (fetch : FetchMade) (st : LanesState) (nonce : Version) → AreHeardRight fetch (outcome_by_rule st nonce fetch.cookie) fetch.cookie.bricks
     → IsRight fetch (fetched_text fetch.key (result_by_rule st nonce fetch.now fetch.cookie))
 result_right fetch st nonce right = go (nat_lt fetch.cookie.expiry.0 fetch.now.0) refl
   where

@@ -19,13 +19,14 @@ use Rattle.ssm_world.specs.Sound.{Grows}
 use Rattle.ssm_world.specs.Worlds.{WorldValue, new_world, history, history_at, is_new, IsMade}
 use Rattle.ssm_world.proofs.Growing.{WasAsked, asked_stays}
 use Rattle.ssm_world.proofs.Holding.{answer_cookie, acknowledged_keeps}
-use Rattle.session_steps.specs.Lanes.{LaneState, lane_at}
+use Rattle.session_lanes.specs.Lane.{LaneState, lane_at}
 use Rattle.session_steps.specs.Promise.{SessionTurn, Does, Lead, FetchMade, IsRight, lanes_of, FetchedWrite, fetch_of}
-use Rattle.session_steps.specs.Rule.{LanesAreOf, reply_by, heard_on_lane, outcome_by_rule, result_by_rule}
+use Rattle.session_lanes.specs.Sound.{LanesAreOf}
+use Rattle.session_steps.specs.Rule.{reply_by, heard_on_lane, outcome_by_rule, result_by_rule}
 use Rattle.session_steps.specs.Sessions.{SessionsState, nonce, cookie_of, fetched_text, expiry, session_line, write_line}
 use Rattle.scenario_text.specs.Setup.{SetupState}
 use Rattle.session_steps.specs.Setup.{store_of, set_up}
-use Rattle.session_steps.specs.Store.{StoreState}
+use Rattle.session_lanes.specs.Lanes.{LanesState}
 use Rattle.session_steps.specs.Texts.{version_text}
 use Rattle.scenario_text.specs.declared.setup.BrickCounts.{BrickCounts}
 use Rattle.session_steps.proofs.Acknowledging.{StayLaw, IsKept, AreKept, turns_keep, acknowledged_not_new, kept_not_new}
@@ -37,16 +38,16 @@ use Rattle.session_steps.proofs.Replies.{holder_replies}
 use Rattle.session_steps.proofs.TurnsMade.{sound_of, GoOn, TurnGoes, turn_goes, TurnsGo, turns_go}
 use Rattle.session_steps.proofs.ByRule.{read_by_rule}
 use Rattle.session_steps.proofs.LanesKept.{StoreIsSound, SoundIfAny, set_up_sound, one_turn_keeps, lead_keeps, all_sound}
-use Rattle.session_steps.proofs.Ending.{made_is_sound}
+use Rattle.session_lanes.proofs.Ending.{made_is_sound}
 use Rattle.session_steps.proofs.Went.{Goes, made_grows}
 use Rattle.session_steps.proofs.Written.{Acknowledged, Unacknowledged, write_ends}
 
 -- the bricks of a setup are a new world, and no key has a cookie
-set_up_world : (counts : Option BrickCounts) (st : StoreState) → store_of counts ≡ Some st → (n : ℕ) × (st.world ≡ new_world n)
+set_up_world : (counts : Option BrickCounts) (st : LanesState) → store_of counts ≡ Some st → (n : ℕ) × (st.world ≡ new_world n)
 set_up_world None st is = absurd (cc)
-set_up_world (Some c) st is = (c.bricks, ap (λ (o : Option StoreState). world_in st.world o) (sym is))
+set_up_world (Some c) st is = (c.bricks, ap (λ (o : Option LanesState). world_in st.world o) (sym is))
   where
-    world_in : WorldValue → Option StoreState → WorldValue
+    world_in : WorldValue → Option LanesState → WorldValue
     world_in w None = w
     world_in w (Some x) = x.world
 
@@ -54,16 +55,16 @@ pub set_up_kept : (setup : SetupState) (boot : ℕ) → AreKept (set_up setup bo
 set_up_kept setup boot key cookie is = absurd (cc)
 
 -- turns to some bricks come from some
-record ComesBack (now : Moment) (turns : List SessionTurn) (a : Option StoreState) (v : StoreState) : Type 0 where
-  pub store : StoreState
+record ComesBack (now : Moment) (turns : List SessionTurn) (a : Option LanesState) (v : LanesState) : Type 0 where
+  pub store : LanesState
   pub store_is : a ≡ Some store
   pub goes : Goes now turns store.world v.world
 
-go_back : (now : Moment) (turns : List SessionTurn) (a b : Option StoreState) (v : StoreState) → b ≡ Some v → GoOn now turns a b → ComesBack now turns a v
+go_back : (now : Moment) (turns : List SessionTurn) (a b : Option LanesState) (v : LanesState) → b ≡ Some v → GoOn now turns a b → ComesBack now turns a v
 go_back now turns None None v is goes = absurd (cc)
 go_back now turns None (Some x) v is goes = absurd goes
 go_back now turns (Some u) None v is goes = absurd goes
-go_back now turns (Some u) (Some x) v is goes = let same : x ≡ v = cc in record { store = u; store_is = refl; goes = subst (λ (y : StoreState). Goes now turns u.world y.world) same goes }
+go_back now turns (Some u) (Some x) v is goes = let same : x ≡ v = cc in record { store = u; store_is = refl; goes = subst (λ (y : LanesState). Goes now turns u.world y.world) same goes }
 
 -- turns lead from a world to one that has grown
 goes_grows : (now : Moment) (turns : List SessionTurn) (w v : WorldValue) → Goes now turns w v → Grows w v
@@ -83,7 +84,7 @@ made_keeps w cookie value i holder made acknowledged there =
     subst K (sym made.made) (acknowledged_keeps made.bricks made.events cookie value i holder (subst (λ v. IsAcknowledged v cookie value) made.made acknowledged) there)
 
 -- a brick with a history has a lane
-lane_of : (st : StoreState) (brick : BrickNo) (h : List BrickEvent) → LanesAreOf st → history st.world brick ≡ Some h → (lane : LaneState) × (lane_at st.lanes brick.0 ≡ Some lane)
+lane_of : (st : LanesState) (brick : BrickNo) (h : List BrickEvent) → LanesAreOf st → history st.world brick ≡ Some h → (lane : LaneState) × (lane_at st.lanes brick.0 ≡ Some lane)
 lane_of st brick h lanes is = go brick.0 is
   where
     place : (n : ℕ) (xs : List LaneState) → n < length xs → (lane : LaneState) × (slice_get xs n ≡ Some lane)
@@ -124,7 +125,7 @@ text_by_rule u key v text d made lanes =
     d.text_is ∙ ap (fetched_text key) same
 
 -- what a fetch writes over bricks that turns made, by the rule
-pub fetch_by_rule : (setup : SetupState) (boot : ℕ) (turns : List SessionTurn) (u v : SessionsState) (key : ℕ) (text : List ℕ) (cookie : Cookie) (st : StoreState) → Lead (set_up setup boot) turns u → session_line u (lines.Fetch key) ≡ Done v text
+pub fetch_by_rule : (setup : SetupState) (boot : ℕ) (turns : List SessionTurn) (u v : SessionsState) (key : ℕ) (text : List ℕ) (cookie : Cookie) (st : LanesState) → Lead (set_up setup boot) turns u → session_line u (lines.Fetch key) ≡ Done v text
     → cookie_of u key ≡ Some cookie → u.store ≡ Some st → text ≡ fetched_text key (result_by_rule st (nonce u) u.moment cookie)
 fetch_by_rule setup boot turns u v key text cookie st leads is cookie_is store_is =
     let d : FetchDone u key v text = fetch_done u key v text is in
@@ -134,15 +135,15 @@ fetch_by_rule setup boot turns u v key text cookie st leads is cookie_is store_i
     let its : d.cookie ≡ cookie = cc in
     let sound = all_sound setup boot turns u d.store leads d.store_is in
     text_by_rule u key v text d sound.made sound.lanes
-    ∙ (ap (λ (x : StoreState). fetched_text key (result_by_rule x (nonce u) u.moment d.cookie)) same
+    ∙ (ap (λ (x : LanesState). fetched_text key (result_by_rule x (nonce u) u.moment d.cookie)) same
     ∙ ap (λ (c : Cookie). fetched_text key (result_by_rule st (nonce u) u.moment c)) its)
 
 -- the bricks of a write and of a fetch of what it wrote
 record Bricks (setup : SetupState) (boot : ℕ) (story : FetchedWrite setup boot) : Type 0 where
   pub n : ℕ
-  pub begun : StoreState
-  pub ended : StoreState
-  pub store : StoreState
+  pub begun : LanesState
+  pub ended : LanesState
+  pub store : LanesState
   pub store_is : story.at_fetch.store ≡ Some store
   pub sound : StoreIsSound store
   pub ended_made : IsMade ended.world
@@ -225,7 +226,7 @@ bricks_of_story stay setup boot story = record {
     acknowledged =
         let one : Some a.0.later ≡ Some back_t.store = sym a.0.later_is ∙ back_t.store_is in
         let same : a.0.later ≡ back_t.store = cc in
-        subst (λ (x : StoreState). IsAcknowledged x.world story.cookie story.value) same (subst (λ c. IsAcknowledged a.0.later.world c story.value) a.1 a.0.acknowledged)
+        subst (λ (x : LanesState). IsAcknowledged x.world story.cookie story.value) same (subst (λ c. IsAcknowledged a.0.later.world c story.value) a.1 a.0.acknowledged)
 
     same_s : back_s.store ≡ wd.store
     same_s = let one : Some back_s.store ≡ Some wd.store = sym back_s.store_is ∙ wd.store_is in cc
@@ -259,7 +260,7 @@ fetch_right stay setup boot story =
     let two : Some d.store ≡ Some b.store = sym d.store_is ∙ b.store_is in
     let store : d.store ≡ b.store = cc in
     let text : story.text ≡ fetched_text story.key (result_by_rule d.store (nonce u) u.moment d.cookie) =
-    text_by_rule u story.key story.after_fetch story.text d (subst (λ (x : StoreState). IsMade x.world) (sym store) b.sound.made) (subst (λ x. LanesAreOf x) (sym store) b.sound.lanes) in
+    text_by_rule u story.key story.after_fetch story.text d (subst (λ (x : LanesState). IsMade x.world) (sym store) b.sound.made) (subst (λ x. LanesAreOf x) (sym store) b.sound.lanes) in
     let its : story.text ≡ fetched_text story.key (result_by_rule b.store (nonce u) u.moment story.cookie) = text ∙ (λ l. fetched_text story.key (result_by_rule (store l) (nonce u) u.moment (cookie l))) in
     subst (λ x. IsRight (fetch_of story) x) (sym its) (result_right (fetch_of story) b.store (nonce u) (holder_right setup boot story b (nonce u)))
 
@@ -271,5 +272,5 @@ written_version stay setup boot story =
     (ap (λ (c : Cookie). c.expiry) (sym a.1) ∙ a.0.expiry_is, a.0.text_is ∙ ap (version_text story.key) a.1)
 
 -- over all turns the bricks are a world
-pub turns_made : (setup : SetupState) (boot : ℕ) (turns : List SessionTurn) (t : SessionsState) (st : StoreState) → Lead (set_up setup boot) turns t → t.store ≡ Some st → IsMade st.world
+pub turns_made : (setup : SetupState) (boot : ℕ) (turns : List SessionTurn) (t : SessionsState) (st : LanesState) → Lead (set_up setup boot) turns t → t.store ≡ Some st → IsMade st.world
 turns_made setup boot turns t st leads is = (all_sound setup boot turns t st leads is).made

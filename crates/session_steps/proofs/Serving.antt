@@ -9,7 +9,7 @@ use Rattle.session_cookie.specs.declared.cookie.Holder.{Holder}
 use Rattle.ssm_stub.specs.declared.cause.BrickCause.{BrickCause}
 use Rattle.ssm_stub.specs.declared.cause.Cause.{Cause}
 use Rattle.ssm_stub.specs.declared.cause.Cause.TheVariants as cause
-use Rattle.session_steps.specs.Lanes.{LaneState}
+use Rattle.session_lanes.specs.Lane.{LaneState}
 use Rattle.session_steps.specs.Promise.{crashes, FetchMade, WasHeard, WasSweptLate, IsCause, AreCauses, CanServe, FindsValue, IsLost, IsRight, HasCrashedOrWasUnheard, NoneSweptLate}
 use Rattle.session_steps.specs.Texts.{key_text, found_text, expired_text, cause_text, lost_text}
 

@@ -33,23 +33,23 @@ use Rattle.ssm_world.specs.Sound.{untold, asked_of, WriteIsSound}
 use Rattle.ssm_world.specs.Worlds.{WorldValue, is_new, may_write, next_of, step, with_new_call, IsMade}
 use Rattle.ssm_world.proofs.Askable.{acknowledged_holders}
 use Rattle.ssm_world.proofs.Growing.{same_bricks}
-use Rattle.session_steps.specs.Rule.{LanesAreOf}
+use Rattle.session_lanes.specs.Sound.{LanesAreOf}
 use Rattle.session_steps.specs.Sessions.{SessionsState, nonce, drawn, with_store, session_key, expiry, spent_by, store_written, write_of, written_as, answered_write, told_write, write_line}
-use Rattle.session_steps.specs.Store.{StoreState, after_event, spent_as}
+use Rattle.session_lanes.specs.Lanes.{LanesState, after_event, spent_as}
 use Rattle.session_steps.specs.Texts.{overload_text}
-use Rattle.session_steps.proofs.Beginning.{begins, may_begin_write}
-use Rattle.session_steps.proofs.Ending.{Gone, made_is_sound, write_ends}
+use Rattle.session_lanes.proofs.Beginning.{begins, may_begin_write}
+use Rattle.session_lanes.proofs.Ending.{Gone, made_is_sound, write_ends}
 use Rattle.session_steps.proofs.HeardPasses.{passes_heard}
 use Rattle.session_steps.proofs.Settled.{never_refused}
 
 -- the write of a number that wants nothing more, and that asked these bricks
-record WriteOver (v : StoreState) (n : ℕ) (bricks : List BrickNo) : Type 0 where
+record WriteOver (v : LanesState) (n : ℕ) (bricks : List BrickNo) : Type 0 where
   write : WriteState
   there : slice_get v.world.calls n ≡ Some (call.Write write)
   asked : asked_of write.asks ≡ bricks
   over : write_next write ≡ next.Ended
 
-write_over : (v : StoreState) (n : ℕ) (s : WriteState) (d : Call) → slice_get v.world.calls n ≡ Some d → untold d ≡ untold (call.Write s) → next_of d ≡ next.Ended → WriteOver v n (asked_of s.asks)
+write_over : (v : LanesState) (n : ℕ) (s : WriteState) (d : Call) → slice_get v.world.calls n ≡ Some d → untold d ≡ untold (call.Write s) → next_of d ≡ next.Ended → WriteOver v n (asked_of s.asks)
 write_over v n s (call.Write write) there same over = record { write = write; there = there; asked = same_bricks (call.Write s) (call.Write write) same; over = over }
 write_over v n s (call.Read read) there same over = absurd (cc)
 
@@ -81,7 +81,7 @@ names_holders w n write cookie made there answers =
     acknowledged_holders made.bricks made.events cookie sound.value (subst A made.made acknowledged)
 
 -- What a write comes to that was given passes: the store after it, and the answer.
-pub record WriteEnds (s : SessionsState) (key : ℕ) (value : List ℕ) (v : StoreState) (n : ℕ) : Type 0 where
+pub record WriteEnds (s : SessionsState) (key : ℕ) (value : List ℕ) (v : LanesState) (n : ℕ) : Type 0 where
   pub write : WriteState
   pub there : slice_get v.world.calls n ≡ Some (call.Write write)
   pub answer : Result Cookie WriteRefusal
@@ -92,23 +92,23 @@ pub record WriteEnds (s : SessionsState) (key : ℕ) (value : List ℕ) (v : Sto
   pub lanes : LanesAreOf v
 
 -- a write line where there are bricks
-abbrev line_at : SessionsState → ℕ → List ℕ → StoreState → Answer SessionsState
+abbrev line_at : SessionsState → ℕ → List ℕ → LanesState → Answer SessionsState
 line_at s key value st =
     refused_if (not (is_new st.world (nonce s)))
     (if nat_lt (open_count st.windows.facts) st.windows.wq
     then Done (with_store (drawn s) (record st { windows = refused st.windows })) (overload_text key (full_facts st.windows.facts))
     else answered_write (drawn s) key (chosen st.windows s.serial) (length st.world.calls) (store_written s key value (chosen st.windows s.serial) st))
 
-line_of : (s : SessionsState) (key : ℕ) (value : List ℕ) (st : StoreState) → s.store ≡ Some st → write_line s key value ≡ line_at s key value st
+line_of : (s : SessionsState) (key : ℕ) (value : List ℕ) (st : LanesState) → s.store ≡ Some st → write_line s key value ≡ line_at s key value st
 unfolding write_line
-line_of s key value st store = ap (λ (o : Option StoreState). or_refused o (line_at s key value)) store
+line_of s key value st store = ap (λ (o : Option LanesState). or_refused o (line_at s key value)) store
 
-line_is : (s : SessionsState) (key : ℕ) (value : List ℕ) (st : StoreState) (write : WriteState) (answer : Result Cookie WriteRefusal) → s.store ≡ Some st → is_new st.world (nonce s) ≡ true → nat_lt (open_count st.windows.facts) st.windows.wq ≡ false
+line_is : (s : SessionsState) (key : ℕ) (value : List ℕ) (st : LanesState) (write : WriteState) (answer : Result Cookie WriteRefusal) → s.store ≡ Some st → is_new st.world (nonce s) ≡ true → nat_lt (open_count st.windows.facts) st.windows.wq ≡ false
     → slice_get (store_written s key value (chosen st.windows s.serial) st).world.calls (length st.world.calls) ≡ Some (call.Write write) → write_answer write ≡ Some answer
     → write_line s key value ≡ written_as (with_store (drawn s) (spent_by write (chosen st.windows s.serial) (store_written s key value (chosen st.windows s.serial) st))) key answer
 line_is s key value st write answer store new enough there answers =
     let passes : List Pass = chosen st.windows s.serial in
-    let gone : StoreState = store_written s key value passes st in
+    let gone : LanesState = store_written s key value passes st in
     let full : Answer SessionsState = Done (with_store (drawn s) (record st { windows = refused st.windows })) (overload_text key (full_facts st.windows.facts)) in
     let given : Answer SessionsState = answered_write (drawn s) key passes (length st.world.calls) gone in
     let few : Bool = nat_lt (open_count st.windows.facts) st.windows.wq in
@@ -124,7 +124,7 @@ told_is s key write answer answers = ap (λ (o : Option (Result Cookie WriteRefu
 enough_is : (a b : ℕ) → a ≤ b → nat_lt b a ≡ false
 enough_is a b le = grind (arith, nat_tests)
 
-pub settled_write : (s : SessionsState) (key : ℕ) (value : List ℕ) (st v : StoreState) → IsMade st.world → KeepLimits st.windows → AreTaken st.windows.wq st.windows.w (chosen st.windows s.serial) → LanesAreOf st → s.store ≡ Some st → is_new st.world (nonce s) ≡ true
+pub settled_write : (s : SessionsState) (key : ℕ) (value : List ℕ) (st v : LanesState) → IsMade st.world → KeepLimits st.windows → AreTaken st.windows.wq st.windows.w (chosen st.windows s.serial) → LanesAreOf st → s.store ≡ Some st → is_new st.world (nonce s) ≡ true
     → st.windows.wq ≤ open_count st.windows.facts
     → ((write : WriteState) → slice_get (store_written s key value (chosen st.windows s.serial) st).world.calls (length st.world.calls) ≡ Some (call.Write write)
     → v ≡ spent_as (store_written s key value (chosen st.windows s.serial) st) (map hushed (heard_passes write (chosen st.windows s.serial))))
@@ -133,8 +133,8 @@ settled_write s key value st v made limits took lanes store new enough settles =
     let n : ℕ = length st.world.calls in
     let passes : List Pass = chosen st.windows s.serial in
     let bricks : List BrickNo = map (λ (pass : Pass). pass.brick) passes in
-    let begun : StoreState = record st { windows = taken st.windows passes } in
-    let gone : StoreState = store_written s key value passes st in
+    let begun : LanesState = record st { windows = taken st.windows passes } in
+    let gone : LanesState = store_written s key value passes st in
     let event : WorldEvent = Write (nonce s) (session_key key) value (expiry s) bricks st.windows.wq in
     let start : WriteState = write_start bricks st.windows.wq (nonce s) (session_key key) value (expiry s) in
     let few : st.windows.w ≤ MAX_HOLDERS = omega (arith, limits.within, limits.few) in
@@ -146,11 +146,11 @@ settled_write s key value st v made limits took lanes store new enough settles =
     let asked : asked_of over.write.asks ≡ bricks = over.asked ∙ none_asked-whos WriteReply bricks in
     let heard : map hushed (heard_passes over.write passes) ≡ heard_passes over.write passes =
     passes_heard over.write passes (λ i ask at. all_heard over.write.asks (no_turn (turn_after_asks over.write.asks) over.over) i ask at) asked in
-    let spent : StoreState = spent_by over.write passes gone in
+    let spent : LanesState = spent_by over.write passes gone in
     let is : v ≡ spent = settles over.write over.there ∙ ap (spent_as gone) heard in
     let done : write_line s key value ≡ written_as (with_store (drawn s) spent) key ended.0 = line_is s key value st over.write ended.0 store new (enough_is st.windows.wq (open_count st.windows.facts) enough) over.there ended.1 in
     let told : told_write (with_store (drawn s) spent) key over.write ≡ written_as (with_store (drawn s) spent) key ended.0 = told_is (with_store (drawn s) spent) key over.write ended.0 ended.1 in
-    let E : StoreState → Type 0 = λ x. WriteEnds s key value x n in
+    let E : LanesState → Type 0 = λ x. WriteEnds s key value x n in
     subst E (sym is) (record {
       write = over.write;
       there = over.there;
@@ -163,7 +163,7 @@ settled_write s key value st v made limits took lanes store new enough settles =
     })
 
 -- a write that has ended is not refused
-pub never_written : (s : SessionsState) (key : ℕ) (value : List ℕ) (v : StoreState) (n : ℕ) → WriteEnds s key value v n → (a : LineAnswer) (old new : SessionsState) → answer_of a new ≡ write_line s key value → KeepsRefused a old new
+pub never_written : (s : SessionsState) (key : ℕ) (value : List ℕ) (v : LanesState) (n : ℕ) → WriteEnds s key value v n → (a : LineAnswer) (old new : SessionsState) → answer_of a new ≡ write_line s key value → KeepsRefused a old new
 never_written s key value v n ends a old new is = go ends.answer ends.known (is ∙ ends.done) where
   t : SessionsState
   t = with_store (drawn s) v

@@ -18,14 +18,14 @@ use Rattle.send_windows.specs.Passes.{unheard}
 use Rattle.send_windows.specs.declared.pass.Pass.{Pass}
 use Rattle.ssm_world.specs.declared.event.WorldEvent.TheVariants.{Crash, Sweep}
 use Rattle.ssm_world.specs.Worlds.{WorldValue, nonce_of, history, with_history, crashed, swept, may_happen}
-use Rattle.session_steps.specs.Lanes.{LaneState, raised, losing, dropping, waiting, reply_made}
+use Rattle.session_lanes.specs.Lane.{LaneState, raised, losing, dropping, waiting, reply_made, brick_no}
 use Rattle.session_steps.specs.Present.{presented_text}
 use Rattle.session_steps.specs.Texts.{cookie_text, values_text, windows_text}
 use Rattle.session_steps.specs.declared.sessions.TheConstants.{MAX_MOMENT}
 use Rattle.brick_store.specs.History.{all_held, incarnation_after}
 use Rattle.session_steps.specs.Promise.{SessionTurn, Does, Boots, Makes, Lead, moment_after}
-use Rattle.session_steps.specs.Sessions.{SessionsState, with_store, drawn, nonce, brick_no, spent_by, write_line, fetch_line, store_read, lose_line, mute_line, repeat_line, crash_line, sweep_line, values_line, windows_line, hold_line, free_line, cookie_line, now_line, holds, with_lane_of, cookie_of, text_of_cookie, freed_pass}
-use Rattle.session_steps.specs.Store.{StoreState, after_event, with_lane}
+use Rattle.session_steps.specs.Sessions.{SessionsState, with_store, drawn, nonce, spent_by, write_line, fetch_line, store_read, lose_line, mute_line, repeat_line, crash_line, sweep_line, values_line, windows_line, hold_line, free_line, cookie_line, now_line, holds, with_lane_of, cookie_of, text_of_cookie, freed_pass}
+use Rattle.session_lanes.specs.Lanes.{LanesState, after_event, with_lane}
 use Rattle.session_steps.proofs.Bricks.{SweepsBrick, goes_crash, goes_sweep}
 use Rattle.session_steps.proofs.Calls.{CallGone, new_write, write_begins, write_may, read_gone}
 use Rattle.session_steps.proofs.LanesKept.{StoreIsSound, SoundIfAny, one_turn_keeps}
@@ -33,12 +33,12 @@ use Rattle.ssm_stub.specs.Reads.{read_start}
 use Rattle.ssm_world.specs.declared.call.Call.{Call}
 use Rattle.ssm_world.specs.declared.call.Call.TheVariants as call
 use Rattle.brick_store.specs.declared.event.BrickEvent.TheVariants as happened
-use Rattle.session_steps.proofs.Histories.{stores_same}
+use Rattle.session_lanes.proofs.Histories.{stores_same}
 use Rattle.session_steps.proofs.Lines.{not_false, goes_on_with, not_refused, done_state, on_a_lane, passes_of, store_after_write, IsOverload, HasAnswered, WriteDone, write_done, FetchDone, fetch_done, written_by}
 use Rattle.session_steps.proofs.Went.{IsQuiet, Goes, goes_quiet, goes_none, goes_on}
 
 -- turns lead from the bricks of sessions, if there are some, to others
-abbrev pub GoOn : Moment → List SessionTurn → Option StoreState → Option StoreState → Type 0
+abbrev pub GoOn : Moment → List SessionTurn → Option LanesState → Option LanesState → Type 0
 GoOn now turns None None = Unit {0}
 GoOn now turns None (Some st) = ⊥
 GoOn now turns (Some st) None = ⊥
@@ -49,14 +49,14 @@ abbrev pub LimitsLaw : Type 0
 LimitsLaw = (windows : WindowsValue) (c : WindowCall) → KeepLimits windows → KeepLimits (after_call windows c)
 
 -- the windows of the bricks, if there are some, keep their limits
-abbrev pub KeepWindows : Option StoreState → Type 0
+abbrev pub KeepWindows : Option LanesState → Type 0
 KeepWindows None = Unit {0}
 KeepWindows (Some st) = KeepLimits st.windows
 
-pub windows_of : (o : Option StoreState) (st : StoreState) → o ≡ Some st → KeepWindows o → KeepLimits st.windows
+pub windows_of : (o : Option LanesState) (st : LanesState) → o ≡ Some st → KeepWindows o → KeepLimits st.windows
 windows_of o st is keep = subst (λ x. KeepWindows x) is keep
 
-windows_in : (o : Option StoreState) (st : StoreState) → o ≡ Some st → KeepLimits st.windows → KeepWindows o
+windows_in : (o : Option LanesState) (st : LanesState) → o ≡ Some st → KeepLimits st.windows → KeepWindows o
 windows_in o st is keep = subst (λ x. KeepWindows x) (sym is) keep
 
 -- whether a turn is a write line
@@ -66,7 +66,7 @@ is_write (Does line text) = false
 is_write (Boots number) = false
 
 -- a call has had this nonce
-abbrev pub HasHad : Option StoreState → Version → Type 0
+abbrev pub HasHad : Option LanesState → Version → Type 0
 HasHad None version = ⊥
 HasHad (Some st) version = (i : ℕ) × (c : Call) × (slice_get st.world.calls i ≡ Some c) × (nonce_of c ≡ version)
 
@@ -84,24 +84,24 @@ pub record TurnGoes (s : SessionsState) (turn : SessionTurn) (t : SessionsState)
   pub nonces : (version : Version) → HasHad t.store version → HasHad s.store version ⊎ ((version ≡ nonce s) × (t.serial ≡ (drawn s).serial))
   pub cookies : is_write turn ≡ false → t.cookies ≡ s.cookies
 
-go_same : (now : Moment) (turn : SessionTurn) (o : Option StoreState) → IsQuiet now turn → GoOn now (turn ∷ []) o o
+go_same : (now : Moment) (turn : SessionTurn) (o : Option LanesState) → IsQuiet now turn → GoOn now (turn ∷ []) o o
 go_same now turn None quiet = tt
 go_same now turn (Some st) quiet = goes_quiet now turn st.world st.world quiet ([], refl) (stores_same st.world st.world refl)
 
-pub sound_of : (o : Option StoreState) (st : StoreState) → o ≡ Some st → SoundIfAny o → StoreIsSound st
+pub sound_of : (o : Option LanesState) (st : LanesState) → o ≡ Some st → SoundIfAny o → StoreIsSound st
 sound_of o st is sound = subst (λ x. SoundIfAny x) is sound
 
-go_with : (now : Moment) (turns : List SessionTurn) (a b : Option StoreState) (st later : StoreState) → a ≡ Some st → b ≡ Some later → Goes now turns st.world later.world → GoOn now turns a b
+go_with : (now : Moment) (turns : List SessionTurn) (a b : Option LanesState) (st later : LanesState) → a ≡ Some st → b ≡ Some later → Goes now turns st.world later.world → GoOn now turns a b
 go_with now turns a b st later a_is b_is goes = subst (λ o. GoOn now turns o b) (sym a_is) (subst (λ o. GoOn now turns (Some st) o) (sym b_is) goes)
 
 -- where the calls are the same, the nonces are
-had_before : (a b : Option StoreState) (st later : StoreState) (version : Version) → a ≡ Some st → b ≡ Some later → later.world.calls ≡ st.world.calls → HasHad b version → HasHad a version
+had_before : (a b : Option LanesState) (st later : LanesState) (version : Version) → a ≡ Some st → b ≡ Some later → later.world.calls ≡ st.world.calls → HasHad b version → HasHad a version
 had_before a b st later version a_is b_is calls had =
     let now : HasHad (Some later) version = subst (λ o. HasHad o version) b_is had in
     subst (λ o. HasHad o version) (sym a_is) (now.0, now.1, ap (λ cs. slice_get cs now.0) (sym calls) ∙ now.2, now.3)
 
 -- after a call that began with a nonce, a nonce was had before, or is this one
-had_or_new : (a b : Option StoreState) (st later : StoreState) (first version : Version) → a ≡ Some st → b ≡ Some later → ((j : ℕ) (d : Call) → slice_get later.world.calls j ≡ Some d → (slice_get st.world.calls j ≡ Some d) ⊎ (nonce_of d ≡ first))
+had_or_new : (a b : Option LanesState) (st later : LanesState) (first version : Version) → a ≡ Some st → b ≡ Some later → ((j : ℕ) (d : Call) → slice_get later.world.calls j ≡ Some d → (slice_get st.world.calls j ≡ Some d) ⊎ (nonce_of d ≡ first))
     → HasHad b version → HasHad a version ⊎ (version ≡ first)
 had_or_new a b st later first version a_is b_is calls had =
     let now : HasHad (Some later) version = subst (λ o. HasHad o version) b_is had in
@@ -122,7 +122,7 @@ stays s t turn clock quiet moment_is store_is cookies_are = record {
 }
 
 -- a turn that changes the lanes or the windows alone
-shifts : (s t : SessionsState) (line : SessionLine) (text : List ℕ) (st later : StoreState) → (LimitsLaw → KeepLimits st.windows → KeepLimits later.windows) → IsQuiet s.moment (Does line text) → moment_after s.moment (Does line text) ≡ s.moment → s.store ≡ Some st → t ≡ with_store s later → later.world ≡ st.world → TurnGoes s (Does line text) t
+shifts : (s t : SessionsState) (line : SessionLine) (text : List ℕ) (st later : LanesState) → (LimitsLaw → KeepLimits st.windows → KeepLimits later.windows) → IsQuiet s.moment (Does line text) → moment_after s.moment (Does line text) ≡ s.moment → s.store ≡ Some st → t ≡ with_store s later → later.world ≡ st.world → TurnGoes s (Does line text) t
 shifts s t line text st later limits quiet same_moment st_is t_is world_is = record {
   clock = (ap (λ (x : SessionsState). x.boot) t_is, inl (ap (λ (x : SessionsState). x.serial) t_is));
   nonces = λ version had. inl (had_before s.store t.store st later version st_is (ap (λ (x : SessionsState). x.store) t_is) (ap (λ (w : WorldValue). w.calls) world_is) had);
@@ -145,7 +145,7 @@ write_goes s key value t text sound is = go d.by
     d : WriteDone s key value t text
     d = write_done s key value t text is
 
-    st : StoreState
+    st : LanesState
     st = d.store
 
     st_sound : StoreIsSound st
@@ -159,8 +159,8 @@ write_goes s key value t text sound is = go d.by
 
     ended : (answered : HasAnswered s key value st t text) → (t.boot ≡ s.boot) × (t.serial ≡ (drawn s).serial) → t.moment ≡ s.moment → t.store ≡ Some (spent_by answered.write (passes_of s st) (store_after_write s key value st)) → TurnGoes s turn t
     ended answered clock moment_is store_is =
-        let v : StoreState = store_after_write s key value st in
-        let later : StoreState = spent_by answered.write (passes_of s st) v in
+        let v : LanesState = store_after_write s key value st in
+        let later : LanesState = spent_by answered.write (passes_of s st) v in
         let gone : CallGone st (taken st.windows (passes_of s st)) (new_write s key value st) v = write_begins s key value st st_sound d.new (write_may s key value st (call.Write answered.write) answered.there) in
         record {
           moment_is = moment_is;
@@ -175,7 +175,7 @@ write_goes s key value t text sound is = go d.by
 
     go : IsOverload s key st t text ⊎ HasAnswered s key value st t text → TurnGoes s turn t
     go (inl over) =
-        let later : StoreState = record st { windows = refused st.windows } in
+        let later : LanesState = record st { windows = refused st.windows } in
         record {
           moment_is = ap (λ (x : SessionsState). x.moment) over.state_is;
           store = go_with s.moment (turn ∷ []) s.store t.store st later d.store_is (ap (λ (x : SessionsState). x.store) over.state_is)
@@ -196,7 +196,7 @@ fetch_goes : (s : SessionsState) (key : ℕ) (t : SessionsState) (text : List �
 fetch_goes s key t text sound is =
     let turn : SessionTurn = Does (lines.Fetch key) text in
     let d : FetchDone s key t text = fetch_done s key t text is in
-    let v : StoreState = store_read s d.cookie d.store in
+    let v : LanesState = store_read s d.cookie d.store in
     let gone : CallGone d.store d.store.windows (call.Read (read_start s.moment (nonce s) d.cookie)) v = read_gone s d.cookie d.store (sound_of s.store d.store d.store_is sound) d.may in
     record {
       moment_is = ap (λ (x : SessionsState). x.moment) d.state_is;
@@ -237,14 +237,14 @@ lose_goes : (s : SessionsState) (brick more : ℕ) (t : SessionsState) (text : L
 unfolding lose_line
 lose_goes s brick more t text is =
     let d = on_a_lane s brick (λ st lane. Done (with_lane_of s brick st (losing more lane)) []) t text is in
-    let later : StoreState = with_lane d.store brick (losing more d.lane) in
+    let later : LanesState = with_lane d.store brick (losing more d.lane) in
     shifts s t (lines.Lose brick more) text d.store later (λ law keep. keep) (record { crash = λ b. refl; sweep = λ b. refl }) refl d.store_is (done_state (with_store s later) t [] text d.done).0 refl
 
 mute_goes : (s : SessionsState) (brick more : ℕ) (t : SessionsState) (text : List ℕ) → mute_line s brick more ≡ Done t text → TurnGoes s (Does (lines.Mute brick more) text) t
 unfolding mute_line
 mute_goes s brick more t text is =
     let d = on_a_lane s brick (λ st lane. Done (with_lane_of s brick st (dropping more lane)) []) t text is in
-    let later : StoreState = with_lane d.store brick (dropping more d.lane) in
+    let later : LanesState = with_lane d.store brick (dropping more d.lane) in
     shifts s t (lines.Mute brick more) text d.store later (λ law keep. keep) (record { crash = λ b. refl; sweep = λ b. refl }) refl d.store_is (done_state (with_store s later) t [] text d.done).0 refl
 
 repeat_goes : (s : SessionsState) (brick number : ℕ) (t : SessionsState) (text : List ℕ) → repeat_line s brick number ≡ Done t text → TurnGoes s (Does (lines.Repeat brick number) text) t
@@ -252,7 +252,7 @@ unfolding repeat_line
 repeat_goes s brick number t text is =
     let d = on_a_lane s brick (λ st lane. or_refused (reply_made lane number) (λ packet. Done (with_lane_of s brick st (waiting packet lane)) [])) t text is in
     let e = goes_on_with (reply_made d.lane number) (λ packet. Done (with_lane_of s brick d.store (waiting packet d.lane)) []) t text d.done in
-    let later : StoreState = with_lane d.store brick (waiting e.item d.lane) in
+    let later : LanesState = with_lane d.store brick (waiting e.item d.lane) in
     shifts s t (lines.Repeat brick number) text d.store later (λ law keep. keep) (record { crash = λ b. refl; sweep = λ b. refl }) refl d.store_is (done_state (with_store s later) t [] text e.done).0 refl
 
 -- a crash and a sweep leave the calls as they are
@@ -271,7 +271,7 @@ sweep_calls w brick moment (Some h) = refl
 crash_goes : (s : SessionsState) (brick : ℕ) (t : SessionsState) (text : List ℕ) → crash_line s brick ≡ Done t text → TurnGoes s (Does (lines.Crash brick) text) t
 unfolding crash_line
 crash_goes s brick t text is =
-    let after_crash : StoreState → SessionsState = λ st. with_store s (after_event st (Crash (brick_no brick))) in
+    let after_crash : LanesState → SessionsState = λ st. with_store s (after_event st (Crash (brick_no brick))) in
     let d = on_a_lane s brick (λ st lane. refused_if (not (may_happen st.world (Crash (brick_no brick)))) (Done (after_crash st) [])) t text is in
     let e = not_refused (not (may_happen d.store.world (Crash (brick_no brick)))) (Done (after_crash d.store) []) t text d.done in
     let same = done_state (after_crash d.store) t [] text e.1 in
@@ -289,7 +289,7 @@ sweep_goes : (s : SessionsState) (brick moment : ℕ) (line : SessionLine) (t : 
 unfolding sweep_line
 sweep_goes s brick moment line t text sweeps same_moment is =
     let at : Moment = record { 0 = moment } in
-    let after_sweep : StoreState → SessionsState = λ st. with_store s (after_event st (Sweep (brick_no brick) at)) in
+    let after_sweep : LanesState → SessionsState = λ st. with_store s (after_event st (Sweep (brick_no brick) at)) in
     let d = on_a_lane s brick (λ st lane. refused_if (nat_lt MAX_MOMENT moment) (Done (after_sweep st) [])) t text is in
     let e = not_refused (nat_lt MAX_MOMENT moment) (Done (after_sweep d.store) []) t text d.done in
     let same = done_state (after_sweep d.store) t [] text e.1 in
@@ -326,10 +326,10 @@ hold_goes s brick t text is =
     turn : SessionTurn
     turn = Does (lines.Hold brick) text
 
-    go : (st : StoreState) (lane : LaneState) (o : Option Pass) → s.store ≡ Some st → within (with_store s) (holds st brick lane o) ≡ Done t text → TurnGoes s turn t
-    go st lane None st_is done = tells s t (lines.Hold brick) text (record { crash = λ b. refl; sweep = λ b. refl }) refl ((done_state (with_store s st) t _ text done).0 ∙ ap (λ (o : Option StoreState). record s { store = o }) (sym st_is))
+    go : (st : LanesState) (lane : LaneState) (o : Option Pass) → s.store ≡ Some st → within (with_store s) (holds st brick lane o) ≡ Done t text → TurnGoes s turn t
+    go st lane None st_is done = tells s t (lines.Hold brick) text (record { crash = λ b. refl; sweep = λ b. refl }) refl ((done_state (with_store s st) t _ text done).0 ∙ ap (λ (o : Option LanesState). record s { store = o }) (sym st_is))
     go st lane (Some pass) st_is done =
-        let later : StoreState = with_lane (record st { windows = after_try st.windows (brick_no brick) }) brick (record lane { held = raised lane.held 1 }) in
+        let later : LanesState = with_lane (record st { windows = after_try st.windows (brick_no brick) }) brick (record lane { held = raised lane.held 1 }) in
         shifts s t (lines.Hold brick) text st later (λ law keep. law st.windows (TryPass (brick_no brick)) keep) (record { crash = λ b. refl; sweep = λ b. refl }) refl st_is (done_state (with_store s later) t _ text done).0 refl
 
 freed_keeps : LimitsLaw → (windows : WindowsValue) (brick : ℕ) (how : Freed) → KeepLimits windows → KeepLimits (after_pass windows (freed_pass brick how))
@@ -339,7 +339,7 @@ freed_keeps law windows brick freed.Silent keep = law windows (Silent (unheard (
 free_goes : (s : SessionsState) (brick : ℕ) (how : Freed) (t : SessionsState) (text : List ℕ) → free_line s brick how ≡ Done t text → TurnGoes s (Does (lines.Free brick how) text) t
 unfolding free_line
 free_goes s brick how t text is =
-    let later : StoreState → LaneState → StoreState = λ st lane.
+    let later : LanesState → LaneState → LanesState = λ st lane.
     with_lane (record st { windows = after_pass st.windows (freed_pass brick how) }) brick (record lane { held = lane.held - 1 }) in
     let d = on_a_lane s brick (λ st lane. refused_if (not (nat_lt 0 lane.held)) (Done (with_store s (later st lane)) [])) t text is in
     let e = not_refused (not (nat_lt 0 d.lane.held)) (Done (with_store s (later d.store d.lane)) []) t text d.done in
@@ -366,11 +366,11 @@ turn_goes s (Boots number) t sound is = stays s t (Boots number) (ap (λ (x : Se
     (ap (λ (x : SessionsState). x.cookies) is)
 
 -- turns one after the other
-go_on_none : (now : Moment) (o : Option StoreState) → GoOn now [] o o
+go_on_none : (now : Moment) (o : Option LanesState) → GoOn now [] o o
 go_on_none now None = tt
 go_on_none now (Some st) = goes_none now st.world
 
-go_on_more : (now : Moment) (turn : SessionTurn) (turns : List SessionTurn) (a b c : Option StoreState) → GoOn now (turn ∷ []) a b → GoOn (moment_after now turn) turns b c → GoOn now (turn ∷ turns) a c
+go_on_more : (now : Moment) (turn : SessionTurn) (turns : List SessionTurn) (a b c : Option LanesState) → GoOn now (turn ∷ []) a b → GoOn (moment_after now turn) turns b c → GoOn now (turn ∷ turns) a c
 go_on_more now turn turns None None None first second = tt
 go_on_more now turn turns None None (Some w) first second = absurd second
 go_on_more now turn turns None (Some v) c first second = absurd first

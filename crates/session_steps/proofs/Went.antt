@@ -13,8 +13,8 @@ use Rattle.ssm_world.proofs.Histories.{stands_behind}
 use Rattle.ssm_world.proofs.Lists.{get_front}
 use Rattle.ssm_world.proofs.Steps.{after_stays}
 use Rattle.session_steps.specs.Promise.{SessionTurn, is_crash_of, crashes, moment_after, sweep_by, Sweeps, later_of, swept_over}
-use Rattle.session_steps.proofs.Ending.{OnlyStores, stores_incarnation, stores_swept, MadeBy, made_on}
-use Rattle.session_steps.proofs.Histories.{AreNew, OnlyGrew, Stores, new_before}
+use Rattle.session_lanes.proofs.Ending.{OnlyStores, stores_incarnation, stores_swept, MadeBy, made_on}
+use Rattle.session_lanes.proofs.Histories.{AreNew, OnlyGrew, Stores, new_before}
 
 -- Newer events of a brick are those that turns make, from this present moment on: each of its crashes, each of its
 -- sweeps at its moment, and what it stored.

@@ -26,13 +26,13 @@ use Rattle.session_steps.specs.Promise.{SessionTurn, Lead}
 use Rattle.session_steps.specs.Sessions.{SessionsState, with_store, nonce, drawn, session_key, expiry, write_of, spent_by, written_as, told_write, answered_write, write_line, session_line}
 use Rattle.scenario_text.specs.Setup.{HasCounts, SetupState, no_setup, are_counts, bricks_step, key_step}
 use Rattle.session_steps.specs.Setup.{store_of, set_up}
-use Rattle.session_steps.specs.Store.{StoreState}
+use Rattle.session_lanes.specs.Lanes.{LanesState}
 use Rattle.session_steps.specs.Texts.{overload_text}
 use Rattle.scenario_text.specs.declared.setup.BrickCounts.{BrickCounts}
 use Rattle.scenario_text.specs.declared.setup.TheConstants.{LEAST_KEY_BYTES, MOST_KEY_BYTES}
 use Rattle.session_steps.proofs.Calls.{bricks_of_write, write_ended}
 use Rattle.session_steps.proofs.LanesKept.{StoreIsSound, set_up_sound, all_sound}
-use Rattle.session_steps.proofs.Ending.{WriteGone}
+use Rattle.session_lanes.proofs.Ending.{WriteGone}
 use Rattle.session_steps.proofs.Lines.{not_false, not_refused, done_state, passes_of, store_after_write}
 use Rattle.session_steps.proofs.TurnsMade.{LimitsLaw, KeepWindows, windows_of, TurnsGo, turns_go}
 
@@ -74,7 +74,7 @@ distinct_bricks [] apart = refl
 distinct_bricks (pass ∷ passes) apart = (λ l. not (none_same pass.brick passes apart.0 l) && distinct_bricks passes apart.1 l)
 
 -- a write may begin with the passes that are taken
-may_begin : (s : SessionsState) (st : StoreState) → KeepLimits st.windows → AreTaken st.windows.wq st.windows.w (passes_of s st) → is_new st.world (nonce s) ≡ true → may_write st.world (nonce s) (bricks_of_write s st) st.windows.wq ≡ true
+may_begin : (s : SessionsState) (st : LanesState) → KeepLimits st.windows → AreTaken st.windows.wq st.windows.w (passes_of s st) → is_new st.world (nonce s) ≡ true → may_write st.world (nonce s) (bricks_of_write s st) st.windows.wq ≡ true
 may_begin s st keep taken new =
     let passes : List Pass = passes_of s st in
     let count : length (bricks_of_write s st) ≡ length passes = length-map passes (λ (pass : Pass). pass.brick) in
@@ -102,10 +102,10 @@ written_done s key write (Err (missing.Missed causes)) answers is = cc
 written_done s key write (Err missing.OutOfMemory) answers is = has_memory write answers
 
 -- a write that may begin is not refused
-answered : (s : SessionsState) (key : ℕ) (value : List ℕ) (st : StoreState) → StoreIsSound st → may_write st.world (nonce s) (bricks_of_write s st) st.windows.wq ≡ true
+answered : (s : SessionsState) (key : ℕ) (value : List ℕ) (st : LanesState) → StoreIsSound st → may_write st.world (nonce s) (bricks_of_write s st) st.windows.wq ≡ true
     → answered_write (drawn s) key (passes_of s st) (length st.world.calls) (store_after_write s key value st) ≡ Refused → ⊥
 answered s key value st sound may is =
-    let v : StoreState = store_after_write s key value st in
+    let v : LanesState = store_after_write s key value st in
     let gone : WriteGone (write_start (bricks_of_write s st) st.windows.wq (nonce s) (session_key key) value (expiry s)) (length st.world.calls) v = write_ended s key value st sound may in
     let write : WriteState = gone.end in
     let later : SessionsState = with_store (drawn s) (spent_by write (passes_of s st) v) in
@@ -114,18 +114,18 @@ answered s key value st sound may is =
     let second : told_write later key write ≡ written_as later key gone.answer = ap (λ o. or_refused o (λ a. written_as later key a)) gone.answers in
     written_done later key write gone.answer gone.answers (sym second ∙ sym first ∙ is)
 
-not_refused_new : (s : SessionsState) (key : ℕ) (value : List ℕ) (st : StoreState) → TakenLaw → s.store ≡ Some st → StoreIsSound st → KeepLimits st.windows → is_new st.world (nonce s) ≡ true → write_line s key value ≡ Refused → ⊥
+not_refused_new : (s : SessionsState) (key : ℕ) (value : List ℕ) (st : LanesState) → TakenLaw → s.store ≡ Some st → StoreIsSound st → KeepLimits st.windows → is_new st.world (nonce s) ≡ true → write_line s key value ≡ Refused → ⊥
 unfolding write_line
 not_refused_new s key value st taken_law store_is sound keep new is =
     go (nat_lt (open_count st.windows.facts) st.windows.wq) refl (sym second ∙ sym first ∙ is)
   where
-    either : StoreState → Bool → Answer SessionsState
+    either : LanesState → Bool → Answer SessionsState
     either x full =
         if full
         then Done (with_store (drawn s) (record x { windows = refused x.windows })) (overload_text key (full_facts x.windows.facts))
         else answered_write (drawn s) key (passes_of s x) (length x.world.calls) (store_after_write s key value x)
 
-    rest : StoreState → Answer SessionsState
+    rest : LanesState → Answer SessionsState
     rest x = refused_if (not (is_new x.world (nonce s))) (either x (nat_lt (open_count x.windows.facts) x.windows.wq))
 
     first : or_refused s.store rest ≡ rest st
@@ -139,7 +139,7 @@ not_refused_new s key value st taken_law store_is sound keep new is =
     go false at e = answered s key value st sound (may_begin s st keep (taken_law st.windows s.serial keep (not_less (open_count st.windows.facts) st.windows.wq at)) new) e
 
 -- a write line is refused only where there are no bricks, or where a call has had its nonce
-pub write_refused : LimitsLaw → NewLaw → TakenLaw → (setup : SetupState) (boot : ℕ) (turns : List SessionTurn) (u : SessionsState) (st : StoreState) (key : ℕ) (value : List ℕ) → HasCounts setup.counts → Lead (set_up setup boot) turns u → u.store ≡ Some st
+pub write_refused : LimitsLaw → NewLaw → TakenLaw → (setup : SetupState) (boot : ℕ) (turns : List SessionTurn) (u : SessionsState) (st : LanesState) (key : ℕ) (value : List ℕ) → HasCounts setup.counts → Lead (set_up setup boot) turns u → u.store ≡ Some st
     → session_line u (lines.Write key value) ≡ Refused → is_new st.world (nonce u) ≡ false
 write_refused limits new_law taken_law setup boot turns u st key value allowed leads store_is is = go (is_new st.world (nonce u)) refl
   where

@@ -35,10 +35,10 @@ use Rattle.ssm_world.proofs.Holding.{HolderAsk, holder_ask, get_taken, answer_co
 use Rattle.ssm_world.proofs.Missing.{missed_for}
 use Rattle.session_steps.specs.Promise.{Does, AreAmong, SaysWhy, WasMissed}
 use Rattle.session_steps.specs.Sessions.{SessionsState, with_store, drawn, nonce, session_key, expiry, padded, spent_by, write_line}
-use Rattle.session_steps.specs.Store.{StoreState}
+use Rattle.session_lanes.specs.Lanes.{LanesState}
 use Rattle.session_steps.specs.Texts.{version_text}
 use Rattle.session_steps.proofs.Calls.{bricks_of_write, write_ended, write_may}
-use Rattle.session_steps.proofs.Ending.{WriteGone}
+use Rattle.session_lanes.proofs.Ending.{WriteGone}
 use Rattle.session_steps.proofs.LanesKept.{StoreIsSound, SoundIfAny, one_turn_keeps}
 use Rattle.session_steps.proofs.TurnsMade.{sound_of}
 use Rattle.session_steps.proofs.Lines.{passes_of, store_after_write, HasAnswered, WriteDone, write_done, IsAcknowledgedAs, IsMissed, written_by}
@@ -46,14 +46,14 @@ use Rattle.session_steps.proofs.Lines.{passes_of, store_after_write, HasAnswered
 -- A write line was done, and its value is acknowledged with a cookie.
 pub record Acknowledged (s : SessionsState) (key : ℕ) (value : List ℕ) (t : SessionsState) (text : List ℕ) : Type 0 where
   pub cookie : Cookie
-  pub later : StoreState
+  pub later : LanesState
   pub later_is : t.store ≡ Some later
   pub acknowledged : IsAcknowledged later.world cookie value
   pub key_is : cookie.key ≡ session_key key
   pub version_is : cookie.version ≡ nonce s
   pub expiry_is : cookie.expiry ≡ expiry s
-  pub enough : (st : StoreState) → s.store ≡ Some st → length cookie.bricks ≡ st.windows.wq
-  pub among : (st : StoreState) → s.store ≡ Some st → AreAmong cookie.bricks (chosen st.windows (nonce s).serial)
+  pub enough : (st : LanesState) → s.store ≡ Some st → length cookie.bricks ≡ st.windows.wq
+  pub among : (st : LanesState) → s.store ≡ Some st → AreAmong cookie.bricks (chosen st.windows (nonce s).serial)
   pub cookies_are : t.cookies ≡ slice_set (padded s.cookies key) key (Some cookie)
   pub text_is : text ≡ version_text key cookie
 
@@ -72,7 +72,7 @@ among_asked asks passes least are place holder at =
     let ask : HolderAsk asks holder = holder_ask asks place holder (get_taken least (filter_map holder_of asks) place holder at) in
     (ask.place, ap (λ (bricks : List BrickNo). slice_get bricks ask.place) (sym are) ∙ slice_get-map who asks ask.place ∙ ap (option_map who) ask.there ∙ ap (λ b. Some b) ask.who_is)
 
-acknowledged_by : (s : SessionsState) (key : ℕ) (value : List ℕ) (st : StoreState) (t : SessionsState) (text : List ℕ) → s.store ≡ Some st → StoreIsSound st → (a : HasAnswered s key value st t text)
+acknowledged_by : (s : SessionsState) (key : ℕ) (value : List ℕ) (st : LanesState) (t : SessionsState) (text : List ℕ) → s.store ≡ Some st → StoreIsSound st → (a : HasAnswered s key value st t text)
     → IsAcknowledgedAs (with_store (drawn s) (spent_by a.write (passes_of s st) (store_after_write s key value st))) key a.answer t text → Acknowledged s key value t text
 acknowledged_by s key value st t text store_is sound a ok =
     let start : WriteState = write_start (bricks_of_write s st) st.windows.wq (nonce s) (session_key key) value (expiry s) in
@@ -104,11 +104,11 @@ acknowledged_by s key value st t text store_is sound a ok =
       enough = λ x has. (
           let one : Some st ≡ Some x = sym store_is ∙ has in
           let store : st ≡ x = cc in
-          count ∙ ap (λ (y : StoreState). y.windows.wq) store);
+          count ∙ ap (λ (y : LanesState). y.windows.wq) store);
       among = λ x has. (
           let one : Some st ≡ Some x = sym store_is ∙ has in
           let store : st ≡ x = cc in
-          let S : StoreState → Type 0 = λ y. AreAmong ok.cookie.bricks (passes_of s y) in
+          let S : LanesState → Type 0 = λ y. AreAmong ok.cookie.bricks (passes_of s y) in
           subst S store among);
       cookies_are = ap (λ (x : SessionsState). x.cookies) ok.state_is;
       text_is = ok.text_is;
@@ -136,7 +136,7 @@ asked_when_missed n events place write causes why there =
     asked_in (new_world n) why.earlier why.order why.later place write why.may_begin why.place_is (ap (λ es. slice_get (after (new_world n) es).calls place) (sym why.parts) ∙ there)
 
 -- the write of the line was missed in the world of the bricks
-missed_by : (s : SessionsState) (key : ℕ) (value : List ℕ) (st : StoreState) (t : SessionsState) (text : List ℕ) → s.store ≡ Some st → StoreIsSound st → (a : HasAnswered s key value st t text)
+missed_by : (s : SessionsState) (key : ℕ) (value : List ℕ) (st : LanesState) (t : SessionsState) (text : List ℕ) → s.store ≡ Some st → StoreIsSound st → (a : HasAnswered s key value st t text)
     → IsMissed (with_store (drawn s) (spent_by a.write (passes_of s st) (store_after_write s key value st))) key a.answer t text → SoundIfAny t.store → WasMissed s key value t text
 missed_by s key value st t text store_is sound a missed after_sound =
     let start : WriteState = write_start (bricks_of_write s st) st.windows.wq (nonce s) (session_key key) value (expiry s) in
@@ -145,7 +145,7 @@ missed_by s key value st t text store_is sound a missed after_sound =
     let one : Some (call.Write gone.end) ≡ Some (call.Write a.write) = sym gone.there ∙ a.there in
     let same : gone.end ≡ a.write = cc in
     let answers : write_answer gone.end ≡ Some (Err (missing.Missed missed.causes)) = ap write_answer same ∙ a.answers ∙ ap (λ x. Some x) missed.answer_is in
-    let later : StoreState = spent_by a.write (passes_of s st) (store_after_write s key value st) in
+    let later : LanesState = spent_by a.write (passes_of s st) (store_after_write s key value st) in
     let later_is : t.store ≡ Some later = ap (λ (x : SessionsState). x.store) missed.state_is in
     let made : IsMade later.world = (sound_of t.store later later_is after_sound).made in
     let there : slice_get (after (new_world made.bricks) made.events).calls n ≡ Some (call.Write gone.end) = ap (λ (w : WorldValue). slice_get w.calls n) (sym made.made) ∙ gone.there in

@@ -3,9 +3,9 @@ use Rattle.std.specs.Prelude.{◌≤◌, All, Option, Some, None}
 use Rattle.session_cookie.specs.Cookie.{AreHolders}
 use Rattle.session_cookie.specs.declared.cookie.Cookie.{Cookie}
 use Rattle.ssm_world.specs.Worlds.{IsMade}
-use Rattle.session_steps.specs.Rule.{LanesAreOf}
+use Rattle.session_lanes.specs.Sound.{LanesAreOf}
 use Rattle.session_steps.specs.Sessions.{SessionsState}
-use Rattle.session_steps.specs.Store.{StoreState}
+use Rattle.session_lanes.specs.Lanes.{LanesState}
 use Rattle.session_steps.specs.declared.sessions.TheConstants.{MAX_MOMENT}
 
 -- a cookie, if there is one, names 1 to 16 distinct bricks
@@ -14,7 +14,7 @@ HasHolders None = Unit {0}
 HasHolders (Some cookie) = AreHolders cookie.bricks
 
 -- events made the world of the bricks, and the packets that their lanes name are their replies, if there are bricks
-abbrev pub HasSoundStore : Option StoreState → Type 0
+abbrev pub HasSoundStore : Option LanesState → Type 0
 HasSoundStore None = Unit {0}
 HasSoundStore (Some st) = IsMade st.world × LanesAreOf st
 

@@ -1,10 +1,8 @@
 pub mod Kept
-pub mod Lanes
 pub mod Present
 pub mod Promise
 pub mod Rule
 pub mod Sessions
 pub mod Setup
 pub mod Standing
-pub mod Store
 pub mod Texts

@@ -21,11 +21,11 @@ use Rattle.ssm_stub.specs.Writes.{WriteState}
 use Rattle.ssm_world.specs.declared.event.WorldEvent.{WorldEvent}
 use Rattle.ssm_world.specs.Claims.{WasMissed as WasMissedInWorld}
 use Rattle.ssm_world.specs.Worlds.{new_world, after, bricks_of, may_be_asked}
-use Rattle.session_steps.specs.Lanes.{LaneState, lane_at}
+use Rattle.session_lanes.specs.Lane.{LaneState, lane_at}
 use Rattle.session_steps.specs.Sessions.{SessionsState, session_line, reopened, nonce, session_key, cookie_of, expiry}
 use Rattle.scenario_text.specs.Setup.{SetupState}
 use Rattle.session_steps.specs.Setup.{set_up}
-use Rattle.session_steps.specs.Store.{StoreState}
+use Rattle.session_lanes.specs.Lanes.{LanesState}
 use Rattle.session_steps.specs.Texts.{version_text, overload_text, missed_text, found_text, expired_text, lost_text}
 
 -- What happens to sessions: a line about them was done and wrote this text, or the boot of this number has started.
@@ -199,7 +199,7 @@ abbrev pub IsRight : FetchMade → List ℕ → Type 0
 IsRight fetch text = FindsValue fetch text ⊎ (HasExpired fetch text ⊎ IsLost fetch text)
 
 -- the lanes of the bricks, if there are some
-abbrev pub lanes_of : Option StoreState → List LaneState
+abbrev pub lanes_of : Option LanesState → List LaneState
 lanes_of None = []
 lanes_of (Some st) = st.lanes
 
@@ -220,14 +220,14 @@ pub record IsAcknowledged (s : SessionsState) (key : ℕ) (t : SessionsState) (t
   pub key_is : cookie.key ≡ session_key key
   pub expiry_is : cookie.expiry ≡ expiry s
   pub askable : may_be_asked (bricks_of cookie.bricks) ≡ true
-  pub enough : (st : StoreState) → s.store ≡ Some st → length cookie.bricks ≡ st.windows.wq
-  pub among : (st : StoreState) → s.store ≡ Some st → AreAmong cookie.bricks (chosen st.windows (nonce s).serial)
+  pub enough : (st : LanesState) → s.store ≡ Some st → length cookie.bricks ≡ st.windows.wq
+  pub among : (st : LanesState) → s.store ≡ Some st → AreAmong cookie.bricks (chosen st.windows (nonce s).serial)
   pub others : (other : ℕ) → (other ≡ key → ⊥) → cookie_of t other ≡ cookie_of s other
   pub text_is : text ≡ version_text key cookie
 
 -- fewer windows were open than bricks are to store a value, and a write line told which were full
 pub record WasFull (s : SessionsState) (key : ℕ) (text : List ℕ) : Type 0 where
-  pub store : StoreState
+  pub store : LanesState
   pub store_is : s.store ≡ Some store
   pub few_open : open_count store.windows.facts < store.windows.wq
   pub text_is : text ≡ overload_text key (full_facts store.windows.facts)
@@ -235,9 +235,9 @@ pub record WasFull (s : SessionsState) (key : ℕ) (text : List ℕ) : Type 0 wh
 -- Too few bricks stored a value, and a write line told why: its write, with the nonce that the line drew, at the bricks
 -- of the passes that are chosen from the nonce's serial on, was missed in the world of the bricks with these causes.
 pub record WasMissed (s : SessionsState) (key : ℕ) (value : List ℕ) (t : SessionsState) (text : List ℕ) : Type 0 where
-  pub before : StoreState
+  pub before : LanesState
   pub before_is : s.store ≡ Some before
-  pub later : StoreState
+  pub later : LanesState
   pub later_is : t.store ≡ Some later
   pub bricks : ℕ
   pub events : List WorldEvent

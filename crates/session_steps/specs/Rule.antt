@@ -1,12 +1,11 @@
 -- What a read answers, by the lanes and the histories of the bricks when it begins.
-use Rattle.std.specs.Prelude.{◌≡◌, ℕ, ◌+◌, nat_lt, ◌||◌, false, if◌then◌else◌, List, length, map, filter_map, All, slice_get, Option, Some, None, Result, Ok, Err}
+use Rattle.std.specs.Prelude.{ℕ, ◌+◌, nat_lt, ◌||◌, if◌then◌else◌, List, length, map, filter_map, Option, Some, None, Result, Ok, Err}
 use Rattle.std.specs.Option.{option_and_then}
 use Rattle.crash_base.specs.declared.numbers.Moment.{Moment}
 use Rattle.crash_base.specs.declared.numbers.Version.{Version}
 use Rattle.session_cookie.specs.declared.cookie.Cookie.{Cookie}
 use Rattle.session_cookie.specs.declared.cookie.Holder.{Holder}
 use Rattle.ssm_frames.specs.declared.frame.Frame.TheVariants.{Get}
-use Rattle.ssm_frames.specs.Requests.{is_request}
 use Rattle.brick_store.specs.declared.event.BrickEvent.{BrickEvent}
 use Rattle.ssm_stub.specs.declared.ask.Ask.{Ask}
 use Rattle.ssm_stub.specs.declared.cause.BrickCause.{BrickCause}
@@ -18,23 +17,9 @@ use Rattle.ssm_stub.specs.declared.reply.ReadReply.{ReadReply}
 use Rattle.ssm_stub.specs.declared.read_call.ReadRefusal.{ReadRefusal}
 use Rattle.ssm_stub.specs.declared.read_call.ReadRefusal.TheVariants.{Expired, Lost}
 use Rattle.ssm_stub.specs.Reads.{get_lawful, found_in, loss_of}
-use Rattle.ssm_world.specs.declared.event.Packet.{Packet}
-use Rattle.ssm_world.specs.Worlds.{WorldValue, history, reply_to}
-use Rattle.session_steps.specs.Lanes.{LaneState, lane_at}
-use Rattle.session_steps.specs.Store.{StoreState}
-
--- this number is that of a packet with a reply of a brick
-pub record IsReplyOf (w : WorldValue) (brick number : ℕ) : Type 0 where
-  pub packet : Packet
-  pub there : slice_get w.packets number ≡ Some packet
-  pub brick_is : packet.brick.0 ≡ brick
-  pub replies : is_request packet.frame ≡ false
-
--- Each brick has its lane, and the packets that a lane names are replies of its brick.
-pub record LanesAreOf (st : StoreState) : Type 0 where
-  pub as_many : length st.lanes ≡ length st.world.histories
-  pub queue : (brick : ℕ) (lane : LaneState) → lane_at st.lanes brick ≡ Some lane → All (IsReplyOf st.world brick) lane.queue
-  pub made : (brick : ℕ) (lane : LaneState) → lane_at st.lanes brick ≡ Some lane → All (IsReplyOf st.world brick) lane.made
+use Rattle.ssm_world.specs.Worlds.{history, reply_to}
+use Rattle.session_lanes.specs.Lane.{LaneState, lane_at}
+use Rattle.session_lanes.specs.Lanes.{LanesState}
 
 -- the lawful reply of a holder's brick, by its history, to a read with this nonce of a cookie; None where its reply is
 -- not lawful
@@ -58,12 +43,12 @@ heard_on_lane (Some lane) reply =
     else Strayed
 
 -- what a read with this nonce of a cookie hears of a holder that it asks
-abbrev pub outcome_by_rule : StoreState → Version → Cookie → Holder → Outcome ReadReply
+abbrev pub outcome_by_rule : LanesState → Version → Cookie → Holder → Outcome ReadReply
 outcome_by_rule st nonce cookie holder =
     heard_on_lane (lane_at st.lanes holder.brick.0) (reply_by (history st.world holder.brick) nonce cookie holder)
 
 -- the holders of a cookie, each with what a read with this nonce hears of it
-abbrev pub asks_by_rule : StoreState → Version → Cookie → List (Ask Holder ReadReply)
+abbrev pub asks_by_rule : LanesState → Version → Cookie → List (Ask Holder ReadReply)
 asks_by_rule st nonce cookie =
     map (λ (holder : Holder). record { who = holder; ear = Heard (outcome_by_rule st nonce cookie holder) }) cookie.bricks
 
@@ -74,7 +59,7 @@ found_or_lost None causes = Err (Lost causes)
 
 -- What a read with this nonce answers that is made of a cookie now: Expired past its expiry; else the value of the first
 -- holder that gives one; else Lost, with the cause of each holder in order.
-abbrev pub result_by_rule : StoreState → Version → Moment → Cookie → Result (List ℕ) ReadRefusal
+abbrev pub result_by_rule : LanesState → Version → Moment → Cookie → Result (List ℕ) ReadRefusal
 result_by_rule st nonce now cookie =
     if nat_lt cookie.expiry.0 now.0
     then Err (Expired now cookie.expiry)

@@ -1,15 +1,16 @@
 -- The sessions of a scenario, and what each line about them does and writes.
-use Rattle.std.specs.Prelude.{ℕ, suc, ◌+◌, ◌-◌, ◌^◌, min, nat_lt, not, if◌then◌else◌, List, [], ◌++◌, length, slice_get, slice_set, Option, unwrap_or, Some, None, Result, Ok, Err}
+use Rattle.std.specs.Prelude.{ℕ, suc, Bool, true, false, ◌+◌, ◌-◌, ◌^◌, min, nat_lt, not, if◌then◌else◌, List, [], ◌++◌, length, slice_get, slice_set, Option, unwrap_or, Some, None, Result, Ok, Err}
 use Rattle.std.specs.Int.{w128, to_be_bytes}
 use Rattle.std.specs.Option.{option_and_then}
 use lib.ListN.{replicate}
-use Rattle.crash_base.specs.declared.numbers.BrickNo.{BrickNo}
 use Rattle.crash_base.specs.declared.numbers.Moment.{Moment}
 use Rattle.crash_base.specs.declared.numbers.SessionKey.{SessionKey}
 use Rattle.crash_base.specs.declared.numbers.Version.{Version}
 use Rattle.base64.specs.Engines.{url_safe_no_pad}
 use Rattle.base64.specs.GeneralPurpose.{encode_of}
 use Rattle.scenario_text.specs.Answer.{Answer, Refused, Done, refused_if, or_refused, within}
+use Rattle.scenario_text.specs.declared.answer.LineAnswer.{LineAnswer}
+use Rattle.scenario_text.specs.declared.answer.LineAnswer.TheVariants as answers
 use Rattle.scenario_text.specs.declared.session_line.Freed.{Freed}
 use Rattle.scenario_text.specs.declared.session_line.Freed.TheVariants as freed
 use Rattle.scenario_text.specs.declared.session_line.SessionLine.{SessionLine}
@@ -20,7 +21,7 @@ use Rattle.session_cookie.specs.declared.cookie.Cookie.{Cookie}
 use Rattle.brick_store.specs.History.{all_held}
 use Rattle.send_windows.specs.Facts.{open_count, full_facts}
 use Rattle.send_windows.specs.Passes.{unheard, with_mark}
-use Rattle.send_windows.specs.Windows.{chosen, taken, refused, after_pass, pass_tried, after_try, in_flight_in, window_in}
+use Rattle.send_windows.specs.Windows.{chosen, taken, refused, after_pass, pass_tried}
 use Rattle.send_windows.specs.declared.pass.Pass.{Pass}
 use Rattle.send_windows.specs.declared.pass.PassMark.{PassMark}
 use Rattle.send_windows.specs.declared.pass.PassMark.TheVariants as mark
@@ -34,10 +35,11 @@ use Rattle.ssm_world.specs.declared.call.Call.{Call}
 use Rattle.ssm_world.specs.declared.call.Call.TheVariants as call
 use Rattle.ssm_world.specs.declared.event.WorldEvent.TheVariants.{Crash, Sweep}
 use Rattle.ssm_world.specs.Worlds.{history, is_new, may_read, may_happen}
-use Rattle.session_steps.specs.Lanes.{LaneState, raised, losing, dropping, waiting, reply_made, lane_at}
+use Rattle.session_lanes.specs.Calls.{held_by, answer_by}
+use Rattle.session_lanes.specs.Lane.{LaneState, brick_no, losing, dropping, waiting, reply_made, lane_at}
 use Rattle.session_steps.specs.Present.{presented_text}
-use Rattle.session_steps.specs.Store.{StoreState, after_event, with_lane, spent_as, written_out, read_out}
-use Rattle.session_steps.specs.Texts.{version_text, overload_text, missed_text, found_text, expired_text, lost_text, cookie_text, values_text, windows_text, held_text, closed_text}
+use Rattle.session_lanes.specs.Lanes.{LanesState, after_event, with_lane, spent_as, written_out, read_out}
+use Rattle.session_steps.specs.Texts.{version_text, overload_text, missed_text, found_text, expired_text, lost_text, cookie_text, values_text, windows_text, hold_text}
 use Rattle.session_steps.specs.declared.sessions.TheConstants.{LEASE, MAX_MOMENT, NODE}
 
 -- The sessions of a scenario: the present moment; the number of the boot, and the serial that the boot's next write or
@@ -49,10 +51,10 @@ pub record SessionsState : Type 0 where
   pub serial : ℕ
   pub key : List ℕ
   pub cookies : List (Option Cookie)
-  pub store : Option StoreState
+  pub store : Option LanesState
 
 -- sessions before the first line about them: no cookie, and the present moment is 0
-abbrev pub opened : ℕ → List ℕ → Option StoreState → SessionsState
+abbrev pub opened : ℕ → List ℕ → Option LanesState → SessionsState
 opened boot key store =
     record { moment = record { 0 = 0 }; boot = boot; serial = 0; key = key; cookies = []; store = store }
 
@@ -61,7 +63,7 @@ abbrev pub reopened : SessionsState → ℕ → SessionsState
 reopened s boot = record s { boot = boot; serial = 0 }
 
 -- sessions with this store
-abbrev pub with_store : SessionsState → StoreState → SessionsState
+abbrev pub with_store : SessionsState → LanesState → SessionsState
 with_store s st = record s { store = Some st }
 
 -- the nonce that the next write or fetch draws
@@ -105,7 +107,7 @@ read_of (Some (call.Write write)) = None
 read_of (Some (call.Read read)) = Some read
 
 -- the store after a write spent its passes
-abbrev pub spent_by : WriteState → List Pass → StoreState → StoreState
+abbrev pub spent_by : WriteState → List Pass → LanesState → LanesState
 spent_by write passes st = spent_as st (heard_passes write passes)
 
 -- a write by its answer: its cookie is kept as that of its key, or too few bricks have stored its value
@@ -119,12 +121,12 @@ abbrev pub told_write : SessionsState → ℕ → WriteState → Answer Sessions
 told_write s key write = or_refused (write_answer write) (λ answer. written_as s key answer)
 
 -- the store after passes were taken, and a write with them has begun and has gone on to its end
-abbrev pub store_written : SessionsState → ℕ → List ℕ → List Pass → StoreState → StoreState
+abbrev pub store_written : SessionsState → ℕ → List ℕ → List Pass → LanesState → LanesState
 store_written s key value passes st =
     written_out (record st { windows = taken st.windows passes }) (nonce s) (session_key key) value (expiry s) passes
 
 -- the answer of the write of a number, which has gone on to its end with these passes, and spends them
-abbrev pub answered_write : SessionsState → ℕ → List Pass → ℕ → StoreState → Answer SessionsState
+abbrev pub answered_write : SessionsState → ℕ → List Pass → ℕ → LanesState → Answer SessionsState
 answered_write s key passes number st =
     or_refused (write_of (slice_get st.world.calls number)) (λ write.
     told_write (with_store s (spent_by write passes st)) key write)
@@ -148,7 +150,7 @@ fetched_text key (Err (Lost causes)) = lost_text key causes
 fetched_text key (Err OutOfMemory) = []
 
 -- the store after a read of a cookie has begun and has gone on to its answer
-abbrev pub store_read : SessionsState → Cookie → StoreState → StoreState
+abbrev pub store_read : SessionsState → Cookie → LanesState → LanesState
 store_read s cookie st = read_out st (nonce s) s.moment cookie
 
 -- what a read that has gone on to its answer comes to under a key
@@ -156,7 +158,7 @@ abbrev pub told_read : SessionsState → ℕ → ReadState → Answer SessionsSt
 told_read s key read = or_refused (read_answer read) (λ answer. Done s (fetched_text key answer))
 
 -- the sessions after a fetch, by the answer of the read of a number, which has gone on to its answer
-abbrev pub answered_read : SessionsState → ℕ → ℕ → StoreState → Answer SessionsState
+abbrev pub answered_read : SessionsState → ℕ → ℕ → LanesState → Answer SessionsState
 answered_read s key number st =
     or_refused (read_of (slice_get st.world.calls number)) (λ read.
     told_read (with_store s st) key read)
@@ -187,15 +189,20 @@ now_line s moment =
     (refused_if (nat_lt MAX_MOMENT moment)
     (Done (record s { moment = record { 0 = moment } }) []))
 
+-- the answer of a line that writes nothing: whether it was done
+abbrev pub done_or_refused : Bool → LineAnswer
+done_or_refused true = answers.Done
+done_or_refused false = answers.Refused
+
 -- the sessions after a change of the store and its lane of the brick of a number; refused where there is none
-abbrev pub on_lane : SessionsState → ℕ → (StoreState → LaneState → Answer SessionsState) → Answer SessionsState
+abbrev pub on_lane : SessionsState → ℕ → (LanesState → LaneState → Answer SessionsState) → Answer SessionsState
 on_lane s brick line =
     or_refused s.store (λ st.
     or_refused (lane_at st.lanes brick) (λ lane.
     line st lane))
 
 -- sessions with this lane of a brick
-abbrev pub with_lane_of : SessionsState → ℕ → StoreState → LaneState → SessionsState
+abbrev pub with_lane_of : SessionsState → ℕ → LanesState → LaneState → SessionsState
 with_lane_of s brick st lane = with_store s (with_lane st brick lane)
 
 -- More of a brick's next replies are to be lost. Refused is an unknown brick.
@@ -212,10 +219,6 @@ repeat_line s brick number =
     on_lane s brick (λ st lane.
     or_refused (reply_made lane number) (λ packet.
     Done (with_lane_of s brick st (waiting packet lane)) []))
-
--- the brick of a number
-abbrev pub brick_no : ℕ → BrickNo
-brick_no brick = record { 0 = brick }
 
 -- A brick crashes. Refused are an unknown brick, and one whose incarnation is the last.
 unfoldable pub crash_line : SessionsState → ℕ → Answer SessionsState
@@ -242,20 +245,9 @@ values_line s brick =
 unfoldable pub windows_line : SessionsState → Answer SessionsState
 windows_line s = or_refused s.store (λ st. Done s (windows_text st.windows.facts))
 
--- how many of these there are, or 0
-abbrev pub count_or_0 : Option ℕ → ℕ
-count_or_0 None = 0
-count_or_0 (Some n) = n
-
--- a pass to a brick is held, where the brick's window is open
-abbrev pub holds : StoreState → ℕ → LaneState → Option Pass → Answer StoreState
-holds st brick lane None =
-    Done st (closed_text brick (count_or_0 (window_in st.windows (brick_no brick)))
-    (count_or_0 (in_flight_in st.windows (brick_no brick))))
-holds st brick lane (Some pass) =
-    Done (with_lane (record st { windows = after_try st.windows (brick_no brick) }) brick
-    (record lane { held = raised lane.held 1 }))
-    (held_text brick (count_or_0 (in_flight_in (after_try st.windows (brick_no brick)) (brick_no brick))))
+-- this pass to a brick is held, if its window is open, so that the pass was given
+abbrev pub holds : LanesState → ℕ → LaneState → Option Pass → Answer LanesState
+holds st brick lane pass = Done (held_by st brick lane pass) (hold_text brick (answer_by st.windows (brick_no brick) pass))
 
 -- A pass to a brick is held. Refused is an unknown brick.
 unfoldable pub hold_line : SessionsState → ℕ → Answer SessionsState

@@ -8,7 +8,7 @@ use Rattle.session_steps.specs.Promise.{SessionTurn, Does, Lead, CanServe, Finds
 use Rattle.session_steps.specs.Sessions.{SessionsState, expiry}
 use Rattle.scenario_text.specs.Setup.{SetupState}
 use Rattle.session_steps.specs.Setup.{set_up}
-use Rattle.session_steps.specs.Store.{StoreState}
+use Rattle.session_lanes.specs.Lanes.{LanesState}
 use Rattle.session_steps.specs.Texts.{version_text, found_text, expired_text, lost_text}
 
 -- What stands of a fetch of what was written. It wrote the value, that the cookie had expired, or that the value was
@@ -36,5 +36,5 @@ pub record IsAnswered (setup : SetupState) (turns : List SessionTurn) (key : ℕ
 -- a world that events made, and each fetch among the turns is answered so.
 pub record SessionsStand (setup : SetupState) (turns : List SessionTurn) (end : SessionsState) : Type 0 where
   pub lead : Lead (set_up setup 0) turns end
-  pub worlds : (st : StoreState) → end.store ≡ Some st → IsMade st.world
+  pub worlds : (st : LanesState) → end.store ≡ Some st → IsMade st.world
   pub fetches : (before after : List SessionTurn) (key : ℕ) (text : List ℕ) → turns ≡ before ++ Does (lines.Fetch key) text ∷ after → IsAnswered setup before key text

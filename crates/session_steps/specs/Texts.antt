@@ -7,6 +7,8 @@ use Rattle.scenario_text.specs.Texts.{hex_text}
 use Rattle.send_windows.specs.declared.fact.WindowFact.{WindowFact}
 use Rattle.session_cookie.specs.declared.cookie.Cookie.{Cookie}
 use Rattle.session_cookie.specs.declared.cookie.Holder.{Holder}
+use Rattle.session_lanes.specs.declared.lanes.HoldAnswer.{HoldAnswer}
+use Rattle.session_lanes.specs.declared.lanes.HoldAnswer.TheVariants.{Held, Full}
 use Rattle.ssm_stub.specs.declared.cause.BrickCause.{BrickCause}
 use Rattle.ssm_stub.specs.declared.cause.Cause.{Cause}
 use Rattle.ssm_stub.specs.declared.cause.Cause.TheVariants as cause
@@ -83,3 +85,8 @@ held_text brick in_flight = codes "held " ++ decimal brick ++ codes " " ++ decim
 abbrev pub closed_text : ℕ → ℕ → ℕ → List ℕ
 closed_text brick window in_flight =
     codes "closed " ++ decimal brick ++ codes " " ++ decimal window ++ codes " " ++ decimal in_flight ++ codes "\n"
+
+-- what is written where a pass to a brick is to be held
+abbrev pub hold_text : ℕ → HoldAnswer → List ℕ
+hold_text brick (Held in_flight) = held_text brick in_flight
+hold_text brick (Full window in_flight) = closed_text brick window in_flight

@@ -16,7 +16,7 @@ ghost use Rattle.session_steps.specs.Sessions.{SessionsState, nonce, reopened, c
 ghost use Rattle.scenario_text.specs.Setup.{SetupState, HasCounts, no_setup, bricks_step, key_step};
 ghost use Rattle.session_steps.specs.Setup.{set_up};
 ghost use Rattle.session_steps.specs.Standing.{SessionsStand};
-ghost use Rattle.session_steps.specs.Store.{StoreState};
+ghost use Rattle.session_lanes.specs.Lanes.{LanesState};
 ghost use Rattle.session_steps.specs.declared.sessions.TheConstants.{LEASE};
 ghost use Rattle.session_steps.specs.Texts.{version_text, found_text, expired_text, lost_text};
 
@@ -25,7 +25,7 @@ use ssm_world::acknowledged_cookies_stay_acknowledged;
 
 /// Over all turns the bricks of a scenario, their packets and calls are a world that events made.
 pub fn sessions_are_worlds()
-    ensures { (setup : SetupState) (boot : ℕ) (turns : List SessionTurn) (t : SessionsState) (st : StoreState)
+    ensures { (setup : SetupState) (boot : ℕ) (turns : List SessionTurn) (t : SessionsState) (st : LanesState)
         → Lead (set_up setup boot) turns t → t.store ≡ Some st → IsMade st.world }
 {}
 
@@ -47,7 +47,7 @@ pub fn writes_say_whether_they_are_acknowledged()
 /// A write line is refused only where there are no bricks, or where a call has had the nonce that it would draw: where
 /// the bricks are as many as head lines allow, as those of each setup are that head lines make.
 pub fn writes_with_new_nonces_are_done()
-    ensures refused { (setup : SetupState) (boot : ℕ) (turns : List SessionTurn) (u : SessionsState) (st : StoreState)
+    ensures refused { (setup : SetupState) (boot : ℕ) (turns : List SessionTurn) (u : SessionsState) (st : LanesState)
         (key : ℕ) (value : List ℕ)
         → HasCounts setup.counts → Lead (set_up setup boot) turns u → u.store ≡ Some st
         → session_line u (lines.Write key value) ≡ Refused → is_new st.world (nonce u) ≡ false }
@@ -66,7 +66,7 @@ pub fn writes_with_new_nonces_are_done()
 /// whatever order their calls begin. The serials of each boot that starts begin at 0, and the node is 1. It refuses a
 /// rule that draws a nonce twice, and serials that go on from another boot.
 pub fn nonces_stay_new()
-    ensures new { (setup : SetupState) (boot : ℕ) (turns : List SessionTurn) (u : SessionsState) (st : StoreState) (serial : ℕ)
+    ensures new { (setup : SetupState) (boot : ℕ) (turns : List SessionTurn) (u : SessionsState) (st : LanesState) (serial : ℕ)
         → BootsRise boot turns → Lead (set_up setup boot) turns u → u.store ≡ Some st → u.serial < 2 ^ 64 - 1
         → u.serial ≤ serial → is_new st.world (record (nonce u) { serial = serial }) ≡ true }
     ensures first { (s : SessionsState) (boot : ℕ)
@@ -102,7 +102,7 @@ pub fn fetches_with_new_nonces_are_done()
     ensures { (setup : SetupState) (boot : ℕ) (turns : List SessionTurn) (u : SessionsState) (key : ℕ) (cookie : Cookie)
         → Lead (set_up setup boot) turns u → cookie_of u key ≡ Some cookie
         → session_line u (lines.Fetch key) ≡ Refused
-        → (st : StoreState) × (u.store ≡ Some st) × (is_new st.world (nonce u) ≡ false) }
+        → (st : LanesState) × (u.store ≡ Some st) × (is_new st.world (nonce u) ≡ false) }
 {
     acknowledged_cookies_stay_acknowledged();
 }
@@ -129,7 +129,7 @@ pub fn fetches_answer_what_was_written()
 /// What a fetch line that is done writes follows from the lanes and the histories of the bricks before it.
 pub fn fetches_answer_by_the_rule()
     ensures { (setup : SetupState) (boot : ℕ) (turns : List SessionTurn) (u v : SessionsState) (key : ℕ) (text : List ℕ)
-        (cookie : Cookie) (st : StoreState)
+        (cookie : Cookie) (st : LanesState)
         → Lead (set_up setup boot) turns u → session_line u (lines.Fetch key) ≡ Done v text
         → cookie_of u key ≡ Some cookie → u.store ≡ Some st
         → text ≡ fetched_text key (result_by_rule st (nonce u) u.moment cookie) }

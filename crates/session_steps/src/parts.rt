@@ -6,12 +6,13 @@ ghost use Rattle.session_steps.specs.Kept.{IsSessions};
 ghost use Rattle.session_steps.specs.Present.{presented_text};
 ghost use Rattle.session_steps.specs.Sessions.{nonce, drawn, cookie_of, expiry, cookie_line, now_line, lose_line, mute_line, repeat_line, crash_line, sweep_line, values_line, windows_line, hold_line, free_line, session_line};
 
+use crate::lane_lines::{crash, free, hold, lose, mute, repeat, sweep, tell_values, tell_windows};
 use crate::sessions::{LEASE, MAX_MOMENT, NODE};
-use crate::store::Store;
 use crate::texts::{answer_text, cookie_text};
 use crash_base::{CookieText, Moment, OutOfMemory, Version};
 use scenario_text::{Freed, LineAnswer, SessionLine};
 use session_cookie::{Cookie, decode_cookie, encode_cookie};
+use session_lanes::Lanes;
 use std::alloc::Global;
 use std::marker::Model;
 
@@ -24,7 +25,7 @@ pub(crate) struct Parts {
     pub(crate) serial: u64,
     pub(crate) key: Vec<u8>,
     pub(crate) cookies: Vec<Option<Cookie>>,
-    pub(crate) store: Option<Store>,
+    pub(crate) store: Option<Lanes>,
 }
 
 impl Model for Parts {
@@ -120,7 +121,7 @@ impl Parts {
     {
         match &mut self.store {
             None => LineAnswer::Refused,
-            Some(store) => store.lose(brick, more),
+            Some(store) => lose(store, brick, more),
         }
     }
 
@@ -132,7 +133,7 @@ impl Parts {
     {
         match &mut self.store {
             None => LineAnswer::Refused,
-            Some(store) => store.mute(brick, more),
+            Some(store) => mute(store, brick, more),
         }
     }
 
@@ -144,7 +145,7 @@ impl Parts {
     {
         match &mut self.store {
             None => Ok(LineAnswer::Refused),
-            Some(store) => store.repeat(brick, number),
+            Some(store) => repeat(store, brick, number),
         }
     }
 
@@ -156,7 +157,7 @@ impl Parts {
     {
         match &mut self.store {
             None => Ok(LineAnswer::Refused),
-            Some(store) => store.crash(alloc, brick),
+            Some(store) => crash(store, alloc, brick),
         }
     }
 
@@ -173,7 +174,7 @@ impl Parts {
     {
         match &mut self.store {
             None => Ok(LineAnswer::Refused),
-            Some(store) => store.sweep(alloc, brick, moment),
+            Some(store) => sweep(store, alloc, brick, moment),
         }
     }
 
@@ -185,7 +186,7 @@ impl Parts {
     {
         match &mut self.store {
             None => Ok(LineAnswer::Refused),
-            Some(store) => store.tell_values(alloc, brick),
+            Some(store) => tell_values(store, alloc, brick),
         }
     }
 
@@ -197,7 +198,7 @@ impl Parts {
     {
         match &mut self.store {
             None => Ok(LineAnswer::Refused),
-            Some(store) => store.tell_windows(alloc),
+            Some(store) => tell_windows(store, alloc),
         }
     }
 
@@ -209,7 +210,7 @@ impl Parts {
     {
         match &mut self.store {
             None => Ok(LineAnswer::Refused),
-            Some(store) => store.hold(alloc, brick),
+            Some(store) => hold(store, alloc, brick),
         }
     }
 
@@ -221,7 +222,7 @@ impl Parts {
     {
         match &mut self.store {
             None => LineAnswer::Refused,
-            Some(store) => store.free(brick, how),
+            Some(store) => free(store, brick, how),
         }
     }
 

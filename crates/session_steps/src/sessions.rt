@@ -1,14 +1,16 @@
 //! The sessions of a scenario.
 
-ghost use Rattle.std.specs.Prelude.{◌≡◌, [], None, IfOk, OnErr};
+ghost use Rattle.std.specs.Prelude.{◌≡◌, true, [], None, IfOk, OnErr};
 ghost use Rattle.scenario_text.specs.Answer.{KeepsRefused, answer_of};
+ghost use Rattle.scenario_text.specs.Setup.{are_counts};
+ghost use Rattle.session_lanes.specs.Lanes.{new_lanes};
 ghost use Rattle.session_steps.specs.Sessions.{reopened, session_line};
 ghost use Rattle.session_steps.specs.Setup.{service_key, set_up};
 
 use crate::parts::Parts;
-use crate::store::Store;
 use crash_base::{Moment, OutOfMemory};
-use scenario_text::{HexBytes, LineAnswer, SessionLine, Setup};
+use scenario_text::{BrickCounts, HexBytes, LineAnswer, SessionLine, Setup};
+use session_lanes::Lanes;
 use std::alloc::Global;
 use std::marker::Model;
 
@@ -52,6 +54,20 @@ fn service_key(alloc: Global, key: Option<HexBytes>) -> Result<Vec<u8>, OutOfMem
     }
 }
 
+/// New bricks of these counts.
+fn new_lanes(alloc: Global, counts: BrickCounts) -> Result<Lanes, OutOfMemory>
+    requires { are_counts counts.bricks counts.most counts.least ≡ true }
+    ensures { IfOk result (λ st. st ≡ new_lanes counts.bricks counts.most counts.least) }
+{
+    let BrickCounts {
+        bricks,
+        most,
+        least,
+    } = counts;
+    let lanes = Lanes::new(alloc, bricks, most, least)?;
+    Ok(lanes)
+}
+
 /// The parts of sessions before the first line about them.
 fn set_up(alloc: Global, setup: Setup) -> Result<Parts, OutOfMemory>
     ensures { IfOk result (λ parts. parts ≡ set_up setup 0) }
@@ -60,7 +76,7 @@ fn set_up(alloc: Global, setup: Setup) -> Result<Parts, OutOfMemory>
     let key = service_key(alloc, key)?;
     let store = match counts {
         None => None,
-        Some(counts) => Some(Store::new(alloc, counts)?),
+        Some(counts) => Some(new_lanes(alloc, counts)?),
     };
     Ok(Parts {
         moment: Moment(0),

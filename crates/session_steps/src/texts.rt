@@ -4,12 +4,13 @@ ghost use Rattle.std.specs.Prelude.{◌≡◌, ◌≢◌, ◌++◌, Err, OnOk, I
 ghost use Rattle.std.specs.List.{flat_map};
 ghost use Rattle.std.specs.Str.{IsUtf8};
 ghost use Rattle.session_steps.specs.Present.{answer_text};
-ghost use Rattle.session_steps.specs.Texts.{holder_text, version_text, fact_text, overload_text, reason_text, cause_text, missed_text, found_text, expired_text, lost_text, cookie_text, values_text, windows_text, held_text, closed_text};
+ghost use Rattle.session_steps.specs.Texts.{holder_text, version_text, fact_text, overload_text, reason_text, cause_text, missed_text, found_text, expired_text, lost_text, cookie_text, values_text, windows_text, held_text, closed_text, hold_text};
 
 use crash_base::{Moment, OutOfMemory};
 use scenario_text::write_hex;
 use send_windows::WindowFact;
 use session_cookie::{Cookie, CookieRefusal, Holder};
+use session_lanes::HoldAnswer;
 use ssm_stub::{BrickCause, Cause};
 use std::alloc::Global;
 use std::fmt::Write;
@@ -235,7 +236,7 @@ pub(crate) fn windows_text(alloc: Global, facts: &[WindowFact]) -> Result<String
 }
 
 /// What is written where a pass is held.
-pub(crate) fn held_text(alloc: Global, brick: u64, in_flight: u64) -> Result<String, OutOfMemory>
+fn held_text(alloc: Global, brick: u64, in_flight: u64) -> Result<String, OutOfMemory>
     ensures { IfOk result (λ text. string_bytes text ≡ held_text brick in_flight) }
 {
     let mut text = String::new(alloc);
@@ -244,7 +245,7 @@ pub(crate) fn held_text(alloc: Global, brick: u64, in_flight: u64) -> Result<Str
 }
 
 /// What is written where no pass is held.
-pub(crate) fn closed_text(
+fn closed_text(
     alloc: Global,
     brick: u64,
     window: u64,
@@ -255,4 +256,18 @@ pub(crate) fn closed_text(
     let mut text = String::new(alloc);
     write!(text, "closed {brick} {window} {in_flight}\n")?;
     Ok(text)
+}
+
+/// What is written where a pass to a brick is to be held.
+pub(crate) fn hold_text(
+    alloc: Global,
+    brick: u64,
+    answer: HoldAnswer,
+) -> Result<String, OutOfMemory>
+    ensures { IfOk result (λ text. string_bytes text ≡ hold_text brick answer) }
+{
+    match answer {
+        HoldAnswer::Held { in_flight } => held_text(alloc, brick, in_flight),
+        HoldAnswer::Full { window, in_flight } => closed_text(alloc, brick, window, in_flight),
+    }
 }

@@ -2,7 +2,7 @@ use Rattle.std.proofs.Common.{◌≡◌, ℕ, Bool, ◌<◌, ◌≤◌, ◌-◌,
 use Rattle.scenario_text.specs.Answer.{Refused}
 use Rattle.scenario_text.specs.declared.session_line.SessionLine.TheVariants as lines
 use Rattle.session_steps.specs.Sessions.{SessionsState, nonce, cookie_of, session_line}
-use Rattle.session_steps.specs.Store.{StoreState}
+use Rattle.session_lanes.specs.Lanes.{LanesState}
 use Rattle.ssm_world.specs.Worlds.{is_new}
 use Rattle.scenario_engine.specs.Sessions.{session_turns, AreSessionsOf}
 use Rattle.scenario_engine.specs.State.{State}
@@ -44,6 +44,6 @@ returns-clause-fetches c = λ turns t u r key cookie told last there below refus
     let has = c.scenarios_have_sessions.ensures turns in
     let P : State → Type 0 = λ s. AreSessionsOf s has.setup has.end in
     let same : has.end ≡ r.sessions = subst P last has.ends in
-    let Q : SessionsState → Type 0 = λ s. cookie_of s key ≡ Some cookie → session_line s (lines.Fetch key) ≡ Refused → (st : StoreState) × (s.store ≡ Some st) × (is_new st.world (nonce s) ≡ false) in
-    let had : (st : StoreState) × (r.sessions.store ≡ Some st) × (is_new st.world (nonce r.sessions) ≡ false) = subst Q same (c.fetches_with_new_nonces_are_done.ensures has.setup 0 (session_turns first turns) has.end key cookie has.stand.lead) there refused in
+    let Q : SessionsState → Type 0 = λ s. cookie_of s key ≡ Some cookie → session_line s (lines.Fetch key) ≡ Refused → (st : LanesState) × (s.store ≡ Some st) × (is_new st.world (nonce s) ≡ false) in
+    let had : (st : LanesState) × (r.sessions.store ≡ Some st) × (is_new st.world (nonce r.sessions) ≡ false) = subst Q same (c.fetches_with_new_nonces_are_done.ensures has.setup 0 (session_turns first turns) has.end key cookie has.stand.lead) there refused in
     not_both (is_new had.0.world (nonce r.sessions)) (returns-clause-new c turns t u r had.0 told last had.1 below) had.2

@@ -1,0 +1,4 @@
+pub mod Calls
+pub mod Lane
+pub mod Lanes
+pub mod Sound

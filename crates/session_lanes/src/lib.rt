@@ -1,0 +1,31 @@
+//! The bricks of sessions, each with the lane on which its replies come, and the windows on what is sent to them.
+//!
+//! ```text
+//! let mut lanes = Lanes::new(alloc, 3, 3, 2)?;           // 3 bricks: a write asks 3, and 2 are to store its value
+//! let passes = lanes.take(alloc, first)?;                // leave to ask the bricks whose windows are open
+//! let call = lanes.calls();
+//! lanes.begin_write(alloc, order, passes.as_slice())?;   // the call of this number
+//! while lanes.turn(alloc, call)? {}                      // the call asks, and hears, until it wants nothing more
+//! lanes.settle(call, passes);                            // the windows go by what it heard
+//! lanes.write_of(call)                                   // Some, and `answer` gives the cookie
+//! ```
+//!
+//! The bricks are a world of `ssm_world`, which goes on by its events alone. A brick replies at once to an ask that is
+//! not dropped, and its replies wait in its lane: they come in that order, and calls of this crate say which are lost,
+//! which asks are dropped, and which replies come once more. A write and a read are calls of the world that go on turn
+//! by turn; other calls may take turns between.
+//!
+//! Each function leaves just what its definition says, and nothing changes where it is refused. Only after out of memory
+//! may anything between have been done.
+//!
+//! A turn costs what the events of the world cost that it makes. The packets and the calls of all time are kept.
+#![tactic(auto)]
+
+mod lane;
+mod lanes;
+mod reading;
+mod turns;
+mod writing;
+
+pub use lanes::{HoldAnswer, Lanes, TURNS_PER_BRICK};
+pub use writing::WriteOrder;

@@ -1,0 +1,134 @@
+//! How a call goes on.
+
+ghost use Rattle.std.specs.Prelude.{◌≡◌, ◌<◌, suc, false, length, slice_get, option_map, Some, Ok, OnOk};
+ghost use Rattle.crash_base.specs.declared.numbers.BrickNo.{BrickNo};
+ghost use Rattle.ssm_stub.specs.declared.event.StubNext.TheVariants as next;
+ghost use Rattle.ssm_world.specs.Worlds.{next_of};
+ghost use Rattle.session_lanes.specs.Lane.{LaneState, lane_at};
+ghost use Rattle.session_lanes.specs.Lanes.{after_event, asks, listens, turn_of, turns, gone_on};
+
+use crate::lanes::{Lanes, TURNS_PER_BRICK};
+use crash_base::{BrickNo, OutOfMemory};
+use session_cookie::MAX_HOLDERS;
+use ssm_stub::StubNext;
+use ssm_world::WorldEvent;
+use std::alloc::Global;
+
+impl Lanes {
+    /// An event of the world.
+    fn happens(&mut self, alloc: Global, event: WorldEvent) -> Result<(), OutOfMemory>
+        ensures { OnOk result (self.new ≡ after_event self.old event) }
+    {
+        self.world.step(alloc, &event)?;
+        Ok(())
+    }
+
+    /// A call sends its ask to the brick whose lane stands at a place. The brick replies at once, where the ask is not
+    /// dropped.
+    fn ask_at(&mut self, alloc: Global, call: u64, place: usize) -> Result<(), OutOfMemory>
+        requires { place < length self.old.lanes }
+        ensures { OnOk result ((lane : LaneState) (brick : BrickNo) → slice_get self.old.lanes place ≡ Some lane
+            → brick.0 ≡ suc place → self.new ≡ asks self.old call brick (Some lane)) }
+    {
+        let ask = self.world.packets();
+        self.happens(
+            alloc,
+            WorldEvent::Send {
+                call,
+                silent: false,
+                sent: true,
+            },
+        )?;
+        if self.lanes[place].drops() {
+            self.lanes[place].drop_ask();
+            return Ok(());
+        }
+        let reply = ask.checked_add(1).ok_or(OutOfMemory)?;
+        self.happens(alloc, WorldEvent::Deliver { packet: ask })?;
+        self.lanes[place].keep_reply(reply)?;
+        Ok(())
+    }
+
+    /// A call sends its ask to a brick. To a number without a brick the link is silent.
+    fn ask(&mut self, alloc: Global, call: u64, brick: BrickNo) -> Result<(), OutOfMemory>
+        ensures { OnOk result (self.new ≡ asks self.old call brick (lane_at self.old.lanes brick.0)) }
+    {
+        match self.place_of(u64::from(brick.0)) {
+            None => self.happens(
+                alloc,
+                WorldEvent::Send {
+                    call,
+                    silent: true,
+                    sent: false,
+                },
+            ),
+            Some(place) => self.ask_at(alloc, call, place),
+        }
+    }
+
+    /// A call hears the brick whose lane stands at a place: the first reply that waits comes, or the link is silent.
+    fn listen_at(&mut self, alloc: Global, call: u64, place: usize) -> Result<(), OutOfMemory>
+        requires { place < length self.old.lanes }
+        ensures { OnOk result ((lane : LaneState) (brick : BrickNo) → slice_get self.old.lanes place ≡ Some lane
+            → brick.0 ≡ suc place → self.new ≡ listens self.old call brick (Some lane)) }
+    {
+        let Some(packet) = self.lanes[place].next_reply() else {
+            self.happens(alloc, WorldEvent::Hush { call })?;
+            return Ok(());
+        };
+        self.happens(alloc, WorldEvent::Hear { call, packet })?;
+        Ok(())
+    }
+
+    /// A call hears a brick.
+    fn listen(&mut self, alloc: Global, call: u64, brick: BrickNo) -> Result<(), OutOfMemory>
+        ensures { OnOk result (self.new ≡ listens self.old call brick (lane_at self.old.lanes brick.0)) }
+    {
+        match self.place_of(u64::from(brick.0)) {
+            None => self.happens(alloc, WorldEvent::Hush { call }),
+            Some(place) => self.listen_at(alloc, call, place),
+        }
+    }
+
+    /// The call of a number does what it wants next. False, and nothing changes, where it wants nothing, or there is no
+    /// such call.
+    pub fn turn(&mut self, alloc: Global, call: u64) -> Result<bool, OutOfMemory>
+        ensures turn { OnOk result (self.new ≡ turn_of self.old call (slice_get self.old.world.calls call)) }
+        ensures ended { result ≡ Ok false → self.new ≡ self.old }
+    {
+        match self.world.next_of(call) {
+            Some(StubNext::Send { brick }) => {
+                self.ask(alloc, call, brick)?;
+                Ok(true)
+            }
+            Some(StubNext::Receive { brick }) => {
+                self.listen(alloc, call, brick)?;
+                Ok(true)
+            }
+            Some(StubNext::Ended) | None => Ok(false),
+        }
+    }
+
+    /// The call of a number goes on for so many turns, or until it wants nothing more.
+    fn take_turns(&mut self, alloc: Global, call: u64, most: usize) -> Result<(), OutOfMemory>
+        ensures { OnOk result (self.new ≡ turns most self.old call) }
+    {
+        let mut left = most;
+        while left > 0 {
+            if !self.turn(alloc, call)? {
+                return Ok(());
+            }
+            left -= 1;
+        }
+        Ok(())
+    }
+
+    /// The call of a number goes on until it wants nothing more. It costs what its turns do, of which there are one for
+    /// each ask, and one for each reply that it hears.
+    #[tactic(auto, unfolding(crate::specs::Lanes::gone_on))]
+    pub fn go_on(&mut self, alloc: Global, call: u64) -> Result<(), OutOfMemory>
+        ensures { OnOk result (self.new ≡ gone_on self.old call) }
+    {
+        self.take_turns(alloc, call, TURNS_PER_BRICK * MAX_HOLDERS)
+    }
+}

@@ -1,7 +1,0 @@
-use Rattle.std.proofs.Common.{◌≡◌}
-use lib.ListN.{replicate}
-use Rattle.session_steps.specs.Lanes.{new_lane}
-use Rattle.session_steps.proofs.store.new_lanes.Given as goal
-
-abbrev pub invariant-loop : goal.invariant-loop
-invariant-loop l = l.lanes.items ≡ replicate l.counter new_lane
