@@ -1,0 +1,28 @@
+//! The routes of the auction: which action a path and a method ask for.
+//!
+//! A `SiteRouter` is made once, and then tells of each request where it leads:
+//!
+//! ```text
+//! let router = SiteRouter::new(alloc)?;
+//! router.routed(b"/item/7", MethodKind::Get)     // Action(Item { item: 7 })
+//! router.routed(b"/item/7", MethodKind::Post)    // NotAllowed { allow: 1 }: GET, HEAD
+//! router.routed(b"/item/07", MethodKind::Post)   // NotThere
+//! ```
+//!
+//! `specs/Routes.antt` has the fifteen routes with their texts. A path takes a route where it is the route's text, or
+//! that text and then at least one byte with no `/`, where the route has a parameter; no path takes two, and one that is
+//! no UTF-8 takes none. `specs/Offers.antt` has the table of what each route offers by which method. Whether anything is
+//! at a path is asked before the method is looked at, so a path that leads nowhere is 404 by every method.
+//!
+//! The search is that of `matchit`: it visits the path's bytes, and takes no memory.
+#![tactic(auto)]
+
+mod offer;
+mod routed;
+mod router;
+mod site_route;
+
+pub use offer::{MAX_ID, Offer, SiteAction};
+pub use routed::Routed;
+pub use router::SiteRouter;
+pub use site_route::SiteRoute;
