@@ -105,28 +105,28 @@ caller_drops r caller (Live ticket) = Done (with_callers r (ended r.callers call
 unfoldable pub drop_step : RunningState → ℕ → Answer RunningState
 drop_step r caller = caller_drops r caller (caller_at r.callers caller)
 
--- the scope of a name: that of the whole application, or the group of a component
+-- the scope that a word names: the whole application by app, or the group of a component by its name
 abbrev pub scope_of : Parts → List ℕ → Option Scope
-scope_of parts name =
-    if bytes_eq name APPLICATION.now
+scope_of parts word =
+    if bytes_eq word APPLICATION.now
     then Some App
-    else option_map (λ c. Group (group_no (group_of parts c))) (named parts.components name)
+    else option_map (λ c. Group (group_no (group_of parts c))) (named parts.components word)
 
 -- a scope goes down, unless that is refused
 abbrev pub goes_down : RunningState → Scope → Option RebootRefusal → Answer RunningState
 goes_down r s None = Done (with_boot_entry r (Down s)) (down_text (length r.boot.entries))
 goes_down r s (Some refusal) = Done r (reboot_refusal_text refusal)
 
--- A scope goes down. Refused is an unknown name.
+-- A scope goes down. Refused is a word that names no scope.
 unfoldable pub down_step : RunningState → List ℕ → Answer RunningState
-down_step r name =
-    or_refused (scope_of r.boot.start.deployment name) (λ s.
+down_step r word =
+    or_refused (scope_of r.boot.start.deployment word) (λ s.
     goes_down r s (reboot_refusal r.boot.start.limits r.boot.entries s))
 
--- A scope comes up. Refused are an unknown name, and a scope of which no Down waits for its Up.
+-- A scope comes up. Refused are a word that names no scope, and a scope of which no Down waits for its Up.
 unfoldable pub up_step : RunningState → List ℕ → Answer RunningState
-up_step r name =
-    or_refused (scope_of r.boot.start.deployment name) (λ s.
+up_step r word =
+    or_refused (scope_of r.boot.start.deployment word) (λ s.
     or_refused (undone_of r.boot.entries s) (λ place.
     Done (with_boot_entry r (Up s)) (up_text (length r.boot.entries))))
 
@@ -137,10 +137,10 @@ reboots r s None =
     (down_text (length r.boot.entries) ++ up_text (length r.boot.entries + 1))
 reboots r s (Some refusal) = Done r (reboot_refusal_text refusal)
 
--- A scope goes down and comes up at once. Refused is an unknown name.
+-- A scope goes down and comes up at once. Refused is a word that names no scope.
 unfoldable pub reboot_step : RunningState → List ℕ → Answer RunningState
-reboot_step r name =
-    or_refused (scope_of r.boot.start.deployment name) (λ s.
+reboot_step r word =
+    or_refused (scope_of r.boot.start.deployment word) (λ s.
     reboots r s (reboot_refusal r.boot.start.limits r.boot.entries s))
 
 -- the current rows, in order of id
@@ -155,8 +155,8 @@ journal_step r = Done r (journal_text r.boot.entries)
 abbrev pub boot_line : RunningState → BootLine → Answer RunningState
 boot_line r (boots.Begin c) = within (with_callers r) (begin_step r.boot r.callers c)
 boot_line r (boots.Drop c) = drop_step r c
-boot_line r (boots.Down name) = down_step r name
-boot_line r (boots.Up name) = up_step r name
-boot_line r (boots.Reboot name) = reboot_step r name
+boot_line r (boots.Down word) = down_step r word
+boot_line r (boots.Up word) = up_step r word
+boot_line r (boots.Reboot word) = reboot_step r word
 boot_line r boots.Table = table_step r
 boot_line r boots.Journal = journal_step r

@@ -23,7 +23,7 @@ ghost use Rattle.scenario_engine.specs.Telling.{Opens, FailsToOpen, Commits, Com
 use crate::failure::{LineFailure, UnstartedCause, failure_of};
 use boot_core::{Boot, JournalLimits, Ticket};
 use container_core::start_boot;
-use crash_base::{APPLICATION, ComponentName, LatestRows, OutOfMemory, Place, Scope, WorkerNo};
+use crash_base::{APPLICATION, LatestRows, OutOfMemory, Place, Scope, WordText, WorkerNo};
 use deployment::Deployment;
 use line_steps::{
     Callers, Head, commit_refusal_text, committed_text, down_text, journal_text,
@@ -54,16 +54,16 @@ impl Model for Running {
     ghost invariant = { λ a. AllFit a.boot a.callers };
 }
 
-/// The scope of a name: that of the whole application, or the group of a component. None exactly where no component
-/// has the name. It visits each component up to that one.
-fn scope_of(deployment: &Deployment, name: &ComponentName) -> Option<Scope>
-    ensures scope { result ≡ scope_of deployment.now name.now }
+/// The scope that a word names: the whole application by `app`, or the group of a component by its name. None exactly
+/// where the word is neither. It visits each component up to that one.
+fn scope_of(deployment: &Deployment, word: &WordText) -> Option<Scope>
+    ensures scope { result ≡ scope_of deployment.now word.now }
     ensures known { IfSome result IsScope }
 {
-    if name.as_slice() == APPLICATION.as_bytes() {
+    if word.as_slice() == APPLICATION.as_bytes() {
         return Some(Scope::App);
     }
-    let c = deployment.named(name.as_slice())?;
+    let c = deployment.named(word.as_slice())?;
     Some(Scope::Group(deployment.group_of(c)))
 }
 
@@ -240,11 +240,11 @@ impl Running {
 
     /// A scope goes down.
     #[tactic(auto, unfolding(crate::specs::Running::down_step))]
-    fn down_step(&mut self, alloc: Global, name: ComponentName) -> Result<LineAnswer, OutOfMemory>
-        ensures answer { IfOk result (λ a. answer_of a self.new ≡ down_step self.old name) }
+    fn down_step(&mut self, alloc: Global, word: WordText) -> Result<LineAnswer, OutOfMemory>
+        ensures answer { IfOk result (λ a. answer_of a self.new ≡ down_step self.old word) }
         ensures refused { IfOk result (λ a. KeepsRefused a self.old self.new) }
     {
-        let Some(scope) = scope_of(self.boot.deployment(), &name) else {
+        let Some(scope) = scope_of(self.boot.deployment(), &word) else {
             return Ok(LineAnswer::Refused);
         };
         let text = match self.boot.begin_reboot(scope) {
@@ -256,11 +256,11 @@ impl Running {
 
     /// A scope comes up.
     #[tactic(auto, unfolding(crate::specs::Running::up_step))]
-    fn up_step(&mut self, alloc: Global, name: ComponentName) -> Result<LineAnswer, OutOfMemory>
-        ensures answer { IfOk result (λ a. answer_of a self.new ≡ up_step self.old name) }
+    fn up_step(&mut self, alloc: Global, word: WordText) -> Result<LineAnswer, OutOfMemory>
+        ensures answer { IfOk result (λ a. answer_of a self.new ≡ up_step self.old word) }
         ensures refused { IfOk result (λ a. KeepsRefused a self.old self.new) }
     {
-        let Some(scope) = scope_of(self.boot.deployment(), &name) else {
+        let Some(scope) = scope_of(self.boot.deployment(), &word) else {
             return Ok(LineAnswer::Refused);
         };
         let Some(down) = self.boot.undone_of(scope) else {
@@ -273,11 +273,11 @@ impl Running {
 
     /// A scope goes down and comes up at once.
     #[tactic(auto, unfolding(crate::specs::Running::reboot_step))]
-    fn reboot_step(&mut self, alloc: Global, name: ComponentName) -> Result<LineAnswer, OutOfMemory>
-        ensures answer { IfOk result (λ a. answer_of a self.new ≡ reboot_step self.old name) }
+    fn reboot_step(&mut self, alloc: Global, word: WordText) -> Result<LineAnswer, OutOfMemory>
+        ensures answer { IfOk result (λ a. answer_of a self.new ≡ reboot_step self.old word) }
         ensures refused { IfOk result (λ a. KeepsRefused a self.old self.new) }
     {
-        let Some(scope) = scope_of(self.boot.deployment(), &name) else {
+        let Some(scope) = scope_of(self.boot.deployment(), &word) else {
             return Ok(LineAnswer::Refused);
         };
         let text = match self.boot.begin_reboot(scope) {
@@ -353,9 +353,9 @@ impl Running {
         match line {
             BootLine::Begin(caller) => self.begin_step(alloc, caller),
             BootLine::Drop(caller) => Ok(self.drop_step(caller)),
-            BootLine::Down(name) => self.down_step(alloc, name),
-            BootLine::Up(name) => self.up_step(alloc, name),
-            BootLine::Reboot(name) => self.reboot_step(alloc, name),
+            BootLine::Down(word) => self.down_step(alloc, word),
+            BootLine::Up(word) => self.up_step(alloc, word),
+            BootLine::Reboot(word) => self.reboot_step(alloc, word),
             BootLine::Table => self.table_step(alloc),
             BootLine::Journal => self.journal_step(alloc),
         }

@@ -21,8 +21,8 @@ pub returns-clause-answer : goal.returns-clause-answer
 returns-clause-answer c =
     let r : RunningState = record { boot = c.self.inside.boot; callers = c.self.inside.callers; sessions = c.self.inside.sessions } in
     let s : Scope = c.in-Some.scope in
-    let found : scope_of r.boot.start.deployment c.args.name ≡ Some s = sym (c.in-Some.ensures.scope ∙ ap (λ p. scope_of p c.args.name) c.deployment.ensures) in
-    let there : reboot_step r c.args.name ≡ reboot_step c.args.self.now c.args.name = ap (λ (s : RunningState). reboot_step s c.args.name) c.self.view_is in
+    let found : scope_of r.boot.start.deployment c.args.word ≡ Some s = sym (c.in-Some.ensures.scope ∙ ap (λ p. scope_of p c.args.word) c.deployment.ensures) in
+    let there : reboot_step r c.args.word ≡ reboot_step c.args.self.now c.args.word = ap (λ (s : RunningState). reboot_step s c.args.word) c.self.view_is in
     elim c.match-begin_reboot.branch [
       | in-Ok+in_ok-text-in-Ok w ↦ (
           let down : c.begin_reboot.new.self ≡ with_entry r.boot (Down s) = w.in-Ok.ensures.down in
@@ -31,8 +31,8 @@ returns-clause-answer c =
           let now : w.end_reboot-up.new.self ≡ with_entry (with_entry r.boot (Down s)) (Up s) = w.end_reboot-up.ensures.up s undone.down ∙ ap (λ k. with_entry k (Up s)) down in
           let next : w.end_reboot-up.result.0 ≡ length r.boot.entries + 1 = w.end_reboot-up.ensures.place ∙ ap (λ (k : BootValue). length k.entries) down ∙ length-append r.boot.entries (Down s ∷ []) in
           let text : string_bytes w.in_ok-text-in-Ok.text ≡ down_text (length r.boot.entries) ++ up_text (length r.boot.entries + 1) = w.in_ok-text-in-Ok.ensures ∙ ap (λ n. down_text n ++ up_text w.end_reboot-up.result.0) place ∙ ap (λ n. down_text (length r.boot.entries) ++ up_text n) next in
-          ap (λ (t : RunningState). Done t (string_bytes c.match-begin_reboot.text)) w.self-is ∙ reboot_done r c.args.name s w.end_reboot-up.new.self (string_bytes c.match-begin_reboot.text) found w.in-Ok.ensures.answer now (ap (λ t. string_bytes t) w.text-is ∙ text) ∙ there)
+          ap (λ (t : RunningState). Done t (string_bytes c.match-begin_reboot.text)) w.self-is ∙ reboot_done r c.args.word s w.end_reboot-up.new.self (string_bytes c.match-begin_reboot.text) found w.in-Ok.ensures.answer now (ap (λ t. string_bytes t) w.text-is ∙ text) ∙ there)
       | in-Err+in_ok-text-in-Err w ↦ (
           let refused = refused_of _ w.in-Err.refusal w.in-Err.ensures.answer w.in_ok-text-in-Err.ensures.memory in
-          ap (λ (t : RunningState). Done t (string_bytes c.match-begin_reboot.text)) w.self-is ∙ reboot_refused r c.args.name s w.in-Err.refusal c.begin_reboot.new.self (string_bytes c.match-begin_reboot.text) found refused w.in-Err.ensures.same (ap (λ t. string_bytes t) w.text-is ∙ w.in_ok-text-in-Err.ensures.text) ∙ there)
+          ap (λ (t : RunningState). Done t (string_bytes c.match-begin_reboot.text)) w.self-is ∙ reboot_refused r c.args.word s w.in-Err.refusal c.begin_reboot.new.self (string_bytes c.match-begin_reboot.text) found refused w.in-Err.ensures.same (ap (λ t. string_bytes t) w.text-is ∙ w.in_ok-text-in-Err.ensures.text) ∙ there)
     ]

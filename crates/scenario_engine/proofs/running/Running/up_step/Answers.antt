@@ -18,5 +18,5 @@ returns-clause-answer c =
     let undone : IsUndone r.boot.entries c.in-Some-undone_of.down.0 c.in-Some.scope = found_of r.boot.entries c.in-Some.scope c.in-Some-undone_of.down (sym c.in-Some-undone_of.ensures) in
     let wrote = c.in_ok-text.ensures ∙ ap (λ (n : ℕ). up_text n) c.end_reboot-place.ensures.place in
     let parts : Parts = c.deployment.result.now in
-    let found : scope_of r.boot.start.deployment c.args.name ≡ Some c.in-Some.scope = sym (c.in-Some.ensures.scope ∙ ap (λ p. scope_of p c.args.name) c.deployment.ensures) in
-    up_done r c.args.name c.in-Some.scope c.in-Some-undone_of.down c.end_reboot-place.new.self (string_bytes c.in_ok-text.text) found (sym c.in-Some-undone_of.ensures) (c.end_reboot-place.ensures.up c.in-Some.scope undone.down) wrote ∙ ap (λ (s : RunningState). up_step s c.args.name) c.self.view_is
+    let found : scope_of r.boot.start.deployment c.args.word ≡ Some c.in-Some.scope = sym (c.in-Some.ensures.scope ∙ ap (λ p. scope_of p c.args.word) c.deployment.ensures) in
+    up_done r c.args.word c.in-Some.scope c.in-Some-undone_of.down c.end_reboot-place.new.self (string_bytes c.in_ok-text.text) found (sym c.in-Some-undone_of.ensures) (c.end_reboot-place.ensures.up c.in-Some.scope undone.down) wrote ∙ ap (λ (s : RunningState). up_step s c.args.word) c.self.view_is
