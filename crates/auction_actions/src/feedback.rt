@@ -4,8 +4,8 @@ ghost use Rattle.std.specs.Prelude.{◌≡◌, ◌<◌, ◌+◌, nat_le, [], ◌
 ghost use Rattle.action_plans.specs.Plans.{HasCome, walk};
 ghost use Rattle.auction_calls.specs.Calls.{is_text};
 ghost use Rattle.auction_rows.specs.Bounds.{is_item, is_user};
-ghost use Rattle.auction_rows.specs.Ids.{feedback_id};
-ghost use Rattle.auction_rows.specs.Spelling.{feedback_bytes};
+ghost use Rattle.auction_rows.specs.Ids.{feedback_id, item_id, user_id};
+ghost use Rattle.auction_rows.specs.Spelling.{feedback_bytes, item_bytes, user_bytes};
 ghost use Rattle.auction_site.specs.Outcomes.{row, feedback_given, with_feedback, with_given};
 ghost use Rattle.auction_site.specs.Planned.{give_feedback_plan};
 ghost use Rattle.auction_site.specs.declared.limits.TheConstants.{LAST_FEEDBACK};
@@ -57,17 +57,62 @@ fn write_feedback(
     writes: &mut WriteList,
     about: u32,
     n: u32,
-    feedback: &FeedbackRow,
+    from: u32,
+    item: u32,
+    good: bool,
+    text: &FieldText,
 ) -> Result<(), OutOfMemory>
-    requires { is_text 0 200 feedback.now.text ≡ true }
-    ensures { OnOk result (writes.new ≡ writes.old
-        ++ row (feedback_id about n) (feedback_bytes feedback.now) ∷ []) }
+    requires { is_text 0 200 text.now ≡ true }
+    ensures { OnOk result (writes.new ≡ writes.old ++ row (feedback_id about n)
+        (feedback_bytes (record { from = from; item = item; good = good; text = text.now })) ∷ []) }
 {
-    write_row(alloc, writes, feedback_id(about, n), feedback)
+    let text = FieldText::copied(alloc, text.as_slice())?;
+    let feedback = FeedbackRow {
+        from,
+        item,
+        good,
+        text,
+    };
+    write_row(alloc, writes, feedback_id(about, n), &feedback)
+}
+
+/// Adds the user whom feedback is about to the rows that are written.
+#[tactic(auto, using(auction_site::proofs::Bounds::with_feedback_is))]
+fn write_about(
+    alloc: Global,
+    writes: &mut WriteList,
+    number: u32,
+    good: bool,
+    about: UserRow,
+) -> Result<(), OutOfMemory>
+    requires about { is_user about ≡ true }
+    requires room { about.good + about.bad < LAST_FEEDBACK }
+    ensures { OnOk result (writes.new ≡ writes.old
+        ++ row (user_id number) (user_bytes (with_feedback about good)) ∷ []) }
+{
+    let about = with_feedback(about, good);
+    write_row(alloc, writes, user_id(number), &about)
+}
+
+/// Adds the item that feedback was given on to the rows that are written.
+#[tactic(auto, using(auction_site::proofs::Bounds::with_given_is))]
+fn write_given(
+    alloc: Global,
+    writes: &mut WriteList,
+    number: u32,
+    from: u32,
+    item: ItemRow,
+) -> Result<(), OutOfMemory>
+    requires { is_item item ≡ true }
+    ensures { OnOk result (writes.new ≡ writes.old
+        ++ row (item_id number) (item_bytes (with_given item from)) ∷ []) }
+{
+    let item = with_given(item, from);
+    write_row(alloc, writes, item_id(number), &item)
 }
 
 /// Feedback about the other side of the sale.
-#[tactic(auto, using(auction_site::proofs::Bounds::with_feedback_is, auction_site::proofs::Bounds::with_given_is), unfolding(auction_site::specs::Outcomes::feedback_given))]
+#[tactic(auto, unfolding(auction_site::specs::Outcomes::feedback_given))]
 fn feedback_given(
     alloc: Global,
     from: u32,
@@ -85,18 +130,10 @@ fn feedback_given(
 {
     let other = other_side(&item, from);
     let n = about.good + about.bad + 1;
-    let feedback = FeedbackRow {
-        from,
-        item: number,
-        good,
-        text: FieldText::copied(alloc, text.as_slice())?,
-    };
     let mut writes = WriteList::new(alloc);
-    write_feedback(alloc, &mut writes, other, n, &feedback)?;
-    let about = with_feedback(about, good);
-    write_row(alloc, &mut writes, user_id(other), &about)?;
-    let item = with_given(item, from);
-    write_row(alloc, &mut writes, item_id(number), &item)?;
+    write_feedback(alloc, &mut writes, other, n, from, number, good, text)?;
+    write_about(alloc, &mut writes, other, good, about)?;
+    write_given(alloc, &mut writes, number, from, item)?;
     let done = says(alloc, 200, b"Thanks")?;
     Ok(Outcome { writes, done })
 }

@@ -1,13 +1,13 @@
 //! Users: registering, signing in, and the page of a user.
 
-ghost use Rattle.std.specs.Prelude.{◌≡◌, [], ◌∷◌, ◌++◌, true, codes, bytes_eq, not, nat_le, IfOk};
+ghost use Rattle.std.specs.Prelude.{◌≡◌, [], ◌∷◌, ◌++◌, true, codes, bytes_eq, not, nat_le, IfOk, OnOk};
 ghost use Rattle.action_plans.specs.Plans.{HasCome, walk};
 ghost use Rattle.auction_calls.specs.Calls.{is_user_name};
-ghost use Rattle.auction_rows.specs.Ids.{name_id};
+ghost use Rattle.auction_rows.specs.Ids.{name_id, user_id};
 ghost use Rattle.auction_rows.specs.Reading.{name_of};
-ghost use Rattle.auction_rows.specs.Spelling.{u64_bytes};
+ghost use Rattle.auction_rows.specs.Spelling.{name_bytes, u64_bytes, user_bytes};
 ghost use Rattle.auction_site.specs.Answers.{name_taken, shows_with_session};
-ghost use Rattle.auction_site.specs.Outcomes.{digest_of, new_user, registered, signed_in, user_shown};
+ghost use Rattle.auction_site.specs.Outcomes.{digest_of, new_user, registered, row, signed_in, user_shown};
 ghost use Rattle.auction_site.specs.Pieces.{asks_no_row};
 ghost use Rattle.auction_site.specs.Planned.{register_plan, show_user_plan, sign_in_plan};
 
@@ -80,8 +80,45 @@ fn new_user(alloc: Global, name: &[u8], password: &[u8], fresh: u64) -> Result<U
     })
 }
 
+/// Adds a new user of this number to the rows that are written.
+#[tactic(auto, using(auction_site::proofs::Bounds::new_user_is))]
+fn write_new_user(
+    alloc: Global,
+    writes: &mut WriteList,
+    number: u32,
+    name: &[u8],
+    password: &[u8],
+    fresh: u64,
+) -> Result<(), OutOfMemory>
+    requires { is_user_name name.now ≡ true }
+    ensures { OnOk result (writes.new ≡ writes.old
+        ++ row (user_id number) (user_bytes (new_user name.now password.now (u64_bytes fresh))) ∷ []) }
+{
+    let user = new_user(alloc, name, password, fresh)?;
+    write_row(alloc, writes, user_id(number), &user)
+}
+
+/// Adds the name of the user of this number to the rows that are written.
+#[tactic(auto, using(auction_site::proofs::Bounds::name_is))]
+fn write_name(
+    alloc: Global,
+    writes: &mut WriteList,
+    number: u32,
+    name: &[u8],
+) -> Result<(), OutOfMemory>
+    requires { is_user_name name.now ≡ true }
+    ensures { OnOk result (writes.new ≡ writes.old
+        ++ row (name_id name.now) (name_bytes (record { name = name.now; user = number })) ∷ []) }
+{
+    let named = NameRow {
+        name: FieldText::copied(alloc, name)?,
+        user: number,
+    };
+    write_row(alloc, writes, name_id(name), &named)
+}
+
 /// A user of this number, and the name of the user.
-#[tactic(auto, using(auction_site::proofs::Bounds::name_is, auction_site::proofs::Bounds::new_user_is), unfolding(auction_site::specs::Outcomes::registered))]
+#[tactic(auto, unfolding(auction_site::specs::Outcomes::registered))]
 fn registered(
     alloc: Global,
     name: &[u8],
@@ -93,15 +130,10 @@ fn registered(
     requires { is_user_name name.now ≡ true }
     ensures { IfOk result (λ outcome. outcome ≡ registered name.now password.now fresh now.0 number) }
 {
-    let user = new_user(alloc, name, password, fresh)?;
-    let named = NameRow {
-        name: FieldText::copied(alloc, name)?,
-        user: number,
-    };
     let mut writes = WriteList::new(alloc);
     write_counter(alloc, &mut writes, users_counter(), number)?;
-    write_row(alloc, &mut writes, user_id(number), &user)?;
-    write_row(alloc, &mut writes, name_id(name), &named)?;
+    write_new_user(alloc, &mut writes, number, name, password, fresh)?;
+    write_name(alloc, &mut writes, number, name)?;
     let done = welcomes(alloc, name, now, number)?;
     Ok(Outcome { writes, done })
 }
@@ -163,8 +195,8 @@ pub fn sign_in(
 }
 
 /// The page of a user.
-fn user_shown(alloc: Global, user: UserRow) -> Result<Outcome, OutOfMemory>
-    ensures { IfOk result (λ outcome. outcome ≡ user_shown user) }
+fn user_shown(alloc: Global, user: &UserRow) -> Result<Outcome, OutOfMemory>
+    ensures { IfOk result (λ outcome. outcome ≡ user_shown user.now) }
 {
     let mut lines = PageLineList::new(alloc);
     lines.push(PageLine::Para {
@@ -182,6 +214,6 @@ pub fn show_user(alloc: Global, number: u32, reads: &mut Reads<'_>) -> Result<Ou
     ensures { HasCome result reads.new (walk (show_user_plan number) reads.old) }
 {
     let user = asks_row::<UserRow>(alloc, reads, user_id(number))?;
-    let outcome = user_shown(alloc, user)?;
+    let outcome = user_shown(alloc, &user)?;
     Ok(outcome)
 }

@@ -8,7 +8,7 @@ returns-in_err-entries c = simp (walk_bind, ← c.entries_of.ensures) (out_come 
 
 pub returns-in_err-refuses_if : goal.returns-in_err-refuses_if
 unfolding offer_plan
-returns-in_err-refuses_if c = simp (walk_bind, walk_gives, ← c.entries_of.ensures, c.in_ok-entries.ensures, ← c.is_last_number.ensures) (out_has _ _ _ _ _ _ c.from_residual-in_err-refuses_if.ensures.1 c.in_err-refuses_if.ensures.has)
+returns-in_err-refuses_if c = simp (walk_bind, ← c.entries_of.ensures, c.in_ok-entries.ensures, ← c.is_last_number.ensures) (out_has _ _ _ _ _ _ c.from_residual-in_err-refuses_if.ensures.1 c.in_err-refuses_if.ensures.has)
 
 pub returns-in_err-user : goal.returns-in_err-user
 unfolding offer_plan
