@@ -1,2 +1,2 @@
-pub mod Offers
+pub mod PathActions
 pub mod Routes

@@ -11,18 +11,18 @@
 //!
 //! `specs/Routes.antt` has the fifteen routes with their texts. A path takes a route where it is the route's text, or
 //! that text and then at least one byte with no `/`, where the route has a parameter; no path takes two, and one that is
-//! no UTF-8 takes none. `specs/Offers.antt` has the table of what each route offers by which method. Whether anything is
-//! at a path is asked before the method is looked at, so a path that leads nowhere is 404 by every method.
+//! no UTF-8 takes none. `specs/PathActions.antt` has the table of which action each route has by which method. Whether
+//! anything is at a path is asked before the method is looked at, so a path that leads nowhere is 404 by every method.
 //!
 //! The search is that of `matchit`: it visits the path's bytes, and takes no memory.
 #![tactic(auto)]
 
-mod offer;
+mod path_actions;
 mod routed;
 mod router;
 mod site_route;
 
-pub use offer::{MAX_ID, Offer, SiteAction};
+pub use path_actions::{MAX_ID, PathActions, SiteAction};
 pub use routed::Routed;
 pub use router::SiteRouter;
 pub use site_route::SiteRoute;

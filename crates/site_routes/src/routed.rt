@@ -1,15 +1,15 @@
 //! The action that a path and a method ask for, or why there is none.
 
 ghost use Rattle.std.specs.Prelude.{◌≡◌};
-ghost use Rattle.site_routes.specs.Offers.{offer_at, read_of, routed, routed_by, write_of};
+ghost use Rattle.site_routes.specs.PathActions.{actions_at, read_of, routed, routed_by, write_of};
 
-use crate::offer::{Offer, SiteAction, offer_of};
+use crate::path_actions::{PathActions, SiteAction, actions_of};
 use crate::router::SiteRouter;
 use crate::site_route::parameter;
 use http_wire::MethodKind;
 
 /// What a path and a method lead to.
-#[derive(Clone, Copy, PartialEq)]
+#[derive(Clone, Copy)]
 pub enum Routed {
     /// This action.
     Action(SiteAction),
@@ -20,54 +20,54 @@ pub enum Routed {
     NotAllowed { allow: u8 },
 }
 
-/// What GET and HEAD ask for where this is offered.
-fn read_of(offer: Offer) -> Routed
-    ensures { result ≡ read_of offer }
+/// What GET and HEAD ask for at a path of these actions.
+fn read_of(actions: PathActions) -> Routed
+    ensures { result ≡ read_of actions }
 {
-    match offer {
-        Offer::Read(action) => Routed::Action(action),
-        Offer::Both(action, _) => Routed::Action(action),
-        Offer::Write(_) => Routed::NotAllowed {
-            allow: offer.allow(),
+    match actions {
+        PathActions::Read(action) => Routed::Action(action),
+        PathActions::Both(action, _) => Routed::Action(action),
+        PathActions::Write(_) => Routed::NotAllowed {
+            allow: actions.allow(),
         },
     }
 }
 
-/// What POST asks for where this is offered.
-fn write_of(offer: Offer) -> Routed
-    ensures { result ≡ write_of offer }
+/// What POST asks for at a path of these actions.
+fn write_of(actions: PathActions) -> Routed
+    ensures { result ≡ write_of actions }
 {
-    match offer {
-        Offer::Write(action) => Routed::Action(action),
-        Offer::Both(_, action) => Routed::Action(action),
-        Offer::Read(_) => Routed::NotAllowed {
-            allow: offer.allow(),
+    match actions {
+        PathActions::Write(action) => Routed::Action(action),
+        PathActions::Both(_, action) => Routed::Action(action),
+        PathActions::Read(_) => Routed::NotAllowed {
+            allow: actions.allow(),
         },
     }
 }
 
-/// What a method asks for where this is offered.
-fn routed_by(method: MethodKind, offer: Offer) -> Routed
-    ensures { result ≡ routed_by method offer }
+/// What a method asks for at a path of these actions.
+fn routed_by(method: MethodKind, actions: PathActions) -> Routed
+    ensures { result ≡ routed_by method actions }
 {
     match method {
-        MethodKind::Get => read_of(offer),
-        MethodKind::HeadOnly => read_of(offer),
-        MethodKind::Post => write_of(offer),
+        MethodKind::Get => read_of(actions),
+        MethodKind::HeadOnly => read_of(actions),
+        MethodKind::Post => write_of(actions),
         MethodKind::Other => Routed::NotAllowed {
-            allow: offer.allow(),
+            allow: actions.allow(),
         },
     }
 }
 
 impl SiteRouter {
-    /// What a path offers. None where nothing is there.
-    fn offer_at(&self, path: &[u8]) -> Option<Offer>
-        ensures { result ≡ offer_at path.now }
+    /// The actions of a path. None where nothing is there.
+    fn actions_at(&self, path: &[u8]) -> Option<PathActions>
+        ensures { result ≡ actions_at path.now }
     {
         match self.route_of(path) {
             None => None,
-            Some(route) => offer_of(route, parameter(route, path)),
+            Some(route) => actions_of(route, parameter(route, path)),
         }
     }
 
@@ -76,9 +76,9 @@ impl SiteRouter {
     pub fn routed(&self, path: &[u8], method: MethodKind) -> Routed
         ensures { result ≡ routed path.now method }
     {
-        match self.offer_at(path) {
+        match self.actions_at(path) {
             None => Routed::NotThere,
-            Some(offer) => routed_by(method, offer),
+            Some(actions) => routed_by(method, actions),
         }
     }
 }

@@ -1,10 +1,10 @@
 //! The routes, and what stands behind the text of one.
 
 ghost use Rattle.std.specs.Prelude.{◌≡◌, drop};
-ghost use Rattle.site_routes.specs.Offers.{text_size};
+ghost use Rattle.site_routes.specs.PathActions.{text_size};
 
 /// What a path leads to.
-#[derive(Clone, Copy, PartialEq)]
+#[derive(Clone, Copy)]
 pub enum SiteRoute {
     /// `/`
     Home,
