@@ -7,8 +7,8 @@
 //! - `lists N LISTS`: lists of a table of 1,000 rows, after N commits to another table. The count is of the rows listed.
 //! - `looks N`: 200,000 commits over four rows, and then as many looks at what a row was at a place. The count is of
 //!   the looks that found what was committed there.
-//! - `retries N`: N commits over three rows, each made once more where there was no memory for it. The count is of those
-//!   that were answered their places and left the others as they were.
+//! - `retries N`: N commits over three rows, each made once more where there was no memory for it. The count is of
+//!   those that were answered their places and left the others as they were.
 //!
 //! It then reads its input to the end, so that its memory can be seen.
 #![tactic(auto)]
