@@ -27,8 +27,8 @@ fn key(number: u64, rows: u64) -> u64 {
     if rows == 0 { number } else { number % rows }
 }
 
-/// Makes a call of a request that puts a row and commits. The row spells a place, and what is told is whether the commit
-/// was answered that place.
+/// Makes a call of a request that puts a row and commits. The row spells a place, and what is told is whether the
+/// commit was answered that place.
 fn is_committed(
     alloc: Global,
     store: &mut Store,
@@ -79,7 +79,8 @@ pub(crate) fn commits(
     fill(alloc, store, TABLE, rows, 0..count)
 }
 
-/// Makes `count` commits, each of a row of its own, by requests whose numbers fall. How many were answered their places.
+/// Makes `count` commits, each of a row of its own, by requests whose numbers fall. How many were answered their
+/// places.
 pub(crate) fn falling(alloc: Global, store: &mut Store, count: u64) -> Result<u64, OutOfMemory> {
     let mut made: u64 = 0;
     for place in 0..count {
@@ -178,8 +179,8 @@ pub(crate) fn lists(
     Ok(rows)
 }
 
-/// Makes commits over four rows, and looks at what a row was at `count` places, each before the next commit of that row.
-/// How many looks found the last commit before the place.
+/// Makes commits over four rows, and looks at what a row was at `count` places, each before the next commit of that
+/// row. How many looks found the last commit before the place.
 pub(crate) fn looks(alloc: Global, store: &mut Store, count: u64) -> Result<u64, OutOfMemory> {
     fill(alloc, store, TABLE, LOOK_ROWS, 0..LOOK_COMMITS)?;
     let mut found: u64 = 0;

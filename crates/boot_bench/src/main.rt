@@ -1,10 +1,12 @@
 //! Loops of commits, lists and looks over one boot, whose time and memory `bench/boot` takes.
 //!
-//! The words are one of these loops with its numbers. What it writes is the loop and a count, which is known beforehand.
+//! The words are one of these loops with its numbers. What it writes is the loop and a count, which is known
+//! beforehand.
 //!
 //! - `commits N ROWS`: N calls that each put a row and commit, over so many rows. The count is of the commits.
 //! - `falling N`: the same over rows of their own, by requests whose numbers fall.
-//! - `lists N LISTS`: lists of a table of 1,000 rows, after N commits to another table. The count is of the rows listed.
+//! - `lists N LISTS`: lists of a table of 1,000 rows, after N commits to another table. The count is of the rows
+//!   listed.
 //! - `looks N`: 200,000 commits over four rows, and then as many looks at what a row was at a place. The count is of
 //!   the looks that found what was committed there.
 //! - `retries N`: N commits over three rows, each made once more where there was no memory for it. The count is of
