@@ -36,4 +36,4 @@ pub use boot_core::{
 pub use container::Container;
 pub use history::{Event, HistoryMark, MarkedEvent};
 pub use laws::{good_rows_are_apart, histories_grow, keepers_hold_the_rows};
-pub use start::{StartFail, start_boot};
+pub use start::StartFail;

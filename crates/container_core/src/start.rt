@@ -163,27 +163,3 @@ pub(crate) fn open<K: Keeper>(
         Err(fault) => Err(refusal_of(fault)),
     }
 }
-
-/// Starts a boot over the rows of a keeper, as `Container::start` does, without a history: for one that keeps boot and
-/// keeper apart.
-///
-/// # Errors
-/// `StartRefusal` says why, and `IsRefusedStart` exactly when.
-pub fn start_boot<K: Keeper>(
-    alloc: Global,
-    deployment: Deployment,
-    limits: JournalLimits,
-    keeper: &mut K,
-) -> Result<Boot, StartRefusal>
-    ensures opens { MatchResult result
-        (λ boot. IsOpened deployment limits (K.told keeper.old) boot (K.told keeper.new))
-        (λ refusal. IsRefusedStart refusal (K.told keeper.old) (K.told keeper.new)) }
-    ensures failed { result ≡ Err StartRefusal.KeeperFailed
-        → Rose (K.faults keeper.old) (K.faults keeper.new) }
-    ensures count { K.faults keeper.old ≤ K.faults keeper.new }
-{
-    match open(alloc, deployment, limits, keeper) {
-        Ok(opened) => Ok(Box::into_inner(opened.boot)),
-        Err(refusal) => Err(refusal),
-    }
-}

@@ -5,7 +5,6 @@ use Rattle.std.proofs.lemmas.List.{length-take-le}
 use Rattle.std.proofs.lemmas.List.Elements.{All-nil, All-cons, All-append}
 use Rattle.scenario_engine.specs.declared.failure.UnstartedCause.{UnstartedCause}
 use Rattle.scenario_engine.specs.declared.failure.UnstartedCause.TheVariants as causes
-use Rattle.outside.specs.Keeper.{KeeperTold}
 use Rattle.outside.specs.Sink.{appended}
 use Rattle.outside.specs.Source.{prepended, HasEnded}
 use Rattle.outside.proofs.Prefixes.{appended_more, prepended_more}
@@ -14,12 +13,13 @@ use Rattle.scenario_text.specs.Reading.{line_of}
 use Rattle.scenario_text.specs.declared.line.TheConstants.{MAX_LINE_BYTES}
 use Rattle.scenario_text.proofs.Cuts.{lines_fed, line_unfed, all_left}
 use Rattle.scenario_text.proofs.EndedLines.{text_of_lines-push, lines_before}
-use Rattle.scenario_engine.specs.KeeperCalls.{TellsCalls}
+use Rattle.scenario_engine.specs.KeeperCalls.{KeeperSeen, AreMade}
 use Rattle.scenario_engine.specs.State.{State, RefusedIn, DoneTo, UnstartedIn}
 use Rattle.scenario_engine.specs.Telling.{Does}
 use Rattle.scenario_engine.specs.Transcript.{Turn, lines_in, first, transcript, end_from, Ended, calls_from}
+use Rattle.scenario_engine.proofs.Calls.{none_made}
 use Rattle.scenario_engine.proofs.Unkept.{numbers_alone}
-use Rattle.scenario_engine.proofs.Turns.{lines_in-push, end_from-push, transcript-push, turn_done, told-push}
+use Rattle.scenario_engine.proofs.Turns.{lines_in-push, end_from-push, transcript-push, turn_done, made-push}
 use Rattle.drive_engine.specs.declared.drive.TheConstants.{MAX_SCENARIO_BYTES}
 use Rattle.drive_engine.specs.declared.ending.Ending.{Ending}
 use Rattle.drive_engine.specs.declared.ending.Ending.TheVariants as endings
@@ -27,11 +27,11 @@ use Rattle.drive_engine.specs.declared.words.Command.TheVariants.{Drive}
 use Rattle.drive_engine.specs.Command.{Runs}
 use Rattle.drive_engine.specs.Drive.{AreRead, AreReadWithFeeds, HasDone, ScenarioStands, WritesTranscript, StopsUnstarted, StopsAtLongLine, StopsAtFailedRead, StopsOutOfMemory, StopsPastLimit}
 use Rattle.drive_engine.specs.Exchange.{Exchange, exchange, IsRead}
-use Rattle.drive_engine.specs.Play.{PlayState, DoesLine, WritesNoText, EndsAtLine, HasCome}
+use Rattle.drive_engine.specs.Play.{PlayState, first_play, DoesLine, WritesNoText, EndsAtLine, HasCome}
 
 -- a keeper that was called as turns say tells so
 abbrev pub ScenariosDoStand : Type 0
-ScenariosDoStand = (turns : List Turn) (old new : Option KeeperTold) → TellsCalls (calls_from first turns) old new → ScenarioStands turns old new
+ScenariosDoStand = (turns : List Turn) (old new : KeeperSeen) → AreMade (calls_from first turns) old new → ScenarioStands turns old new
 
 -- the part that was kept and the one that ends the line are that line
 line_joined : (lines : List (List ℕ)) (kept none part rest past : List ℕ) → none ≡ [] → text_of_lines lines ++ (kept ++ ((part ++ 10 ∷ rest) ++ past)) ≡ text_of_lines (lines ++ (kept ++ part) ∷ []) ++ (none ++ (rest ++ past))
@@ -46,8 +46,8 @@ line_joined_alone lines kept none part rest e =
     ap (λ t. text_of_lines lines ++ t) same ∙ sym (text_of_lines-push lines (kept ++ part) rest) ∙ ap (λ t. text_of_lines (lines ++ (kept ++ part) ∷ []) ++ (t ++ rest)) (sym e)
 
 -- a line that ends in a piece is done
-pub comes_line : (left left_now written old new : Option (List ℕ)) (told before after : Option KeeperTold) (more : ℕ) (past : List ℕ) (p q : PlayState) (part rest : List ℕ) → IsOneLine part → DoesLine p.state q.state (p.part ++ part) old new before after → q.part ≡ [] → q.number ≡ p.number + 1 → HasCome (exchange left left_now written old told before) more (part ++ 10 ∷ rest) past p → HasCome (exchange left left_now written new told after) more rest past q
-comes_line left left_now written old new told before after more past p q part rest one does none next h =
+pub comes_line : (left left_now written old new : Option (List ℕ)) (held before after : KeeperSeen) (more : ℕ) (past : List ℕ) (p q : PlayState) (part rest : List ℕ) → IsOneLine part → DoesLine p.state q.state (p.part ++ part) old new before after → q.part ≡ [] → q.number ≡ p.number + 1 → HasCome (exchange left left_now written old held before) more (part ++ 10 ∷ rest) past p → HasCome (exchange left left_now written new held after) more rest past q
+comes_line left left_now written old new held before after more past p q part rest one does none next h =
     let line = p.part ++ part in
     let lines = lines_in h.turns in
     let turn : Turn = record { line = line; replies = does.done.replies } in
@@ -64,13 +64,13 @@ comes_line left left_now written old new told before after more past p q part re
       number = omega (arith, next, h.number, length-append h.turns (turn ∷ []));
       done = end_from-push p.state q.state h.turns turn does.text h.done does.short done;
       written = does.written ∙ ap (λ o. appended o does.text) h.written ∙ appended_more written (transcript first h.turns) does.text ∙ ap (appended written) (sym (transcript-push p.state q.state h.turns turn does.text h.done done));
-      told = told-push p.state h.turns line (DoneTo q.state does.text) told before after h.done does.short h.told does.done;
+      made = made-push p.state h.turns line (DoneTo q.state does.text) held before after h.done does.short h.made does.done;
     }
 
 -- the beginning of a line is kept
-pub comes_kept : (left left_now written old : Option (List ℕ)) (told before : Option KeeperTold) (more : ℕ) (past : List ℕ) (p q : PlayState) (rest : List ℕ) → IsOneLine rest → q ≡ record p { part = p.part ++ rest } → length (p.part ++ rest) ≤ MAX_LINE_BYTES → HasCome (exchange left left_now written old told before) more rest past p → HasCome (exchange left left_now written old told before) more [] past q
-comes_kept left left_now written old told before more past p q rest one is short h =
-    let P : PlayState → Type 0 = λ r. HasCome (exchange left left_now written old told before) more [] past r in
+pub comes_kept : (left left_now written old : Option (List ℕ)) (held before : KeeperSeen) (more : ℕ) (past : List ℕ) (p q : PlayState) (rest : List ℕ) → IsOneLine rest → q ≡ record p { part = p.part ++ rest } → length (p.part ++ rest) ≤ MAX_LINE_BYTES → HasCome (exchange left left_now written old held before) more rest past p → HasCome (exchange left left_now written old held before) more [] past q
+comes_kept left left_now written old held before more past p q rest one is short h =
+    let P : PlayState → Type 0 = λ r. HasCome (exchange left left_now written old held before) more [] past r in
     let text = text_of_lines (lines_in h.turns) in
     subst P (sym is) (record {
       turns = h.turns;
@@ -82,12 +82,12 @@ comes_kept left left_now written old told before more past p q rest one is short
       number = h.number;
       done = h.done;
       written = h.written;
-      told = h.told;
+      made = h.made;
     })
 
 -- what was read of a line that is too long
-pub ends_long : (left left_now written old : Option (List ℕ)) (told before : Option KeeperTold) (more : ℕ) (past : List ℕ) (p : PlayState) (rest : List ℕ) → ScenariosDoStand → IsOneLine rest → MAX_LINE_BYTES < length (p.part ++ rest) → HasCome (exchange left left_now written old told before) more rest past p → StopsAtLongLine p.number (exchange left left_now written old told before)
-ends_long left left_now written old told before more past p rest law one long h = record {
+pub ends_long : (left left_now written old : Option (List ℕ)) (held before : KeeperSeen) (more : ℕ) (past : List ℕ) (p : PlayState) (rest : List ℕ) → ScenariosDoStand → IsOneLine rest → MAX_LINE_BYTES < length (p.part ++ rest) → HasCome (exchange left left_now written old held before) more rest past p → StopsAtLongLine p.number (exchange left left_now written old held before)
+ends_long left left_now written old held before more past p rest law one long h = record {
   before = h.turns;
   line = p.part ++ rest;
   rest = past;
@@ -99,7 +99,7 @@ ends_long left left_now written old told before more past p rest law one long h 
   number = h.number;
   done = record { done = h.done; written = h.written };
   long = long;
-  stands = law h.turns told before h.told;
+  stands = law h.turns held before h.made;
 }
 
 -- A line was read after lines that were done.
@@ -112,28 +112,28 @@ record HasLine (x : Exchange) (lines : List (List ℕ)) (line : List ℕ) : Type
   pub read : AreRead x (lines ++ line ∷ [])
 
 -- the turns before were done, and nothing more was written
-has_done : (left left_now written old new : Option (List ℕ)) (told after : Option KeeperTold) (turns : List Turn) (s : State) → end_from first 1 turns ≡ Ended s → old ≡ appended written (transcript first turns) → new ≡ old → HasDone (exchange left left_now written new told after) turns s
-has_done left left_now written old new told after turns s done so_far same = record { done = done; written = same ∙ so_far }
+has_done : (left left_now written old new : Option (List ℕ)) (held after : KeeperSeen) (turns : List Turn) (s : State) → end_from first 1 turns ≡ Ended s → old ≡ appended written (transcript first turns) → new ≡ old → HasDone (exchange left left_now written new held after) turns s
+has_done left left_now written old new held after turns s done so_far same = record { done = done; written = same ∙ so_far }
 
 -- a boot that it needs was not started
-ends_at_start : (r : UnstartedCause) (left left_now written old new : Option (List ℕ)) (told before after : Option KeeperTold) (turns : List Turn) (s t : State) (line : List ℕ) → ScenariosDoStand → end_from first 1 turns ≡ Ended s → old ≡ appended written (transcript first turns) → TellsCalls (calls_from first turns) told before → HasLine (exchange left left_now written new told after) (lines_in turns) line → WritesNoText line old new → Does s (line_of line) (UnstartedIn t r) before after → StopsUnstarted r (exchange left left_now written new told after)
-ends_at_start r left left_now written old new told before after turns s t line law done so_far tells h (short, same) d = record {
+ends_at_start : (r : UnstartedCause) (left left_now written old new : Option (List ℕ)) (held before after : KeeperSeen) (turns : List Turn) (s t : State) (line : List ℕ) → ScenariosDoStand → end_from first 1 turns ≡ Ended s → old ≡ appended written (transcript first turns) → AreMade (calls_from first turns) held before → HasLine (exchange left left_now written new held after) (lines_in turns) line → WritesNoText line old new → Does s (line_of line) (UnstartedIn t r) before after → StopsUnstarted r (exchange left left_now written new held after)
+ends_at_start r left left_now written old new held before after turns s t line law done so_far tells h (short, same) d = record {
   before = turns;
   turn = record { line = line; replies = d.replies };
   state = s;
   after = t;
   read = h.read;
-  done = has_done left left_now written old new told after turns s done so_far same;
+  done = has_done left left_now written old new held after turns s done so_far same;
   short = short;
   unstarted = turn_done s line (UnstartedIn t r) before after d;
-  stands = law (turns ++ record { line = line; replies = d.replies } ∷ []) told after (told-push s turns line (UnstartedIn t r) told before after done short tells d);
+  stands = law (turns ++ record { line = line; replies = d.replies } ∷ []) held after (made-push s turns line (UnstartedIn t r) held before after done short tells d);
 }
 
 -- it ends the scenario
-ends_at_line : (e : Ending) (left left_now written old new : Option (List ℕ)) (told before after : Option KeeperTold) (turns : List Turn) (s : State) (number : ℕ) (line : List ℕ) → ScenariosDoStand → end_from first 1 turns ≡ Ended s → number ≡ length turns + 1 → old ≡ appended written (transcript first turns) → TellsCalls (calls_from first turns) told before → HasLine (exchange left left_now written new told after) (lines_in turns) line → EndsAtLine e number s line old new before after → Runs Drive e (exchange left left_now written new told after)
-ends_at_line endings.Done left left_now written old new told before after turns s number line law done next so_far tells h ends = absurd ends
-ends_at_line endings.UnknownCommand left left_now written old new told before after turns s number line law done next so_far tells h ends = absurd ends
-ends_at_line (endings.LineRefused n) left left_now written old new told before after turns s number line law done next so_far tells h (is, (short, same), (t, d)) = (
+ends_at_line : (e : Ending) (left left_now written old new : Option (List ℕ)) (held before after : KeeperSeen) (turns : List Turn) (s : State) (number : ℕ) (line : List ℕ) → ScenariosDoStand → end_from first 1 turns ≡ Ended s → number ≡ length turns + 1 → old ≡ appended written (transcript first turns) → AreMade (calls_from first turns) held before → HasLine (exchange left left_now written new held after) (lines_in turns) line → EndsAtLine e number s line old new before after → Runs Drive e (exchange left left_now written new held after)
+ends_at_line endings.Done left left_now written old new held before after turns s number line law done next so_far tells h ends = absurd ends
+ends_at_line endings.UnknownCommand left left_now written old new held before after turns s number line law done next so_far tells h ends = absurd ends
+ends_at_line (endings.LineRefused n) left left_now written old new held before after turns s number line law done next so_far tells h (is, (short, same), (t, d)) = (
   refl,
   record {
     before = turns;
@@ -142,14 +142,14 @@ ends_at_line (endings.LineRefused n) left left_now written old new told before a
     after = t;
     read = h.read;
     number = is ∙ next;
-    done = has_done left left_now written old new told after turns s done so_far same;
+    done = has_done left left_now written old new held after turns s done so_far same;
     short = short;
     refused = turn_done s line (RefusedIn t) before after d;
-    stands = law (turns ++ record { line = line; replies = d.replies } ∷ []) told after (told-push s turns line (RefusedIn t) told before after done short tells d);
+    stands = law (turns ++ record { line = line; replies = d.replies } ∷ []) held after (made-push s turns line (RefusedIn t) held before after done short tells d);
   },
 )
-ends_at_line endings.ReadFailed left left_now written old new told before after turns s number line law done next so_far tells h ends = absurd ends
-ends_at_line endings.WriteFailed left left_now written old new told before after turns s number line law done next so_far tells h (t, wrote, short, d, (prefix, is, begins)) = record {
+ends_at_line endings.ReadFailed left left_now written old new held before after turns s number line law done next so_far tells h ends = absurd ends
+ends_at_line endings.WriteFailed left left_now written old new held before after turns s number line law done next so_far tells h (t, wrote, short, d, (prefix, is, begins)) = record {
   before = turns;
   turn = record { line = line; replies = d.replies };
   state = s;
@@ -162,11 +162,11 @@ ends_at_line endings.WriteFailed left left_now written old new told before after
   answer = turn_done s line (DoneTo t wrote) before after d;
   begins = begins;
   written = is ∙ ap (λ o. appended o prefix) so_far ∙ appended_more written (transcript first turns) prefix;
-  stands = law (turns ++ record { line = line; replies = d.replies } ∷ []) told after (told-push s turns line (DoneTo t wrote) told before after done short tells d);
+  stands = law (turns ++ record { line = line; replies = d.replies } ∷ []) held after (made-push s turns line (DoneTo t wrote) held before after done short tells d);
 }
-ends_at_line endings.KeeperFailed left left_now written old new told before after turns s number line law done next so_far tells h (none, (t, d)) = (refl, ends_at_start causes.KeeperFailed left left_now written old new told before after turns s t line law done so_far tells h none d)
-ends_at_line (endings.BadRow id) left left_now written old new told before after turns s number line law done next so_far tells h (none, (t, d)) = (refl, ends_at_start (causes.BadRow id) left left_now written old new told before after turns s t line law done so_far tells h none d)
-ends_at_line (endings.LineTooLong n) left left_now written old new told before after turns s number line law done next so_far tells h (is, long, same, unasked) = record {
+ends_at_line endings.KeeperFailed left left_now written old new held before after turns s number line law done next so_far tells h (none, (t, d)) = (refl, ends_at_start causes.KeeperFailed left left_now written old new held before after turns s t line law done so_far tells h none d)
+ends_at_line (endings.BadRow id) left left_now written old new held before after turns s number line law done next so_far tells h (none, (t, d)) = (refl, ends_at_start (causes.BadRow id) left left_now written old new held before after turns s t line law done so_far tells h none d)
+ends_at_line (endings.LineTooLong n) left left_now written old new held before after turns s number line law done next so_far tells h (is, long, same, unasked) = record {
   before = turns;
   line = line;
   rest = h.rest;
@@ -176,26 +176,26 @@ ends_at_line (endings.LineTooLong n) left left_now written old new told before a
   one = h.one;
   within = h.within;
   number = is ∙ next;
-  done = has_done left left_now written old new told after turns s done so_far same;
+  done = has_done left left_now written old new held after turns s done so_far same;
   long = long;
-  stands = law turns told after (subst (λ o. TellsCalls (calls_from first turns) told o) (sym unasked) tells);
+  stands = law turns held after (subst (λ (o : KeeperSeen). AreMade (calls_from first turns) held o) (sym unasked) tells);
 }
-ends_at_line endings.OutOfMemory left left_now written old new told before after turns s number line law done next so_far tells h ((short, same), partly) = record {
+ends_at_line endings.OutOfMemory left left_now written old new held before after turns s number line law done next so_far tells h ((short, same), partly) = record {
   before = turns;
   state = s;
   between = before;
   read = record { rest = line ++ h.rest; taken = h.taken; plain = h.plain; within = omega (arith, h.within, length-append (text_of_lines (lines_in turns)) line) };
-  done = has_done left left_now written old new told after turns s done so_far same;
-  stands = law turns told before tells;
+  done = has_done left left_now written old new held after turns s done so_far same;
+  stands = law turns held before tells;
   last = inr (record { line = line; read = h.read; short = short; partly = partly; rows = numbers_alone s (line_of line) before after partly });
 }
-ends_at_line endings.DescriptorsRefused left left_now written old new told before after turns s number line law done next so_far tells h ends = absurd ends
-ends_at_line endings.BootsSpent left left_now written old new told before after turns s number line law done next so_far tells h (none, (t, d)) = (refl, ends_at_start causes.BootsSpent left left_now written old new told before after turns s t line law done so_far tells h none d)
-ends_at_line endings.ScenarioTooLong left left_now written old new told before after turns s number line law done next so_far tells h ends = absurd ends
+ends_at_line endings.DescriptorsRefused left left_now written old new held before after turns s number line law done next so_far tells h ends = absurd ends
+ends_at_line endings.BootsSpent left left_now written old new held before after turns s number line law done next so_far tells h (none, (t, d)) = (refl, ends_at_start causes.BootsSpent left left_now written old new held before after turns s t line law done so_far tells h none d)
+ends_at_line endings.ScenarioTooLong left left_now written old new held before after turns s number line law done next so_far tells h ends = absurd ends
 
 -- a line that ends in a piece ends the scenario
-pub ends_in_piece : (e : Ending) (left left_now written old new : Option (List ℕ)) (told before after : Option KeeperTold) (more : ℕ) (past : List ℕ) (p : PlayState) (part rest : List ℕ) → ScenariosDoStand → IsOneLine part → EndsAtLine e p.number p.state (p.part ++ part) old new before after → HasCome (exchange left left_now written old told before) more (part ++ 10 ∷ rest) past p → Runs Drive e (exchange left left_now written new told after)
-ends_in_piece e left left_now written old new told before after more past p part rest law one ends h =
+pub ends_in_piece : (e : Ending) (left left_now written old new : Option (List ℕ)) (held before after : KeeperSeen) (more : ℕ) (past : List ℕ) (p : PlayState) (part rest : List ℕ) → ScenariosDoStand → IsOneLine part → EndsAtLine e p.number p.state (p.part ++ part) old new before after → HasCome (exchange left left_now written old held before) more (part ++ 10 ∷ rest) past p → Runs Drive e (exchange left left_now written new held after)
+ends_in_piece e left left_now written old new held before after more past p part rest law one ends h =
     let line = p.part ++ part in
     let lines = lines_in h.turns in
     let whole : IsOneLine line = All-append (λ b. b ≢ 10) p.part part h.one one in
@@ -203,7 +203,7 @@ ends_in_piece e left left_now written old new told before after more past p part
     let alone : text_of_lines lines ++ (p.part ++ (part ++ 10 ∷ rest)) ≡ text_of_lines (lines ++ line ∷ []) ++ rest = line_joined_alone lines p.part [] part rest refl in
     let fits : length (text_of_lines (lines ++ line ∷ [])) ≤ MAX_SCENARIO_BYTES = omega (arith, h.within, ap length alone, length-append (text_of_lines (lines ++ line ∷ [])) rest) in
     let taken : left ≡ prepended (text_of_lines (lines ++ line ∷ []) ++ (rest ++ past)) left_now = h.taken ∙ ap (λ t. prepended t left_now) joined in
-    let has : HasLine (exchange left left_now written new told after) lines line = record {
+    let has : HasLine (exchange left left_now written new held after) lines line = record {
       rest = 10 ∷ (rest ++ past);
       taken = taken ∙ ap (λ t. prepended t left_now) (text_of_lines-push lines line (rest ++ past));
       plain = h.plain;
@@ -216,11 +216,11 @@ ends_in_piece e left left_now written old new told before after more past p part
         within = fits;
       });
     } in
-    ends_at_line e left left_now written old new told before after h.turns p.state p.number line law h.done h.number h.written h.told has ends
+    ends_at_line e left left_now written old new held before after h.turns p.state p.number line law h.done h.number h.written h.made has ends
 
 -- the whole text of a scenario, once the input has ended
-read_whole : (left left_now written old new : Option (List ℕ)) (told before after : Option KeeperTold) (more : ℕ) (p : PlayState) → HasEnded left_now → (h : HasCome (exchange left left_now written old told before) more [] [] p) → IsRead MAX_SCENARIO_BYTES (exchange left left_now written new told after) (text_of_lines (lines_in h.turns) ++ p.part)
-read_whole left left_now written old new told before after more p ended h =
+read_whole : (left left_now written old new : Option (List ℕ)) (held before after : KeeperSeen) (more : ℕ) (p : PlayState) → HasEnded left_now → (h : HasCome (exchange left left_now written old held before) more [] [] p) → IsRead MAX_SCENARIO_BYTES (exchange left left_now written new held after) (text_of_lines (lines_in h.turns) ++ p.part)
+read_whole left left_now written old new held before after more p ended h =
     let text = text_of_lines (lines_in h.turns) in
     let whole : p.part ++ [] ≡ p.part = append-nil p.part in
     let size : length (text ++ p.part) + more ≡ MAX_SCENARIO_BYTES = ap (λ t. length (text ++ t) + more) (sym whole) ∙ h.within in
@@ -230,11 +230,11 @@ lines_whole : (lines : List (List ℕ)) (part : List ℕ) → All IsOneLine line
 lines_whole lines part plain one some = lines_fed lines part plain ∙ ap (λ ls. lines ++ ls) (line_unfed part one some)
 
 -- the last line, which has no line feed, ends the scenario
-pub ends_at_end : (e : Ending) (left left_now written old new : Option (List ℕ)) (told before after : Option KeeperTold) (more : ℕ) (p : PlayState) → ScenariosDoStand → p.part ≢ [] → EndsAtLine e p.number p.state p.part old new before after → HasEnded left_now → HasCome (exchange left left_now written old told before) more [] [] p → Runs Drive e (exchange left left_now written new told after)
-ends_at_end e left left_now written old new told before after more p law some ends ended h =
+pub ends_at_end : (e : Ending) (left left_now written old new : Option (List ℕ)) (held before after : KeeperSeen) (more : ℕ) (p : PlayState) → ScenariosDoStand → p.part ≢ [] → EndsAtLine e p.number p.state p.part old new before after → HasEnded left_now → HasCome (exchange left left_now written old held before) more [] [] p → Runs Drive e (exchange left left_now written new held after)
+ends_at_end e left left_now written old new held before after more p law some ends ended h =
     let lines = lines_in h.turns in
-    let read = read_whole left left_now written old new told before after more p ended h in
-    let has : HasLine (exchange left left_now written new told after) lines p.part = record {
+    let read = read_whole left left_now written old new held before after more p ended h in
+    let has : HasLine (exchange left left_now written new held after) lines p.part = record {
       rest = [];
       taken = h.taken;
       plain = h.plain;
@@ -242,32 +242,32 @@ ends_at_end e left left_now written old new told before after more p law some en
       within = read.short;
       read = inr (record { text = text_of_lines lines ++ p.part; read = read; cut = sym (lines_whole lines p.part h.plain h.one some) });
     } in
-    ends_at_line e left left_now written old new told before after h.turns p.state p.number p.part law h.done h.number h.written h.told has ends
+    ends_at_line e left left_now written old new held before after h.turns p.state p.number p.part law h.done h.number h.written h.made has ends
 
 -- all lines were done, and the last one ended with its line feed
-pub ends_with_feed : (left left_now written old : Option (List ℕ)) (told before : Option KeeperTold) (more : ℕ) (p : PlayState) → ScenariosDoStand → p.part ≡ [] → HasEnded left_now → HasCome (exchange left left_now written old told before) more [] [] p → WritesTranscript (exchange left left_now written old told before)
-ends_with_feed left left_now written old told before more p law none ended h =
+pub ends_with_feed : (left left_now written old : Option (List ℕ)) (held before : KeeperSeen) (more : ℕ) (p : PlayState) → ScenariosDoStand → p.part ≡ [] → HasEnded left_now → HasCome (exchange left left_now written old held before) more [] [] p → WritesTranscript (exchange left left_now written old held before)
+ends_with_feed left left_now written old held before more p law none ended h =
     let lines = lines_in h.turns in
     let cut : lines_of (text_of_lines lines ++ p.part) ≡ lines = lines_fed lines p.part h.plain ∙ ap (λ t. lines ++ lines_of t) none ∙ append-nil lines in
     record {
       text = text_of_lines lines ++ p.part;
-      read = read_whole left left_now written old old told before before more p ended h;
+      read = read_whole left left_now written old old held before before more p ended h;
       turns = h.turns;
       lines = sym cut;
       state = p.state;
       done = record { done = h.done; written = h.written };
-      stands = law h.turns told before h.told;
+      stands = law h.turns held before h.made;
     }
 
 -- and the last one has none
-pub ends_without_feed : (left left_now written old new : Option (List ℕ)) (told before after : Option KeeperTold) (more : ℕ) (p : PlayState) (t : State) → ScenariosDoStand → p.part ≢ [] → DoesLine p.state t p.part old new before after → HasEnded left_now → HasCome (exchange left left_now written old told before) more [] [] p → WritesTranscript (exchange left left_now written new told after)
-ends_without_feed left left_now written old new told before after more p t law some does ended h =
+pub ends_without_feed : (left left_now written old new : Option (List ℕ)) (held before after : KeeperSeen) (more : ℕ) (p : PlayState) (t : State) → ScenariosDoStand → p.part ≢ [] → DoesLine p.state t p.part old new before after → HasEnded left_now → HasCome (exchange left left_now written old held before) more [] [] p → WritesTranscript (exchange left left_now written new held after)
+ends_without_feed left left_now written old new held before after more p t law some does ended h =
     let lines = lines_in h.turns in
     let turn : Turn = record { line = p.part; replies = does.done.replies } in
     let done = turn_done p.state p.part (DoneTo t does.text) before after does.done in
     record {
       text = text_of_lines lines ++ p.part;
-      read = read_whole left left_now written old new told before after more p ended h;
+      read = read_whole left left_now written old new held before after more p ended h;
       turns = h.turns ++ turn ∷ [];
       lines = lines_in-push h.turns turn ∙ sym (lines_whole lines p.part h.plain h.one some);
       state = t;
@@ -275,12 +275,12 @@ ends_without_feed left left_now written old new told before after more p t law s
         done = end_from-push p.state t h.turns turn does.text h.done does.short done;
         written = does.written ∙ ap (λ o. appended o does.text) h.written ∙ appended_more written (transcript first h.turns) does.text ∙ ap (appended written) (sym (transcript-push p.state t h.turns turn does.text h.done done));
       };
-      stands = law (h.turns ++ turn ∷ []) told after (told-push p.state h.turns p.part (DoneTo t does.text) told before after h.done does.short h.told does.done);
+      stands = law (h.turns ++ turn ∷ []) held after (made-push p.state h.turns p.part (DoneTo t does.text) held before after h.done does.short h.made does.done);
     }
 
 -- bytes were read, of which a part is the next piece
-pub comes_read : (left before now written old : Option (List ℕ)) (told asked : Option KeeperTold) (more rest n k : ℕ) (room : List ℕ) (p : PlayState) → k ≤ n → n ≤ length room → k + rest ≡ more → before ≡ prepended (take n room) now → HasCome (exchange left before written old told asked) more [] [] p → HasCome (exchange left now written old told asked) rest (take k room) (take (n - k) (drop k room)) p
-comes_read left before now written old told asked more rest n k room p part fits size read h =
+pub comes_read : (left before now written old : Option (List ℕ)) (held asked : KeeperSeen) (more rest n k : ℕ) (room : List ℕ) (p : PlayState) → k ≤ n → n ≤ length room → k + rest ≡ more → before ≡ prepended (take n room) now → HasCome (exchange left before written old held asked) more [] [] p → HasCome (exchange left now written old held asked) rest (take k room) (take (n - k) (drop k room)) p
+comes_read left before now written old held asked more rest n k room p part fits size read h =
     let fed = text_of_lines (lines_in h.turns) in
     let piece = take k room in
     let past = take (n - k) (drop k room) in
@@ -297,7 +297,7 @@ comes_read left before now written old told asked more rest n k room p part fits
       number = h.number;
       done = h.done;
       written = h.written;
-      told = h.told;
+      made = h.made;
     }
 
 -- the text that was read and done
@@ -305,8 +305,8 @@ text_read : (lines : List (List ℕ)) (part past : List ℕ) → text_of_lines l
 text_read lines part past = simp append_assoc
 
 -- a read failed
-pub stops_at_failed_read : (left before now written old : Option (List ℕ)) (told asked : Option KeeperTold) (more : ℕ) (p : PlayState) → ScenariosDoStand → now ≡ before → HasCome (exchange left before written old told asked) more [] [] p → StopsAtFailedRead (exchange left now written old told asked)
-stops_at_failed_read left before now written old told asked more p law same h =
+pub stops_at_failed_read : (left before now written old : Option (List ℕ)) (held asked : KeeperSeen) (more : ℕ) (p : PlayState) → ScenariosDoStand → now ≡ before → HasCome (exchange left before written old held asked) more [] [] p → StopsAtFailedRead (exchange left now written old held asked)
+stops_at_failed_read left before now written old held asked more p law same h =
     let lines = lines_in h.turns in
     record {
       text = text_of_lines lines ++ p.part;
@@ -318,12 +318,12 @@ stops_at_failed_read left before now written old told asked more p law same h =
       within = omega (arith, h.within, length-append (text_of_lines lines) (p.part ++ []), length-append p.part [], length-append (text_of_lines lines) p.part);
       short = h.short;
       done = record { done = h.done; written = h.written };
-      stands = law h.turns told asked h.told;
+      stands = law h.turns held asked h.made;
     }
 
 -- bytes were read past the limit
-pub stops_past_limit : (left now written old : Option (List ℕ)) (told asked : Option KeeperTold) (past : List ℕ) (p : PlayState) → ScenariosDoStand → past ≢ [] → HasCome (exchange left now written old told asked) 0 [] past p → StopsPastLimit (exchange left now written old told asked)
-stops_past_limit left now written old told asked past p law some h =
+pub stops_past_limit : (left now written old : Option (List ℕ)) (held asked : KeeperSeen) (past : List ℕ) (p : PlayState) → ScenariosDoStand → past ≢ [] → HasCome (exchange left now written old held asked) 0 [] past p → StopsPastLimit (exchange left now written old held asked)
+stops_past_limit left now written old held asked past p law some h =
     let lines = lines_in h.turns in
     record {
       text = text_of_lines lines ++ p.part;
@@ -337,7 +337,7 @@ stops_past_limit left now written old told asked past p law some h =
       cut = record { whole = refl; plain = h.plain; one = h.one };
       short = h.short;
       done = record { done = h.done; written = h.written };
-      stands = law h.turns told asked h.told;
+      stands = law h.turns held asked h.made;
     }
 
 nothing_read : (left : Option (List ℕ)) → left ≡ prepended [] left
@@ -349,8 +349,8 @@ nothing_written None = refl
 nothing_written (Some bytes) = ap Some (sym (append-nil bytes))
 
 -- nothing was read yet
-pub comes_first : (left written : Option (List ℕ)) (told : Option KeeperTold) → HasCome (exchange left left written written told told) MAX_SCENARIO_BYTES [] [] (record { state = first; part = []; number = 1 })
-comes_first left written told = record {
+pub comes_first : (left written : Option (List ℕ)) (held : KeeperSeen) → HasCome (exchange left left written written held held) MAX_SCENARIO_BYTES [] [] (first_play held)
+comes_first left written held = record {
   turns = [];
   taken = nothing_read left;
   plain = All-nil IsOneLine;
@@ -360,18 +360,18 @@ comes_first left written told = record {
   number = refl;
   done = refl;
   written = nothing_written written;
-  told = refl;
+  made = none_made held;
 }
 
 -- and there is no memory to read any
-pub stops_at_first : (left written : Option (List ℕ)) (told : Option KeeperTold) → ScenariosDoStand → StopsOutOfMemory (exchange left left written written told told)
-stops_at_first left written told law = record {
+pub stops_at_first : (left written : Option (List ℕ)) (held : KeeperSeen) → ScenariosDoStand → StopsOutOfMemory (exchange left left written written held held)
+stops_at_first left written held law = record {
   before = [];
   state = first;
-  between = told;
+  between = held;
   read = record { rest = []; taken = nothing_read left; plain = All-nil IsOneLine; within = omega arith };
   done = record { done = refl; written = nothing_written written };
-  stands = law [] told told refl;
+  stands = law [] held held (none_made held);
   last = inl refl;
 }
 

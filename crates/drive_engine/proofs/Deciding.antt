@@ -85,14 +85,14 @@ called_by_turns text tail turns old new is plain within stops tells = elim (case
 ]
 
 -- turns whose lines were read stop a scenario
-decided_at_turns : (x : Exchange) (text : List ℕ) (turns : List Turn) → x.left_before ≡ Some text → AreRead x (lines_in turns) → Stops (end_from first 1 turns) → TellsCalls (calls_from first turns) x.told_before x.told_after → IsCalledFor Drive text x.told_before x.told_after (status_of_end (end_from first 1 turns))
+decided_at_turns : (x : Exchange) (text : List ℕ) (turns : List Turn) → x.left_before ≡ Some text → AreRead x (lines_in turns) → Stops (end_from first 1 turns) → TellsCalls (calls_from first turns) x.keeper_before.told x.keeper_after.told → IsCalledFor Drive text x.keeper_before.told x.keeper_after.told (status_of_end (end_from first 1 turns))
 decided_at_turns x text turns is read stops tells = go read
   where
-    go : AreRead x (lines_in turns) → IsCalledFor Drive text x.told_before x.told_after (status_of_end (end_from first 1 turns))
+    go : AreRead x (lines_in turns) → IsCalledFor Drive text x.keeper_before.told x.keeper_after.told (status_of_end (end_from first 1 turns))
     go (inl r) =
         let fed = text_of_lines (lines_in turns) in
         let t = told (fed ++ r.rest) text x.left_before x.left_after r.taken is in
-        called_by_turns text (r.rest ++ t.0) turns x.told_before x.told_after (t.2 ∙ append_assoc fed r.rest t.0) r.plain r.within stops tells
+        called_by_turns text (r.rest ++ t.0) turns x.keeper_before.told x.keeper_after.told (t.2 ∙ append_assoc fed r.rest t.0) r.plain r.within stops tells
     go (inr r) =
         let whole = told_whole x MAX_SCENARIO_BYTES text r.text is r.read in
         record {
@@ -102,19 +102,19 @@ decided_at_turns x text turns is read stops tells = go read
         }
 
 -- a turn after turns that were done stops a scenario
-decided_at_turn : (x : Exchange) (text : List ℕ) (before : List Turn) (turn : Turn) (s : State) (e : End) → x.left_before ≡ Some text → AreRead x (lines_in before ++ turn.line ∷ []) → HasDone x before s → end_from s (1 + length before) (turn ∷ []) ≡ e → Stops e → ScenarioStands (before ++ turn ∷ []) x.told_before x.told_after → IsCalledFor Drive text x.told_before x.told_after (status_of_end e)
+decided_at_turn : (x : Exchange) (text : List ℕ) (before : List Turn) (turn : Turn) (s : State) (e : End) → x.left_before ≡ Some text → AreRead x (lines_in before ++ turn.line ∷ []) → HasDone x before s → end_from s (1 + length before) (turn ∷ []) ≡ e → Stops e → ScenarioStands (before ++ turn ∷ []) x.keeper_before x.keeper_after → IsCalledFor Drive text x.keeper_before.told x.keeper_after.told (status_of_end e)
 decided_at_turn x text before turn s e is read done ends stops keeper =
     let all = before ++ turn ∷ [] in
     let whole : end_from first 1 all ≡ e = end_from-more first s 1 before (turn ∷ []) done.done ∙ ends in
-    subst (λ (e : End). IsCalledFor Drive text x.told_before x.told_after (status_of_end e)) whole
+    subst (λ (e : End). IsCalledFor Drive text x.keeper_before.told x.keeper_after.told (status_of_end e)) whole
     (decided_at_turns x text all is (subst (λ ls. AreRead x ls) (sym (lines_in-push before turn)) read) (subst Stops (sym whole) stops) keeper.calls)
 
 -- a line was refused
-decided_at_line : (x : Exchange) (text : List ℕ) (n : ℕ) → x.left_before ≡ Some text → StopsAtLine n x → IsCalledFor Drive text x.told_before x.told_after 3
+decided_at_line : (x : Exchange) (text : List ℕ) (n : ℕ) → x.left_before ≡ Some text → StopsAtLine n x → IsCalledFor Drive text x.keeper_before.told x.keeper_after.told 3
 decided_at_line x text n is h = decided_at_turn x text h.before h.turn h.state (RefusedAt h.after (1 + length h.before)) is h.read h.done (end_from-refused h.state h.after (1 + length h.before) h.turn h.short h.refused) tt h.stands
 
 -- a boot was not started
-decided_at_start : (x : Exchange) (text : List ℕ) (r : UnstartedCause) → x.left_before ≡ Some text → StopsUnstarted r x → IsCalledFor Drive text x.told_before x.told_after (status_of_unstarted r)
+decided_at_start : (x : Exchange) (text : List ℕ) (r : UnstartedCause) → x.left_before ≡ Some text → StopsUnstarted r x → IsCalledFor Drive text x.keeper_before.told x.keeper_after.told (status_of_unstarted r)
 decided_at_start x text r is h = decided_at_turn x text h.before h.turn h.state (Unstarted h.after r) is h.read h.done (end_from-unstarted h.state h.after (1 + length h.before) h.turn r h.short h.unstarted) tt h.stands
 
 -- lines whose first, or else what follows them, is too long
@@ -142,7 +142,7 @@ unasked_more : (s : State) (before more : List Turn) (old new : Option KeeperTol
 unasked_more s before more old new done none tells = tells_same (calls_from first before) (calls_from first (before ++ more)) old new (calls_from-more first s 1 before more done ∙ ap (λ cs. calls_from first before ++ cs) none ∙ append-nil (calls_from first before)) tells
 
 -- a line was too long in a text within the limit
-long_line_within : (x : Exchange) (text : List ℕ) (n : ℕ) (tail : List ℕ) (h : StopsAtLongLine n x) → text ≡ text_of_lines (lines_in h.before) ++ (h.line ++ tail) → length text ≤ MAX_SCENARIO_BYTES → IsCalledFor Drive text x.told_before x.told_after 8
+long_line_within : (x : Exchange) (text : List ℕ) (n : ℕ) (tail : List ℕ) (h : StopsAtLongLine n x) → text ≡ text_of_lines (lines_in h.before) ++ (h.line ++ tail) → length text ≤ MAX_SCENARIO_BYTES → IsCalledFor Drive text x.keeper_before.told x.keeper_after.told 8
 long_line_within x text n tail h whole short =
     let before = lines_in h.before in
     let a = cut_after h.line tail h.one in
@@ -152,11 +152,11 @@ long_line_within x text n tail h whole short =
     record {
       turns = h.before ++ more;
       calls = inl (record { short = short; lines = lines_in-more h.before (a.0 ++ lines_of a.1) ∙ sym lines; called = sym (ap status_of_end (end_from-more first h.state 1 h.before more h.done.done) ∙ long.0) });
-      told = unasked_more h.state h.before more x.told_before x.told_after h.done.done long.1 h.stands.calls;
+      told = unasked_more h.state h.before more x.keeper_before.told x.keeper_after.told h.done.done long.1 h.stands.calls;
     }
 
 -- and in one that goes on past it
-long_line_past : (x : Exchange) (text : List ℕ) (n : ℕ) (tail : List ℕ) (h : StopsAtLongLine n x) → text ≡ text_of_lines (lines_in h.before) ++ (h.line ++ tail) → MAX_SCENARIO_BYTES < length text → IsCalledFor Drive text x.told_before x.told_after 8
+long_line_past : (x : Exchange) (text : List ℕ) (n : ℕ) (tail : List ℕ) (h : StopsAtLongLine n x) → text ≡ text_of_lines (lines_in h.before) ++ (h.line ++ tail) → MAX_SCENARIO_BYTES < length text → IsCalledFor Drive text x.keeper_before.told x.keeper_after.told 8
 long_line_past x text n tail h whole long =
     let before = lines_in h.before in
     let fed = text_of_lines before in
@@ -176,11 +176,11 @@ long_line_past x text n tail h whole long =
         cut = subst (λ ls. IsCut (take MAX_SCENARIO_BYTES text) ls a.1) (sym (lines_in-more h.before a.0)) cut;
         called = sym (ap (λ e. status_past_limit e (length a.1)) (end_from-more first h.state 1 h.before more h.done.done) ∙ past.0);
       });
-      told = unasked_more h.state h.before more x.told_before x.told_after h.done.done past.1 h.stands.calls;
+      told = unasked_more h.state h.before more x.keeper_before.told x.keeper_after.told h.done.done past.1 h.stands.calls;
     }
 
 -- a line was too long
-decided_at_long_line : (x : Exchange) (text : List ℕ) (n : ℕ) → x.left_before ≡ Some text → StopsAtLongLine n x → IsCalledFor Drive text x.told_before x.told_after 8
+decided_at_long_line : (x : Exchange) (text : List ℕ) (n : ℕ) → x.left_before ≡ Some text → StopsAtLongLine n x → IsCalledFor Drive text x.keeper_before.told x.keeper_after.told 8
 decided_at_long_line x text n is h =
     let fed = text_of_lines (lines_in h.before) in
     let t = told (fed ++ (h.line ++ h.rest)) text x.left_before x.left_after h.taken is in
@@ -192,7 +192,7 @@ decided_at_long_line x text n is h =
     ]
 
 -- the limit was passed
-decided_past_limit : (x : Exchange) (text : List ℕ) → x.left_before ≡ Some text → StopsPastLimit x → IsCalledFor Drive text x.told_before x.told_after 12
+decided_past_limit : (x : Exchange) (text : List ℕ) → x.left_before ≡ Some text → StopsPastLimit x → IsCalledFor Drive text x.keeper_before.told x.keeper_after.told 12
 decided_past_limit x text is h =
     let t = told (h.text ++ h.more) text x.left_before x.left_after h.taken is in
     let whole : text ≡ h.text ++ (h.more ++ t.0) = t.2 ∙ append_assoc h.text h.more t.0 in
@@ -215,7 +215,7 @@ decided_past_limit x text is h =
     more_than (b ∷ bs) some n k e = omega arith
 
 -- all was done
-decided_at_end : (x : Exchange) (text : List ℕ) → x.left_before ≡ Some text → WritesTranscript x → IsCalledFor Drive text x.told_before x.told_after 0
+decided_at_end : (x : Exchange) (text : List ℕ) → x.left_before ≡ Some text → WritesTranscript x → IsCalledFor Drive text x.keeper_before.told x.keeper_after.told 0
 decided_at_end x text is h =
     let whole = told_whole x MAX_SCENARIO_BYTES text h.text is h.read in
     record {
@@ -225,16 +225,16 @@ decided_at_end x text is h =
     }
 
 -- descriptors, which leave the keeper as it was
-decided_for_groups : (x : Exchange) (text : List ℕ) (n : ℕ) → x.told_after ≡ x.told_before → DescriptorsCallFor text n → IsCalledFor Groups text x.told_before x.told_after n
+decided_for_groups : (x : Exchange) (text : List ℕ) (n : ℕ) → x.keeper_after.told ≡ x.keeper_before.told → DescriptorsCallFor text n → IsCalledFor Groups text x.keeper_before.told x.keeper_after.told n
 decided_for_groups x text n unasked called = record { turns = []; calls = (refl, called); told = unasked }
 
 -- a command that asks its keeper for nothing leaves it as it was
 abbrev pub LeavesKeeper : Command → Exchange → Type 0
 LeavesKeeper Drive x = Unit {0}
-LeavesKeeper Groups x = x.told_after ≡ x.told_before
+LeavesKeeper Groups x = x.keeper_after.told ≡ x.keeper_before.told
 
 -- Where the input tells its text, the status is what text and keeper call for, but for out of memory and for faults.
-decided : (command : Command) (e : Ending) (x : Exchange) (text : List ℕ) → x.left_before ≡ Some text → LeavesKeeper command x → Runs command e x → IsCalledFor command text x.told_before x.told_after (status e) ⊎ ((status e ≡ 9) ⊎ ((status e ≡ 4) ⊎ (status e ≡ 5)))
+decided : (command : Command) (e : Ending) (x : Exchange) (text : List ℕ) → x.left_before ≡ Some text → LeavesKeeper command x → Runs command e x → IsCalledFor command text x.keeper_before.told x.keeper_after.told (status e) ⊎ ((status e ≡ 9) ⊎ ((status e ≡ 4) ⊎ (status e ≡ 5)))
 decided Drive endings.Done x text is unasked h = inl (decided_at_end x text is h)
 decided Groups endings.Done x text is unasked h =
     let whole = told_whole x MAX_DESCRIPTOR_BYTES text h.text is h.read in
@@ -261,21 +261,21 @@ decided Drive endings.ScenarioTooLong x text is unasked h = inl (decided_past_li
 decided Groups endings.ScenarioTooLong x text is unasked h = cc
 
 -- the status that is answered
-pub decided_status : (words : Option Command) (e r : Ending) (x : Exchange) (n : ℕ) → (words ≢ Some Drive → x.told_after ≡ x.told_before) → Ends words e x → IsReported e r → n ≡ status r → IfSome x.left_before (λ text. IfSome words (λ command. IsCalledFor command text x.told_before x.told_after n ⊎ ((n ≡ 9) ⊎ ((n ≡ 4) ⊎ (n ≡ 5)))))
+pub decided_status : (words : Option Command) (e r : Ending) (x : Exchange) (n : ℕ) → (words ≢ Some Drive → x.keeper_after.told ≡ x.keeper_before.told) → Ends words e x → IsReported e r → n ≡ status r → IfSome x.left_before (λ text. IfSome words (λ command. IsCalledFor command text x.keeper_before.told x.keeper_after.told n ⊎ ((n ≡ 9) ⊎ ((n ≡ 4) ⊎ (n ≡ 5)))))
 decided_status words e r x n unasked ends reported is = told_or_not x.left_before refl
   where
     leaves : (command : Command) → words ≡ Some command → LeavesKeeper command x
     leaves Drive so = tt
     leaves Groups so = unasked (λ drive. cc)
 
-    by_command : (w : Option Command) (text : List ℕ) → words ≡ w → x.left_before ≡ Some text → Ends w e x → IfSome w (λ command. IsCalledFor command text x.told_before x.told_after n ⊎ ((n ≡ 9) ⊎ ((n ≡ 4) ⊎ (n ≡ 5))))
+    by_command : (w : Option Command) (text : List ℕ) → words ≡ w → x.left_before ≡ Some text → Ends w e x → IfSome w (λ command. IsCalledFor command text x.keeper_before.told x.keeper_after.told n ⊎ ((n ≡ 9) ⊎ ((n ≡ 4) ⊎ (n ≡ 5))))
     by_command None text which so h = tt
     by_command (Some command) text which so h = go reported
       where
-        go : IsReported e r → IsCalledFor command text x.told_before x.told_after n ⊎ ((n ≡ 9) ⊎ ((n ≡ 4) ⊎ (n ≡ 5)))
-        go (inl same) = subst (λ m. IsCalledFor command text x.told_before x.told_after m ⊎ ((m ≡ 9) ⊎ ((m ≡ 4) ⊎ (m ≡ 5)))) (ap status (sym same) ∙ sym is) (decided command e x text so (leaves command which) h)
+        go : IsReported e r → IsCalledFor command text x.keeper_before.told x.keeper_after.told n ⊎ ((n ≡ 9) ⊎ ((n ≡ 4) ⊎ (n ≡ 5)))
+        go (inl same) = subst (λ m. IsCalledFor command text x.keeper_before.told x.keeper_after.told m ⊎ ((m ≡ 9) ⊎ ((m ≡ 4) ⊎ (m ≡ 5)))) (ap status (sym same) ∙ sym is) (decided command e x text so (leaves command which) h)
         go (inr (out, why)) = inr (inl (is ∙ ap status out))
 
-    told_or_not : (o : Option (List ℕ)) → x.left_before ≡ o → IfSome o (λ text. IfSome words (λ command. IsCalledFor command text x.told_before x.told_after n ⊎ ((n ≡ 9) ⊎ ((n ≡ 4) ⊎ (n ≡ 5)))))
+    told_or_not : (o : Option (List ℕ)) → x.left_before ≡ o → IfSome o (λ text. IfSome words (λ command. IsCalledFor command text x.keeper_before.told x.keeper_after.told n ⊎ ((n ≡ 9) ⊎ ((n ≡ 4) ⊎ (n ≡ 5)))))
     told_or_not None so = tt
     told_or_not (Some text) so = by_command words text refl so ends

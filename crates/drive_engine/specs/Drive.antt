@@ -1,7 +1,6 @@
 -- What is read, written and asked of the keeper until a scenario ends.
-use Rattle.std.specs.Prelude.{◌≡◌, ◌≢◌, ℕ, ◌+◌, ◌<◌, ◌≤◌, ◌⊎◌, List, [], ◌∷◌, ◌++◌, length, All, Option}
+use Rattle.std.specs.Prelude.{◌≡◌, ◌≢◌, ℕ, ◌+◌, ◌<◌, ◌≤◌, ◌⊎◌, List, [], ◌∷◌, ◌++◌, length, All}
 use mathlib.Core.List.{IsPrefix}
-use Rattle.outside.specs.Keeper.{KeeperTold}
 use Rattle.outside.specs.Source.{prepended}
 use Rattle.boot_core.specs.Sound.{IsSound}
 use Rattle.scenario_engine.specs.declared.failure.UnstartedCause.{UnstartedCause}
@@ -10,7 +9,7 @@ use Rattle.crash_base.specs.declared.row_id.RowId.{RowId}
 use Rattle.scenario_text.specs.Cutting.{lines_of, text_of_lines, IsOneLine, IsCut}
 use Rattle.scenario_text.specs.Reading.{line_of}
 use Rattle.scenario_text.specs.declared.line.TheConstants.{MAX_LINE_BYTES}
-use Rattle.scenario_engine.specs.KeeperCalls.{TellsCalls}
+use Rattle.scenario_engine.specs.KeeperCalls.{KeeperSeen, TellsCalls, AreCounted}
 use Rattle.scenario_engine.specs.Sessions.{HasSessions}
 use Rattle.scenario_engine.specs.Sound.{CommitsUnrebooted, RunsSerially, CommitsOwnRequests}
 use Rattle.scenario_engine.specs.State.{State, RefusedIn, DoneTo, UnstartedIn}
@@ -42,13 +41,15 @@ pub record HasDone (x : Exchange) (turns : List Turn) (state : State) : Type 0 w
   pub done : end_from first 1 turns ≡ Ended state
   pub written : IsWritten x (transcript first turns)
 
--- What turns did stands: the keeper was called as they say and holds the rows that they leave; each boot is sound; no
--- commit comes after a reboot of a group that its call entered; each journal is a serial execution of its calls; each
--- commit is of a request of its own boot; and each fetch answers what was written, or says why it does not. A turn that
--- ended the scenario is the last of them, since it may have called the keeper, too.
-pub record ScenarioStands (turns : List Turn) (old new : Option KeeperTold) : Type 0 where
-  pub calls : TellsCalls (calls_from first turns) old new
-  pub told : Tells turns old new
+-- What turns did stands: the keeper was called as they say and holds the rows that they leave; its count of faults rose
+-- where it failed at a call, as that of a commit which was told `keeper failed`, also where it does not tell; each boot
+-- is sound; no commit comes after a reboot of a group that its call entered; each journal is a serial execution of its
+-- calls; each commit is of a request of its own boot; and each fetch answers what was written, or says why it does not.
+-- A turn that ended the scenario is the last of them, since it may have called the keeper, too.
+pub record ScenarioStands (turns : List Turn) (old new : KeeperSeen) : Type 0 where
+  pub calls : TellsCalls (calls_from first turns) old.told new.told
+  pub told : Tells turns old.told new.told
+  pub faults : AreCounted (calls_from first turns) old.faults new.faults
   pub sound : All IsSound (boots_from first turns)
   pub unrebooted : All CommitsUnrebooted (boots_from first turns)
   pub serial : All RunsSerially (boots_from first turns)
@@ -63,7 +64,7 @@ pub record WritesTranscript (x : Exchange) : Type 0 where
   pub lines : lines_in turns ≡ lines_of text
   pub state : State
   pub done : HasDone x turns state
-  pub stands : ScenarioStands turns x.told_before x.told_after
+  pub stands : ScenarioStands turns x.keeper_before x.keeper_after
 
 -- The line of this number was read to its end and was refused, after the lines before it were done.
 pub record StopsAtLine (n : ℕ) (x : Exchange) : Type 0 where
@@ -76,7 +77,7 @@ pub record StopsAtLine (n : ℕ) (x : Exchange) : Type 0 where
   pub done : HasDone x before state
   pub short : length turn.line ≤ MAX_LINE_BYTES
   pub refused : turn_outcome state turn ≡ RefusedIn after
-  pub stands : ScenarioStands (before ++ turn ∷ []) x.told_before x.told_after
+  pub stands : ScenarioStands (before ++ turn ∷ []) x.keeper_before x.keeper_after
 
 -- A line was read to its end and needs a boot that was left unstarted for this cause, after the lines before it
 -- were done.
@@ -89,7 +90,7 @@ pub record StopsUnstarted (cause : UnstartedCause) (x : Exchange) : Type 0 where
   pub done : HasDone x before state
   pub short : length turn.line ≤ MAX_LINE_BYTES
   pub unstarted : turn_outcome state turn ≡ UnstartedIn after cause
-  pub stands : ScenarioStands (before ++ turn ∷ []) x.told_before x.told_after
+  pub stands : ScenarioStands (before ++ turn ∷ []) x.keeper_before x.keeper_after
 
 -- More bytes than a line may have were read of the line of this number, after the lines before it were done.
 pub record StopsAtLongLine (n : ℕ) (x : Exchange) : Type 0 where
@@ -105,7 +106,7 @@ pub record StopsAtLongLine (n : ℕ) (x : Exchange) : Type 0 where
   pub number : n ≡ length before + 1
   pub done : HasDone x before state
   pub long : MAX_LINE_BYTES < length line
-  pub stands : ScenarioStands before x.told_before x.told_after
+  pub stands : ScenarioStands before x.keeper_before x.keeper_after
 
 -- A read failed, after the lines that had ended by then were done.
 pub record StopsAtFailedRead (x : Exchange) : Type 0 where
@@ -118,7 +119,7 @@ pub record StopsAtFailedRead (x : Exchange) : Type 0 where
   pub within : length text ≤ MAX_SCENARIO_BYTES
   pub short : length part ≤ MAX_LINE_BYTES
   pub done : HasDone x turns state
-  pub stands : ScenarioStands turns x.told_before x.told_after
+  pub stands : ScenarioStands turns x.keeper_before x.keeper_after
 
 -- A line was read to its end and done, and a prefix of what it writes was written, after the lines before it were done.
 pub record StopsAtFailedWrite (x : Exchange) : Type 0 where
@@ -134,28 +135,28 @@ pub record StopsAtFailedWrite (x : Exchange) : Type 0 where
   pub answer : turn_outcome state turn ≡ DoneTo after wrote
   pub begins : IsPrefix prefix wrote
   pub written : IsWritten x (transcript first before ++ prefix)
-  pub stands : ScenarioStands (before ++ turn ∷ []) x.told_before x.told_after
+  pub stands : ScenarioStands (before ++ turn ∷ []) x.keeper_before x.keeper_after
 
 -- A line was read to its end after these lines, and memory ran out while it was done: the first of its calls of the
 -- keeper were made. No commit was kept: of the keeper's rows, where it tells, at most that of the boot's number is
 -- another.
-pub record RunsOutAtLine (x : Exchange) (lines : List (List ℕ)) (state : State) (between : Option KeeperTold) : Type 0 where
+pub record RunsOutAtLine (x : Exchange) (lines : List (List ℕ)) (state : State) (between : KeeperSeen) : Type 0 where
   pub line : List ℕ
   pub read : AreRead x (lines ++ line ∷ [])
   pub short : length line ≤ MAX_LINE_BYTES
-  pub partly : DoesPartly state (line_of line) between x.told_after
-  pub rows : HoldsRowsButNumber between x.told_after
+  pub partly : DoesPartly state (line_of line) between x.keeper_after
+  pub rows : HoldsRowsButNumber between.told x.keeper_after.told
 
 -- Memory ran out after these lines were read and done. The keeper was called for these lines alone, or for a part of
 -- the next one, too.
 pub record StopsOutOfMemory (x : Exchange) : Type 0 where
   pub before : List Turn
   pub state : State
-  pub between : Option KeeperTold
+  pub between : KeeperSeen
   pub read : AreReadWithFeeds x (lines_in before)
   pub done : HasDone x before state
-  pub stands : ScenarioStands before x.told_before between
-  pub last : (x.told_after ≡ between) ⊎ RunsOutAtLine x (lines_in before) state between
+  pub stands : ScenarioStands before x.keeper_before between
+  pub last : (x.keeper_after ≡ between) ⊎ RunsOutAtLine x (lines_in before) state between
 
 -- There is no memory for the numbers of a report: that of a line which was refused or is too long, or those of a bad
 -- row.
@@ -178,4 +179,4 @@ pub record StopsPastLimit (x : Exchange) : Type 0 where
   pub cut : IsCut text (lines_in turns) part
   pub short : length part ≤ MAX_LINE_BYTES
   pub done : HasDone x turns state
-  pub stands : ScenarioStands turns x.told_before x.told_after
+  pub stands : ScenarioStands turns x.keeper_before x.keeper_after

@@ -1,29 +1,30 @@
 -- What a command reads, writes and has of its keeper.
 use Rattle.std.specs.Prelude.{◌≡◌, ℕ, ◌<◌, ◌≤◌, List, length, Option, IfSome}
-use Rattle.outside.specs.Keeper.{KeeperTold}
+use Rattle.scenario_engine.specs.KeeperCalls.{KeeperSeen}
 use Rattle.outside.specs.Source.{prepended, HasEnded}
 use Rattle.outside.specs.Sink.{appended, AppendsPrefix}
 
--- What the input had left, what was written to the output and what the keeper told, before and after, each where it tells.
+-- What the input had left and what was written to the output, each where it tells, and what is seen of the keeper,
+-- before and after.
 pub record Exchange : Type 0 where
   pub left_before : Option (List ℕ)
   pub left_after : Option (List ℕ)
   pub written_before : Option (List ℕ)
   pub written_after : Option (List ℕ)
-  pub told_before : Option KeeperTold
-  pub told_after : Option KeeperTold
+  pub keeper_before : KeeperSeen
+  pub keeper_after : KeeperSeen
 
 -- these six as one
 abbrev pub exchange : Option (List ℕ) → Option (List ℕ)
-    → Option (List ℕ) → Option (List ℕ) → Option KeeperTold → Option KeeperTold → Exchange
-exchange left_before left_after written_before written_after told_before told_after =
+    → Option (List ℕ) → Option (List ℕ) → KeeperSeen → KeeperSeen → Exchange
+exchange left_before left_after written_before written_after keeper_before keeper_after =
     record {
       left_before = left_before;
       left_after = left_after;
       written_before = written_before;
       written_after = written_after;
-      told_before = told_before;
-      told_after = told_after;
+      keeper_before = keeper_before;
+      keeper_after = keeper_after;
     }
 
 -- this text was read to its end, and has no more bytes than the limit

@@ -1,14 +1,13 @@
 -- How far a scenario has come, and what a line and a piece of it do.
-use Rattle.std.specs.Prelude.{◌≡◌, ℕ, ◌+◌, ◌<◌, ◌≤◌, List, ◌++◌, length, All, Option}
+use Rattle.std.specs.Prelude.{◌≡◌, ℕ, ◌+◌, ◌<◌, ◌≤◌, List, [], ◌++◌, length, All, Option}
 use Rattle.scenario_engine.specs.declared.failure.UnstartedCause.TheVariants as causes
-use Rattle.outside.specs.Keeper.{KeeperTold}
 use Rattle.outside.specs.Sink.{appended, AppendsPrefix}
 use Rattle.outside.specs.Source.{prepended}
 use Rattle.scenario_text.specs.Cutting.{text_of_lines, IsOneLine}
 use Rattle.scenario_text.specs.Reading.{line_of}
 use Rattle.scenario_text.specs.declared.line.TheConstants.{MAX_LINE_BYTES}
 use Rattle.scenario_engine.specs.declared.failure.LineFailure.TheVariants as failures
-use Rattle.scenario_engine.specs.KeeperCalls.{TellsCalls}
+use Rattle.scenario_engine.specs.KeeperCalls.{KeeperSeen, AreMade}
 use Rattle.scenario_engine.specs.State.{State, RefusedIn, DoneTo}
 use Rattle.scenario_engine.specs.Telling.{Does, DoesPartly, Ends}
 use Rattle.scenario_engine.specs.Transcript.{Turn, lines_in, first, Ended, end_from, transcript, calls_from}
@@ -19,14 +18,20 @@ use Rattle.drive_engine.specs.declared.words.Command.TheVariants.{Drive}
 use Rattle.drive_engine.specs.Command.{Runs}
 use Rattle.drive_engine.specs.Exchange.{Exchange, exchange, IsWritten}
 
--- the state that the lines before a line leave, the part of that line that was read, and its number
+-- the state that the lines before a line leave, what is seen of the keeper then, the part of that line that was read,
+-- and its number
 pub record PlayState : Type 0 where
   pub state : State
+  pub keeper : KeeperSeen
   pub part : List ℕ
   pub number : ℕ
 
+-- a scenario before its first line
+abbrev pub first_play : KeeperSeen → PlayState
+first_play keeper = record { state = first; keeper = keeper; part = []; number = 1 }
+
 -- One line was done, which leaves this state, and what it writes was written.
-pub record DoesLine (s t : State) (line : List ℕ) (old new : Option (List ℕ)) (before after : Option KeeperTold) : Type 0 where
+pub record DoesLine (s t : State) (line : List ℕ) (old new : Option (List ℕ)) (before after : KeeperSeen) : Type 0 where
   pub text : List ℕ
   pub short : length line ≤ MAX_LINE_BYTES
   pub done : Does s (line_of line) (DoneTo t text) before after
@@ -38,7 +43,7 @@ WritesNoText line old new = (length line ≤ MAX_LINE_BYTES) × (new ≡ old)
 
 -- A scenario ends so at the line of this number.
 abbrev pub EndsAtLine : Ending → ℕ → State → List ℕ → Option (List ℕ) → Option (List ℕ)
-    → Option KeeperTold → Option KeeperTold → Type 0
+    → KeeperSeen → KeeperSeen → Type 0
 EndsAtLine endings.Done number s line old new before after = ⊥
 EndsAtLine endings.UnknownCommand number s line old new before after = ⊥
 EndsAtLine (endings.LineRefused n) number s line old new before after =
@@ -76,20 +81,20 @@ pub record HasCome (x : Exchange) (more : ℕ) (unread past : List ℕ) (p : Pla
   pub number : p.number ≡ length turns + 1
   pub done : end_from first 1 turns ≡ Ended p.state
   pub written : IsWritten x (transcript first turns)
-  pub told : TellsCalls (calls_from first turns) x.told_before x.told_after
+  pub made : AreMade (calls_from first turns) x.keeper_before x.keeper_after
 
 -- However a scenario has come to the first place, it has now come to the second.
-abbrev pub Comes : PlayState → List ℕ → Option (List ℕ) → Option KeeperTold
-    → PlayState → List ℕ → Option (List ℕ) → Option KeeperTold → Type 0
+abbrev pub Comes : PlayState → List ℕ → Option (List ℕ) → KeeperSeen
+    → PlayState → List ℕ → Option (List ℕ) → KeeperSeen → Type 0
 Comes p unread old before q rest new after =
-    (left left_now written : Option (List ℕ)) (told : Option KeeperTold) (more : ℕ) (past : List ℕ)
-    → HasCome (exchange left left_now written old told before) more unread past p
-    → HasCome (exchange left left_now written new told after) more rest past q
+    (left left_now written : Option (List ℕ)) (held : KeeperSeen) (more : ℕ) (past : List ℕ)
+    → HasCome (exchange left left_now written old held before) more unread past p
+    → HasCome (exchange left left_now written new held after) more rest past q
 
 -- However a scenario has come to this place, it has now ended so.
-abbrev pub EndsFrom : PlayState → List ℕ → Option (List ℕ) → Option KeeperTold
-    → Ending → Option (List ℕ) → Option KeeperTold → Type 0
+abbrev pub EndsFrom : PlayState → List ℕ → Option (List ℕ) → KeeperSeen
+    → Ending → Option (List ℕ) → KeeperSeen → Type 0
 EndsFrom p unread old before ending new after =
-    (left left_now written : Option (List ℕ)) (told : Option KeeperTold) (more : ℕ) (past : List ℕ)
-    → HasCome (exchange left left_now written old told before) more unread past p
-    → Runs Drive ending (exchange left left_now written new told after)
+    (left left_now written : Option (List ℕ)) (held : KeeperSeen) (more : ℕ) (past : List ℕ)
+    → HasCome (exchange left left_now written old held before) more unread past p
+    → Runs Drive ending (exchange left left_now written new held after)

@@ -5,6 +5,7 @@ ghost use Rattle.std.specs.List.{list_any};
 ghost use Rattle.scenario_engine.specs.declared.failure.UnstartedCause.{UnstartedCause};
 ghost use Rattle.outside.specs.Faults.{Rose};
 ghost use Rattle.outside.specs.Sink.{AppendsOrFails};
+ghost use Rattle.scenario_engine.specs.KeeperCalls.{seen};
 ghost use Rattle.drive_engine.specs.Command.{WritesAll, FailsToRead, FailsToWrite, HasLongLine, EndsOutOfMemory, Runs, Ends, IsCalledFor};
 ghost use Rattle.drive_engine.specs.Drive.{StopsAtLine, StopsUnstarted, StopsPastLimit};
 ghost use Rattle.drive_engine.specs.Ending.{report, line_report, long_line_report, bad_row_report, IsReported};
@@ -104,60 +105,60 @@ fn report_ending<E: Sink>(alloc: Global, ending: Ending, errors: &mut E) -> Endi
     }
 }
 
-/// Runs a command over its input, its output and its keeper.
-fn run<S: Source, T: Sink, K: Keeper>(
+/// Runs a command over its input, its output and its keeper, which is handed back.
+fn run<S: Source, T: Sink, K: Keeper + Drop>(
     alloc: Global,
     command: Command,
     input: &mut S,
     out: &mut T,
-    keeper: &mut K,
-) -> Ending
-    ensures runs { Runs command result
+    keeper: K,
+) -> (Ending, K)
+    ensures runs { Runs command result.0
         (exchange (S.left input.old) (S.left input.new) (T.written out.old) (T.written out.new)
-        (K.told keeper.old) (K.told keeper.new)) }
-    ensures read_failed { result ≡ Ending.ReadFailed
+        (seen (K.told keeper) (K.faults keeper)) (seen (K.told result.1) (K.faults result.1))) }
+    ensures read_failed { result.0 ≡ Ending.ReadFailed
         → Rose (S.faults input.old) (S.faults input.new) }
-    ensures write_failed { result ≡ Ending.WriteFailed
+    ensures write_failed { result.0 ≡ Ending.WriteFailed
         → Rose (T.faults out.old) (T.faults out.new) }
-    ensures keeper_failed { result ≡ Ending.KeeperFailed
-        → Rose (K.faults keeper.old) (K.faults keeper.new) }
-    ensures keeper_count { K.faults keeper.old ≤ K.faults keeper.new }
-    ensures silent { command ≡ Command.Groups → is_silent result ≡ true → out.new ≡ out.old }
-    ensures unasked { command ≡ Command.Groups → keeper.new ≡ keeper.old }
+    ensures keeper_failed { result.0 ≡ Ending.KeeperFailed
+        → Rose (K.faults keeper) (K.faults result.1) }
+    ensures keeper_count { K.faults keeper ≤ K.faults result.1 }
+    ensures silent { command ≡ Command.Groups → is_silent result.0 ≡ true → out.new ≡ out.old }
+    ensures unasked { command ≡ Command.Groups → result.1 ≡ keeper }
 {
     match command {
         Command::Drive => drive(alloc, input, out, keeper),
-        Command::Groups => groups(alloc, input, out),
+        Command::Groups => (groups(alloc, input, out), keeper),
     }
 }
 
-/// Runs the command that words spell, if they do, over its input, its output and its keeper.
-fn run_words<S: Source, T: Sink, K: Keeper>(
+/// Runs the command that words spell, if they do, over its input, its output and its keeper, which is handed back.
+fn run_words<S: Source, T: Sink, K: Keeper + Drop>(
     alloc: Global,
     words: &[WordText],
     input: &mut S,
     out: &mut T,
-    keeper: &mut K,
-) -> Ending
-    ensures ends { Ends (command_of words.now) result
+    keeper: K,
+) -> (Ending, K)
+    ensures ends { Ends (command_of words.now) result.0
         (exchange (S.left input.old) (S.left input.new) (T.written out.old) (T.written out.new)
-        (K.told keeper.old) (K.told keeper.new)) }
-    ensures read_failed { result ≡ Ending.ReadFailed
+        (seen (K.told keeper) (K.faults keeper)) (seen (K.told result.1) (K.faults result.1))) }
+    ensures read_failed { result.0 ≡ Ending.ReadFailed
         → Rose (S.faults input.old) (S.faults input.new) }
-    ensures write_failed { result ≡ Ending.WriteFailed
+    ensures write_failed { result.0 ≡ Ending.WriteFailed
         → Rose (T.faults out.old) (T.faults out.new) }
-    ensures keeper_failed { result ≡ Ending.KeeperFailed
-        → Rose (K.faults keeper.old) (K.faults keeper.new) }
-    ensures keeper_count { K.faults keeper.old ≤ K.faults keeper.new }
+    ensures keeper_failed { result.0 ≡ Ending.KeeperFailed
+        → Rose (K.faults keeper) (K.faults result.1) }
+    ensures keeper_count { K.faults keeper ≤ K.faults result.1 }
     ensures silent { command_of words.now ≡ Some Command.Groups
-        → is_silent result ≡ true → out.new ≡ out.old }
-    ensures unasked { command_of words.now ≢ Some Command.Drive → keeper.new ≡ keeper.old }
+        → is_silent result.0 ≡ true → out.new ≡ out.old }
+    ensures unasked { command_of words.now ≢ Some Command.Drive → result.1 ≡ keeper }
     ensures unknown { command_of words.now ≡ None
         → (input.new ≡ input.old) × (out.new ≡ out.old) }
 {
     match command_of(words) {
         Some(command) => run(alloc, command, input, out, keeper),
-        None => Ending::UnknownCommand,
+        None => (Ending::UnknownCommand, keeper),
     }
 }
 
@@ -183,13 +184,13 @@ fn run_words<S: Source, T: Sink, K: Keeper>(
 /// ran out of memory (9) may have handed it the number of a boot, and at 5 also the rows of a commit.
 ///
 /// How it ended is reported on `errors`, except at 0.
-pub fn run_command<S: Source, T: Sink, E: Sink, K: Keeper>(
+pub fn run_command<S: Source, T: Sink, E: Sink, K: Keeper + Drop>(
     alloc: Global,
     words: &[WordText],
     input: &mut S,
     out: &mut T,
     errors: &mut E,
-    mut keeper: K,
+    keeper: K,
 ) -> (u8, K)
     // Only a scenario asks the keeper. Its count of faults never falls.
     ensures unasked { command_of words.now ≢ Some Command.Drive → result.1 ≡ keeper }
@@ -202,7 +203,7 @@ pub fn run_command<S: Source, T: Sink, E: Sink, K: Keeper>(
     ensures done { result.0 ≡ 0 → (errors.new ≡ errors.old)
         × IfSome (command_of words.now) (λ command. WritesAll command
         (exchange (S.left input.old) (S.left input.new) (T.written out.old) (T.written out.new)
-        (K.told keeper) (K.told result.1))) }
+        (seen (K.told keeper) (K.faults keeper)) (seen (K.told result.1) (K.faults result.1)))) }
 
     // At 2 the words spell no command, and else they do. Nothing was read or written.
     ensures words { (result.0 ≡ 2) ↔ (command_of words.now ≡ None) }
@@ -214,7 +215,7 @@ pub fn run_command<S: Source, T: Sink, E: Sink, K: Keeper>(
     ensures refused { result.0 ≡ 3 → (command_of words.now ≡ Some Command.Drive)
         × ((n : ℕ) × StopsAtLine n
         (exchange (S.left input.old) (S.left input.new) (T.written out.old) (T.written out.new)
-        (K.told keeper) (K.told result.1))
+        (seen (K.told keeper) (K.faults keeper)) (seen (K.told result.1) (K.faults result.1)))
         × AppendsOrFails (E.written errors.old) (E.written errors.new)
         (E.faults errors.old) (E.faults errors.new) (line_report n)) }
 
@@ -223,14 +224,14 @@ pub fn run_command<S: Source, T: Sink, E: Sink, K: Keeper>(
     ensures read_failed { result.0 ≡ 4 → Rose (S.faults input.old) (S.faults input.new)
         × IfSome (command_of words.now) (λ command. FailsToRead command
         (exchange (S.left input.old) (S.left input.new) (T.written out.old) (T.written out.new)
-        (K.told keeper) (K.told result.1)))
+        (seen (K.told keeper) (K.faults keeper)) (seen (K.told result.1) (K.faults result.1))))
         × (command_of words.now ≡ Some Command.Groups → out.new ≡ out.old)
         × AppendsOrFails (E.written errors.old) (E.written errors.new)
         (E.faults errors.old) (E.faults errors.new) (codes "read failed\n") }
     ensures write_failed { result.0 ≡ 5 → Rose (T.faults out.old) (T.faults out.new)
         × IfSome (command_of words.now) (λ command. FailsToWrite command
         (exchange (S.left input.old) (S.left input.new) (T.written out.old) (T.written out.new)
-        (K.told keeper) (K.told result.1)))
+        (seen (K.told keeper) (K.faults keeper)) (seen (K.told result.1) (K.faults result.1))))
         × AppendsOrFails (E.written errors.old) (E.written errors.new)
         (E.faults errors.old) (E.faults errors.new) (codes "write failed\n") }
 
@@ -240,19 +241,19 @@ pub fn run_command<S: Source, T: Sink, E: Sink, K: Keeper>(
         × Rose (K.faults keeper) (K.faults result.1)
         × StopsUnstarted UnstartedCause.KeeperFailed
         (exchange (S.left input.old) (S.left input.new) (T.written out.old) (T.written out.new)
-        (K.told keeper) (K.told result.1))
+        (seen (K.told keeper) (K.faults keeper)) (seen (K.told result.1) (K.faults result.1)))
         × AppendsOrFails (E.written errors.old) (E.written errors.new)
         (E.faults errors.old) (E.faults errors.new) (codes "keeper failed\n") }
     ensures bad_row { result.0 ≡ 7 → (command_of words.now ≡ Some Command.Drive)
         × ((id : RowId) × StopsUnstarted (UnstartedCause.BadRow id)
         (exchange (S.left input.old) (S.left input.new) (T.written out.old) (T.written out.new)
-        (K.told keeper) (K.told result.1))
+        (seen (K.told keeper) (K.faults keeper)) (seen (K.told result.1) (K.faults result.1)))
         × AppendsOrFails (E.written errors.old) (E.written errors.new)
         (E.faults errors.old) (E.faults errors.new) (bad_row_report id)) }
     ensures boots_spent { result.0 ≡ 11 → (command_of words.now ≡ Some Command.Drive)
         × StopsUnstarted UnstartedCause.BootsSpent
         (exchange (S.left input.old) (S.left input.new) (T.written out.old) (T.written out.new)
-        (K.told keeper) (K.told result.1))
+        (seen (K.told keeper) (K.faults keeper)) (seen (K.told result.1) (K.faults result.1)))
         × AppendsOrFails (E.written errors.old) (E.written errors.new)
         (E.faults errors.old) (E.faults errors.new) (codes "boots spent\n") }
 
@@ -261,7 +262,7 @@ pub fn run_command<S: Source, T: Sink, E: Sink, K: Keeper>(
     ensures line_too_long { result.0 ≡ 8 → (n : ℕ)
         × IfSome (command_of words.now) (λ command. HasLongLine command n
         (exchange (S.left input.old) (S.left input.new) (T.written out.old) (T.written out.new)
-        (K.told keeper) (K.told result.1)))
+        (seen (K.told keeper) (K.faults keeper)) (seen (K.told result.1) (K.faults result.1))))
         × (command_of words.now ≡ Some Command.Groups → out.new ≡ out.old)
         × AppendsOrFails (E.written errors.old) (E.written errors.new)
         (E.faults errors.old) (E.faults errors.new) (long_line_report n) }
@@ -270,7 +271,7 @@ pub fn run_command<S: Source, T: Sink, E: Sink, K: Keeper>(
     ensures out_of_memory { result.0 ≡ 9
         → IfSome (command_of words.now) (λ command. EndsOutOfMemory command
         (exchange (S.left input.old) (S.left input.new) (T.written out.old) (T.written out.new)
-        (K.told keeper) (K.told result.1)))
+        (seen (K.told keeper) (K.faults keeper)) (seen (K.told result.1) (K.faults result.1))))
         × AppendsOrFails (E.written errors.old) (E.written errors.new)
         (E.faults errors.old) (E.faults errors.new) (codes "out of memory\n") }
 
@@ -278,7 +279,7 @@ pub fn run_command<S: Source, T: Sink, E: Sink, K: Keeper>(
     ensures descriptors_refused { result.0 ≡ 10 → (command_of words.now ≡ Some Command.Groups)
         × RefusesDescriptors
         (exchange (S.left input.old) (S.left input.new) (T.written out.old) (T.written out.new)
-        (K.told keeper) (K.told result.1))
+        (seen (K.told keeper) (K.faults keeper)) (seen (K.told result.1) (K.faults result.1)))
         × (out.new ≡ out.old)
         × AppendsOrFails (E.written errors.old) (E.written errors.new)
         (E.faults errors.old) (E.faults errors.new) (codes "descriptors refused\n") }
@@ -288,7 +289,7 @@ pub fn run_command<S: Source, T: Sink, E: Sink, K: Keeper>(
     ensures scenario_too_long { result.0 ≡ 12 → (command_of words.now ≡ Some Command.Drive)
         × StopsPastLimit
         (exchange (S.left input.old) (S.left input.new) (T.written out.old) (T.written out.new)
-        (K.told keeper) (K.told result.1))
+        (seen (K.told keeper) (K.faults keeper)) (seen (K.told result.1) (K.faults result.1)))
         × AppendsOrFails (E.written errors.old) (E.written errors.new)
         (E.faults errors.old) (E.faults errors.new) (codes "input too long\n") }
 
@@ -298,7 +299,7 @@ pub fn run_command<S: Source, T: Sink, E: Sink, K: Keeper>(
         IsCalledFor command text (K.told keeper) (K.told result.1) result.0
         ⊎ ((result.0 ≡ 9) ⊎ ((result.0 ≡ 4) ⊎ (result.0 ≡ 5))))) }
 {
-    let ending = run_words(alloc, words, input, out, &mut keeper);
+    let (ending, keeper) = run_words(alloc, words, input, out, keeper);
     let ending = report_ending(alloc, ending, errors);
     (ending.status(), keeper)
 }

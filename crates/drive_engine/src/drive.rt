@@ -1,16 +1,16 @@
 //! A scenario, from its source to its sink.
 
-ghost use Rattle.std.specs.Prelude.{◌≡◌, ◌≤◌, []};
+ghost use Rattle.std.specs.Prelude.{◌≡◌, ◌≤◌};
 ghost use Rattle.outside.specs.Faults.{Rose};
-ghost use Rattle.scenario_engine.specs.Transcript.{first};
+ghost use Rattle.scenario_engine.specs.KeeperCalls.{seen};
 ghost use Rattle.drive_engine.specs.Command.{Runs};
 ghost use Rattle.drive_engine.specs.Exchange.{exchange};
+ghost use Rattle.drive_engine.specs.Play.{first_play};
 
 use crate::ending::Ending;
 use crate::laws::scenarios_stand;
 use crate::play::Play;
 use crate::words::Command;
-use crash_base::OutOfMemory;
 use outside::{Keeper, Sink, Source};
 use std::alloc::Global;
 
@@ -21,24 +21,23 @@ pub const MAX_SCENARIO_BYTES: usize = 4_294_967_295;
 const PIECE_BYTES: usize = 8192;
 
 /// Reads a scenario piece by piece to its end, and does each line as soon as it was read to its end.
-fn play_on<S: Source, T: Sink, K: Keeper>(
+fn play_on<S: Source, T: Sink, K: Keeper + Drop>(
     alloc: Global,
-    play: &mut Play,
+    play: &mut Play<K>,
     input: &mut S,
     out: &mut T,
-    keeper: &mut K,
 ) -> Ending
-    requires { play.old ≡ record { state = first; part = []; number = 1 } }
+    requires { play.old ≡ first_play play.old.keeper }
     ensures runs { Runs Command.Drive result
         (exchange (S.left input.old) (S.left input.new) (T.written out.old) (T.written out.new)
-        (K.told keeper.old) (K.told keeper.new)) }
+        play.old.keeper play.new.keeper) }
     ensures read_failed { result ≡ Ending.ReadFailed
         → Rose (S.faults input.old) (S.faults input.new) }
     ensures write_failed { result ≡ Ending.WriteFailed
         → Rose (T.faults out.old) (T.faults out.new) }
     ensures keeper_failed { result ≡ Ending.KeeperFailed
-        → Rose (K.faults keeper.old) (K.faults keeper.new) }
-    ensures keeper_count { K.faults keeper.old ≤ K.faults keeper.new }
+        → Rose play.old.keeper.faults play.new.keeper.faults }
+    ensures keeper_count { play.old.keeper.faults ≤ play.new.keeper.faults }
 {
     scenarios_stand();
     let mut room = [0u8; PIECE_BYTES];
@@ -46,9 +45,9 @@ fn play_on<S: Source, T: Sink, K: Keeper>(
     'pieces: loop {
         match input.read(&mut room) {
             Err(_) => return Ending::ReadFailed,
-            Ok(0) => return play.finish(alloc, out, keeper),
+            Ok(0) => return play.finish(alloc, out),
             Ok(n) => {
-                match play.feed(alloc, &room[..n.min(more)], out, keeper) {
+                match play.feed(alloc, &room[..n.min(more)], out) {
                     Ok(()) => {}
                     Err(ending) => return ending,
                 }
@@ -61,27 +60,30 @@ fn play_on<S: Source, T: Sink, K: Keeper>(
     }
 }
 
-/// Reads a scenario to its end, does its lines over the keeper, and writes what they write.
-pub fn drive<S: Source, T: Sink, K: Keeper>(
+/// Reads a scenario to its end, does its lines over the keeper, and writes what they write. The keeper is handed back.
+pub fn drive<S: Source, T: Sink, K: Keeper + Drop>(
     alloc: Global,
     input: &mut S,
     out: &mut T,
-    keeper: &mut K,
-) -> Ending
-    ensures runs { Runs Command.Drive result
+    keeper: K,
+) -> (Ending, K)
+    ensures runs { Runs Command.Drive result.0
         (exchange (S.left input.old) (S.left input.new) (T.written out.old) (T.written out.new)
-        (K.told keeper.old) (K.told keeper.new)) }
-    ensures read_failed { result ≡ Ending.ReadFailed
+        (seen (K.told keeper) (K.faults keeper)) (seen (K.told result.1) (K.faults result.1))) }
+    ensures read_failed { result.0 ≡ Ending.ReadFailed
         → Rose (S.faults input.old) (S.faults input.new) }
-    ensures write_failed { result ≡ Ending.WriteFailed
+    ensures write_failed { result.0 ≡ Ending.WriteFailed
         → Rose (T.faults out.old) (T.faults out.new) }
-    ensures keeper_failed { result ≡ Ending.KeeperFailed
-        → Rose (K.faults keeper.old) (K.faults keeper.new) }
-    ensures keeper_count { K.faults keeper.old ≤ K.faults keeper.new }
+    ensures keeper_failed { result.0 ≡ Ending.KeeperFailed
+        → Rose (K.faults keeper) (K.faults result.1) }
+    ensures keeper_count { K.faults keeper ≤ K.faults result.1 }
 {
     scenarios_stand();
-    match Play::new(alloc) {
-        Ok(mut play) => play_on(alloc, &mut play, input, out, keeper),
-        Err(OutOfMemory) => Ending::OutOfMemory,
+    match Play::new(alloc, keeper) {
+        Ok(mut play) => {
+            let ending = play_on(alloc, &mut play, input, out);
+            (ending, play.into_keeper())
+        }
+        Err(keeper) => (Ending::OutOfMemory, keeper),
     }
 }

@@ -1,8 +1,8 @@
 //! Recovery groups, from a descriptor text to its lines.
 
-ghost use Rattle.std.specs.Prelude.{◌≡◌, ◌⊎◌, ◌++◌, true, Option, IfOk, OnOk, MatchResult};
+ghost use Rattle.std.specs.Prelude.{◌≡◌, ◌⊎◌, ◌++◌, true, IfOk, OnOk, MatchResult};
 ghost use Rattle.outside.specs.Faults.{Rose};
-ghost use Rattle.outside.specs.Keeper.{KeeperTold};
+ghost use Rattle.scenario_engine.specs.KeeperCalls.{KeeperSeen};
 ghost use Rattle.drive_engine.specs.Command.{Runs};
 ghost use Rattle.drive_engine.specs.Exchange.{exchange};
 ghost use Rattle.drive_engine.specs.Groups.{group_line, groups_text, IsDeployment, IsRefused, WritesLines, ListsText, is_silent};
@@ -93,9 +93,9 @@ fn list_groups<T: Sink>(alloc: Global, text: &[u8], out: &mut T) -> Ending
 
 /// Reads a descriptor text to its end, and writes the group of each component.
 pub fn groups<S: Source, T: Sink>(alloc: Global, input: &mut S, out: &mut T) -> Ending
-    ensures runs { (told : Option KeeperTold) → Runs Command.Groups result
+    ensures runs { (keeper : KeeperSeen) → Runs Command.Groups result
         (exchange (S.left input.old) (S.left input.new) (T.written out.old) (T.written out.new)
-        told told) }
+        keeper keeper) }
     ensures read_failed { result ≡ Ending.ReadFailed
         → Rose (S.faults input.old) (S.faults input.new) }
     ensures write_failed { result ≡ Ending.WriteFailed

@@ -1,9 +1,8 @@
 //! Laws of commands. Each is the contract of a function that does nothing: a caller that needs the
 //! law calls the function.
 
-ghost use Rattle.std.specs.Prelude.{◌≡◌, ℕ, List, Option};
-ghost use Rattle.outside.specs.Keeper.{KeeperTold};
-ghost use Rattle.scenario_engine.specs.KeeperCalls.{TellsCalls};
+ghost use Rattle.std.specs.Prelude.{◌≡◌, ℕ, List};
+ghost use Rattle.scenario_engine.specs.KeeperCalls.{KeeperSeen, AreMade};
 ghost use Rattle.scenario_engine.specs.Transcript.{Turn, lines_in, first, calls_from};
 ghost use Rattle.drive_engine.specs.declared.words.Command.{Command};
 ghost use Rattle.drive_engine.specs.Command.{CallsFor};
@@ -17,8 +16,8 @@ use scenario_engine::{
 
 /// Whatever the turns, what they did stands where the keeper was called as they say.
 pub(crate) fn scenarios_stand()
-    ensures { (turns : List Turn) (old new : Option KeeperTold)
-        → TellsCalls (calls_from first turns) old new → ScenarioStands turns old new }
+    ensures { (turns : List Turn) (old new : KeeperSeen)
+        → AreMade (calls_from first turns) old new → ScenarioStands turns old new }
 {
     keepers_tell();
     boots_are_sound();

@@ -6,18 +6,25 @@ use Rattle.journal_model.specs.declared.entry.Entry.{Entry}
 use Rattle.journal_model.specs.declared.entry.Entry.TheVariants.{Down, Up}
 use Rattle.journal_model.specs.Reboots.{IsUndone, undone_of}
 use Rattle.journal_model.proofs.Undone.{undone_more}
-use Rattle.boot_core.specs.Boot.{BootValue, with_entry}
 use Rattle.boot_core.specs.Refusals.{reboot_refusal, RebootAnswer}
 use Rattle.boot_core.specs.declared.refusals.RebootRefusal.{RebootRefusal}
 use Rattle.boot_core.specs.declared.refusals.RebootRefusal.TheVariants.{Busy, JournalFull, OutOfMemory}
+use Rattle.container_core.specs.Container.{ContainerValue, with_entry_event}
+use Rattle.line_steps.specs.declared.callers.Caller.{Caller}
+use Rattle.session_steps.specs.Sessions.{SessionsState}
 use Rattle.scenario_text.specs.Answer.{Answer, Done, or_refused}
-use Rattle.scenario_engine.specs.State.{RunningState}
+use Rattle.scenario_engine.specs.KeeperCalls.{seen}
+use Rattle.scenario_engine.specs.State.{RunningState, running_value}
 use Rattle.scenario_engine.specs.Running.{scope_of, with_boot_entry, reboots, up_step, reboot_step}
 use Rattle.line_steps.specs.Texts.{down_text, up_text, reboot_refusal_text}
 
--- the same callers and sessions of another boot
-abbrev over : RunningState → BootValue → RunningState
-over r c = record r { boot = c }
+-- the running state of a container, its callers, and the sessions
+abbrev pub run_of : ContainerValue → List Caller → SessionsState → RunningState
+run_of c callers sessions = (running_value c callers sessions).running
+
+-- an entry leaves the keeper
+pub kept_after : (k m : ContainerValue) (e : Entry) → m ≡ with_entry_event k e → seen m.told m.faults ≡ seen k.told k.faults
+kept_after k m e is = ap (λ (c : ContainerValue). seen c.told c.faults) is
 
 -- a Down that comes last is undone
 pub undone_last : (es : List Entry) (s : Scope) → IsUndone (es ++ Down s ∷ []) (length es) s
@@ -25,17 +32,18 @@ undone_last [] s = record { down = refl; not_up = refl }
 undone_last (e ∷ es) s = undone_more e (es ++ Down s ∷ []) (length es) s (undone_last es s)
 
 -- a Down that has just come is undone
-pub undone_first : (old now : BootValue) (s : Scope) (i : ℕ) → now ≡ with_entry old (Down s) → i ≡ length old.entries → IsUndone now.entries i s
+pub undone_first : (old now : ContainerValue) (s : Scope) (i : ℕ) → now ≡ with_entry_event old (Down s) → i ≡ length old.boot.entries → IsUndone now.boot.entries i s
 undone_first old now s i down place =
-    let P : BootValue → Type 0 = λ now. IsUndone now.entries i s in
-    let Q : ℕ → Type 0 = λ i. IsUndone (old.entries ++ Down s ∷ []) i s in
-    subst P (sym down) (subst Q (sym place) (undone_last old.entries s))
+    let P : ContainerValue → Type 0 = λ now. IsUndone now.boot.entries i s in
+    let Q : ℕ → Type 0 = λ i. IsUndone (old.boot.entries ++ Down s ∷ []) i s in
+    subst P (sym down) (subst Q (sym place) (undone_last old.boot.entries s))
 
-pub up_done : (r : RunningState) (name : List ℕ) (s : Scope) (place : Place) (now : BootValue) (text : List ℕ) → scope_of r.boot.start.deployment name ≡ Some s → undone_of r.boot.entries s ≡ Some place → now ≡ with_entry r.boot (Up s) → text ≡ up_text (length r.boot.entries) → Done (over r now) text ≡ up_step r name
+pub up_done : (c now : ContainerValue) (callers : List Caller) (sessions : SessionsState) (name : List ℕ) (s : Scope) (place : Place) (text : List ℕ) → scope_of c.boot.start.deployment name ≡ Some s → undone_of c.boot.entries s ≡ Some place → now ≡ with_entry_event c (Up s) → text ≡ up_text (length c.boot.entries) → Done (run_of now callers sessions) text ≡ up_step (run_of c callers sessions) name
 unfolding up_step
-up_done r name s place now text found undone came wrote =
+up_done c now callers sessions name s place text found undone came wrote =
+    let r = run_of c callers sessions in
     let up : Scope → Answer RunningState = λ s. or_refused (undone_of r.boot.entries s) (λ place. Done (with_boot_entry r (Up s)) (up_text (length r.boot.entries))) in
-    let one : Done (over r now) text ≡ Done (with_boot_entry r (Up s)) (up_text (length r.boot.entries)) = cc in
+    let one : Done (run_of now callers sessions) text ≡ Done (with_boot_entry r (Up s)) (up_text (length r.boot.entries)) = ap (λ (n : ContainerValue). Done (run_of n callers sessions) text) came ∙ ap (λ t. Done (with_boot_entry r (Up s)) t) wrote in
     let two : up_step r name ≡ up s = ap (λ o. or_refused o up) found in
     let three : up s ≡ Done (with_boot_entry r (Up s)) (up_text (length r.boot.entries)) = ap (λ o. or_refused o (λ place. Done (with_boot_entry r (Up s)) (up_text (length r.boot.entries)))) undone in
     one ∙ sym (two ∙ three)
@@ -47,15 +55,15 @@ reboot_of r name s refusal found is =
     let go : Scope → Answer RunningState = λ s. reboots r s (reboot_refusal r.boot.start.limits r.boot.entries s) in
     ap (λ o. reboots r s o) (sym is) ∙ sym (ap (λ o. or_refused o go) found)
 
-pub reboot_done : (r : RunningState) (name : List ℕ) (s : Scope) (now : BootValue) (text : List ℕ) → scope_of r.boot.start.deployment name ≡ Some s → reboot_refusal r.boot.start.limits r.boot.entries s ≡ None → now ≡ with_entry (with_entry r.boot (Down s)) (Up s) → text ≡ down_text (length r.boot.entries) ++ up_text (length r.boot.entries + 1) → Done (over r now) text ≡ reboot_step r name
-reboot_done r name s now text found free came wrote =
-    let one : Done (over r now) text ≡ reboots r s None = cc in
-    one ∙ reboot_of r name s None found free
+pub reboot_done : (c now : ContainerValue) (callers : List Caller) (sessions : SessionsState) (name : List ℕ) (s : Scope) (text : List ℕ) → scope_of c.boot.start.deployment name ≡ Some s → reboot_refusal c.boot.start.limits c.boot.entries s ≡ None → now ≡ with_entry_event (with_entry_event c (Down s)) (Up s) → text ≡ down_text (length c.boot.entries) ++ up_text (length c.boot.entries + 1) → Done (run_of now callers sessions) text ≡ reboot_step (run_of c callers sessions) name
+reboot_done c now callers sessions name s text found free came wrote =
+    let r = run_of c callers sessions in
+    ap (λ (n : ContainerValue). Done (run_of n callers sessions) text) came ∙ ap (λ t. Done (with_boot_entry (with_boot_entry r (Down s)) (Up s)) t) wrote ∙ reboot_of r name s None found free
 
-pub reboot_refused : (r : RunningState) (name : List ℕ) (s : Scope) (refusal : RebootRefusal) (now : BootValue) (text : List ℕ) → scope_of r.boot.start.deployment name ≡ Some s → reboot_refusal r.boot.start.limits r.boot.entries s ≡ Some refusal → now ≡ r.boot → text ≡ reboot_refusal_text refusal → Done (over r now) text ≡ reboot_step r name
-reboot_refused r name s refusal now text found free came wrote =
-    let one : Done (over r now) text ≡ Done r (reboot_refusal_text refusal) = ap (λ c. Done (over r c) text) came ∙ ap (λ t. Done r t) wrote in
-    one ∙ reboot_of r name s (Some refusal) found free
+pub reboot_refused : (c now : ContainerValue) (callers : List Caller) (sessions : SessionsState) (name : List ℕ) (s : Scope) (refusal : RebootRefusal) (text : List ℕ) → scope_of c.boot.start.deployment name ≡ Some s → reboot_refusal c.boot.start.limits c.boot.entries s ≡ Some refusal → now ≡ c → text ≡ reboot_refusal_text refusal → Done (run_of now callers sessions) text ≡ reboot_step (run_of c callers sessions) name
+reboot_refused c now callers sessions name s refusal text found free came wrote =
+    let r = run_of c callers sessions in
+    ap (λ (n : ContainerValue). Done (run_of n callers sessions) text) came ∙ ap (λ t. Done r t) wrote ∙ reboot_of r name s (Some refusal) found free
 
 -- a reboot answers its refusal, where memory did not run out
 pub refused_of : (o : Option RebootRefusal) (refusal : RebootRefusal) → RebootAnswer o (Err refusal) → refusal ≢ OutOfMemory → o ≡ Some refusal

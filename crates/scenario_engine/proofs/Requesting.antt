@@ -20,10 +20,8 @@ use Rattle.boot_core.specs.Steps.{ticket_entered, ticket_has_read, ticket_has_li
 use Rattle.boot_core.specs.declared.refusals.CallRefusal.{CallRefusal}
 use Rattle.boot_core.specs.declared.refusals.CommitRefusal.{CommitRefusal}
 use Rattle.boot_core.specs.declared.refusals.RebootRefusal.{RebootRefusal}
-use Rattle.scenario_text.specs.declared.line.Line.{Line}
 use Rattle.scenario_text.specs.declared.boot_line.BootLine.{BootLine}
 use Rattle.scenario_text.specs.declared.boot_line.BootLine.TheVariants as boots
-use Rattle.scenario_text.specs.declared.line.Line.TheVariants as lines
 use Rattle.scenario_text.specs.declared.call_line.CallLine.{CallLine}
 use Rattle.scenario_text.specs.declared.call_line.CallLine.TheVariants as calls
 use Rattle.line_steps.specs.declared.callers.Caller.{Caller}
@@ -180,7 +178,7 @@ own_entry r e own run = record { entries = All-push (OwnEntry r.boot.start.boot)
 own_commit_ends : (r : RunningState) (n : ℕ) (ticket : TicketValue) (refusal : Option CommitRefusal) → IsOwn r.boot.start.boot ticket → IsOwnRun r → Leaves IsOwnRun (commit_ends r n ticket refusal)
 own_commit_ends r n ticket None own run =
     own_entry (with_callers r (ended r.callers n)) (Commit (entry_of ticket.call None)) own (own_ended r n run)
-own_commit_ends r n ticket (Some refusal) own run = own_ended r n run
+own_commit_ends r n ticket (Some refusal) own run = record { entries = run.entries; callers = All-set (OwnCaller r.boot.start.boot) r.callers n Absent tt run.callers }
 
 own_caller_commits : (r : RunningState) (n : ℕ) (keeps : Bool) (caller : Caller) → OwnCaller r.boot.start.boot caller → IsOwnRun r → Leaves IsOwnRun (caller_commits r n keeps caller)
 own_caller_commits r n keeps Absent own run = tt

@@ -32,10 +32,8 @@ use Rattle.boot_core.specs.declared.refusals.CommitRefusal.{CommitRefusal}
 use Rattle.boot_core.specs.declared.refusals.RebootRefusal.{RebootRefusal}
 use Rattle.scenario_engine.specs.declared.failure.UnstartedCause.TheVariants as causes
 use Rattle.container_core.specs.Start.{first_bad, start_over}
-use Rattle.scenario_text.specs.declared.line.Line.{Line}
 use Rattle.scenario_text.specs.declared.boot_line.BootLine.{BootLine}
 use Rattle.scenario_text.specs.declared.boot_line.BootLine.TheVariants as boots
-use Rattle.scenario_text.specs.declared.line.Line.TheVariants as lines
 use Rattle.scenario_text.specs.declared.call_line.CallLine.{CallLine}
 use Rattle.scenario_text.specs.declared.call_line.CallLine.TheVariants as calls
 use Rattle.line_steps.specs.declared.callers.Caller.{Caller}
@@ -49,7 +47,7 @@ use Rattle.line_steps.proofs.Fitting.{fit_set, fit_at, fit_after}
 use Rattle.scenario_text.proofs.Leaving.{Leaves, leaves-or_refused, leaves-within, leaves-weaker}
 use Rattle.line_steps.proofs.Stepping.{IsShortCall, fits_begin_step, fits_call_step, group_known}
 use Rattle.line_steps.specs.Head.{no_head}
-use Rattle.scenario_engine.proofs.Keeping.{IsShortLine, Keeps, kept_boots, kept_at_end}
+use Rattle.scenario_engine.proofs.Keeping.{Keeps, kept_boots, kept_at_end}
 use Rattle.scenario_engine.proofs.Rebooting.{undone_last}
 use Rattle.scenario_engine.specs.Opening.{StartReplies, Opening, Opened, UnstartedBoot, is_spent, opening, opening_of, opening_over}
 use Rattle.scenario_engine.specs.Running.{started, with_callers, with_sessions, with_boot_entry, commit_ends, with_keeper, boot_refusal, caller_commits, caller_drops, commit_step, drop_step, scope_of, goes_down, reboots, down_step, up_step, reboot_step, table_step, journal_step, boot_line}
@@ -99,7 +97,7 @@ sound_commit_ends laws r n ticket None free fits run =
       few = run.few;
       fit = fit_after r.boot e (ended r.callers n) (fit_set r.boot r.callers n Absent tt run.fit);
     }
-sound_commit_ends laws r n ticket (Some refusal) free fits run = sound_ended r n run
+sound_commit_ends laws r n ticket (Some refusal) free fits run = record { sound = run.sound; few = run.few; fit = fit_set r.boot r.callers n Absent tt run.fit }
 
 sound_caller_commits : (laws : BootLaws) (r : RunningState) (n : ℕ) (keeps : Bool) (caller : Caller) → FitsCaller r.boot caller → IsSoundRun r → Leaves IsSoundRun (caller_commits r n keeps caller)
 sound_caller_commits laws r n keeps Absent fits run = tt

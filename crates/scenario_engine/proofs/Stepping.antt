@@ -1,6 +1,5 @@
 -- What parts of a line show of the whole line.
-use Rattle.std.proofs.Common.{◌≡◌, ◌≢◌, ℕ, Bool, true, false, List, [], inl, Option, Some, None, Result, Ok, Err, IfOk, MatchResult, refl, sym, ap, ◌∙◌, subst, string_bytes}
-use Rattle.outside.specs.Keeper.{KeeperTold}
+use Rattle.std.proofs.Common.{◌≡◌, ℕ, Bool, true, false, List, [], Option, Some, None, Result, Ok, Err, IfOk, MatchResult, refl, sym, ap, ◌∙◌, subst, string_bytes}
 use Rattle.crash_base.specs.declared.memory.OutOfMemory.{OutOfMemory}
 use Rattle.boot_core.specs.declared.boot.Start.{Start}
 use Rattle.scenario_text.specs.Answer.{Answer, KeepsRefused, answer_of}
@@ -15,14 +14,15 @@ use Rattle.scenario_text.specs.declared.line.Line.TheVariants as lines
 use Rattle.scenario_text.specs.Line.{is_event}
 use Rattle.scenario_engine.specs.declared.failure.LineFailure.{LineFailure}
 use Rattle.scenario_engine.specs.declared.failure.LineFailure.TheVariants as failures
-use Rattle.scenario_engine.specs.Engine.{Replies, Target, TheHead, TheBoot, TheUnstarted, target_in, opened_target, target_of, target_calls, in_head, in_boot, reopens, line_over, line_on, calls_over, calls_on, step, line_calls}
-use Rattle.scenario_engine.specs.KeeperCalls.{TellsCalls, TellsSome}
-use Rattle.scenario_engine.specs.Opening.{StartReplies, Opened, UnstartedBoot, start_calls}
+use Rattle.scenario_engine.specs.Engine.{Replies, Target, TheHead, TheBoot, TheUnstarted, target_in, is_heading, opened_target, target_of, target_calls, in_head, in_boot, reopens, line_over, line_on, calls_over, calls_on, step, line_calls}
+use Rattle.scenario_engine.specs.KeeperCalls.{KeeperSeen, AreMade, AreSomeMade}
+use Rattle.scenario_engine.specs.Opening.{StartReplies, Opened, start_calls}
 use Rattle.session_steps.specs.Setup.{set_up}
 use Rattle.scenario_engine.specs.Running.{started}
-use Rattle.scenario_engine.specs.State.{RunningState, State, Heading, Running, Outcome, RefusedIn, DoneTo, UnstartedIn}
-use Rattle.scenario_engine.specs.Telling.{Opens, OpensPartly, FailsToOpen, Commits, CommitsPartly, Reaches, FailsToReach, DoesOn, DoesPartlyOn, AnswersOn, EndsOn, Does, DoesPartly, Answers, Ends}
-use Rattle.scenario_engine.proofs.Calls.{all_made, then_calls, then_some, some_first}
+use Rattle.scenario_engine.specs.Transcript.{calls_to}
+use Rattle.scenario_engine.specs.State.{RunningState, RunningValue, EngineValue, State, Heading, Running, Outcome, RefusedIn, DoneTo, UnstartedIn}
+use Rattle.scenario_engine.specs.Telling.{Opens, FailsToOpen, Commits, CommitsPartly, Reaches, FailsToReach, DoesOn, DoesPartlyOn, AnswersOn, EndsOn, Does, DoesPartly, Answers, Ends}
+use Rattle.scenario_engine.proofs.Calls.{none_made, none_of, all_made, then_made, then_some, some_first}
 
 -- replies that nobody asks for
 abbrev no_start : StartReplies
@@ -32,82 +32,87 @@ abbrev no_replies : Replies
 no_replies = record { first = no_start; again = no_start; keeps = false }
 
 -- a state that has a boot, or whose line is no event line, needs no start
-pub reached : (s : State) (told : Option KeeperTold) → Reaches s false (target_in s) told told
-reached (Heading head) told = record { replies = no_start; is = refl; told = refl }
-reached (Running r) told = record { replies = no_start; is = refl; told = refl }
+pub reached : (s : State) (k : KeeperSeen) → Reaches s false (target_in s) k k
+reached (Heading head) k = record { replies = no_start; is = refl; made = none_made k }
+reached (Running r) k = record { replies = no_start; is = refl; made = none_made k }
 
-pub reached_running : (r : RunningState) (told : Option KeeperTold) → Reaches (Running r) true (TheBoot r) told told
-reached_running r told = record { replies = no_start; is = refl; told = refl }
+pub reached_running : (r : RunningState) (k : KeeperSeen) → Reaches (Running r) true (TheBoot r) k k
+reached_running r k = record { replies = no_start; is = refl; made = none_made k }
 
-pub reached_opened : (head : Head) (start : Start) (old new : Option KeeperTold) → Opens head.parts head.limits (Opened start) old new → Reaches (Heading head) true (TheBoot (started (set_up head.setup 0) start)) old new
+pub reached_opened : (head : Head) (start : Start) (old new : KeeperSeen) → Opens head.parts head.limits (Opened start) old new → Reaches (Heading head) true (TheBoot (started (set_up head.setup 0) start)) old new
 reached_opened head start old new h = record {
   replies = h.replies;
   is = ap (λ o. opened_target head o) h.opens;
-  told = h.told;
+  made = h.made;
 }
 
-pub fails_to_reach : (head : Head) (failure : LineFailure) (old new : Option KeeperTold) → FailsToOpen failure head.parts head.limits old new → FailsToReach failure (Heading head) true old new
+pub fails_to_reach : (head : Head) (failure : LineFailure) (old new : KeeperSeen) → FailsToOpen failure head.parts head.limits old new → FailsToReach failure (Heading head) true old new
 fails_to_reach head (failures.Unstarted cause) old new h = (
   head,
   record {
     replies = h.replies;
     is = ap (λ o. opened_target head o) h.opens;
-    told = h.told;
+    made = h.made;
   },
 )
-fails_to_reach head failures.OutOfMemory old new h = record { replies = h.replies; told = h.told }
+fails_to_reach head failures.OutOfMemory old new h = record { replies = h.replies; made = h.made }
 
 -- a line of the head
-pub in_the_head : (a : LineAnswer) (line : Line) (head next : Head) (told : Option KeeperTold) → answer_of a next ≡ head_line head line → KeepsRefused a head next → AnswersOn a (Heading next) (TheHead head) line told told
-in_the_head answers.Refused line head next told is kept = record { replies = no_replies; answers = ap (λ h. RefusedIn (Heading h)) kept ∙ ap (in_head head) is; told = refl }
-in_the_head answers.Done line head next told is kept = record { replies = no_replies; answers = ap (in_head head) is; told = refl }
-in_the_head (answers.Wrote text) line head next told is kept = record { replies = no_replies; answers = ap (in_head head) is; told = refl }
+pub in_the_head : (a : LineAnswer) (line : Line) (head next : Head) (k : KeeperSeen) → answer_of a next ≡ head_line head line → KeepsRefused a head next → AnswersOn a (Heading next) (TheHead head) line k k
+in_the_head answers.Refused line head next k is kept = record { replies = no_replies; answers = ap (λ h. RefusedIn (Heading h)) kept ∙ ap (in_head head) is; made = none_made k }
+in_the_head answers.Done line head next k is kept = record { replies = no_replies; answers = ap (in_head head) is; made = none_made k }
+in_the_head (answers.Wrote text) line head next k is kept = record { replies = no_replies; answers = ap (in_head head) is; made = none_made k }
+
+-- a boot that is started needs no start
+pub reached_run : (s : State) (event : Bool) (k : KeeperSeen) → is_heading s ≡ false → Reaches s event (target_in s) k k
+reached_run (Running r) event k is = record { replies = no_start; is = refl; made = none_made k }
+reached_run (Heading head) event k is = absurd (cc)
 
 -- a line over a boot, by the answer of its part
-over_boot : (a : LineAnswer) (line : Line) (r next : RunningState) (replies : Replies) (answer : Answer RunningState) (old new : Option KeeperTold) → in_boot r answer ≡ line_on (TheBoot r) line replies → TellsCalls (calls_on (TheBoot r) line replies) old new → answer_of a next ≡ answer → KeepsRefused a r next → AnswersOn a (Running next) (TheBoot r) line old new
-over_boot answers.Refused line r next replies answer old new whole told is kept = record { replies = replies; answers = ap (λ s. RefusedIn (Running s)) kept ∙ (ap (in_boot r) is ∙ whole); told = told }
-over_boot answers.Done line r next replies answer old new whole told is kept = record { replies = replies; answers = ap (in_boot r) is ∙ whole; told = told }
-over_boot (answers.Wrote text) line r next replies answer old new whole told is kept = record { replies = replies; answers = ap (in_boot r) is ∙ whole; told = told }
+over_boot : (a : LineAnswer) (line : Line) (r next : RunningState) (replies : Replies) (answer : Answer RunningState) (old new : KeeperSeen) → in_boot r answer ≡ line_on (TheBoot r) line replies → AreMade (calls_on (TheBoot r) line replies) old new → answer_of a next ≡ answer → KeepsRefused a r next → AnswersOn a (Running next) (TheBoot r) line old new
+over_boot answers.Refused line r next replies answer old new whole made is kept = record { replies = replies; answers = ap (λ s. RefusedIn (Running s)) kept ∙ (ap (in_boot r) is ∙ whole); made = made }
+over_boot answers.Done line r next replies answer old new whole made is kept = record { replies = replies; answers = ap (in_boot r) is ∙ whole; made = made }
+over_boot (answers.Wrote text) line r next replies answer old new whole made is kept = record { replies = replies; answers = ap (in_boot r) is ∙ whole; made = made }
 
 -- a line of the head that is passed over or refused, over a boot
-pub passed : (r : RunningState) (k : Option KeeperTold) → AnswersOn answers.Done (Running r) (TheBoot r) lines.Pass k k
-passed r k = record { replies = no_replies; answers = refl; told = refl }
+pub passed : (r : RunningState) (k : KeeperSeen) → AnswersOn answers.Done (Running r) (TheBoot r) lines.Pass k k
+passed r k = record { replies = no_replies; answers = refl; made = none_made k }
 
-pub head_refused : (r : RunningState) (line : HeadLine) (k : Option KeeperTold) → AnswersOn answers.Refused (Running r) (TheBoot r) (lines.Head line) k k
-head_refused r line k = record { replies = no_replies; answers = refl; told = refl }
+pub head_refused : (r : RunningState) (line : HeadLine) (k : KeeperSeen) → AnswersOn answers.Refused (Running r) (TheBoot r) (lines.Head line) k k
+head_refused r line k = record { replies = no_replies; answers = refl; made = none_made k }
 
 -- replies to a commit
 abbrev to_commit : Bool → Replies
 to_commit keeps = record { first = no_start; again = no_start; keeps = keeps }
 
-pub committed : (a : LineAnswer) (r next : RunningState) (caller : ℕ) (old new : Option KeeperTold) → Commits r caller (answer_of a next) old new → KeepsRefused a r next → AnswersOn a (Running next) (TheBoot r) (lines.Commit caller) old new
-committed a r next caller old new h kept = over_boot a (lines.Commit caller) r next (to_commit h.keeps) _ old new refl h.told h.answers kept
+pub committed : (a : LineAnswer) (r next : RunningState) (caller : ℕ) (old new : KeeperSeen) → Commits r caller (answer_of a next) old new → KeepsRefused a r next → AnswersOn a (Running next) (TheBoot r) (lines.Commit caller) old new
+committed a r next caller old new h kept = over_boot a (lines.Commit caller) r next (to_commit h.keeps) _ old new refl h.made h.answers kept
 
-pub commit_partly : (r : RunningState) (caller : ℕ) (old new : Option KeeperTold) → CommitsPartly r caller old new → DoesPartlyOn (TheBoot r) (lines.Commit caller) old new
-commit_partly r caller old new h = record { replies = to_commit false; unkept = refl; told = h }
+pub commit_partly : (r : RunningState) (caller : ℕ) (old new : KeeperSeen) → CommitsPartly r caller old new → DoesPartlyOn (TheBoot r) (lines.Commit caller) old new
+commit_partly r caller old new h = record { replies = to_commit false; unkept = refl; made = h }
 
 -- replies to a `reopen`
 abbrev to_reopen : StartReplies → Replies
 to_reopen again = record { first = no_start; again = again; keeps = false }
 
-pub reopened : (r next : RunningState) (start : Start) (text : List ℕ) (old new : Option KeeperTold) → next ≡ started r.sessions start → Opens r.boot.start.deployment r.boot.start.limits (Opened start) old new → text ≡ boot_text next.boot.start.boot → DoesOn (TheBoot r) lines.Reopen (DoneTo (Running next) text) old new
+pub reopened : (r next : RunningState) (start : Start) (text : List ℕ) (old new : KeeperSeen) → next ≡ started r.sessions start → Opens r.boot.start.deployment r.boot.start.limits (Opened start) old new → text ≡ boot_text next.boot.start.boot → DoesOn (TheBoot r) lines.Reopen (DoneTo (Running next) text) old new
 reopened r next start text old new is h wrote =
     let P : RunningState → Type 0 = λ n. text ≡ boot_text n.boot.start.boot → DoesOn (TheBoot r) lines.Reopen (DoneTo (Running n) text) old new in
     subst P (sym is) (λ w. record {
       replies = to_reopen h.replies;
       answers = ap (DoneTo (Running (started r.sessions start))) w ∙ ap (reopens r) h.opens;
-      told = h.told;
+      made = h.made;
     }) wrote
 
-pub reopened_partly : (r : RunningState) (start : Start) (old new : Option KeeperTold) → Opens r.boot.start.deployment r.boot.start.limits (Opened start) old new → DoesPartlyOn (TheBoot r) lines.Reopen old new
+pub reopened_partly : (r : RunningState) (start : Start) (old new : KeeperSeen) → Opens r.boot.start.deployment r.boot.start.limits (Opened start) old new → DoesPartlyOn (TheBoot r) lines.Reopen old new
 reopened_partly r start old new h =
-    record { replies = to_reopen h.replies; unkept = refl; told = all_made (start_calls h.replies) old new h.told }
+    record { replies = to_reopen h.replies; unkept = refl; made = all_made (start_calls h.replies) old new h.made }
 
-pub reopen_ends : (r : RunningState) (failure : LineFailure) (old new : Option KeeperTold) → FailsToOpen failure r.boot.start.deployment r.boot.start.limits old new → EndsOn failure (TheBoot r) lines.Reopen old new
+pub reopen_ends : (r : RunningState) (failure : LineFailure) (old new : KeeperSeen) → FailsToOpen failure r.boot.start.deployment r.boot.start.limits old new → EndsOn failure (TheBoot r) lines.Reopen old new
 reopen_ends r (failures.Unstarted cause) old new h =
-    (Running r, record { replies = to_reopen h.replies; answers = ap (reopens r) h.opens; told = h.told })
+    (Running r, record { replies = to_reopen h.replies; answers = ap (reopens r) h.opens; made = h.made })
 reopen_ends r failures.OutOfMemory old new h =
-    record { replies = to_reopen h.replies; unkept = refl; told = h.told }
+    record { replies = to_reopen h.replies; unkept = refl; made = h.made }
 
 -- the replies to a line, by those to its start and those to the rest
 abbrev both : StartReplies → Replies → Replies
@@ -142,7 +147,7 @@ same_calls (TheBoot r) line first rest = go line
     go (lines.Session line) = refl
 
 -- a line, by what it is done to
-does : (s : State) (line : Line) (target : Target) (outcome : Outcome) (old between new : Option KeeperTold) → Reaches s (is_event line) target old between → DoesOn target line outcome between new → Does s (Some line) outcome old new
+does : (s : State) (line : Line) (target : Target) (outcome : Outcome) (old between new : KeeperSeen) → Reaches s (is_event line) target old between → DoesOn target line outcome between new → Does s (Some line) outcome old new
 unfolding step line_calls
 does s line target outcome old between new reach h =
     let replies : Replies = both reach.replies h.replies in
@@ -151,10 +156,10 @@ does s line target outcome old between new reach h =
     record {
       replies = replies;
       answers = h.answers ∙ same_line target line reach.replies h.replies ∙ ap (λ t. line_on t line replies) reach.is;
-      told = then_calls first _ old between new reach.told (subst (λ cs. TellsCalls cs between new) calls h.told);
+      made = then_made first _ old between new reach.made (subst (λ cs. AreMade cs between new) calls h.made);
     }
 
-does_partly : (s : State) (line : Line) (target : Target) (old between new : Option KeeperTold) → Reaches s (is_event line) target old between → DoesPartlyOn target line between new → DoesPartly s (Some line) old new
+does_partly : (s : State) (line : Line) (target : Target) (old between new : KeeperSeen) → Reaches s (is_event line) target old between → DoesPartlyOn target line between new → DoesPartly s (Some line) old new
 unfolding line_calls
 does_partly s line target old between new reach h =
     let replies : Replies = both reach.replies h.replies in
@@ -163,77 +168,102 @@ does_partly s line target old between new reach h =
     record {
       replies = replies;
       unkept = h.unkept;
-      told = then_some first _ old between new reach.told (subst (λ cs. TellsSome cs between new) calls h.told);
+      made = then_some first _ old between new reach.made (subst (λ cs. AreSomeMade cs between new) calls h.made);
     }
 
-pub does_line : (a : LineAnswer) (s after : State) (line : Line) (target : Target) (old between new : Option KeeperTold) → Reaches s (is_event line) target old between → AnswersOn a after target line between new → Answers a after s (Some line) old new
+pub does_line : (a : LineAnswer) (s after : State) (line : Line) (target : Target) (old between new : KeeperSeen) → Reaches s (is_event line) target old between → AnswersOn a after target line between new → Answers a after s (Some line) old new
 does_line answers.Refused s after line target old between new reach h = does s line target (RefusedIn after) old between new reach h
 does_line answers.Done s after line target old between new reach h = does s line target (DoneTo after []) old between new reach h
 does_line (answers.Wrote text) s after line target old between new reach h = does s line target (DoneTo after (string_bytes text)) old between new reach h
 
-pub ends_line : (failure : LineFailure) (s : State) (line : Line) (target : Target) (old between new : Option KeeperTold) → Reaches s (is_event line) target old between → EndsOn failure target line between new → Ends failure s (Some line) old new
+pub ends_line : (failure : LineFailure) (s : State) (line : Line) (target : Target) (old between new : KeeperSeen) → Reaches s (is_event line) target old between → EndsOn failure target line between new → Ends failure s (Some line) old new
 ends_line (failures.Unstarted cause) s line target old between new reach (state, h) = (state, does s line target (UnstartedIn state cause) old between new reach h)
 ends_line failures.OutOfMemory s line target old between new reach h = does_partly s line target old between new reach h
 
 -- a line that has nothing to be done to
-pub ends_before : (failure : LineFailure) (s : State) (line : Line) (old new : Option KeeperTold) → FailsToReach failure s (is_event line) old new → Ends failure s (Some line) old new
+pub ends_before : (failure : LineFailure) (s : State) (line : Line) (old new : KeeperSeen) → FailsToReach failure s (is_event line) old new → Ends failure s (Some line) old new
 unfolding line_calls
 ends_before (failures.Unstarted cause) s line old new (head, h) =
-    (Heading head, does s line (TheUnstarted head cause) (UnstartedIn (Heading head) cause) old new new h (record { replies = no_replies; answers = refl; told = refl }))
+    (Heading head, does s line (TheUnstarted head cause) (UnstartedIn (Heading head) cause) old new new h (record { replies = no_replies; answers = refl; made = none_made new }))
 ends_before failures.OutOfMemory s line old new h =
     let replies : Replies = both h.replies no_replies in
-    record { replies = replies; unkept = refl; told = some_first (target_calls s (is_event line) h.replies) _ old new h.told }
+    record { replies = replies; unkept = refl; made = some_first (target_calls s (is_event line) h.replies) _ old new h.made }
+
+-- a head over a keeper, and a boot with its keeper
+
+abbrev pub heading : Head → KeeperSeen → EngineValue
+heading head k = record { state = Heading head; keeper = k }
+
+abbrev pub in_run : RunningValue → EngineValue
+in_run r = record { state = Running r.running; keeper = r.keeper }
 
 -- how a line on the target of a state ended
-abbrev pub LineEnded : Result LineAnswer LineFailure → State → State → Line → Option KeeperTold → Option KeeperTold → Type 0
-LineEnded result after s line old new = MatchResult result (λ a. AnswersOn a after (target_in s) line old new) (λ failure. EndsOn failure (target_in s) line old new)
+abbrev pub LineEnded : Result LineAnswer LineFailure → EngineValue → EngineValue → Line → Type 0
+LineEnded result after v line = MatchResult result (λ a. AnswersOn a after.state (target_in v.state) line v.keeper after.keeper) (λ failure. EndsOn failure (target_in v.state) line v.keeper after.keeper)
 
--- the same, over equal values
-pub moved : (result result' : Result LineAnswer LineFailure) (after after' s s' : State) (line line' : Line) (old new new' : Option KeeperTold) → LineEnded result' after' s' line' old new' → result ≡ result' → after ≡ after' → s' ≡ s → line ≡ line' → new ≡ new' → LineEnded result after s line old new
-moved result result' after after' s s' line line' old new new' h r a t l n =
-    let zero = subst (λ l. LineEnded result' after' s' l old new') (sym l) h in
-    let one = subst (λ s. LineEnded result' after' s line old new') t zero in
-    let two = subst (λ n. LineEnded result' after' s line old n) (sym n) one in
-    let three = subst (λ a. LineEnded result' a s line old new) (sym a) two in
-    subst (λ r. LineEnded r after s line old new) (sym r) three
+-- the same, of a value and a line that are the same
+pub placed : (result : Result LineAnswer LineFailure) (after v w : EngineValue) (line line' : Line) → LineEnded result after w line' → w ≡ v → line ≡ line' → LineEnded result after v line
+placed result after v w line line' h t l = subst (λ v. LineEnded result after v line) t (subst (λ l. LineEnded result after w l) (sym l) h)
 
--- the same, of a state and a line that are the same
-pub placed : (result : Result LineAnswer LineFailure) (after s s' : State) (line line' : Line) (old new : Option KeeperTold) → LineEnded result after s' line' old new → s' ≡ s → line ≡ line' → LineEnded result after s line old new
-placed result after s s' line line' old new h t l = subst (λ s. LineEnded result after s line old new) t (subst (λ l. LineEnded result after s' l old new) (sym l) h)
+pub moved : (result result' : Result LineAnswer LineFailure) (after v w : EngineValue) (line : Line) → LineEnded result' after w line → result ≡ result' → w ≡ v → LineEnded result after v line
+moved result result' after v w line h r t = subst (λ r. LineEnded r after v line) (sym r) (subst (λ v. LineEnded result' after v line) t h)
 
-pub line_done : (result : Result LineAnswer LineFailure) (s t after : State) (line : Line) (old between new : Option KeeperTold) → Reaches s (is_event line) (target_in t) old between → LineEnded result after t line between new → MatchResult result (λ a. Answers a after s (Some line) old new) (λ failure. Ends failure s (Some line) old new)
-line_done (Ok a) s t after line old between new reach h = does_line a s after line (target_in t) old between new reach h
-line_done (Err failure) s t after line old between new reach h = ends_line failure s line (target_in t) old between new reach h
+pub line_done : (result : Result LineAnswer LineFailure) (v w after : EngineValue) (line : Line) → Reaches v.state (is_event line) (target_in w.state) v.keeper w.keeper → LineEnded result after w line → MatchResult result (λ a. Answers a after.state v.state (Some line) v.keeper after.keeper) (λ failure. Ends failure v.state (Some line) v.keeper after.keeper)
+line_done (Ok a) v w after line reach h = does_line a v.state after.state line (target_in w.state) v.keeper w.keeper after.keeper reach h
+line_done (Err failure) v w after line reach h = ends_line failure v.state line (target_in w.state) v.keeper w.keeper after.keeper reach h
+
+-- a boot that was started, or not
+
+pub started_so : (v : EngineValue) (head : Head) (k : KeeperSeen) (r : RunningValue) (start : Start) → heading head k ≡ v → r.running ≡ started (set_up head.setup 0) start → Opens head.parts head.limits (Opened start) k r.keeper → Reaches v.state true (TheBoot r.running) v.keeper r.keeper
+started_so v head k r start is so opens =
+    let P : EngineValue → Type 0 = λ v. Reaches v.state true (TheBoot r.running) v.keeper r.keeper in
+    let Q : RunningState → Type 0 = λ s. Reaches (Heading head) true (TheBoot s) k r.keeper in
+    subst P is (subst Q (sym so) (reached_opened head start k r.keeper opens))
+
+pub not_started_so : (v : EngineValue) (head : Head) (k new : KeeperSeen) (failure : LineFailure) → heading head k ≡ v → FailsToOpen failure head.parts head.limits k new → FailsToReach failure v.state true v.keeper new
+not_started_so v head k new failure is fails =
+    let P : EngineValue → Type 0 = λ v. FailsToReach failure v.state true v.keeper new in
+    subst P is (fails_to_reach head failure k new fails)
+
+pub started_already : (v : EngineValue) (r : RunningValue) → in_run r ≡ v → Reaches v.state true (TheBoot r.running) v.keeper r.keeper
+started_already v r is =
+    let P : EngineValue → Type 0 = λ v. Reaches v.state true (TheBoot r.running) v.keeper r.keeper in
+    subst P is (reached_running r.running r.keeper)
 
 -- a text for which memory ran out before it was read
-pub unread : (s : State) (line : Option Line) (told : Option KeeperTold) → DoesPartly s line told told
-unread s line told = record { replies = no_replies; unkept = refl; told = record { made = []; more = _; begins = refl; between = told; told = refl; last = inl refl } }
+pub unread : (s : State) (line : Option Line) (k : KeeperSeen) → DoesPartly s line k k
+unread s line k = record { replies = no_replies; unkept = refl; made = none_of (calls_to s line no_replies) k }
 
 -- a line for which memory ran out before the keeper was called
-pub uncalled : (target : Target) (line : Line) (told : Option KeeperTold) → DoesPartlyOn target line told told
-uncalled target line told = record { replies = no_replies; unkept = refl; told = record { made = []; more = _; begins = refl; between = told; told = refl; last = inl refl } }
+pub uncalled : (target : Target) (line : Line) (k : KeeperSeen) → DoesPartlyOn target line k k
+uncalled target line k = record { replies = no_replies; unkept = refl; made = none_of (calls_on target line no_replies) k }
 
 -- a text that spells no line
-pub spells_none : (s : State) (line : Option Line) (told : Option KeeperTold) → line ≡ None → Answers answers.Refused s s line told told
-spells_none s line told none = subst (λ o. Answers answers.Refused s s o told told) (sym none) (record { replies = no_replies; answers = refl; told = refl })
+pub spells_none : (s : State) (line : Option Line) (k : KeeperSeen) → line ≡ None → Answers answers.Refused s s line k k
+spells_none s line k none = subst (λ o. Answers answers.Refused s s o k k) (sym none) (record { replies = no_replies; answers = refl; made = none_made k })
 
 -- how a part of a line ended, for which memory may have run out
-abbrev pub PartEnded : Result LineAnswer OutOfMemory → State → State → Line → Option KeeperTold → Option KeeperTold → Type 0
-PartEnded part after s line old new = MatchResult part (λ a. AnswersOn a after (target_in s) line old new) (λ none. DoesPartlyOn (target_in s) line old new)
+abbrev pub PartEnded : Result LineAnswer OutOfMemory → EngineValue → EngineValue → Line → Type 0
+PartEnded part after v line = MatchResult part (λ a. AnswersOn a after.state (target_in v.state) line v.keeper after.keeper) (λ none. DoesPartlyOn (target_in v.state) line v.keeper after.keeper)
 
-pub part_ended : (part : Result LineAnswer OutOfMemory) (result : Result LineAnswer LineFailure) (after s : State) (line : Line) (old new : Option KeeperTold) → MatchResult part (λ a. result ≡ Ok a) (λ none. result ≡ Err failures.OutOfMemory) → PartEnded part after s line old new → LineEnded result after s line old new
-part_ended (Ok a) result after s line old new is h = subst (λ r. LineEnded r after s line old new) (sym is) h
-part_ended (Err e) result after s line old new is h = subst (λ r. LineEnded r after s line old new) (sym is) h
+pub part_ended : (part : Result LineAnswer OutOfMemory) (result : Result LineAnswer LineFailure) (after v : EngineValue) (line : Line) → MatchResult part (λ a. result ≡ Ok a) (λ none. result ≡ Err failures.OutOfMemory) → PartEnded part after v line → LineEnded result after v line
+part_ended (Ok a) result after v line is h = subst (λ r. LineEnded r after v line) (sym is) h
+part_ended (Err e) result after v line is h = subst (λ r. LineEnded r after v line) (sym is) h
 
-pub head_ended : (part : Result LineAnswer OutOfMemory) (line : Line) (head next : Head) (k : Option KeeperTold) → IfOk part (λ a. answer_of a next ≡ head_line head line) → IfOk part (λ a. KeepsRefused a head next) → PartEnded part (Heading next) (Heading head) line k k
+pub head_ended : (part : Result LineAnswer OutOfMemory) (line : Line) (head next : Head) (k : KeeperSeen) → IfOk part (λ a. answer_of a next ≡ head_line head line) → IfOk part (λ a. KeepsRefused a head next) → PartEnded part (heading next k) (heading head k) line
 head_ended (Ok a) line head next k is kept = in_the_head a line head next k is kept
 head_ended (Err e) line head next k is kept = uncalled (TheHead head) line k
 
 -- a line over a boot that calls no keeper
-pub uncalled_ended : (part : Result LineAnswer OutOfMemory) (line : Line) (r next : RunningState) (answer : Answer RunningState) (k : Option KeeperTold) → in_boot r answer ≡ line_on (TheBoot r) line no_replies → calls_on (TheBoot r) line no_replies ≡ [] → IfOk part (λ a. answer_of a next ≡ answer) → IfOk part (λ a. KeepsRefused a r next) → PartEnded part (Running next) (Running r) line k k
-uncalled_ended (Ok a) line r next answer k whole none is kept = over_boot a line r next no_replies answer k k whole (subst (λ cs. TellsCalls cs k k) (sym none) refl) is kept
-uncalled_ended (Err e) line r next answer k whole none is kept = uncalled (TheBoot r) line k
+pub uncalled_ended : (part : Result LineAnswer OutOfMemory) (line : Line) (r next : RunningValue) (answer : Answer RunningState) → in_boot r.running answer ≡ line_on (TheBoot r.running) line no_replies → calls_on (TheBoot r.running) line no_replies ≡ [] → IfOk part (λ a. answer_of a next.running ≡ answer) → IfOk part (λ a. KeepsRefused a r.running next.running) → next.keeper ≡ r.keeper → PartEnded part (in_run next) (in_run r) line
+uncalled_ended part line r next answer whole none is kept same =
+    let P : KeeperSeen → Type 0 = λ k. PartEnded part (record { state = Running next.running; keeper = k }) (in_run r) line in
+    subst P (sym same) (go part is kept)
+  where
+    go : (part : Result LineAnswer OutOfMemory) → IfOk part (λ a. answer_of a next.running ≡ answer) → IfOk part (λ a. KeepsRefused a r.running next.running) → PartEnded part (record { state = Running next.running; keeper = r.keeper }) (in_run r) line
+    go (Ok a) is kept = over_boot a line r.running next.running no_replies answer r.keeper r.keeper whole (subst (λ cs. AreMade cs r.keeper r.keeper) (sym none) (none_made r.keeper)) is kept
+    go (Err e) is kept = uncalled (TheBoot r.running) line r.keeper
 
-pub commit_ended : (part : Result LineAnswer OutOfMemory) (r next : RunningState) (caller : ℕ) (old new : Option KeeperTold) → MatchResult part (λ a. Commits r caller (answer_of a next) old new) (λ none. CommitsPartly r caller old new) → IfOk part (λ a. KeepsRefused a r next) → PartEnded part (Running next) (Running r) (lines.Commit caller) old new
-commit_ended (Ok a) r next caller old new h kept = committed a r next caller old new h kept
-commit_ended (Err e) r next caller old new h kept = commit_partly r caller old new h
+pub commit_ended : (part : Result LineAnswer OutOfMemory) (r next : RunningValue) (caller : ℕ) → MatchResult part (λ a. Commits r.running caller (answer_of a next.running) r.keeper next.keeper) (λ none. CommitsPartly r.running caller r.keeper next.keeper) → IfOk part (λ a. KeepsRefused a r.running next.running) → PartEnded part (in_run next) (in_run r) (lines.Commit caller)
+commit_ended (Ok a) r next caller h kept = committed a r.running next.running caller r.keeper next.keeper h kept
+commit_ended (Err e) r next caller h kept = commit_partly r.running caller r.keeper next.keeper h

@@ -1,17 +1,16 @@
 -- Turns that were done, and more.
-use Rattle.std.proofs.Common.{◌≡◌, ℕ, suc, ◌+◌, ◌<◌, ◌≤◌, Bool, true, false, cond, nat_lt, List, [], ◌∷◌, ◌++◌, length, Option, None, refl, ap, sym, subst, ◌∙◌, append_assoc, append-nil, arith}
+use Rattle.std.proofs.Common.{◌≡◌, ℕ, suc, ◌+◌, ◌<◌, ◌≤◌, Bool, true, false, cond, nat_lt, List, [], ◌∷◌, ◌++◌, length, None, refl, ap, sym, subst, ◌∙◌, append_assoc, append-nil, arith}
 use Rattle.std.proofs.lemmas.Bool.Decides.{nat_tests}
 use Rattle.std.proofs.lemmas.List.{map-append}
 use Rattle.scenario_engine.specs.declared.failure.UnstartedCause.{UnstartedCause}
-use Rattle.outside.specs.Keeper.{KeeperTold}
 use Rattle.scenario_text.specs.Reading.{line_of}
 use Rattle.scenario_text.specs.declared.line.TheConstants.{MAX_LINE_BYTES}
 use Rattle.scenario_engine.specs.Engine.{Replies}
-use Rattle.scenario_engine.specs.KeeperCalls.{KeeperCall, TellsCalls}
+use Rattle.scenario_engine.specs.KeeperCalls.{KeeperCall, KeeperSeen, AreMade}
 use Rattle.scenario_engine.specs.State.{State, Outcome, RefusedIn, DoneTo, UnstartedIn}
 use Rattle.scenario_engine.specs.Telling.{Does}
 use Rattle.scenario_engine.specs.Transcript.{Turn, lines_in, first, turn_outcome, turn_calls, transcript, End, Ended, RefusedAt, TooLong, Unstarted, end_from, calls_from}
-use Rattle.scenario_engine.proofs.Calls.{then_calls}
+use Rattle.scenario_engine.proofs.Calls.{then_made}
 
 -- the lines of turns, and of one more
 pub lines_in-push : (turns : List Turn) (turn : Turn) → lines_in (turns ++ turn ∷ []) ≡ lines_in turns ++ turn.line ∷ []
@@ -148,14 +147,14 @@ pub calls_from-push : (s : State) (turns : List Turn) (turn : Turn) → end_from
 calls_from-push s turns turn h short = calls_from-more first s 1 turns (turn ∷ []) h ∙ ap (λ cs. calls_from first turns ++ cs) (calls_from-turn s turn short)
 
 -- a text that was done is a turn
-pub turn_done : (s : State) (line : List ℕ) (o : Outcome) (old new : Option KeeperTold) (d : Does s (line_of line) o old new) → turn_outcome s (record { line = line; replies = d.replies }) ≡ o
+pub turn_done : (s : State) (line : List ℕ) (o : Outcome) (old new : KeeperSeen) (d : Does s (line_of line) o old new) → turn_outcome s (record { line = line; replies = d.replies }) ≡ o
 unfolding turn_outcome
 turn_done s line o old new d = sym d.answers
 
--- a keeper that was called as turns say, and for a text that was done after them
-pub told-push : (s : State) (turns : List Turn) (line : List ℕ) (o : Outcome) (old between new : Option KeeperTold) → end_from first 1 turns ≡ Ended s → length line ≤ MAX_LINE_BYTES → TellsCalls (calls_from first turns) old between → (d : Does s (line_of line) o between new) → TellsCalls (calls_from first (turns ++ record { line = line; replies = d.replies } ∷ [])) old new
+-- calls that were made as turns say, and for a text that was done after them
+pub made-push : (s : State) (turns : List Turn) (line : List ℕ) (o : Outcome) (old between new : KeeperSeen) → end_from first 1 turns ≡ Ended s → length line ≤ MAX_LINE_BYTES → AreMade (calls_from first turns) old between → (d : Does s (line_of line) o between new) → AreMade (calls_from first (turns ++ record { line = line; replies = d.replies } ∷ [])) old new
 unfolding turn_calls
-told-push s turns line o old between new h short told d =
+made-push s turns line o old between new h short made d =
     let turn : Turn = record { line = line; replies = d.replies } in
-    let P : List KeeperCall → Type 0 = λ cs. TellsCalls cs old new in
-    subst P (sym (calls_from-push s turns turn h short)) (then_calls (calls_from first turns) (turn_calls s turn) old between new told d.told)
+    let P : List KeeperCall → Type 0 = λ cs. AreMade cs old new in
+    subst P (sym (calls_from-push s turns turn h short)) (then_made (calls_from first turns) (turn_calls s turn) old between new made d.made)

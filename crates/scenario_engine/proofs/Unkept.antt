@@ -15,8 +15,8 @@ use Rattle.scenario_text.specs.declared.line.Line.{Line}
 use Rattle.scenario_text.specs.Line.{is_event}
 use Rattle.scenario_text.specs.declared.line.Line.TheVariants as lines
 use Rattle.scenario_engine.specs.Engine.{Replies, Target, TheHead, TheBoot, TheUnstarted, target_of, target_calls, calls_over, calls_on, line_calls}
-use Rattle.scenario_engine.specs.KeeperCalls.{KeeperCall, Gave, Kept, Failed, TellsCalls, apply_calls}
-use Rattle.scenario_engine.specs.Opening.{StartReplies, is_spent, start_calls, start_calls_of}
+use Rattle.scenario_engine.specs.KeeperCalls.{KeeperCall, Gave, Kept, Failed, KeeperSeen, TellsCalls, apply_calls}
+use Rattle.scenario_engine.specs.Opening.{StartReplies, is_spent, start_calls_of}
 use Rattle.scenario_engine.specs.Opening as opening
 use Rattle.scenario_engine.specs.Running.{keep_calls, caller_calls, boot_refusal, commit_calls}
 use Rattle.scenario_engine.specs.State.{RunningState, State, Heading, Running}
@@ -130,8 +130,17 @@ with_last o more None new h (inr (some, (inl is))) = subst (λ m. IfSome m (λ n
 with_last o more (Some n) new h (inr (some, (inl is))) = subst (λ m. IfSome m (λ n. (numbers : List ℕ) × (n.rows ≡ put_all (map boot_row numbers) o.rows))) (sym is) h
 with_last o more between new h (inr (some, (inr is))) = subst (λ m. IfSome m (λ n. (numbers : List ℕ) × (n.rows ≡ put_all (map boot_row numbers) o.rows))) (sym is) tt
 
-pub numbers_alone : (s : State) (o : Option Line) (old new : Option KeeperTold) → DoesPartly s o old new → HoldsRowsButNumber old new
-numbers_alone s o None new h = tt
-numbers_alone s o (Some old) new h =
-    let of : AreOfNumber (h.told.made ++ h.told.more) = subst AreOfNumber h.told.begins (of_line s o h.replies h.unkept) in
-    with_last old h.told.more h.told.between new (numbered h.told.made old h.told.between (of_first h.told.made h.told.more of) h.told.told) h.told.last
+-- the same, where the keeper told at first
+numbered_some : (s : State) (o : Option Line) (t : KeeperTold) (old new : KeeperSeen) → old.told ≡ Some t → DoesPartly s o old new → HoldsRowsButNumber (Some t) new.told
+numbered_some s o t old new tells h =
+    let some = h.made in
+    let of : AreOfNumber (some.made ++ some.more) = subst AreOfNumber some.begins (of_line s o h.replies h.unkept) in
+    let told : TellsCalls some.made (Some t) some.between = subst (λ o. TellsCalls some.made o some.between) tells some.told in
+    with_last t some.more some.between new.told (numbered some.made t some.between (of_first some.made some.more of) told) some.last
+
+pub numbers_alone : (s : State) (o : Option Line) (old new : KeeperSeen) → DoesPartly s o old new → HoldsRowsButNumber old.told new.told
+numbers_alone s o old new h = go old.told refl
+  where
+    go : (told : Option KeeperTold) → old.told ≡ told → HoldsRowsButNumber told new.told
+    go None is = tt
+    go (Some t) is = numbered_some s o t old new is h

@@ -1,12 +1,13 @@
 -- What a line does to the state of a scenario, and what it asks of the keeper.
-use Rattle.std.specs.Prelude.{◌≡◌, Bool, true, false, List, [], ◌∷◌, ◌++◌, None}
+use Rattle.std.specs.Prelude.{◌≡◌, ℕ, Bool, true, false, List, [], ◌∷◌, ◌++◌, Option, None}
 use Rattle.boot_core.specs.Boot.{BootValue}
 use Rattle.scenario_engine.specs.declared.failure.UnstartedCause.{UnstartedCause}
 use Rattle.deployment.specs.Refusals.{deploy_refusal}
+use Rattle.outside.specs.Keeper.{KeeperTold}
 use Rattle.line_steps.specs.declared.head.Head.{Head}
 use Rattle.scenario_text.specs.Answer.{Answer, Refused, Done, within}
 use Rattle.line_steps.specs.Callers.{call_step}
-use Rattle.line_steps.specs.Head.{head_line}
+use Rattle.line_steps.specs.Head.{no_head, head_line}
 use Rattle.line_steps.specs.Texts.{boot_text}
 use Rattle.scenario_text.specs.declared.line.Line.{Line}
 use Rattle.scenario_text.specs.declared.line.Line.TheVariants as lines
@@ -15,10 +16,10 @@ use Rattle.session_steps.specs.Sessions.{session_line}
 use Rattle.session_steps.specs.Setup.{set_up}
 use Rattle.scenario_engine.specs.declared.engine.Stage.{Stage}
 use Rattle.scenario_engine.specs.declared.engine.Stage.TheVariants as stages
-use Rattle.scenario_engine.specs.KeeperCalls.{KeeperCall}
+use Rattle.scenario_engine.specs.KeeperCalls.{KeeperCall, seen}
 use Rattle.scenario_engine.specs.Opening.{StartReplies, Opening, Opened, UnstartedBoot, opening, start_calls}
 use Rattle.scenario_engine.specs.Running.{started, with_callers, with_sessions, commit_step, commit_calls, boot_line}
-use Rattle.scenario_engine.specs.State.{RunningState, State, Heading, Running, Outcome, RefusedIn, DoneTo, UnstartedIn}
+use Rattle.scenario_engine.specs.State.{RunningState, EngineValue, State, Heading, Running, Outcome, RefusedIn, DoneTo, UnstartedIn}
 
 -- What the keeper replies while one line is done: to the start that the first event line makes, to the start that a
 -- `reopen` makes, and whether it keeps the writes of a commit. A line asks only for some of it.
@@ -27,15 +28,23 @@ pub record Replies : Type 0 where
   pub again : StartReplies
   pub keeps : Bool
 
--- the state that a stage of the engine holds
-abbrev pub state_of : Stage → State
-state_of (stages.Head head) = Heading head
-state_of (stages.Run r) = Running r
+-- what a stage of the engine holds, of whose keeper this is seen
+abbrev pub value_of : {K : Type 0} → (K → Option KeeperTold) → (K → ℕ) → Stage K → EngineValue
+value_of told faults (stages.Head head keeper) =
+    record { state = Heading head; keeper = seen (told keeper) (faults keeper) }
+value_of told faults (stages.Run r) = record { state = Running r.running; keeper = r.keeper }
+value_of told faults stages.Away = record { state = Heading no_head; keeper = seen None 0 }
 
--- the parts that head lines have declared are those of a deployment
-abbrev pub IsAccepted : Stage → Type 0
-IsAccepted (stages.Head head) = deploy_refusal head.parts ≡ None
+-- no line is being done, and the parts that head lines have declared are those of a deployment
+abbrev pub IsAccepted : {K : Type 0} → Stage K → Type 0
+IsAccepted (stages.Head head keeper) = deploy_refusal head.parts ≡ None
 IsAccepted (stages.Run r) = Unit {0}
+IsAccepted stages.Away = ⊥
+
+-- whether a state is that of a head
+abbrev pub is_heading : State → Bool
+is_heading (Heading head) = true
+is_heading (Running r) = false
 
 -- what a line is done to: the head, a boot, or nothing, since the boot that it needs was left unstarted
 pub data Target : Type 0 where

@@ -2,6 +2,9 @@
 use Rattle.std.specs.Prelude.{ℕ, ◌+◌, Bool, true, if◌then◌else◌, List, [], ◌∷◌, ◌++◌, length, Option, Some, None, bytes_eq, option_map}
 use Rattle.call_ticket.specs.Ticket.{TicketValue}
 use Rattle.crash_base.specs.declared.names.TheConstants.{APPLICATION}
+use Rattle.container_core.specs.declared.history.Event.{Event}
+use Rattle.container_core.specs.declared.history.Event.TheVariants.{Added, KeeperFailed}
+use Rattle.crash_base.specs.declared.numbers.RequestNo.{RequestNo}
 use Rattle.crash_base.specs.declared.rows.RowWrite.{RowWrite}
 use Rattle.crash_base.specs.declared.scope.Scope.{Scope}
 use Rattle.crash_base.specs.declared.scope.Scope.TheVariants.{Group, App}
@@ -33,7 +36,12 @@ use Rattle.line_steps.specs.Texts.{committed_text, commit_refusal_text, down_tex
 -- a boot that was just started over these sessions, without callers
 abbrev pub started : SessionsState → Start → RunningState
 started sessions start =
-    record { boot = new_boot start; callers = []; sessions = reopened sessions start.boot }
+    record {
+      boot = new_boot start;
+      since = [];
+      callers = [];
+      sessions = reopened sessions start.boot;
+    }
 
 -- the same boot with these callers
 abbrev pub with_callers : RunningState → List Caller → RunningState
@@ -43,19 +51,30 @@ with_callers r callers = record r { callers = callers }
 abbrev pub with_sessions : RunningState → SessionsState → RunningState
 with_sessions r sessions = record r { sessions = sessions }
 
--- the same callers of a boot whose journal has one entry more
+-- the same callers of a boot whose journal and history have one entry more
 abbrev pub with_boot_entry : RunningState → Entry → RunningState
-with_boot_entry r e = record r { boot = with_entry r.boot e }
+with_boot_entry r e = record r { boot = with_entry r.boot e; since = r.since ++ Added e ∷ [] }
+
+-- the events since the start, after a commit that was refused: a keeper that failed is marked
+abbrev pub since_refused : List Event → RequestNo → CommitRefusal → List Event
+since_refused since request commits.KeeperFailed = since ++ KeeperFailed request ∷ []
+since_refused since request commits.OutOfMemory = since
+since_refused since request (commits.Already place) = since
+since_refused since request (commits.Revoked s) = since
+since_refused since request (commits.Conflict c) = since
+since_refused since request (commits.JournalFull full) = since
 
 -- The call of a caller joins the journal, or is refused; it ends in each case.
 abbrev pub commit_ends : RunningState → ℕ → TicketValue → Option CommitRefusal → Answer RunningState
 commit_ends r caller ticket None =
-    Done (record r {
-      boot = with_entry r.boot (Commit (entry_of ticket.call None));
+    Done (record (with_boot_entry r (Commit (entry_of ticket.call None))) {
       callers = ended r.callers caller;
     }) (committed_text caller (length r.boot.entries))
 commit_ends r caller ticket (Some refusal) =
-    Done (with_callers r (ended r.callers caller)) (commit_refusal_text caller refusal)
+    Done (record r {
+      since = since_refused r.since ticket.call.request refusal;
+      callers = ended r.callers caller;
+    }) (commit_refusal_text caller refusal)
 
 -- Whether the keeper keeps the writes of a commit: it is not called where there are none.
 abbrev pub are_kept : List RowWrite → Bool → Bool

@@ -1,14 +1,18 @@
 -- The state of a scenario, and how a line ends in it.
 use Rattle.std.specs.Prelude.{ℕ, List}
 use Rattle.boot_core.specs.Boot.{BootValue}
+use Rattle.container_core.specs.Container.{ContainerValue}
+use Rattle.container_core.specs.declared.history.Event.{Event}
 use Rattle.line_steps.specs.declared.callers.Caller.{Caller}
 use Rattle.line_steps.specs.declared.head.Head.{Head}
 use Rattle.session_steps.specs.Sessions.{SessionsState}
+use Rattle.scenario_engine.specs.KeeperCalls.{KeeperSeen, seen}
 use Rattle.scenario_engine.specs.declared.failure.UnstartedCause.{UnstartedCause}
 
--- a boot that is started, its callers, and the sessions
+-- a boot that is started, the events of its history since its start, its callers, and the sessions
 pub record RunningState : Type 0 where
   pub boot : BootValue
+  pub since : List Event
   pub callers : List Caller
   pub sessions : SessionsState
 
@@ -24,3 +28,20 @@ pub data Outcome : Type 0 where
   RefusedIn : (state : State) → Outcome
   DoneTo : (state : State) (text : List ℕ) → Outcome
   UnstartedIn : (state : State) (cause : UnstartedCause) → Outcome
+
+-- a boot that is started, with its keeper
+pub record RunningValue : Type 0 where
+  pub running : RunningState
+  pub keeper : KeeperSeen
+
+-- a container, its callers, and the sessions
+abbrev pub running_value : ContainerValue → List Caller → SessionsState → RunningValue
+running_value c callers sessions = record {
+  running = record { boot = c.boot; since = c.since; callers = callers; sessions = sessions };
+  keeper = seen c.told c.faults;
+}
+
+-- a scenario, with its keeper
+pub record EngineValue : Type 0 where
+  pub state : State
+  pub keeper : KeeperSeen

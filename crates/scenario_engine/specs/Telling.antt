@@ -13,82 +13,81 @@ use Rattle.scenario_text.specs.declared.answer.LineAnswer.{LineAnswer}
 use Rattle.scenario_text.specs.declared.answer.LineAnswer.TheVariants as answers
 use Rattle.line_steps.specs.declared.head.Head.{Head}
 use Rattle.scenario_text.specs.declared.line.Line.{Line}
-use Rattle.scenario_engine.specs.declared.failure.UnstartedCause.{UnstartedCause}
 use Rattle.scenario_engine.specs.declared.failure.UnstartedCause.TheVariants as causes
 use Rattle.scenario_engine.specs.declared.failure.LineFailure.{LineFailure}
 use Rattle.scenario_engine.specs.declared.failure.LineFailure.TheVariants as failures
 use Rattle.scenario_engine.specs.Engine.{Replies, Target, TheUnstarted, target_of, target_calls, line_on, calls_on}
-use Rattle.scenario_engine.specs.KeeperCalls.{TellsCalls, TellsSome}
+use Rattle.scenario_engine.specs.KeeperCalls.{KeeperSeen, AreMade, AreSomeMade}
 use Rattle.scenario_engine.specs.Opening.{StartReplies, Opening, UnstartedBoot, opening, start_calls}
 use Rattle.scenario_engine.specs.Running.{commit_step, commit_calls}
 use Rattle.scenario_engine.specs.State.{RunningState, State, Outcome, RefusedIn, DoneTo, UnstartedIn}
 use Rattle.scenario_engine.specs.Transcript.{answer_to, calls_to}
 
 -- A boot opened so.
-pub record Opens (parts : Parts) (limits : JournalLimits) (how : Opening) (old new : Option KeeperTold) : Type 0 where
+pub record Opens (parts : Parts) (limits : JournalLimits) (how : Opening) (old new : KeeperSeen) : Type 0 where
   pub replies : StartReplies
   pub opens : how ≡ opening parts limits replies
-  pub told : TellsCalls (start_calls replies) old new
+  pub made : AreMade (start_calls replies) old new
 
 -- Memory ran out while a boot was opened.
-pub record OpensPartly (old new : Option KeeperTold) : Type 0 where
+pub record OpensPartly (old new : KeeperSeen) : Type 0 where
   pub replies : StartReplies
-  pub told : TellsSome (start_calls replies) old new
+  pub made : AreSomeMade (start_calls replies) old new
 
 -- A boot was not opened: it was left unstarted, or memory ran out.
 abbrev pub FailsToOpen : LineFailure → Parts → JournalLimits
-    → Option KeeperTold → Option KeeperTold → Type 0
+    → KeeperSeen → KeeperSeen → Type 0
 FailsToOpen (failures.Unstarted cause) parts limits old new =
     Opens parts limits (UnstartedBoot cause) old new
 FailsToOpen failures.OutOfMemory parts limits old new = OpensPartly old new
 
 -- The call of a caller committed, or was refused, with this answer.
-pub record Commits (r : RunningState) (caller : ℕ) (answer : Answer RunningState) (old new : Option KeeperTold) : Type 0 where
+pub record Commits (r : RunningState) (caller : ℕ) (answer : Answer RunningState) (old new : KeeperSeen) : Type 0 where
   pub keeps : Bool
   pub answers : answer ≡ commit_step r caller keeps
-  pub told : TellsCalls (commit_calls r caller keeps) old new
+  pub made : AreMade (commit_calls r caller keeps) old new
 
 -- Memory ran out before the commit of a caller was answered: the keeper has not kept its writes.
-abbrev pub CommitsPartly : RunningState → ℕ → Option KeeperTold → Option KeeperTold → Type 0
-CommitsPartly r caller old new = TellsSome (commit_calls r caller false) old new
+abbrev pub CommitsPartly : RunningState → ℕ → KeeperSeen → KeeperSeen → Type 0
+CommitsPartly r caller old new = AreSomeMade (commit_calls r caller false) old new
 
 -- A line, which is an event line or not, has this to be done to.
-pub record Reaches (s : State) (event : Bool) (target : Target) (old new : Option KeeperTold) : Type 0 where
+pub record Reaches (s : State) (event : Bool) (target : Target) (old new : KeeperSeen) : Type 0 where
   pub replies : StartReplies
   pub is : target ≡ target_of s event replies
-  pub told : TellsCalls (target_calls s event replies) old new
+  pub made : AreMade (target_calls s event replies) old new
 
 -- Memory ran out before a line had what it is done to.
-pub record ReachesPartly (s : State) (event : Bool) (old new : Option KeeperTold) : Type 0 where
+pub record ReachesPartly (s : State) (event : Bool) (old new : KeeperSeen) : Type 0 where
   pub replies : StartReplies
-  pub told : TellsSome (target_calls s event replies) old new
+  pub made : AreSomeMade (target_calls s event replies) old new
 
 -- A line has no boot to be done to: it was left unstarted, or memory ran out.
 abbrev pub FailsToReach : LineFailure → State → Bool
-    → Option KeeperTold → Option KeeperTold → Type 0
+    → KeeperSeen → KeeperSeen → Type 0
 FailsToReach (failures.Unstarted cause) s event old new =
     (head : Head) × Reaches s event (TheUnstarted head cause) old new
 FailsToReach failures.OutOfMemory s event old new = ReachesPartly s event old new
 
 -- A line was done to a target, with this outcome.
-pub record DoesOn (target : Target) (line : Line) (outcome : Outcome) (old new : Option KeeperTold) : Type 0 where
+pub record DoesOn (target : Target) (line : Line) (outcome : Outcome) (old new : KeeperSeen) : Type 0 where
   pub replies : Replies
   pub answers : outcome ≡ line_on target line replies
-  pub told : TellsCalls (calls_on target line replies) old new
+  pub made : AreMade (calls_on target line replies) old new
 
 -- A line was done to a target, which leaves this state: it was refused, or writes what the code answers.
 abbrev pub AnswersOn : LineAnswer → State → Target → Line
-    → Option KeeperTold → Option KeeperTold → Type 0
+    → KeeperSeen → KeeperSeen → Type 0
 AnswersOn answers.Refused after target line old new = DoesOn target line (RefusedIn after) old new
 AnswersOn answers.Done after target line old new = DoesOn target line (DoneTo after []) old new
 AnswersOn (answers.Wrote text) after target line old new =
     DoesOn target line (DoneTo after (string_bytes text)) old new
 
 -- Memory ran out while a line was done to a target: the keeper has not kept the writes of a commit.
-pub record DoesPartlyOn (target : Target) (line : Line) (old new : Option KeeperTold) : Type 0 where
+pub record DoesPartlyOn (target : Target) (line : Line) (old new : KeeperSeen) : Type 0 where
   pub replies : Replies
   pub unkept : replies.keeps ≡ false
-  pub told : TellsSome (calls_on target line replies) old new
+  pub made : AreSomeMade (calls_on target line replies) old new
 
 -- why a line was not done, whose boot was refused so
 abbrev pub failure_of : StartRefusal → LineFailure
@@ -98,21 +97,21 @@ failure_of refusals.BootsSpent = failures.Unstarted causes.BootsSpent
 failure_of refusals.OutOfMemory = failures.OutOfMemory
 
 -- A line was not done to a target: the boot that it needs was left unstarted, or memory ran out.
-abbrev pub EndsOn : LineFailure → Target → Line → Option KeeperTold → Option KeeperTold → Type 0
+abbrev pub EndsOn : LineFailure → Target → Line → KeeperSeen → KeeperSeen → Type 0
 EndsOn (failures.Unstarted cause) target line old new =
     (state : State) × DoesOn target line (UnstartedIn state cause) old new
 EndsOn failures.OutOfMemory target line old new = DoesPartlyOn target line old new
 
 -- A text that spells this line, or none, was done, with this outcome.
-pub record Does (s : State) (line : Option Line) (outcome : Outcome) (old new : Option KeeperTold) : Type 0 where
+pub record Does (s : State) (line : Option Line) (outcome : Outcome) (old new : KeeperSeen) : Type 0 where
   pub replies : Replies
   pub answers : outcome ≡ answer_to s line replies
-  pub told : TellsCalls (calls_to s line replies) old new
+  pub made : AreMade (calls_to s line replies) old new
 
 -- A text that spells this line, or none, was done, which leaves this state: it was refused, or writes what the code
 -- answers.
 abbrev pub Answers : LineAnswer → State → State → Option Line
-    → Option KeeperTold → Option KeeperTold → Type 0
+    → KeeperSeen → KeeperSeen → Type 0
 Answers answers.Refused after s line old new = Does s line (RefusedIn after) old new
 Answers answers.Done after s line old new = Does s line (DoneTo after []) old new
 Answers (answers.Wrote text) after s line old new =
@@ -120,10 +119,10 @@ Answers (answers.Wrote text) after s line old new =
 
 -- Memory ran out while a text was done that spells this line, or none: the first of its calls of the keeper were made,
 -- and the keeper has not kept the writes of a commit.
-pub record DoesPartly (s : State) (line : Option Line) (old new : Option KeeperTold) : Type 0 where
+pub record DoesPartly (s : State) (line : Option Line) (old new : KeeperSeen) : Type 0 where
   pub replies : Replies
   pub unkept : replies.keeps ≡ false
-  pub told : TellsSome (calls_to s line replies) old new
+  pub made : AreSomeMade (calls_to s line replies) old new
 
 -- Of the rows that the keeper held, where it tells, at most that of the boot's number is another.
 abbrev pub HoldsRowsButNumber : Option KeeperTold → Option KeeperTold → Type 0
@@ -132,7 +131,7 @@ HoldsRowsButNumber old new =
     (numbers : List ℕ) × (n.rows ≡ put_all (map boot_row numbers) o.rows)))
 
 -- A text that spells this line, or none, was not done: the boot that it needs was left unstarted, or memory ran out.
-abbrev pub Ends : LineFailure → State → Option Line → Option KeeperTold → Option KeeperTold → Type 0
+abbrev pub Ends : LineFailure → State → Option Line → KeeperSeen → KeeperSeen → Type 0
 Ends (failures.Unstarted cause) s line old new =
     (state : State) × Does s line (UnstartedIn state cause) old new
 Ends failures.OutOfMemory s line old new = DoesPartly s line old new

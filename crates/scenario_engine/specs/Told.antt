@@ -19,15 +19,15 @@ abbrev pub HoldsStateRows : Option KeeperTold → Option KeeperTold → State �
 HoldsStateRows old new (Heading head) = HoldsSameRows old new
 HoldsStateRows old new (Running r) = HoldsRows new r.boot
 
--- A boot is started over these rows: they are good, a number is left, and the boot takes the one after the last that they
--- have, which stands over them.
+-- A boot is started over these rows: they are good, a number is left, and the boot takes the one after the last that
+-- they have, which stands over them.
 pub record IsOver (rows : List RowWrite) (start : Start) : Type 0 where
   pub over : start ≡ start_over start.deployment start.limits rows
   pub good : first_bad rows ≡ None
   pub unspent : last_boot rows < greatest_boot
 
--- A start is that of the next boot: over the rows that this one leaves, of the same deployment and limits, with the next
--- number.
+-- A start is that of the next boot: over the rows that this one leaves, of the same deployment and limits, with the
+-- next number.
 pub record Follows (b : BootValue) (start : Start) : Type 0 where
   pub over : IsOver (rows_after b.start.base b.entries) start
   pub deployment : start.deployment ≡ b.start.deployment
@@ -43,8 +43,8 @@ AreChained StartsSo (b ∷ bs) = StartsSo b.start × AreChained (Follows b) bs
 abbrev pub IsChained : Option KeeperTold → Option KeeperTold → List BootValue → Type 0
 IsChained old new boots = IfSome old (λ o. IfSome new (λ n. AreChained (IsOver o.rows) boots))
 
--- Turns leave this of a keeper that was called as they say and not more: it holds just the rows of the commits that were
--- answered, and each boot follows the one before.
+-- Turns leave this of a keeper that was called as they say and not more: it holds just the rows of the commits that
+-- were answered, and each boot follows the one before.
 pub record Tells (turns : List Turn) (old new : Option KeeperTold) : Type 0 where
   pub rows : HoldsStateRows old new (last_state (end_from first 1 turns))
   pub chained : IsChained old new (boots_from first turns)

@@ -6,7 +6,8 @@ ghost use Rattle.scenario_text.specs.declared.line.Line.TheVariants as lines;
 ghost use Rattle.scenario_text.specs.Reading.{line_of};
 ghost use Rattle.scenario_engine.specs.declared.failure.LineFailure.{LineFailure};
 ghost use Rattle.scenario_engine.specs.declared.failure.UnstartedCause.{UnstartedCause};
-ghost use Rattle.scenario_engine.specs.Engine.{target_in};
+ghost use Rattle.scenario_engine.specs.Engine.{target_in, is_heading};
+ghost use Rattle.scenario_engine.specs.KeeperCalls.{seen};
 ghost use Rattle.scenario_engine.specs.Telling.{Reaches, FailsToReach, AnswersOn, EndsOn, Answers, Ends};
 ghost use Rattle.scenario_engine.specs.Transcript.{first};
 
@@ -20,26 +21,28 @@ use std::alloc::Global;
 use std::marker::Model;
 use std::mem;
 
-/// What head lines have said, or a boot and its callers.
+/// What head lines have said, with the keeper, or a boot in its container, and its callers.
 #[derive(Drop)]
-enum Stage {
-    Head(Head),
-    Run(Running),
+enum Stage<K: Keeper + Drop> {
+    Head(Head, K),
+    Run(Running<K>),
+    /// Only while a line is done.
+    Away,
 }
 
-/// One scenario. Its keeper is lent to each line.
+/// One scenario, with its keeper.
 #[derive(Drop)]
-pub struct Engine {
-    stage: Stage,
+pub struct Engine<K: Keeper + Drop> {
+    stage: Stage<K>,
 }
 
-impl Model for Engine {
-    ghost use Rattle.scenario_engine.specs.Engine.{state_of, IsAccepted};
-    ghost use Rattle.scenario_engine.specs.State.{State};
+impl<K: Keeper + Drop> Model for Engine<K> {
+    ghost use Rattle.scenario_engine.specs.Engine.{value_of, IsAccepted};
+    ghost use Rattle.scenario_engine.specs.State.{EngineValue};
 
-    ghost Value = { State };
+    ghost Value = { EngineValue };
 
-    ghost view = { λ e. state_of e.stage };
+    ghost view = { λ e. value_of K.told K.faults e.stage };
 
     ghost invariant = { λ e. IsAccepted e.stage };
 }
@@ -54,86 +57,104 @@ fn answered(answer: Result<LineAnswer, OutOfMemory>) -> Result<LineAnswer, LineF
     }
 }
 
-impl Engine {
-    /// A scenario before its first line. It takes no memory.
-    pub fn new(alloc: Global) -> Engine
-        ensures { result ≡ first }
+impl<K: Keeper + Drop> Engine<K> {
+    /// A scenario before its first line, over this keeper. It takes no memory.
+    pub fn new(alloc: Global, keeper: K) -> Engine<K>
+        ensures state { result.state ≡ first }
+        ensures keeper { result.keeper ≡ seen (K.told keeper) (K.faults keeper) }
     {
         Engine {
-            stage: Stage::Head(Head::new(alloc)),
+            stage: Stage::Head(Head::new(alloc), keeper),
         }
     }
 
-    /// Starts the boot over the head, where none is started.
-    fn start<K: Keeper>(&mut self, alloc: Global, keeper: &mut K) -> Result<(), LineFailure>
-        ensures starts { MatchResult result
-            (λ _. Reaches self.old true (target_in self.new)
-            (K.told keeper.old) (K.told keeper.new))
-            (λ failure. FailsToReach failure self.old true
-            (K.told keeper.old) (K.told keeper.new)) }
-        ensures failed { result ≡ Err (LineFailure.Unstarted UnstartedCause.KeeperFailed)
-            → Rose (K.faults keeper.old) (K.faults keeper.new) }
-        ensures count { K.faults keeper.old ≤ K.faults keeper.new }
+    /// The keeper, with the rows of each commit that was answered. It takes no memory.
+    pub fn into_keeper(self) -> K
+        ensures { seen (K.told result) (K.faults result) ≡ self.keeper }
     {
-        match &mut self.stage {
-            Stage::Run(_) => Ok(()),
-            Stage::Head(head) => {
-                let head = mem::replace(head, Head::new(alloc));
-                match Running::start(alloc, head, keeper) {
-                    Ok(running) => {
-                        self.stage = Stage::Run(running);
-                        Ok(())
-                    }
-                    Err(failure) => Err(failure),
+        match self.stage {
+            Stage::Head(_, keeper) => keeper,
+            Stage::Run(running) => running.into_keeper(),
+            Stage::Away => unreachable!(),
+        }
+    }
+
+    /// Whether no boot is started.
+    fn is_heading(&self) -> bool
+        ensures { result ≡ is_heading self.now.state }
+    {
+        match &self.stage {
+            Stage::Head(_, _) => true,
+            Stage::Run(_) => false,
+            Stage::Away => unreachable!(),
+        }
+    }
+
+    /// Starts the boot over the head.
+    fn start(&mut self, alloc: Global) -> Result<(), LineFailure>
+        ensures starts { MatchResult result
+            (λ _. Reaches self.old.state true (target_in self.new.state)
+            self.old.keeper self.new.keeper)
+            (λ failure. FailsToReach failure self.old.state true
+            self.old.keeper self.new.keeper) }
+        ensures failed { result ≡ Err (LineFailure.Unstarted UnstartedCause.KeeperFailed)
+            → Rose self.old.keeper.faults self.new.keeper.faults }
+        ensures count { self.old.keeper.faults ≤ self.new.keeper.faults }
+    {
+        match mem::replace(&mut self.stage, Stage::Away) {
+            Stage::Head(head, keeper) => match Running::start(alloc, head, keeper) {
+                Ok(running) => {
+                    self.stage = Stage::Run(running);
+                    Ok(())
                 }
+                Err(unopened) => {
+                    self.stage = Stage::Head(Head::new(alloc), unopened.keeper);
+                    Err(unopened.failure)
+                }
+            },
+            Stage::Run(running) => {
+                self.stage = Stage::Run(running);
+                Ok(())
             }
+            Stage::Away => unreachable!(),
         }
     }
 
     /// Starts the boot before an event line, where none is started.
-    fn reach<K: Keeper>(
-        &mut self,
-        alloc: Global,
-        event: bool,
-        keeper: &mut K,
-    ) -> Result<(), LineFailure>
+    fn reach(&mut self, alloc: Global, event: bool) -> Result<(), LineFailure>
         ensures reaches { MatchResult result
-            (λ _. Reaches self.old event (target_in self.new)
-            (K.told keeper.old) (K.told keeper.new))
-            (λ failure. FailsToReach failure self.old event
-            (K.told keeper.old) (K.told keeper.new)) }
+            (λ _. Reaches self.old.state event (target_in self.new.state)
+            self.old.keeper self.new.keeper)
+            (λ failure. FailsToReach failure self.old.state event
+            self.old.keeper self.new.keeper) }
         ensures failed { result ≡ Err (LineFailure.Unstarted UnstartedCause.KeeperFailed)
-            → Rose (K.faults keeper.old) (K.faults keeper.new) }
-        ensures count { K.faults keeper.old ≤ K.faults keeper.new }
+            → Rose self.old.keeper.faults self.new.keeper.faults }
+        ensures count { self.old.keeper.faults ≤ self.new.keeper.faults }
     {
-        if event {
-            self.start(alloc, keeper)
+        if event && self.is_heading() {
+            self.start(alloc)
         } else {
             Ok(())
         }
     }
 
     /// Starts the next boot, where there is one, and writes its number.
-    fn reopen<K: Keeper>(
-        &mut self,
-        alloc: Global,
-        keeper: &mut K,
-    ) -> Result<LineAnswer, LineFailure>
+    fn reopen(&mut self, alloc: Global) -> Result<LineAnswer, LineFailure>
         ensures answer { MatchResult result
-            (λ a. AnswersOn a self.new (target_in self.old) lines.Reopen
-            (K.told keeper.old) (K.told keeper.new))
-            (λ failure. EndsOn failure (target_in self.old) lines.Reopen
-            (K.told keeper.old) (K.told keeper.new)) }
+            (λ a. AnswersOn a self.new.state (target_in self.old.state) lines.Reopen
+            self.old.keeper self.new.keeper)
+            (λ failure. EndsOn failure (target_in self.old.state) lines.Reopen
+            self.old.keeper self.new.keeper) }
         ensures failed { result ≡ Err (LineFailure.Unstarted UnstartedCause.KeeperFailed)
-            → Rose (K.faults keeper.old) (K.faults keeper.new) }
-        ensures count { K.faults keeper.old ≤ K.faults keeper.new }
+            → Rose self.old.keeper.faults self.new.keeper.faults }
+        ensures count { self.old.keeper.faults ≤ self.new.keeper.faults }
     {
-        match mem::replace(&mut self.stage, Stage::Head(Head::new(alloc))) {
-            Stage::Head(head) => {
-                self.stage = Stage::Head(head);
+        match mem::replace(&mut self.stage, Stage::Away) {
+            Stage::Head(head, keeper) => {
+                self.stage = Stage::Head(head, keeper);
                 Ok(LineAnswer::Refused)
             }
-            Stage::Run(running) => match running.reopen(alloc, keeper) {
+            Stage::Run(running) => match running.reopen(alloc) {
                 Ok(next) => {
                     let number = next.number();
                     self.stage = Stage::Run(next);
@@ -142,90 +163,80 @@ impl Engine {
                         Err(OutOfMemory) => Err(LineFailure::OutOfMemory),
                     }
                 }
-                Err(failure) => Err(failure),
+                Err(unopened) => {
+                    self.stage = Stage::Head(Head::new(alloc), unopened.keeper);
+                    Err(unopened.failure)
+                }
             },
+            Stage::Away => unreachable!(),
         }
     }
 
     /// Does a line, to the head or over the boot.
-    fn line_on<K: Keeper>(
-        &mut self,
-        alloc: Global,
-        line: Line,
-        keeper: &mut K,
-    ) -> Result<LineAnswer, LineFailure>
+    fn line_on(&mut self, alloc: Global, line: Line) -> Result<LineAnswer, LineFailure>
         ensures answer { MatchResult result
-            (λ a. AnswersOn a self.new (target_in self.old) line
-            (K.told keeper.old) (K.told keeper.new))
-            (λ failure. EndsOn failure (target_in self.old) line
-            (K.told keeper.old) (K.told keeper.new)) }
+            (λ a. AnswersOn a self.new.state (target_in self.old.state) line
+            self.old.keeper self.new.keeper)
+            (λ failure. EndsOn failure (target_in self.old.state) line
+            self.old.keeper self.new.keeper) }
         ensures failed { result ≡ Err (LineFailure.Unstarted UnstartedCause.KeeperFailed)
-            → Rose (K.faults keeper.old) (K.faults keeper.new) }
-        ensures count { K.faults keeper.old ≤ K.faults keeper.new }
+            → Rose self.old.keeper.faults self.new.keeper.faults }
+        ensures count { self.old.keeper.faults ≤ self.new.keeper.faults }
     {
         match &mut self.stage {
-            Stage::Head(head) => answered(head_line(alloc, head, line)),
+            Stage::Head(head, _) => answered(head_line(alloc, head, line)),
             Stage::Run(running) => match line {
                 Line::Pass => Ok(LineAnswer::Done),
                 Line::Head(_) => Ok(LineAnswer::Refused),
                 Line::Call(caller, line) => answered(running.call_step(alloc, caller, line)),
-                Line::Commit(caller) => answered(running.commit_step(alloc, caller, keeper)),
+                Line::Commit(caller) => answered(running.commit_step(alloc, caller)),
                 Line::Boot(line) => answered(running.boot_line(alloc, line)),
-                Line::Reopen => self.reopen(alloc, keeper),
+                Line::Reopen => self.reopen(alloc),
                 Line::Session(line) => answered(running.session_line(alloc, line)),
             },
+            Stage::Away => unreachable!(),
         }
     }
 
     /// Does one line. The first event line starts the boot, also where it is then refused.
-    fn step<K: Keeper>(
-        &mut self,
-        alloc: Global,
-        line: Line,
-        keeper: &mut K,
-    ) -> Result<LineAnswer, LineFailure>
+    fn step(&mut self, alloc: Global, line: Line) -> Result<LineAnswer, LineFailure>
         ensures answer { MatchResult result
-            (λ a. Answers a self.new self.old (Some line)
-            (K.told keeper.old) (K.told keeper.new))
-            (λ failure. Ends failure self.old (Some line)
-            (K.told keeper.old) (K.told keeper.new)) }
+            (λ a. Answers a self.new.state self.old.state (Some line)
+            self.old.keeper self.new.keeper)
+            (λ failure. Ends failure self.old.state (Some line)
+            self.old.keeper self.new.keeper) }
         ensures failed { result ≡ Err (LineFailure.Unstarted UnstartedCause.KeeperFailed)
-            → Rose (K.faults keeper.old) (K.faults keeper.new) }
-        ensures count { K.faults keeper.old ≤ K.faults keeper.new }
+            → Rose self.old.keeper.faults self.new.keeper.faults }
+        ensures count { self.old.keeper.faults ≤ self.new.keeper.faults }
     {
-        match self.reach(alloc, line.is_event(), keeper) {
-            Ok(()) => self.line_on(alloc, line, keeper),
+        match self.reach(alloc, line.is_event()) {
+            Ok(()) => self.line_on(alloc, line),
             Err(failure) => Err(failure),
         }
     }
 
-    /// Does one line of text, over this keeper: reads it, and does the line that it spells. The first event line starts
-    /// the boot over the keeper's rows, also where it is then refused. `commit` hands its writes to the keeper, and
-    /// `reopen` starts the next boot over the keeper's rows.
+    /// Does one line of text: reads it, and does the line that it spells. The first event line starts the boot over the
+    /// keeper's rows, also where it is then refused. `commit` hands its writes to the keeper, and `reopen` starts the
+    /// next boot over the keeper's rows.
     ///
     /// # Errors
-    /// `LineFailure` says why a boot was left unstarted, or that memory ran out. The scenario ends there, and what the
-    /// engine holds then is not told. A line that is refused leaves the engine as it was, but for the boot that it
-    /// started.
-    pub fn do_text<K: Keeper>(
-        &mut self,
-        alloc: Global,
-        text: &[u8],
-        keeper: &mut K,
-    ) -> Result<LineAnswer, LineFailure>
+    /// `LineFailure` says why a boot was left unstarted, or that memory ran out. The scenario ends there: what state
+    /// the engine holds then is not told, and its keeper is. A line that is refused leaves the engine as it was, but
+    /// for the boot that it started.
+    pub fn do_text(&mut self, alloc: Global, text: &[u8]) -> Result<LineAnswer, LineFailure>
         ensures answer { MatchResult result
-            (λ a. Answers a self.new self.old (line_of text.now)
-            (K.told keeper.old) (K.told keeper.new))
-            (λ failure. Ends failure self.old (line_of text.now)
-            (K.told keeper.old) (K.told keeper.new)) }
+            (λ a. Answers a self.new.state self.old.state (line_of text.now)
+            self.old.keeper self.new.keeper)
+            (λ failure. Ends failure self.old.state (line_of text.now)
+            self.old.keeper self.new.keeper) }
         ensures failed { result ≡ Err (LineFailure.Unstarted UnstartedCause.KeeperFailed)
-            → Rose (K.faults keeper.old) (K.faults keeper.new) }
-        ensures count { K.faults keeper.old ≤ K.faults keeper.new }
+            → Rose self.old.keeper.faults self.new.keeper.faults }
+        ensures count { self.old.keeper.faults ≤ self.new.keeper.faults }
     {
         match read_line(alloc, text) {
             Err(OutOfMemory) => Err(LineFailure::OutOfMemory),
             Ok(None) => Ok(LineAnswer::Refused),
-            Ok(Some(line)) => self.step(alloc, line, keeper),
+            Ok(Some(line)) => self.step(alloc, line),
         }
     }
 }

@@ -4,7 +4,7 @@
 ghost use Rattle.std.specs.Prelude.{◌≡◌, ◌≢◌, ◌<◌, ◌-◌, ◌^◌, ℕ, List, Option, Some, All, true};
 ghost use Rattle.boot_core.specs.Sound.{IsSound};
 ghost use Rattle.outside.specs.Keeper.{KeeperTold};
-ghost use Rattle.scenario_engine.specs.KeeperCalls.{TellsCalls};
+ghost use Rattle.scenario_engine.specs.KeeperCalls.{KeeperSeen, TellsCalls};
 ghost use Rattle.scenario_engine.specs.Sound.{CommitsUnrebooted, RunsSerially, CommitsOwnRequests};
 ghost use Rattle.scenario_text.specs.Answer.{Refused};
 ghost use Rattle.scenario_text.specs.declared.line.Line.{Line};
@@ -127,6 +127,6 @@ pub fn keepers_decide()
 /// Where memory runs out while a line is done, no commit was kept: of the rows that a telling keeper held, at most that
 /// of the boot's number is another.
 pub fn no_commit_is_kept_partly()
-    ensures { (s : State) (line : Option Line) (old new : Option KeeperTold) →
-        DoesPartly s line old new → HoldsRowsButNumber old new }
+    ensures { (s : State) (line : Option Line) (old new : KeeperSeen) →
+        DoesPartly s line old new → HoldsRowsButNumber old.told new.told }
 {}

@@ -1,14 +1,12 @@
 //! Event lines, over a boot that is started.
 
-ghost use Rattle.std.specs.Prelude.{◌≡◌, ◌≤◌, ◌+◌, ◌++◌, length, None, IfOk, IfSome, MatchResult, option_map, string_bytes};
+ghost use Rattle.std.specs.Prelude.{◌≡◌, ◌≤◌, ◌+◌, ◌++◌, [], length, None, IfOk, IfErr, IfSome, MatchResult, option_map, string_bytes};
 ghost use Rattle.commit_journal.specs.Journal.{IsScope};
 ghost use Rattle.deployment.specs.Refusals.{deploy_refusal};
 ghost use Rattle.scenario_text.specs.Answer.{KeepsRefused, answer_of, within};
 ghost use Rattle.journal_model.specs.Rows.{rows_after};
-ghost use Rattle.boot_core.specs.Fits.{FitsIn};
 ghost use Rattle.line_steps.specs.Texts.{committed_text};
-ghost use Rattle.line_steps.specs.Callers.{begin_step, call_step, new_ticket};
-ghost use Rattle.scenario_text.specs.declared.line.TheConstants.{MAX_CALLER};
+ghost use Rattle.line_steps.specs.Callers.{begin_step, call_step};
 ghost use Rattle.boot_core.specs.Boot.{new_boot};
 ghost use Rattle.boot_core.specs.declared.boot.Start.{Start};
 ghost use Rattle.outside.specs.Faults.{Rose};
@@ -16,13 +14,14 @@ ghost use Rattle.session_steps.specs.Sessions.{session_line};
 ghost use Rattle.session_steps.specs.Setup.{set_up};
 ghost use Rattle.scenario_engine.specs.declared.failure.LineFailure.{LineFailure};
 ghost use Rattle.scenario_engine.specs.declared.failure.UnstartedCause.{UnstartedCause};
+ghost use Rattle.scenario_engine.specs.KeeperCalls.{seen};
 ghost use Rattle.scenario_engine.specs.Opening.{Opened};
 ghost use Rattle.scenario_engine.specs.Running.{started, with_callers, with_sessions, scope_of, drop_step, down_step, up_step, reboot_step, table_step, journal_step, boot_line};
-ghost use Rattle.scenario_engine.specs.Telling.{Opens, FailsToOpen, Commits, CommitsPartly};
+ghost use Rattle.scenario_engine.specs.Telling.{Opens, FailsToOpen, Commits, CommitsPartly, failure_of};
 
 use crate::failure::{LineFailure, UnstartedCause, failure_of};
-use boot_core::{Boot, JournalLimits, Ticket};
-use container_core::start_boot;
+use boot_core::{Boot, JournalLimits};
+use container_core::{Container, StartFail};
 use crash_base::{APPLICATION, LatestRows, OutOfMemory, Place, Scope, WordText, WorkerNo};
 use deployment::Deployment;
 use line_steps::{
@@ -35,23 +34,41 @@ use session_steps::Sessions;
 use std::alloc::Global;
 use std::marker::Model;
 
-/// A boot that is started, its callers, and the sessions.
+/// A boot that is started, in a container with its keeper, its callers, and the sessions.
 #[derive(Drop)]
-pub(crate) struct Running {
-    boot: Boot,
+pub(crate) struct Running<K: Keeper + Drop> {
+    container: Container<K>,
     callers: Callers,
     sessions: Sessions,
 }
 
-impl Model for Running {
+impl<K: Keeper + Drop> Model for Running<K> {
     ghost use Rattle.line_steps.specs.Callers.{AllFit};
-    ghost use Rattle.scenario_engine.specs.State.{RunningState};
+    ghost use Rattle.scenario_engine.specs.State.{RunningValue, running_value};
 
-    ghost Value = { RunningState };
+    ghost Value = { RunningValue };
 
-    ghost view = { λ a. record { boot = a.boot; callers = a.callers; sessions = a.sessions } };
+    ghost view = { λ a. running_value a.container a.callers a.sessions };
 
-    ghost invariant = { λ a. AllFit a.boot a.callers };
+    ghost invariant = { λ a. AllFit a.container.boot a.callers };
+}
+
+/// A boot that was not opened: why, and its keeper.
+#[derive(Drop)]
+pub(crate) struct Unopened<K: Keeper + Drop> {
+    pub(crate) failure: LineFailure,
+    pub(crate) keeper: K,
+}
+
+/// A container that was not started, as a boot that was not opened.
+fn not_opened<K: Keeper + Drop>(fail: StartFail<K>) -> Unopened<K>
+    ensures failure { result.failure ≡ failure_of fail.refusal }
+    ensures keeper { result.keeper ≡ fail.keeper }
+{
+    Unopened {
+        failure: failure_of(fail.refusal),
+        keeper: fail.keeper,
+    }
 }
 
 /// The scope that a word names: the whole application by `app`, or the group of a component by its name. None exactly
@@ -67,17 +84,6 @@ fn scope_of(deployment: &Deployment, word: &WordText) -> Option<Scope>
     Some(Scope::Group(deployment.group_of(c)))
 }
 
-/// The call of a caller that begins.
-fn new_ticket(alloc: Global, boot: &mut Boot, caller: u64) -> Result<Ticket, OutOfMemory>
-    requires { caller ≤ MAX_CALLER }
-    ensures ticket { IfOk result (λ ticket. ticket ≡ new_ticket boot.old caller) }
-    ensures fits { IfOk result (λ ticket. FitsIn boot.old ticket.call) }
-    ensures same { boot.new ≡ boot.old }
-{
-    let request = request_of(boot.number(), caller);
-    boot.begin(alloc, request, WorkerNo(caller as u32))
-}
-
 /// The current rows, in order of id.
 fn current_rows<'a>(alloc: Global, boot: &'a Boot) -> Result<LatestRows<'a>, OutOfMemory>
     ensures { IfOk result (λ rows. rows ≡ rows_after boot.now.start.base boot.now.entries) }
@@ -87,60 +93,67 @@ fn current_rows<'a>(alloc: Global, boot: &'a Boot) -> Result<LatestRows<'a>, Out
     Ok(rows)
 }
 
-impl Running {
+impl<K: Keeper + Drop> Running<K> {
     /// A boot that was just started over these sessions, without callers.
-    fn over(alloc: Global, boot: Boot, mut sessions: Sessions) -> Running
-        ensures { (start : Start) → boot ≡ new_boot start → result ≡ started sessions start }
+    fn over(alloc: Global, container: Container<K>, mut sessions: Sessions) -> Running<K>
+        ensures started { (start : Start) → container.boot ≡ new_boot start → container.since ≡ []
+            → result.running ≡ started sessions start }
+        ensures keeper { result.keeper ≡ seen container.told container.faults }
     {
-        sessions.reopen(boot.number());
+        sessions.reopen(container.boot());
         Running {
-            boot,
             callers: Callers::new(alloc),
             sessions,
+            container,
         }
     }
 
     /// Opens a boot over the rows of the keeper and these sessions, without callers.
-    fn open<K: Keeper>(
+    fn open(
         alloc: Global,
         deployment: Deployment,
         limits: JournalLimits,
         sessions: Sessions,
-        keeper: &mut K,
-    ) -> Result<Running, LineFailure>
+        keeper: K,
+    ) -> Result<Running<K>, Unopened<K>>
         ensures opens { MatchResult result
-            (λ r. (start : Start) × (r ≡ started sessions start)
-            × Opens deployment limits (Opened start) (K.told keeper.old) (K.told keeper.new))
-            (λ failure. FailsToOpen failure deployment limits (K.told keeper.old) (K.told keeper.new)) }
-        ensures failed { result ≡ Err (LineFailure.Unstarted UnstartedCause.KeeperFailed)
-            → Rose (K.faults keeper.old) (K.faults keeper.new) }
-        ensures count { K.faults keeper.old ≤ K.faults keeper.new }
+            (λ r. (start : Start) × (r.running ≡ started sessions start)
+            × Opens deployment limits (Opened start) (seen (K.told keeper) (K.faults keeper)) r.keeper)
+            (λ u. FailsToOpen u.failure deployment limits (seen (K.told keeper) (K.faults keeper))
+            (seen (K.told u.keeper) (K.faults u.keeper))) }
+        ensures failed { IfErr result (λ u.
+            u.failure ≡ LineFailure.Unstarted UnstartedCause.KeeperFailed
+            → Rose (K.faults keeper) (K.faults u.keeper)) }
+        ensures count { MatchResult result (λ r. K.faults keeper ≤ r.keeper.faults)
+            (λ u. K.faults keeper ≤ K.faults u.keeper) }
     {
-        match start_boot(alloc, deployment, limits, keeper) {
-            Ok(boot) => Ok(Running::over(alloc, boot, sessions)),
-            Err(refusal) => Err(failure_of(refusal)),
+        match Container::start(alloc, deployment, keeper, limits) {
+            Ok(container) => Ok(Running::over(alloc, container, sessions)),
+            Err(fail) => Err(not_opened(fail)),
         }
     }
 
-    /// Starts the first boot, over the deployment and the limits of the head.
-    pub(crate) fn start<K: Keeper>(
-        alloc: Global,
-        head: Head,
-        keeper: &mut K,
-    ) -> Result<Running, LineFailure>
+    /// Starts the first boot, over the deployment and the limits of the head. Where it is not started, the keeper is
+    /// handed back.
+    pub(crate) fn start(alloc: Global, head: Head, keeper: K) -> Result<Running<K>, Unopened<K>>
         requires { deploy_refusal head.parts ≡ None }
         ensures opens { MatchResult result
-            (λ r. (start : Start) × (r ≡ started (set_up head.setup 0) start)
-            × Opens head.parts head.limits (Opened start) (K.told keeper.old) (K.told keeper.new))
-            (λ failure. FailsToOpen failure head.parts head.limits
-            (K.told keeper.old) (K.told keeper.new)) }
-        ensures failed { result ≡ Err (LineFailure.Unstarted UnstartedCause.KeeperFailed)
-            → Rose (K.faults keeper.old) (K.faults keeper.new) }
-        ensures count { K.faults keeper.old ≤ K.faults keeper.new }
+            (λ r. (start : Start) × (r.running ≡ started (set_up head.setup 0) start)
+            × Opens head.parts head.limits (Opened start) (seen (K.told keeper) (K.faults keeper)) r.keeper)
+            (λ u. FailsToOpen u.failure head.parts head.limits (seen (K.told keeper) (K.faults keeper))
+            (seen (K.told u.keeper) (K.faults u.keeper))) }
+        ensures failed { IfErr result (λ u.
+            u.failure ≡ LineFailure.Unstarted UnstartedCause.KeeperFailed
+            → Rose (K.faults keeper) (K.faults u.keeper)) }
+        ensures count { MatchResult result (λ r. K.faults keeper ≤ r.keeper.faults)
+            (λ u. K.faults keeper ≤ K.faults u.keeper) }
     {
         let limits = head.limits;
         let Ok(sessions) = Sessions::new(alloc, head.setup) else {
-            return Err(LineFailure::OutOfMemory);
+            return Err(Unopened {
+                failure: LineFailure::OutOfMemory,
+                keeper,
+            });
         };
         match Deployment::check(head.parts) {
             Ok(deployment) => Running::open(alloc, deployment, limits, sessions, keeper),
@@ -149,72 +162,78 @@ impl Running {
     }
 
     /// What the next boot takes over. The callers are gone.
-    fn into_parts(self) -> (Deployment, JournalLimits, Sessions)
-        ensures deployment { result.0 ≡ self.boot.start.deployment }
-        ensures limits { result.1 ≡ self.boot.start.limits }
-        ensures sessions { result.2 ≡ self.sessions }
+    fn into_parts(self) -> (Container<K>, Sessions)
+        ensures boot { result.0.boot ≡ self.running.boot }
+        ensures keeper { seen result.0.told result.0.faults ≡ self.keeper }
+        ensures sessions { result.1 ≡ self.running.sessions }
     {
-        let limits = self.boot.journal().limits();
-        (self.boot.into_deployment(), limits, self.sessions)
+        (self.container, self.sessions)
     }
 
     /// Starts the next boot, over the same deployment and limits. The callers of this one are gone, and the sessions
-    /// stay.
-    pub(crate) fn reopen<K: Keeper>(
-        self,
-        alloc: Global,
-        keeper: &mut K,
-    ) -> Result<Running, LineFailure>
+    /// stay. Where it is not started, the keeper is handed back.
+    pub(crate) fn reopen(self, alloc: Global) -> Result<Running<K>, Unopened<K>>
         ensures opens { MatchResult result
-            (λ r. (start : Start) × (r ≡ started self.sessions start)
-            × Opens self.boot.start.deployment self.boot.start.limits (Opened start)
-            (K.told keeper.old) (K.told keeper.new))
-            (λ failure. FailsToOpen failure self.boot.start.deployment self.boot.start.limits
-            (K.told keeper.old) (K.told keeper.new)) }
-        ensures failed { result ≡ Err (LineFailure.Unstarted UnstartedCause.KeeperFailed)
-            → Rose (K.faults keeper.old) (K.faults keeper.new) }
-        ensures count { K.faults keeper.old ≤ K.faults keeper.new }
+            (λ r. (start : Start) × (r.running ≡ started self.running.sessions start)
+            × Opens self.running.boot.start.deployment self.running.boot.start.limits (Opened start)
+            self.keeper r.keeper)
+            (λ u. FailsToOpen u.failure self.running.boot.start.deployment
+            self.running.boot.start.limits self.keeper (seen (K.told u.keeper) (K.faults u.keeper))) }
+        ensures failed { IfErr result (λ u.
+            u.failure ≡ LineFailure.Unstarted UnstartedCause.KeeperFailed
+            → Rose self.keeper.faults (K.faults u.keeper)) }
+        ensures count { MatchResult result (λ r. self.keeper.faults ≤ r.keeper.faults)
+            (λ u. self.keeper.faults ≤ K.faults u.keeper) }
     {
-        let (deployment, limits, sessions) = self.into_parts();
-        Running::open(alloc, deployment, limits, sessions, keeper)
+        let (container, sessions) = self.into_parts();
+        match container.reopen(alloc) {
+            Ok(container) => Ok(Running::over(alloc, container, sessions)),
+            Err(fail) => Err(not_opened(fail)),
+        }
+    }
+
+    /// The keeper, with the rows of each commit that was answered.
+    pub(crate) fn into_keeper(self) -> K
+        ensures { seen (K.told result) (K.faults result) ≡ self.keeper }
+    {
+        self.container.into_keeper()
     }
 
     /// The number of the boot.
     pub(crate) fn number(&self) -> u32
-        ensures { result ≡ self.now.boot.start.boot }
+        ensures { result ≡ self.now.running.boot.start.boot }
     {
-        self.boot.number()
+        self.container.boot()
     }
 
     /// What a caller's commit writes that comes next.
     fn next_committed_text(&self, alloc: Global, caller: u64) -> Result<String, OutOfMemory>
         ensures { IfOk result (λ text. string_bytes text
-            ≡ committed_text caller (length self.now.boot.entries)) }
+            ≡ committed_text caller (length self.now.running.boot.entries)) }
     {
-        committed_text(alloc, caller, self.boot.journal().len())
+        committed_text(alloc, caller, self.container.journal().len())
     }
 
     /// A live call joins the journal, or is refused. What it writes where it commits is made before the keeper is
     /// called, so no commit is kept that is not answered.
     #[tactic(auto, unfolding(crate::specs::Running::commit_step, crate::specs::Running::commit_calls))]
-    pub(crate) fn commit_step<K: Keeper>(
+    pub(crate) fn commit_step(
         &mut self,
         alloc: Global,
         caller: u64,
-        keeper: &mut K,
     ) -> Result<LineAnswer, OutOfMemory>
         ensures answer { MatchResult result
-            (λ a. Commits self.old caller (answer_of a self.new)
-            (K.told keeper.old) (K.told keeper.new))
-            (λ _. CommitsPartly self.old caller (K.told keeper.old) (K.told keeper.new)) }
-        ensures refused { IfOk result (λ a. KeepsRefused a self.old self.new) }
-        ensures count { K.faults keeper.old ≤ K.faults keeper.new }
+            (λ a. Commits self.old.running caller (answer_of a self.new.running)
+            self.old.keeper self.new.keeper)
+            (λ _. CommitsPartly self.old.running caller self.old.keeper self.new.keeper) }
+        ensures refused { IfOk result (λ a. KeepsRefused a self.old.running self.new.running) }
+        ensures count { self.old.keeper.faults ≤ self.new.keeper.faults }
     {
         match self.next_committed_text(alloc, caller) {
             Err(OutOfMemory) => Err(OutOfMemory),
             Ok(text) => match self.callers.take(caller) {
                 None => Ok(LineAnswer::Refused),
-                Some(ticket) => match self.boot.commit(alloc, keeper, ticket, None) {
+                Some(ticket) => match self.container.commit(alloc, ticket, None) {
                     Ok(_) => Ok(LineAnswer::Wrote(text)),
                     Err(refused) => match commit_refusal_text(alloc, caller, refused.cause) {
                         Ok(text) => Ok(LineAnswer::Wrote(text)),
@@ -228,26 +247,28 @@ impl Running {
     /// A live call is dropped.
     #[tactic(auto, unfolding(crate::specs::Running::drop_step))]
     fn drop_step(&mut self, caller: u64) -> LineAnswer
-        ensures answer { answer_of result self.new ≡ drop_step self.old caller }
-        ensures refused { KeepsRefused result self.old self.new }
+        ensures answer { answer_of result self.new.running ≡ drop_step self.old.running caller }
+        ensures refused { KeepsRefused result self.old.running self.new.running }
+        ensures kept { self.new.keeper ≡ self.old.keeper }
     {
         let Some(ticket) = self.callers.take(caller) else {
             return LineAnswer::Refused;
         };
-        self.boot.abandon(ticket);
+        self.container.abandon(ticket);
         LineAnswer::Done
     }
 
     /// A scope goes down.
     #[tactic(auto, unfolding(crate::specs::Running::down_step))]
     fn down_step(&mut self, alloc: Global, word: WordText) -> Result<LineAnswer, OutOfMemory>
-        ensures answer { IfOk result (λ a. answer_of a self.new ≡ down_step self.old word) }
-        ensures refused { IfOk result (λ a. KeepsRefused a self.old self.new) }
+        ensures answer { IfOk result (λ a. answer_of a self.new.running ≡ down_step self.old.running word) }
+        ensures refused { IfOk result (λ a. KeepsRefused a self.old.running self.new.running) }
+        ensures kept { self.new.keeper ≡ self.old.keeper }
     {
-        let Some(scope) = scope_of(self.boot.deployment(), &word) else {
+        let Some(scope) = scope_of(self.container.deployment(), &word) else {
             return Ok(LineAnswer::Refused);
         };
-        let text = match self.boot.begin_reboot(scope) {
+        let text = match self.container.begin_reboot(scope) {
             Ok(place) => down_text(alloc, place.0)?,
             Err(refusal) => reboot_refusal_text(alloc, refusal)?,
         };
@@ -257,16 +278,17 @@ impl Running {
     /// A scope comes up.
     #[tactic(auto, unfolding(crate::specs::Running::up_step))]
     fn up_step(&mut self, alloc: Global, word: WordText) -> Result<LineAnswer, OutOfMemory>
-        ensures answer { IfOk result (λ a. answer_of a self.new ≡ up_step self.old word) }
-        ensures refused { IfOk result (λ a. KeepsRefused a self.old self.new) }
+        ensures answer { IfOk result (λ a. answer_of a self.new.running ≡ up_step self.old.running word) }
+        ensures refused { IfOk result (λ a. KeepsRefused a self.old.running self.new.running) }
+        ensures kept { self.new.keeper ≡ self.old.keeper }
     {
-        let Some(scope) = scope_of(self.boot.deployment(), &word) else {
+        let Some(scope) = scope_of(self.container.deployment(), &word) else {
             return Ok(LineAnswer::Refused);
         };
-        let Some(down) = self.boot.undone_of(scope) else {
+        let Some(down) = self.container.as_boot().undone_of(scope) else {
             return Ok(LineAnswer::Refused);
         };
-        let place = self.boot.end_reboot(down);
+        let place = self.container.end_reboot(down);
         let text = up_text(alloc, place.0)?;
         Ok(LineAnswer::Wrote(text))
     }
@@ -274,15 +296,16 @@ impl Running {
     /// A scope goes down and comes up at once.
     #[tactic(auto, unfolding(crate::specs::Running::reboot_step))]
     fn reboot_step(&mut self, alloc: Global, word: WordText) -> Result<LineAnswer, OutOfMemory>
-        ensures answer { IfOk result (λ a. answer_of a self.new ≡ reboot_step self.old word) }
-        ensures refused { IfOk result (λ a. KeepsRefused a self.old self.new) }
+        ensures answer { IfOk result (λ a. answer_of a self.new.running ≡ reboot_step self.old.running word) }
+        ensures refused { IfOk result (λ a. KeepsRefused a self.old.running self.new.running) }
+        ensures kept { self.new.keeper ≡ self.old.keeper }
     {
-        let Some(scope) = scope_of(self.boot.deployment(), &word) else {
+        let Some(scope) = scope_of(self.container.deployment(), &word) else {
             return Ok(LineAnswer::Refused);
         };
-        let text = match self.boot.begin_reboot(scope) {
+        let text = match self.container.begin_reboot(scope) {
             Ok(down) => {
-                let up = self.boot.end_reboot(down);
+                let up = self.container.end_reboot(down);
                 rebooted_text(alloc, down.0, up.0)?
             }
             Err(refusal) => reboot_refusal_text(alloc, refusal)?,
@@ -293,10 +316,11 @@ impl Running {
     /// The current rows.
     #[tactic(auto, unfolding(crate::specs::Running::table_step))]
     fn table_step(&mut self, alloc: Global) -> Result<LineAnswer, OutOfMemory>
-        ensures answer { IfOk result (λ a. answer_of a self.new ≡ table_step self.old) }
-        ensures refused { IfOk result (λ a. KeepsRefused a self.old self.new) }
+        ensures answer { IfOk result (λ a. answer_of a self.new.running ≡ table_step self.old.running) }
+        ensures refused { IfOk result (λ a. KeepsRefused a self.old.running self.new.running) }
+        ensures kept { self.new.keeper ≡ self.old.keeper }
     {
-        let rows = current_rows(alloc, &self.boot)?;
+        let rows = current_rows(alloc, self.container.as_boot())?;
         let text = table_text(alloc, rows.as_slice())?;
         Ok(LineAnswer::Wrote(text))
     }
@@ -304,25 +328,30 @@ impl Running {
     /// The journal.
     #[tactic(auto, unfolding(crate::specs::Running::journal_step))]
     fn journal_step(&mut self, alloc: Global) -> Result<LineAnswer, OutOfMemory>
-        ensures answer { IfOk result (λ a. answer_of a self.new ≡ journal_step self.old) }
-        ensures refused { IfOk result (λ a. KeepsRefused a self.old self.new) }
+        ensures answer { IfOk result (λ a. answer_of a self.new.running ≡ journal_step self.old.running) }
+        ensures refused { IfOk result (λ a. KeepsRefused a self.old.running self.new.running) }
+        ensures kept { self.new.keeper ≡ self.old.keeper }
     {
-        let text = journal_text(alloc, self.boot.journal())?;
+        let text = journal_text(alloc, self.container.journal())?;
         Ok(LineAnswer::Wrote(text))
     }
 
     /// A caller begins a call.
     #[tactic(auto, unfolding(line_steps::specs::Callers::begin_step))]
     fn begin_step(&mut self, alloc: Global, caller: u64) -> Result<LineAnswer, OutOfMemory>
-        ensures answer { IfOk result (λ a. answer_of a self.new ≡ within (with_callers self.old)
-            (begin_step self.old.boot self.old.callers caller)) }
-        ensures refused { IfOk result (λ a. KeepsRefused a self.old self.new) }
+        ensures answer { IfOk result (λ a. answer_of a self.new.running ≡ within (with_callers self.old.running)
+            (begin_step self.old.running.boot self.old.running.callers caller)) }
+        ensures refused { IfOk result (λ a. KeepsRefused a self.old.running self.new.running) }
+        ensures kept { self.new.keeper ≡ self.old.keeper }
     {
         if !self.callers.can_begin(caller) {
             return Ok(LineAnswer::Refused);
         }
         self.callers.pad(caller)?;
-        let ticket = new_ticket(alloc, &mut self.boot, caller)?;
+        let request = request_of(self.container.boot(), caller);
+        let ticket = self
+            .container
+            .begin(alloc, request, WorkerNo(caller as u32))?;
         self.callers.put(caller, ticket);
         Ok(LineAnswer::Done)
     }
@@ -334,11 +363,13 @@ impl Running {
         caller: u64,
         line: CallLine,
     ) -> Result<LineAnswer, OutOfMemory>
-        ensures answer { IfOk result (λ a. answer_of a self.new ≡ within (with_callers self.old)
-            (call_step self.old.boot self.old.callers caller line)) }
-        ensures refused { IfOk result (λ a. KeepsRefused a self.old self.new) }
+        ensures answer { IfOk result (λ a. answer_of a self.new.running ≡ within (with_callers self.old.running)
+            (call_step self.old.running.boot self.old.running.callers caller line)) }
+        ensures refused { IfOk result (λ a. KeepsRefused a self.old.running self.new.running) }
+        ensures kept { self.new.keeper ≡ self.old.keeper }
     {
-        self.callers.call_step(alloc, &self.boot, caller, line)
+        self.callers
+            .call_step(alloc, self.container.as_boot(), caller, line)
     }
 
     /// A line over the boot.
@@ -347,8 +378,9 @@ impl Running {
         alloc: Global,
         line: BootLine,
     ) -> Result<LineAnswer, OutOfMemory>
-        ensures answer { IfOk result (λ a. answer_of a self.new ≡ boot_line self.old line) }
-        ensures refused { IfOk result (λ a. KeepsRefused a self.old self.new) }
+        ensures answer { IfOk result (λ a. answer_of a self.new.running ≡ boot_line self.old.running line) }
+        ensures refused { IfOk result (λ a. KeepsRefused a self.old.running self.new.running) }
+        ensures kept { self.new.keeper ≡ self.old.keeper }
     {
         match line {
             BootLine::Begin(caller) => self.begin_step(alloc, caller),
@@ -367,9 +399,10 @@ impl Running {
         alloc: Global,
         line: SessionLine,
     ) -> Result<LineAnswer, OutOfMemory>
-        ensures answer { IfOk result (λ a. answer_of a self.new ≡ within (with_sessions self.old)
-            (session_line self.old.sessions line)) }
-        ensures refused { IfOk result (λ a. KeepsRefused a self.old self.new) }
+        ensures answer { IfOk result (λ a. answer_of a self.new.running ≡ within (with_sessions self.old.running)
+            (session_line self.old.running.sessions line)) }
+        ensures refused { IfOk result (λ a. KeepsRefused a self.old.running self.new.running) }
+        ensures kept { self.new.keeper ≡ self.old.keeper }
     {
         self.sessions.step(alloc, line)
     }

@@ -4,6 +4,7 @@ use Rattle.drive_engine.specs.declared.words.Command.{Command}
 use Rattle.drive_engine.specs.declared.words.Command.TheVariants.{Drive, Groups}
 use Rattle.drive_engine.specs.Command.{Runs}
 use Rattle.drive_engine.specs.Exchange.{exchange}
+use Rattle.scenario_engine.specs.KeeperCalls.{KeeperSeen, seen}
 use Rattle.drive_engine.proofs.command.run.Goals as goal
 
 groups_are_not_drive : (command : Command) → command ≡ Groups → command ≡ Drive → ⊥
@@ -13,8 +14,8 @@ pub returns-in-Groups-clause-keeper_failed : goal.returns-in-Groups-clause-keepe
 returns-in-Groups-clause-keeper_failed g c =
     let left = g.S.Source.left in
     let written = g.T.Sink.written in
-    let told = g.K.Keeper.told c.args.keeper.now in
-    let P : Ending → Type 0 = λ e. Runs Groups e (exchange (left c.args.input.now) (left c.groups.new.input) (written c.args.out.now) (written c.groups.new.out) told told) in
+    let keeper : KeeperSeen = seen (g.K.Keeper.told c.args.keeper) (g.K.Keeper.faults c.args.keeper) in
+    let P : Ending → Type 0 = λ e. Runs Groups e (exchange (left c.args.input.now) (left c.groups.new.input) (written c.args.out.now) (written c.groups.new.out) keeper keeper) in
     λ is.
-    let never : Groups ≡ Drive = (subst P is (c.groups.ensures.runs told)).0 in
+    let never : Groups ≡ Drive = (subst P is (c.groups.ensures.runs keeper)).0 in
     absurd (groups_are_not_drive Groups refl never)

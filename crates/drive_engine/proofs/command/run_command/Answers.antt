@@ -1,5 +1,6 @@
 use Rattle.std.proofs.Common.{◌≡◌, ℕ, List, ap, sym, ◌∙◌}
 use Rattle.outside.specs.Sink.{AppendsOrFails}
+use Rattle.scenario_engine.specs.KeeperCalls.{KeeperSeen, seen}
 use Rattle.drive_engine.specs.Ending.{status}
 use Rattle.drive_engine.specs.Exchange.{Exchange, exchange}
 use Rattle.drive_engine.specs.Words.{command_of}
@@ -11,10 +12,11 @@ pub returns-clause-out_of_memory : goal.returns-clause-out_of_memory
 returns-clause-out_of_memory g c =
     let left = g.S.Source.left in
     let written = g.T.Sink.written in
-    let told = g.K.Keeper.told in
-    let e = c.run_words-ending.result in
+    let before : KeeperSeen = seen (g.K.Keeper.told c.args.keeper) (g.K.Keeper.faults c.args.keeper) in
+    let after : KeeperSeen = seen (g.K.Keeper.told c.run_words-ending.result.1) (g.K.Keeper.faults c.run_words-ending.result.1) in
+    let e = c.run_words-ending.result.0 in
     let r = c.report_ending-ending.result in
-    let x : Exchange = exchange (left c.args.input.now) (left c.run_words-ending.new.input) (written c.args.out.now) (written c.run_words-ending.new.out) (told c.args.keeper) (told c.run_words-ending.new.keeper) in
+    let x : Exchange = exchange (left c.args.input.now) (left c.run_words-ending.new.input) (written c.args.out.now) (written c.run_words-ending.new.out) before after in
     let P : List ℕ → Type 0 = λ text. AppendsOrFails (g.E.Sink.written c.args.errors.now) (g.E.Sink.written c.report_ending-ending.new.errors) (g.E.Sink.faults c.args.errors.now) (g.E.Sink.faults c.report_ending-ending.new.errors) text in
     λ nine.
     let is : status r ≡ 9 = sym c.status.ensures ∙ nine in
@@ -24,6 +26,7 @@ pub returns-clause-decided : goal.returns-clause-decided
 returns-clause-decided g c =
     let left = g.S.Source.left in
     let written = g.T.Sink.written in
-    let told = g.K.Keeper.told in
-    let x : Exchange = exchange (left c.args.input.now) (left c.run_words-ending.new.input) (written c.args.out.now) (written c.run_words-ending.new.out) (told c.args.keeper) (told c.run_words-ending.new.keeper) in
-    decided_status (command_of c.args.words.now) c.run_words-ending.result c.report_ending-ending.result x c.status.result (λ other. ap told (c.run_words-ending.ensures.unasked other)) c.run_words-ending.ensures.ends c.report_ending-ending.ensures.ending c.status.ensures
+    let before : KeeperSeen = seen (g.K.Keeper.told c.args.keeper) (g.K.Keeper.faults c.args.keeper) in
+    let after : KeeperSeen = seen (g.K.Keeper.told c.run_words-ending.result.1) (g.K.Keeper.faults c.run_words-ending.result.1) in
+    let x : Exchange = exchange (left c.args.input.now) (left c.run_words-ending.new.input) (written c.args.out.now) (written c.run_words-ending.new.out) before after in
+    decided_status (command_of c.args.words.now) c.run_words-ending.result.0 c.report_ending-ending.result x c.status.result (λ other. ap g.K.Keeper.told (c.run_words-ending.ensures.unasked other)) c.run_words-ending.ensures.ends c.report_ending-ending.ensures.ending c.status.ensures

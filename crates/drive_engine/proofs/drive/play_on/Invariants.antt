@@ -8,13 +8,12 @@ abbrev pub invariant-pieces : goal.invariant-pieces
 invariant-pieces g l =
     let left = g.S.Source.left in
     let written = g.T.Sink.written in
-    let told = g.K.Keeper.told in
     record {
-      come : HasCome (exchange (left l.fn.input) (left l.input) (written l.fn.out) (written l.out) (told l.fn.keeper) (told l.keeper)) l.more [] [] l.play;
+      come : HasCome (exchange (left l.fn.input) (left l.input) (written l.fn.out) (written l.out) l.fn.play.keeper l.play.keeper) l.more [] [] l.play;
       number : l.play.number + l.more ≤ MAX_SCENARIO_BYTES + 1;
       reads : g.S.Source.faults l.fn.input ≤ g.S.Source.faults l.input;
       writes : g.T.Sink.faults l.fn.out ≤ g.T.Sink.faults l.out;
-      asks : g.K.Keeper.faults l.fn.keeper ≤ g.K.Keeper.faults l.keeper;
+      asks : l.fn.play.keeper.faults ≤ l.play.keeper.faults;
     }
 
 abbrev pub decreases-pieces : goal.decreases-pieces

@@ -4,10 +4,10 @@ use Rattle.drive_engine.proofs.play.Play.feed.Given as goal
 
 abbrev pub invariant-loop-part : goal.invariant-loop-part
 invariant-loop-part g l = record {
-  comes : Comes l.fn.self l.piece (g.T.Sink.written l.fn.out) (g.K.Keeper.told l.fn.keeper) l.self l.rest (g.T.Sink.written l.out) (g.K.Keeper.told l.keeper);
+  comes : Comes l.fn.self l.piece (g.T.Sink.written l.fn.out) l.fn.self.keeper l.self l.rest (g.T.Sink.written l.out) l.self.keeper;
   number : l.self.number + length l.rest ≤ l.fn.self.number + length l.piece;
   count : g.T.Sink.faults l.fn.out ≤ g.T.Sink.faults l.out;
-  keeper_count : g.K.Keeper.faults l.fn.keeper ≤ g.K.Keeper.faults l.keeper;
+  keeper_count : l.fn.self.keeper.faults ≤ l.self.keeper.faults;
 }
 
 abbrev pub decreases-loop-part : goal.decreases-loop-part

@@ -9,14 +9,14 @@ returns-then-is_empty-clause-ends g c =
     let written = g.T.Sink.written c.args.out.now in
     let same = ap (λ p. p.part) c.self.view_is in
     let none : c.args.self.now.part ≡ [] = sym same ∙ nil_from_length c.self.inside.part.items (grind (arith, nat_tests, c.self.inside.part.ok.0)) in
-    λ left left_now from told more ended h. ends_with_feed left left_now from written told (g.K.Keeper.told c.args.keeper.now) more c.args.self.now c.scenarios_stand.ensures none ended h
+    λ left left_now from told more ended h. ends_with_feed left left_now from written told (c.args.self.now.keeper) more c.args.self.now c.scenarios_stand.ensures none ended h
 
 pub returns-in-Ok-clause-ends : goal.returns-in-Ok-clause-ends
 returns-in-Ok-clause-ends g c =
     let old = g.T.Sink.written c.args.out.now in
     let new = g.T.Sink.written c.do_kept.new.out in
-    let before = g.K.Keeper.told c.args.keeper.now in
-    let after = g.K.Keeper.told c.do_kept.new.keeper in
+    let before = c.args.self.now.keeper in
+    let after = c.do_kept.new.self.keeper in
     let some : c.args.self.now.part ≢ [] = λ none. let empty : length c.self.inside.part.items ≡ 0 = ap (λ p. length p.part) c.self.view_is ∙ ap length none in grind (arith, nat_tests, c.self.inside.part.ok.0) in
     λ left left_now from told more ended h. ends_without_feed left left_now from old new told before after more c.args.self.now c.do_kept.new.self.state c.scenarios_stand.ensures some c.in-Ok.ensures.does ended h
 
@@ -24,7 +24,7 @@ pub returns-in-Err-clause-ends : goal.returns-in-Err-clause-ends
 returns-in-Err-clause-ends g c =
     let old = g.T.Sink.written c.args.out.now in
     let new = g.T.Sink.written c.do_kept.new.out in
-    let before = g.K.Keeper.told c.args.keeper.now in
-    let after = g.K.Keeper.told c.do_kept.new.keeper in
+    let before = c.args.self.now.keeper in
+    let after = c.do_kept.new.self.keeper in
     let some : c.args.self.now.part ≢ [] = λ none. let empty : length c.self.inside.part.items ≡ 0 = ap (λ p. length p.part) c.self.view_is ∙ ap length none in grind (arith, nat_tests, c.self.inside.part.ok.0) in
     λ left left_now from told more ended h. ends_at_end c.in-Err.ending left left_now from old new told before after more c.args.self.now c.scenarios_stand.ensures some c.in-Err.ensures.does ended h

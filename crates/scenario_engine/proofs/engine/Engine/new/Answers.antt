@@ -6,6 +6,6 @@ use Rattle.line_steps.specs.Head.{no_head}
 use Rattle.scenario_engine.proofs.engine.Engine.new.Goals as goal
 
 pub invariant_of-result : goal.invariant_of-result
-invariant_of-result c =
+invariant_of-result g c =
     let P : Head → Type 0 = λ h. deploy_refusal h.parts ≡ None in
     subst P (sym c.new.ensures) (none_of_nothing no_head.parts refl refl refl)

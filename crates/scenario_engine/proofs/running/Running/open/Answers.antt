@@ -1,19 +1,27 @@
-use Rattle.std.proofs.Common.{sym, subst}
+use Rattle.std.proofs.Common.{◌≡◌, sym, subst, ap}
+use Rattle.scenario_engine.specs.KeeperCalls.{KeeperSeen, seen}
+use Rattle.scenario_engine.specs.Opening.{Opened}
+use Rattle.scenario_engine.specs.Telling.{Opens, FailsToOpen, failure_of}
 use Rattle.scenario_engine.specs.declared.failure.LineFailure.{LineFailure}
-use Rattle.scenario_engine.specs.Telling.{FailsToOpen}
-use Rattle.scenario_engine.proofs.Starting.{opened, left_unstarted}
+use Rattle.scenario_engine.proofs.Starting.{opened, not_opened}
 use Rattle.scenario_engine.proofs.running.Running.open.Goals as goal
 
 pub returns-in-Ok-clause-opens : goal.returns-in-Ok-clause-opens
 returns-in-Ok-clause-opens g c =
-    let old = g.K.Keeper.told c.args.keeper.now in
-    let new = g.K.Keeper.told c.start_boot.new.keeper in
-    let h = opened c.args.deployment c.args.limits old new c.in-Ok.boot c.in-Ok.ensures.opens in
-    (h.0, c.over.ensures h.0 h.1, h.2)
+    let old = seen (g.K.Keeper.told c.args.keeper) (g.K.Keeper.faults c.args.keeper) in
+    let k = c.in-Ok.container in
+    let new = seen k.told k.faults in
+    let h = opened c.args.deployment c.args.limits old new k.boot c.in-Ok.ensures.started.opened c.in-Ok.ensures.count in
+    let P : KeeperSeen → Type 0 = λ n. Opens c.args.deployment c.args.limits (Opened h.0) old n in
+    (h.0, c.over.ensures.started h.0 h.1 c.in-Ok.ensures.started.since, subst P (sym c.over.ensures.keeper) h.2)
 
 pub returns-in-Err-clause-opens : goal.returns-in-Err-clause-opens
 returns-in-Err-clause-opens g c =
-    let old = g.K.Keeper.told c.args.keeper.now in
-    let new = g.K.Keeper.told c.start_boot.new.keeper in
-    let P : LineFailure → Type 0 = λ f. FailsToOpen f c.args.deployment c.args.limits old new in
-    subst P (sym c.failure_of.ensures) (left_unstarted c.args.deployment c.args.limits old new c.in-Err.refusal c.in-Err.ensures.opens)
+    let old : KeeperSeen = seen (g.K.Keeper.told c.args.keeper) (g.K.Keeper.faults c.args.keeper) in
+    let f = c.in-Err.fail in
+    let new : KeeperSeen = seen (g.K.Keeper.told f.keeper) (g.K.Keeper.faults f.keeper) in
+    let after : KeeperSeen = seen (g.K.Keeper.told c.not_opened.result.keeper) (g.K.Keeper.faults c.not_opened.result.keeper) in
+    let same : after ≡ new = ap (λ k. seen (g.K.Keeper.told k) (g.K.Keeper.faults k)) c.not_opened.ensures.keeper in
+    let P : LineFailure → Type 0 = λ e. FailsToOpen e c.args.deployment c.args.limits old after in
+    let Q : KeeperSeen → Type 0 = λ k. FailsToOpen (failure_of f.refusal) c.args.deployment c.args.limits old k in
+    subst P (sym c.not_opened.ensures.failure) (subst Q (sym same) (not_opened c.args.deployment c.args.limits old new f.refusal c.in-Err.ensures.refused c.in-Err.ensures.count c.in-Err.ensures.failed))

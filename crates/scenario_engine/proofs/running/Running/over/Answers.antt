@@ -3,8 +3,8 @@ use Rattle.session_steps.specs.Sessions.{reopened}
 use Rattle.boot_core.specs.Boot.{BootValue}
 use Rattle.scenario_engine.proofs.running.Running.over.Goals as goal
 
-pub returns : goal.returns
-returns c = λ start e.
+pub returns-clause-started : goal.returns-clause-started
+returns-clause-started g c = λ start e none.
     let sessions : c.reopen.new.self ≡ reopened c.args.sessions start.boot =
-    c.reopen.ensures ∙ ap (reopened c.args.sessions) (c.number.ensures ∙ ap (λ (b : BootValue). b.start.boot) e) in
-    let none = c.new.ensures in cc
+    c.reopen.ensures ∙ ap (reopened c.args.sessions) (c.boot.ensures ∙ ap (λ (b : BootValue). b.start.boot) e) in
+    let callers = c.new.ensures in cc
