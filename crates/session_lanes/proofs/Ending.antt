@@ -145,7 +145,7 @@ told_keeps st v n d packets calls histories windows = record {
 }
 
 -- a turn keeps that
-turn_keeps : (st : LanesState) (n : ℕ) (c : Call) → LanesAreOf st → IsSound st.world → slice_get st.world.calls n ≡ Some c → Keeps st n (turn_to st n (next_of c))
+pub turn_keeps : (st : LanesState) (n : ℕ) (c : Call) → LanesAreOf st → IsSound st.world → slice_get st.world.calls n ≡ Some c → Keeps st n (turn_to st n (next_of c))
 turn_keeps st n c lanes sound there = turn_cases (λ v. Keeps st n v) st n c lanes (ask_is_request st.world c (sound.calls n c there)) there (record {
   ended = λ wants. keeps_same st n;
   unsent = λ brick wants at. told_keeps st _ n (hear c told.Silent) (λ i p is. is) refl refl refl;
@@ -191,7 +191,7 @@ pub made_by : (w v : WorldValue) → IsMade w → MadeBy w v → IsMade v
 made_by w v made by = subst IsMade (sym by.1) (after_made w by.0 made)
 
 -- a turn is events of the world
-turn_made : (st : LanesState) (n : ℕ) (x : StubNext) → MadeBy st.world (turn_to st n x).world
+pub turn_made : (st : LanesState) (n : ℕ) (x : StubNext) → MadeBy st.world (turn_to st n x).world
 turn_made st n (next.Send brick) = sends (lane_at st.lanes brick.0) where
   sends : (o : Option LaneState) → MadeBy st.world (asks st n brick o).world
   sends None = (event.Send n true false ∷ [], refl)
@@ -211,16 +211,16 @@ turn_made st n (next.Receive brick) = receives (lane_at st.lanes brick.0) where
 turn_made st n next.Ended = ([], refl)
 
 -- how much is left of a call
-abbrev call_weight : Call → ℕ
+abbrev pub call_weight : Call → ℕ
 call_weight (call.Write s) = weight s.asks
 call_weight (call.Read s) = weight s.asks
 
-call_falls : (c : Call) (told : Told) → IsTrue (fits (next_of c) told) → call_weight (hear c told) < call_weight c
+pub call_falls : (c : Call) (told : Told) → IsTrue (fits (next_of c) told) → call_weight (hear c told) < call_weight c
 call_falls (call.Write s) told fit = turned_falls (put_lawful s.nonce s.key) (λ (brick : BrickNo). brick) told s.asks (turn_after_asks s.asks) (turn_after_asks-stands s.asks) fit
 call_falls (call.Read s) told fit = read_falls s told fit
 
 -- a call of which nothing is left wants nothing more
-none_left : (c : Call) → call_weight c ≤ 0 → next_of c ≡ next.Ended
+pub none_left : (c : Call) → call_weight c ≤ 0 → next_of c ≡ next.Ended
 none_left c none = go (next_of c) refl where
   go : (x : StubNext) → next_of c ≡ x → x ≡ next.Ended
   go (next.Send brick) wants = absurd (
@@ -266,7 +266,7 @@ pub record Over (I : LanesState → Call → Type 0) (n : ℕ) (v : LanesState) 
   pub over : next_of end ≡ next.Ended
   pub holds : I v end
 
-ended_or : (x : StubNext) → (x ≡ next.Ended) ⊎ (x ≡ next.Ended → ⊥)
+pub ended_or : (x : StubNext) → (x ≡ next.Ended) ⊎ (x ≡ next.Ended → ⊥)
 ended_or (next.Send brick) = inr (λ e. cc)
 ended_or (next.Receive brick) = inr (λ e. cc)
 ended_or next.Ended = inl refl

@@ -11,11 +11,12 @@ use Rattle.ssm_world.specs.Worlds.{WorldValue, ask_of}
 use Rattle.ssm_world.proofs.Lists.{get_front, get_new}
 use Rattle.ssm_world.proofs.Replying.{RepliesTo, reply_to}
 use Rattle.session_lanes.specs.Lane.{LaneState, with_lane_at, with_reply}
-use Rattle.session_lanes.specs.Lanes.{LanesState, turn_to}
+use Rattle.session_lanes.specs.Lanes.{LanesState, with_counts, turn_to}
+use Rattle.session_lanes.specs.Counts.{CountsState}
 use Rattle.ssm_world.specs.Worlds.{next_of}
 use Rattle.session_lanes.specs.Sound.{IsReplyOf, LanesAreOf}
 use Rattle.session_lanes.proofs.LaneLists.{lane_set, lanes_as_many, histories_as_many}
-use Rattle.session_lanes.proofs.Turning.{with_both, answered_world, turn_cases}
+use Rattle.session_lanes.proofs.Turning.{with_both, more_silent, more_heard, answered_world, turn_cases}
 
 -- each packet of a world stands at its place in another
 abbrev pub PacketsStay : WorldValue → WorldValue → Type 0
@@ -25,6 +26,10 @@ pub replies_stay : (w v : WorldValue) (brick : ℕ) (numbers : List ℕ) → Pac
 replies_stay w v brick numbers stay all =
     All-weaker (IsReplyOf w brick) (IsReplyOf v brick)
     (λ k is. record { packet = is.packet; there = stay k is.packet is.there; brick_is = is.brick_is; replies = is.replies }) numbers all
+
+-- where counts change
+pub lanes_counted : (st : LanesState) (counts : CountsState) → LanesAreOf st → LanesAreOf (with_counts st counts)
+lanes_counted st counts lanes = record { as_many = lanes.as_many; queue = lanes.queue; made = lanes.made }
 
 -- where no lane changes
 pub lanes_same : (st : LanesState) (w : WorldValue) → length w.histories ≡ length st.world.histories → PacketsStay st.world w → LanesAreOf st → LanesAreOf (with_both st w st.lanes)
@@ -82,7 +87,7 @@ two_more w v p q packets = λ i x is. ap (λ ps. slice_get ps i) packets ∙ get
 pub turn_lanes : (st : LanesState) (n : ℕ) (c : Call) → LanesAreOf st → is_request (ask_of c) ≡ true → slice_get st.world.calls n ≡ Some c → LanesAreOf (turn_to st n (next_of c))
 turn_lanes st n c lanes asking there = turn_cases LanesAreOf st n c lanes asking there (record {
   ended = λ wants. lanes;
-  unsent = λ brick wants at. lanes_same st _ refl (same_stay st.world) lanes;
+  unsent = λ brick wants at. lanes_same (more_silent st brick) _ refl (same_stay st.world) (lanes_counted st _ lanes);
   dropped = λ brick lane wants at drops. lanes_set st _ brick.0 _ refl (λ i p is. get_front st.world.packets _ i p is)
       (replies_stay st.world _ brick.0 lane.queue (λ i p is. get_front st.world.packets _ i p is) (lanes.queue brick.0 lane at))
       (replies_stay st.world _ brick.0 lane.made (λ i p is. get_front st.world.packets _ i p is) (lanes.made brick.0 lane at)) lanes;
@@ -95,9 +100,9 @@ turn_lanes st n c lanes asking there = turn_cases LanesAreOf st n c lanes asking
       let named = reply_named w brick.0 (length st.world.packets + 1) lane (record { packet = q; there = last_numbered st.world w p q refl; brick_is = refl; replies = to.replies })
       (replies_stay st.world w brick.0 lane.queue stay (lanes.queue brick.0 lane at)) (replies_stay st.world w brick.0 lane.made stay (lanes.made brick.0 lane at)) in
       lanes_set st w brick.0 _ (histories_as_many st.world.histories brick.0 (heard h (ask_of c))) stay named.0 named.1 lanes);
-  laneless = λ brick wants at. lanes_same st _ refl (same_stay st.world) lanes;
-  silent = λ brick lane wants at empty. lanes_same st _ refl (same_stay st.world) lanes;
-  came = λ brick lane packet rest p wants at queue is. lanes_set st _ brick.0 _ refl (same_stay st.world)
+  laneless = λ brick wants at. lanes_same (more_silent st brick) _ refl (same_stay st.world) (lanes_counted st _ lanes);
+  silent = λ brick lane wants at empty. lanes_same (more_silent st brick) _ refl (same_stay st.world) (lanes_counted st _ lanes);
+  came = λ brick lane packet rest p wants at queue is. lanes_set (more_heard st) _ brick.0 _ refl (same_stay st.world)
       (replies_stay st.world _ brick.0 rest (same_stay st.world) (All-rest (IsReplyOf st.world brick.0) packet rest lane.queue queue (lanes.queue brick.0 lane at)))
-      (replies_stay st.world _ brick.0 lane.made (same_stay st.world) (lanes.made brick.0 lane at)) lanes;
+      (replies_stay st.world _ brick.0 lane.made (same_stay st.world) (lanes.made brick.0 lane at)) (lanes_counted st _ lanes);
 })

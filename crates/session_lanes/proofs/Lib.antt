@@ -1,10 +1,15 @@
 pub mod Beginning
+mod CallsEnd
+mod Counting
 pub mod Ending
 mod Going
 pub mod HeardBy
 pub mod Histories
+pub mod Keeping
 pub mod LaneLists
 pub mod LanesStay
 mod SpentPasses
+mod StayingNew
+pub mod StepCases
 pub mod Storing
 pub mod Turning

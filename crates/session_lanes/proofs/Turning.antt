@@ -18,14 +18,23 @@ use Rattle.ssm_world.specs.declared.event.WorldEvent.TheVariants.{Send, Deliver,
 use Rattle.ssm_world.specs.Worlds.{WorldValue, ask_of, next_of, hear, history, with_history, with_packet, with_sent, with_call, same_brick, told_by_send, told_by_hush, told_by_packet, packet_by_send, with_told, sent, came, hushed, brick_after, replied, reached, delivered, step}
 use Rattle.ssm_world.proofs.Lists.{get_new}
 use Rattle.ssm_world.proofs.Tests.{number_same}
+use Rattle.session_lanes.specs.Counts.{silent_by, frame_got}
 use Rattle.session_lanes.specs.Lane.{LaneState, lane_at, with_lane_at, with_reply}
-use Rattle.session_lanes.specs.Lanes.{LanesState, after_event, with_lane, asks, hears, listens, turn_to}
+use Rattle.session_lanes.specs.Lanes.{LanesState, after_event, with_counts, with_lane, asks, hears, listens, turn_to}
 use Rattle.session_lanes.specs.Sound.{IsReplyOf, LanesAreOf}
 use Rattle.session_lanes.proofs.LaneLists.{lane_history}
 
 -- a store with this world and these lanes
 abbrev pub with_both : LanesState → WorldValue → List LaneState → LanesState
 with_both st w lanes = record st { world = w; lanes = lanes }
+
+-- the lanes where a brick was silent once more
+abbrev pub more_silent : LanesState → BrickNo → LanesState
+more_silent st brick = with_counts st (silent_by brick.0 st.counts)
+
+-- the lanes where a frame was heard more
+abbrev pub more_heard : LanesState → LanesState
+more_heard st = with_counts st (frame_got st.counts)
 
 -- a world where a call was told that its ask was sent, and the ask is a packet
 abbrev pub sent_world : WorldValue → ℕ → Call → BrickNo → WorldValue
@@ -39,17 +48,17 @@ answered_world w n c brick h frame =
 -- What is shown of each store that a turn can come to.
 pub record Cases (P : LanesState → Type 0) (st : LanesState) (n : ℕ) (c : Call) : Type 0 where
   pub ended : next_of c ≡ next.Ended → P st
-  pub unsent : (brick : BrickNo) → next_of c ≡ next.Send brick → lane_at st.lanes brick.0 ≡ None → P (with_both st (with_call st.world n (hear c told.Silent)) st.lanes)
+  pub unsent : (brick : BrickNo) → next_of c ≡ next.Send brick → lane_at st.lanes brick.0 ≡ None → P (with_both (more_silent st brick) (with_call st.world n (hear c told.Silent)) st.lanes)
   pub dropped : (brick : BrickNo) (lane : LaneState) → next_of c ≡ next.Send brick → lane_at st.lanes brick.0 ≡ Some lane → nat_lt 0 lane.to_drop ≡ true
       → P (with_both st (sent_world st.world n c brick) (with_lane_at st.lanes brick.0 (record lane { to_drop = lane.to_drop - 1 })))
   pub answered : (brick : BrickNo) (lane : LaneState) (h : List BrickEvent) (frame : Frame) → next_of c ≡ next.Send brick → lane_at st.lanes brick.0 ≡ Some lane → nat_lt 0 lane.to_drop ≡ false
       → history st.world brick ≡ Some h → reply (brick_after brick h) (ask_of c) ≡ Some frame
       → P (with_both st (answered_world st.world n c brick h frame) (with_lane_at st.lanes brick.0 (with_reply (length st.world.packets + 1) lane)))
-  pub laneless : (brick : BrickNo) → next_of c ≡ next.Receive brick → lane_at st.lanes brick.0 ≡ None → P (with_both st (with_call st.world n (hear c told.Silent)) st.lanes)
-  pub silent : (brick : BrickNo) (lane : LaneState) → next_of c ≡ next.Receive brick → lane_at st.lanes brick.0 ≡ Some lane → lane.queue ≡ [] → P (with_both st (with_call st.world n (hear c told.Silent)) st.lanes)
+  pub laneless : (brick : BrickNo) → next_of c ≡ next.Receive brick → lane_at st.lanes brick.0 ≡ None → P (with_both (more_silent st brick) (with_call st.world n (hear c told.Silent)) st.lanes)
+  pub silent : (brick : BrickNo) (lane : LaneState) → next_of c ≡ next.Receive brick → lane_at st.lanes brick.0 ≡ Some lane → lane.queue ≡ [] → P (with_both (more_silent st brick) (with_call st.world n (hear c told.Silent)) st.lanes)
   pub came : (brick : BrickNo) (lane : LaneState) (packet : ℕ) (rest : List ℕ) (p : Packet) → next_of c ≡ next.Receive brick → lane_at st.lanes brick.0 ≡ Some lane → lane.queue ≡ packet ∷ rest
       → slice_get st.world.packets packet ≡ Some p
-      → P (with_both st (with_call st.world n (hear c (told.Came (Some p.frame)))) (with_lane_at st.lanes brick.0 (record lane { queue = rest })))
+      → P (with_both (more_heard st) (with_call st.world n (hear c (told.Came (Some p.frame)))) (with_lane_at st.lanes brick.0 (record lane { queue = rest })))
 
 sent_is : (w : WorldValue) (n : ℕ) (c : Call) (brick : BrickNo) → slice_get w.calls n ≡ Some c → next_of c ≡ next.Send brick → step w (Send n false true) ≡ sent_world w n c brick
 sent_is w n c brick there wants =
@@ -104,7 +113,7 @@ module _ (P : LanesState → Type 0) (st : LanesState) (n : ℕ) (c : Call) (lan
 
   sends : (brick : BrickNo) → next_of c ≡ next.Send brick → (o : Option LaneState) → lane_at st.lanes brick.0 ≡ o → P (asks st n brick o)
   sends brick wants None at =
-      let Q : WorldValue → Type 0 = λ w. P (with_both st w st.lanes) in
+      let Q : WorldValue → Type 0 = λ w. P (with_both (more_silent st brick) w st.lanes) in
       subst Q (sym (unsent_is st.world n c brick there wants)) (cases.unsent brick wants at)
   sends brick wants (Some lane) at = go (nat_lt 0 lane.to_drop) refl where
     go : (b : Bool) → nat_lt 0 lane.to_drop ≡ b
@@ -117,17 +126,17 @@ module _ (P : LanesState → Type 0) (st : LanesState) (n : ℕ) (c : Call) (lan
 
   receives : (brick : BrickNo) → next_of c ≡ next.Receive brick → (o : Option LaneState) → lane_at st.lanes brick.0 ≡ o → P (listens st n brick o)
   receives brick wants None at =
-      let Q : WorldValue → Type 0 = λ w. P (with_both st w st.lanes) in
+      let Q : WorldValue → Type 0 = λ w. P (with_both (more_silent st brick) w st.lanes) in
       subst Q (sym (hushed_is st.world n c brick there wants)) (cases.laneless brick wants at)
   receives brick wants (Some lane) at = go lane.queue refl where
     go : (queue : List ℕ) → lane.queue ≡ queue → P (hears st n brick lane queue)
     go [] is =
-        let Q : WorldValue → Type 0 = λ w. P (with_both st w st.lanes) in
+        let Q : WorldValue → Type 0 = λ w. P (with_both (more_silent st brick) w st.lanes) in
         subst Q (sym (hushed_is st.world n c brick there wants)) (cases.silent brick lane wants at is)
     go (packet ∷ rest) is =
         let R : ℕ → Type 0 = λ k. IsReplyOf st.world brick.0 k in
         let front : IsReplyOf st.world brick.0 packet = All-head R packet rest (subst (λ ks. All R ks) is (lanes.queue brick.0 lane at)) in
-        let Q : WorldValue → Type 0 = λ w. P (with_both st w (with_lane_at st.lanes brick.0 (record lane { queue = rest }))) in
+        let Q : WorldValue → Type 0 = λ w. P (with_both (more_heard st) w (with_lane_at st.lanes brick.0 (record lane { queue = rest }))) in
         subst Q (sym (came_is st.world n c brick packet front.packet there wants front.there front.brick_is front.replies))
         (cases.came brick lane packet rest front.packet wants at is front.there)
 

@@ -19,14 +19,17 @@ use Rattle.ssm_world.specs.declared.call.Call.TheVariants as call
 use Rattle.ssm_world.specs.declared.event.WorldEvent.{WorldEvent}
 use Rattle.ssm_world.specs.declared.event.WorldEvent.TheVariants.{Write, Read, Send, Deliver, Hear, Hush}
 use Rattle.ssm_world.specs.Worlds.{WorldValue, new_world, next_of, step}
+use Rattle.session_lanes.specs.Counts.{CountsState, new_counts, silent_by, frame_got}
 use Rattle.session_lanes.specs.Lane.{LaneState, new_lane, with_reply, lane_at, with_lane_at}
 use Rattle.session_lanes.specs.declared.lanes.TheConstants.{TURNS_PER_BRICK}
 
--- The bricks by their world, the windows on what is sent to each, and the lane of each, in order of number.
+-- The bricks by their world, the windows on what is sent to each, the lane of each, in order of number, and what is
+-- counted of all calls.
 pub record LanesState : Type 0 where
   pub world : WorldValue
   pub windows : WindowsValue
   pub lanes : List LaneState
+  pub counts : CountsState
 
 -- Each of at most 16 bricks has a lane, and passes to it may be held.
 pub record HasLanes (st : LanesState) : Type 0 where
@@ -41,6 +44,7 @@ new_lanes bricks most least =
       world = new_world bricks;
       windows = new_windows bricks most least true;
       lanes = replicate bricks new_lane;
+      counts = new_counts bricks;
     }
 
 -- the lanes after an event of its world
@@ -51,11 +55,23 @@ after_event st event = record st { world = step st.world event }
 abbrev pub with_lane : LanesState → ℕ → LaneState → LanesState
 with_lane st brick lane = record st { lanes = with_lane_at st.lanes brick lane }
 
+-- the lanes with these counts
+abbrev pub with_counts : LanesState → CountsState → LanesState
+with_counts st counts = record st { counts = counts }
+
+-- the lanes after an event in which the brick of a number was silent
+abbrev pub in_silence : LanesState → ℕ → WorldEvent → LanesState
+in_silence st brick event = with_counts (after_event st event) (silent_by brick st.counts)
+
+-- the lanes after a call heard a packet
+abbrev pub gets : LanesState → ℕ → ℕ → LanesState
+gets st call packet = with_counts (after_event st (Hear call packet)) (frame_got st.counts)
+
 -- A call sends its ask to a brick, whose lane this is. To a number without a brick the link is silent. The ask is
 -- dropped where one is still to be dropped. Else the brick replies at once: the ask is the next packet, and its reply
 -- the one after.
 abbrev pub asks : LanesState → ℕ → BrickNo → Option LaneState → LanesState
-asks st call brick None = after_event st (Send call true false)
+asks st call brick None = in_silence st brick.0 (Send call true false)
 asks st call brick (Some lane) =
     if nat_lt 0 lane.to_drop
     then with_lane (after_event st (Send call false true)) brick.0 (record lane { to_drop = lane.to_drop - 1 })
@@ -65,13 +81,13 @@ asks st call brick (Some lane) =
 
 -- A call hears a brick, on whose lane these replies wait: the first comes, or the link is silent.
 abbrev pub hears : LanesState → ℕ → BrickNo → LaneState → List ℕ → LanesState
-hears st call brick lane [] = after_event st (Hush call)
+hears st call brick lane [] = in_silence st brick.0 (Hush call)
 hears st call brick lane (packet ∷ rest) =
-    with_lane (after_event st (Hear call packet)) brick.0 (record lane { queue = rest })
+    with_lane (gets st call packet) brick.0 (record lane { queue = rest })
 
 -- a call hears a brick, whose lane this is, if there is one
 abbrev pub listens : LanesState → ℕ → BrickNo → Option LaneState → LanesState
-listens st call brick None = after_event st (Hush call)
+listens st call brick None = in_silence st brick.0 (Hush call)
 listens st call brick (Some lane) = hears st call brick lane lane.queue
 
 -- a call does what it wants next
@@ -105,14 +121,21 @@ heard_by (Some (call.Read read)) passes = map hushed passes
 abbrev pub spent_as : LanesState → List Pass → LanesState
 spent_as st passes = record st { windows = after_spend st.windows passes }
 
+-- the lanes after a write has begun, where it may, at the bricks of these passes
+abbrev pub begun_write : LanesState → Version → SessionKey → List ℕ → Moment → List Pass → LanesState
+begun_write st nonce key value expiry passes =
+    after_event st (Write nonce key value expiry (map (λ (pass : Pass). pass.brick) passes) st.windows.wq)
+
+-- the lanes after a read of a cookie has begun, where it may, at a moment
+abbrev pub begun_read : LanesState → Version → Moment → Cookie → LanesState
+begun_read st nonce now cookie = after_event st (Read nonce now cookie)
+
 -- The lanes after a write with this nonce, of a value under a session key until a moment, has begun at the bricks of these
 -- passes, and has gone on to its end.
 abbrev pub written_out : LanesState → Version → SessionKey → List ℕ → Moment → List Pass → LanesState
 written_out st nonce key value expiry passes =
-    gone_on
-    (after_event st (Write nonce key value expiry (map (λ (pass : Pass). pass.brick) passes) st.windows.wq))
-    (length st.world.calls)
+    gone_on (begun_write st nonce key value expiry passes) (length st.world.calls)
 
 -- the lanes after a read with this nonce of a cookie has begun at a moment, and has gone on to its answer
 abbrev pub read_out : LanesState → Version → Moment → Cookie → LanesState
-read_out st nonce now cookie = gone_on (after_event st (Read nonce now cookie)) (length st.world.calls)
+read_out st nonce now cookie = gone_on (begun_read st nonce now cookie) (length st.world.calls)

@@ -1,4 +1,7 @@
 pub mod Calls
+pub mod Counts
+pub mod Ends
 pub mod Lane
 pub mod Lanes
 pub mod Sound
+pub mod Steps

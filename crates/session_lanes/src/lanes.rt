@@ -9,11 +9,14 @@ ghost use Rattle.ssm_stub.specs.Writes.{WriteState};
 ghost use Rattle.ssm_world.specs.declared.call.Call.TheVariants as kind;
 ghost use Rattle.ssm_world.specs.Worlds.{is_new};
 ghost use Rattle.session_lanes.specs.Calls.{left_if, more_lost, more_dropped, repeated, brick_crashed, brick_swept, values_of, hold_answer, pass_held, pass_freed};
+ghost use Rattle.session_lanes.specs.Counts.{silences_of};
 ghost use Rattle.session_lanes.specs.Lane.{brick_no, new_lane, lane_at};
 ghost use Rattle.session_lanes.specs.Lanes.{new_lanes};
 
+use crate::counts::Counts;
 use crate::lane::Lane;
 use crash_base::{BrickNo, Moment, OutOfMemory, Version};
+use outside::LinkCounts;
 use send_windows::{Pass, PassMark, WindowFact, Windows};
 use ssm_stub::{ReadCall, WriteCall};
 use ssm_world::{World, WorldEvent};
@@ -32,12 +35,14 @@ pub enum HoldAnswer {
     Full { window: u64, in_flight: u64 },
 }
 
-/// The bricks by their world, the windows on what is sent to each, and the lane of each, in order of number.
+/// The bricks by their world, the windows on what is sent to each, the lane of each, in order of number, and what is
+/// counted of all calls.
 #[derive(Drop)]
 pub struct Lanes {
     pub(crate) world: World,
     pub(crate) windows: Windows,
     pub(crate) lanes: Vec<Lane>,
+    pub(crate) counts: Counts,
 }
 
 impl Model for Lanes {
@@ -45,9 +50,9 @@ impl Model for Lanes {
 
     ghost Value = { LanesState };
 
-    ghost view = { λ s. record { world = s.world; windows = s.windows; lanes = s.lanes.items } };
+    ghost view = { λ s. record { world = s.world; windows = s.windows; lanes = s.lanes.items; counts = s.counts } };
 
-    ghost invariant = { λ s. HasLanes (record { world = s.world; windows = s.windows; lanes = s.lanes.items }) };
+    ghost invariant = { λ s. HasLanes (record { world = s.world; windows = s.windows; lanes = s.lanes.items; counts = s.counts }) };
 }
 
 /// The lanes of so many bricks, on which nothing happened.
@@ -84,11 +89,13 @@ impl Lanes {
     {
         let windows = Windows::new(alloc, bricks, most, least, true)?;
         let lanes = empty_lanes(alloc, bricks)?;
+        let counts = Counts::new(alloc, bricks)?;
         let world = World::new(alloc, bricks)?;
         Ok(Lanes {
             world,
             windows,
             lanes,
+            counts,
         })
     }
 
@@ -101,7 +108,7 @@ impl Lanes {
     }
 
     /// The number of the brick whose lane stands at a place.
-    fn number_at(&self, place: usize) -> BrickNo
+    pub(crate) fn number_at(&self, place: usize) -> BrickNo
         requires { place < length self.now.lanes }
         ensures number { result ≡ brick_no (suc place) }
         ensures known { HasBrick self.now.windows result }
@@ -145,6 +152,22 @@ impl Lanes {
             (λ read. slice_get self.now.world.calls call ≡ Some (kind.Read read.now)) }
     {
         self.world.read_of(call)
+    }
+
+    /// How often a brick was silent, over all calls, and how many frames calls heard. It takes no memory.
+    pub fn counts(&self) -> LinkCounts
+        ensures hushed { result.hushed ≡ self.now.counts.hushed }
+        ensures got { result.got ≡ self.now.counts.got }
+    {
+        self.counts.sums()
+    }
+
+    /// How often the brick of a number was silent to a call. All numbers without a brick have one count. It takes no
+    /// memory.
+    pub fn silences(&self, brick: u64) -> u64
+        ensures { result ≡ silences_of self.now.counts brick }
+    {
+        self.counts.silences(brick)
     }
 
     /// More of a brick's next replies are to be lost. False, and nothing changes, where there is no such brick.

@@ -18,14 +18,24 @@
 //! Each function leaves just what its definition says, and nothing changes where it is refused. Only after out of memory
 //! may anything between have been done.
 //!
+//! What holds whatever is done with lanes:
+//!
+//! - `lanes_stay_sound`: events made their world, and each packet that a lane names is a reply of its brick.
+//! - `calls_end`: a call has its answer within 66 of its turns for each brick that it asks.
+//! - `nonces_stay_new`: a nonce that was drawn is new until a call begins with it, in whatever order calls begin.
+//! - `counts_never_fall`: the silences of each brick and of all, and the frames that calls heard.
+//!
 //! A turn costs what the events of the world cost that it makes. The packets and the calls of all time are kept.
 #![tactic(auto)]
 
+mod counts;
 mod lane;
 mod lanes;
+mod laws;
 mod reading;
 mod turns;
 mod writing;
 
 pub use lanes::{HoldAnswer, Lanes, TURNS_PER_BRICK};
+pub use laws::{calls_end, counts_never_fall, lanes_stay_sound, nonces_stay_new};
 pub use writing::WriteOrder;

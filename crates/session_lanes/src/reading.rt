@@ -1,8 +1,7 @@
 //! Reading a value.
 
 ghost use Rattle.std.specs.Prelude.{◌≡◌, length, IfOk, OnOk};
-ghost use Rattle.ssm_world.specs.declared.event.WorldEvent.TheVariants.{Read};
-ghost use Rattle.session_lanes.specs.Lanes.{after_event, read_out};
+ghost use Rattle.session_lanes.specs.Lanes.{begun_read, read_out};
 
 use crate::lanes::Lanes;
 use crash_base::{Moment, OutOfMemory, Version};
@@ -20,7 +19,7 @@ impl Lanes {
         now: Moment,
         cookie: Cookie,
     ) -> Result<(), OutOfMemory>
-        ensures { OnOk result (self.new ≡ after_event self.old (Read nonce now cookie)) }
+        ensures { OnOk result (self.new ≡ begun_read self.old nonce now cookie) }
     {
         let read = WorldEvent::Read { nonce, now, cookie };
         self.world.step(alloc, &read)?;

@@ -1,11 +1,12 @@
 //! How a call goes on.
 
-ghost use Rattle.std.specs.Prelude.{◌≡◌, ◌<◌, suc, false, length, slice_get, option_map, Some, Ok, OnOk};
+ghost use Rattle.std.specs.Prelude.{◌≡◌, ◌<◌, suc, true, false, length, slice_get, option_map, Some, Ok, OnOk};
 ghost use Rattle.crash_base.specs.declared.numbers.BrickNo.{BrickNo};
 ghost use Rattle.ssm_stub.specs.declared.event.StubNext.TheVariants as next;
+ghost use Rattle.ssm_world.specs.declared.event.WorldEvent.TheVariants.{Send, Hush};
 ghost use Rattle.ssm_world.specs.Worlds.{next_of};
 ghost use Rattle.session_lanes.specs.Lane.{LaneState, lane_at};
-ghost use Rattle.session_lanes.specs.Lanes.{after_event, asks, listens, turn_of, turns, gone_on};
+ghost use Rattle.session_lanes.specs.Lanes.{after_event, in_silence, gets, asks, listens, turn_of, turns, gone_on};
 
 use crate::lanes::{Lanes, TURNS_PER_BRICK};
 use crash_base::{BrickNo, OutOfMemory};
@@ -20,6 +21,40 @@ impl Lanes {
         ensures { OnOk result (self.new ≡ after_event self.old event) }
     {
         self.world.step(alloc, &event)?;
+        Ok(())
+    }
+
+    /// A call hears nothing of a brick, which was silent.
+    fn hush(&mut self, alloc: Global, call: u64, brick: BrickNo) -> Result<(), OutOfMemory>
+        ensures { OnOk result (self.new ≡ in_silence self.old brick.0 (Hush call)) }
+    {
+        self.happens(alloc, WorldEvent::Hush { call })?;
+        self.counts.silence(u64::from(brick.0));
+        Ok(())
+    }
+
+    /// A call hears the packet of a number.
+    fn hear(&mut self, alloc: Global, call: u64, packet: u64) -> Result<(), OutOfMemory>
+        ensures { OnOk result (self.new ≡ gets self.old call packet) }
+    {
+        self.happens(alloc, WorldEvent::Hear { call, packet })?;
+        self.counts.frame();
+        Ok(())
+    }
+
+    /// The ask of a call to a brick is not sent, since the link was silent.
+    fn ask_nobody(&mut self, alloc: Global, call: u64, brick: BrickNo) -> Result<(), OutOfMemory>
+        ensures { OnOk result (self.new ≡ in_silence self.old brick.0 (Send call true false)) }
+    {
+        self.happens(
+            alloc,
+            WorldEvent::Send {
+                call,
+                silent: true,
+                sent: false,
+            },
+        )?;
+        self.counts.silence(u64::from(brick.0));
         Ok(())
     }
 
@@ -54,14 +89,7 @@ impl Lanes {
         ensures { OnOk result (self.new ≡ asks self.old call brick (lane_at self.old.lanes brick.0)) }
     {
         match self.place_of(u64::from(brick.0)) {
-            None => self.happens(
-                alloc,
-                WorldEvent::Send {
-                    call,
-                    silent: true,
-                    sent: false,
-                },
-            ),
+            None => self.ask_nobody(alloc, call, brick),
             Some(place) => self.ask_at(alloc, call, place),
         }
     }
@@ -72,11 +100,12 @@ impl Lanes {
         ensures { OnOk result ((lane : LaneState) (brick : BrickNo) → slice_get self.old.lanes place ≡ Some lane
             → brick.0 ≡ suc place → self.new ≡ listens self.old call brick (Some lane)) }
     {
+        let brick = self.number_at(place);
         let Some(packet) = self.lanes[place].next_reply() else {
-            self.happens(alloc, WorldEvent::Hush { call })?;
+            self.hush(alloc, call, brick)?;
             return Ok(());
         };
-        self.happens(alloc, WorldEvent::Hear { call, packet })?;
+        self.hear(alloc, call, packet)?;
         Ok(())
     }
 
@@ -85,7 +114,7 @@ impl Lanes {
         ensures { OnOk result (self.new ≡ listens self.old call brick (lane_at self.old.lanes brick.0)) }
     {
         match self.place_of(u64::from(brick.0)) {
-            None => self.happens(alloc, WorldEvent::Hush { call }),
+            None => self.hush(alloc, call, brick),
             Some(place) => self.listen_at(alloc, call, place),
         }
     }

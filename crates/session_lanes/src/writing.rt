@@ -1,11 +1,10 @@
 //! Writing a value.
 
-ghost use Rattle.std.specs.Prelude.{◌≡◌, ◌≤◌, length, map, slice_get, IfOk, IfErr, OnOk};
+ghost use Rattle.std.specs.Prelude.{◌≡◌, ◌≤◌, length, slice_get, IfOk, IfErr, OnOk};
 ghost use Rattle.send_windows.specs.Facts.{open_count};
 ghost use Rattle.send_windows.specs.Passes.{AreHeard};
 ghost use Rattle.send_windows.specs.Windows.{AreTaken, RefusedAs, chosen, taken};
-ghost use Rattle.ssm_world.specs.declared.event.WorldEvent.TheVariants.{Write};
-ghost use Rattle.session_lanes.specs.Lanes.{after_event, heard_by, spent_as, written_out};
+ghost use Rattle.session_lanes.specs.Lanes.{begun_write, heard_by, spent_as, written_out};
 
 use crate::lanes::Lanes;
 use crash_base::{Moment, OutOfMemory, SessionBytes, SessionKey, Version};
@@ -50,8 +49,7 @@ impl Lanes {
         order: WriteOrder,
         passes: &[Pass],
     ) -> Result<(), OutOfMemory>
-        ensures { OnOk result (self.new ≡ after_event self.old (Write order.nonce order.key order.value order.expiry
-            (map (λ pass. pass.brick) passes.now) self.old.windows.wq)) }
+        ensures { OnOk result (self.new ≡ begun_write self.old order.nonce order.key order.value order.expiry passes.now) }
     {
         let write = WorldEvent::Write {
             nonce: order.nonce,

@@ -55,7 +55,7 @@ use Rattle.session_steps.proofs.Expecting.{frame_at, frames_of, waiting_told, as
 use Rattle.session_lanes.proofs.LaneLists.{lane_set_same, lane_set_other}
 use Rattle.session_lanes.proofs.LanesStay.{PacketsStay, same_stay, last_numbered, two_more, lanes_same}
 use Rattle.session_steps.proofs.ReadLists.{distinct_at, map_agree, map_set_agree, with_ears, all_heard_same, found_stays}
-use Rattle.session_lanes.proofs.Turning.{with_both, sent_world, answered_world, turn_cases}
+use Rattle.session_lanes.proofs.Turning.{with_both, more_silent, more_heard, sent_world, answered_world, turn_cases}
 
 -- a history that is put back
 history_back : (hs : List (List BrickEvent)) (k : ℕ) (h : List BrickEvent) → history_at hs k ≡ Some h → with_history_at hs k h ≡ hs
@@ -244,8 +244,8 @@ module _ (nonce : Version) (now : Moment) (cookie : Cookie) (n : ℕ) where
       abbrev turn : Option (Turn Holder)
       turn = turn_of_read (reads asks)
 
-      unsent : (at : ℕ) (who : Holder) → turn ≡ Some (record { at = at; who = who; stage = Unasked }) → lane_at st.lanes who.brick.0 ≡ None → T (with_both st (with_call st.world n (hear c told.Silent)) st.lanes)
-      unsent at who turn_is lane = told_one end histories at who Unasked told.Silent _ in_order expects_is histories_are turn_is refl (record {
+      unsent : (brick : BrickNo) (at : ℕ) (who : Holder) → turn ≡ Some (record { at = at; who = who; stage = Unasked }) → lane_at st.lanes who.brick.0 ≡ None → T (with_both (more_silent st brick) (with_call st.world n (hear c told.Silent)) st.lanes)
+      unsent brick at who turn_is lane = told_one end histories at who Unasked told.Silent _ in_order expects_is histories_are turn_is refl (record {
         calls = refl;
         packets = same_stay st.world;
         histories = refl;
@@ -286,8 +286,8 @@ module _ (nonce : Version) (now : Moment) (cookie : Cookie) (n : ℕ) where
             same = answering who lane k frame v lane_is (lane_set_same st.lanes who.brick.0 new lane lane_is) stay framed (ap (reply_to request) now ∙ gives) undropped;
           })
 
-      laneless : (at : ℕ) (who : Holder) (strays : ℕ) → turn ≡ Some (record { at = at; who = who; stage = Asked strays }) → lane_at st.lanes who.brick.0 ≡ None → T (with_both st (with_call st.world n (hear c told.Silent)) st.lanes)
-      laneless at who strays turn_is lane = told_one end histories at who (Asked strays) told.Silent _ in_order expects_is histories_are turn_is refl (record {
+      laneless : (brick : BrickNo) (at : ℕ) (who : Holder) (strays : ℕ) → turn ≡ Some (record { at = at; who = who; stage = Asked strays }) → lane_at st.lanes who.brick.0 ≡ None → T (with_both (more_silent st brick) (with_call st.world n (hear c told.Silent)) st.lanes)
+      laneless brick at who strays turn_is lane = told_one end histories at who (Asked strays) told.Silent _ in_order expects_is histories_are turn_is refl (record {
         calls = refl;
         packets = same_stay st.world;
         histories = refl;
@@ -295,8 +295,8 @@ module _ (nonce : Version) (now : Moment) (cookie : Cookie) (n : ℕ) where
         same = sym (ap (λ o. fold (heard_on (lawful_to nonce cookie who)) (Open (Asked strays)) (waiting_told st.world o)) lane);
       })
 
-      silent : (at : ℕ) (who : Holder) (strays : ℕ) (lane : LaneState) → turn ≡ Some (record { at = at; who = who; stage = Asked strays }) → lane_at st.lanes who.brick.0 ≡ Some lane → lane.queue ≡ [] → T (with_both st (with_call st.world n (hear c told.Silent)) st.lanes)
-      silent at who strays lane turn_is lane_is empty = told_one end histories at who (Asked strays) told.Silent _ in_order expects_is histories_are turn_is refl (record {
+      silent : (brick : BrickNo) (at : ℕ) (who : Holder) (strays : ℕ) (lane : LaneState) → turn ≡ Some (record { at = at; who = who; stage = Asked strays }) → lane_at st.lanes who.brick.0 ≡ Some lane → lane.queue ≡ [] → T (with_both (more_silent st brick) (with_call st.world n (hear c told.Silent)) st.lanes)
+      silent brick at who strays lane turn_is lane_is empty = told_one end histories at who (Asked strays) told.Silent _ in_order expects_is histories_are turn_is refl (record {
         calls = refl;
         packets = same_stay st.world;
         histories = refl;
@@ -306,10 +306,10 @@ module _ (nonce : Version) (now : Moment) (cookie : Cookie) (n : ℕ) where
       })
 
       came : (at : ℕ) (who : Holder) (strays : ℕ) (lane : LaneState) (packet : ℕ) (rest : List ℕ) (p : Packet) → turn ≡ Some (record { at = at; who = who; stage = Asked strays }) → lane_at st.lanes who.brick.0 ≡ Some lane → lane.queue ≡ packet ∷ rest → slice_get st.world.packets packet ≡ Some p
-          → T (with_both st (with_call st.world n (hear c (told.Came (Some p.frame)))) (with_lane_at st.lanes who.brick.0 (record lane { queue = rest })))
+          → T (with_both (more_heard st) (with_call st.world n (hear c (told.Came (Some p.frame)))) (with_lane_at st.lanes who.brick.0 (record lane { queue = rest })))
       came at who strays lane packet rest p turn_is lane_is queue is =
           let new : LaneState = record lane { queue = rest } in
-          let v : LanesState = with_both st (with_call st.world n (hear c (told.Came (Some p.frame)))) (with_lane_at st.lanes who.brick.0 new) in
+          let v : LanesState = with_both (more_heard st) (with_call st.world n (hear c (told.Came (Some p.frame)))) (with_lane_at st.lanes who.brick.0 new) in
           told_one end histories at who (Asked strays) (told.Came (Some p.frame)) v in_order expects_is histories_are turn_is refl (record {
             calls = refl;
             packets = same_stay st.world;
@@ -323,7 +323,7 @@ module _ (nonce : Version) (now : Moment) (cookie : Cookie) (n : ℕ) where
         ended = λ wants. absurd (more wants);
         unsent = λ brick wants at. (
             let t = to_ask turn brick wants in
-            unsent t.at t.who t.turn_is (ap (λ (b : BrickNo). lane_at st.lanes b.0) t.brick_is ∙ at));
+            unsent brick t.at t.who t.turn_is (ap (λ (b : BrickNo). lane_at st.lanes b.0) t.brick_is ∙ at));
         dropped = λ brick lane wants at drops. (
             let t = to_ask turn brick wants in
             let Q : BrickNo → Type 0 = λ b. T (with_both st (sent_world st.world n c b) (with_lane_at st.lanes b.0 (record lane { to_drop = lane.to_drop - 1 }))) in
@@ -335,13 +335,13 @@ module _ (nonce : Version) (now : Moment) (cookie : Cookie) (n : ℕ) where
             (ap (λ b. reply (brick_after b h) (Get nonce cookie.key cookie.version)) t.brick_is ∙ gives)));
         laneless = λ brick wants at. (
             let t = to_hear turn brick wants in
-            laneless t.1.at t.1.who t.0 t.1.turn_is (ap (λ (b : BrickNo). lane_at st.lanes b.0) t.1.brick_is ∙ at));
+            laneless brick t.1.at t.1.who t.0 t.1.turn_is (ap (λ (b : BrickNo). lane_at st.lanes b.0) t.1.brick_is ∙ at));
         silent = λ brick lane wants at empty. (
             let t = to_hear turn brick wants in
-            silent t.1.at t.1.who t.0 lane t.1.turn_is (ap (λ (b : BrickNo). lane_at st.lanes b.0) t.1.brick_is ∙ at) empty);
+            silent brick t.1.at t.1.who t.0 lane t.1.turn_is (ap (λ (b : BrickNo). lane_at st.lanes b.0) t.1.brick_is ∙ at) empty);
         came = λ brick lane packet rest p wants at queue is. (
             let t = to_hear turn brick wants in
-            let Q : BrickNo → Type 0 = λ b. T (with_both st (with_call st.world n (hear c (told.Came (Some p.frame)))) (with_lane_at st.lanes b.0 (record lane { queue = rest }))) in
+            let Q : BrickNo → Type 0 = λ b. T (with_both (more_heard st) (with_call st.world n (hear c (told.Came (Some p.frame)))) (with_lane_at st.lanes b.0 (record lane { queue = rest }))) in
             subst Q t.1.brick_is (came t.1.at t.1.who t.0 lane packet rest p t.1.turn_is (ap (λ (b : BrickNo). lane_at st.lanes b.0) t.1.brick_is ∙ at) queue is));
       })
 

@@ -22,7 +22,8 @@ use Rattle.ssm_world.proofs.Tests.{both, same_number, number_same}
 use Rattle.session_steps.specs.Sessions.{SessionsState, nonce, session_key, expiry, store_read}
 use Rattle.session_lanes.specs.Lanes.{LanesState, after_event, gone_on}
 use Rattle.session_lanes.proofs.Ending.{MadeBy, made_on, Gone, goes_on, goes_nowhere, WriteGone, write_gone}
-use Rattle.session_steps.proofs.LanesKept.{StoreIsSound, windows_keep}
+use Rattle.session_lanes.proofs.Keeping.{windows_keep}
+use Rattle.session_lanes.specs.Sound.{LanesAreSound}
 use Rattle.session_lanes.proofs.Histories.{Stores, adds_stores}
 use Rattle.session_lanes.proofs.LanesStay.{same_stay, lanes_same}
 use Rattle.session_steps.proofs.Lines.{passes_of, store_after_write}
@@ -39,7 +40,7 @@ pub record CallGone (st : LanesState) (windows : WindowsValue) (c : Call) (v : L
   pub windows_are : v.windows ≡ windows
   pub calls : (j : ℕ) (d : Call) → slice_get v.world.calls j ≡ Some d → (slice_get st.world.calls j ≡ Some d) ⊎ (nonce_of d ≡ nonce_of c)
 
-begun_sound : (st : LanesState) (windows : WindowsValue) (event : WorldEvent) (c : Call) → StoreIsSound st → step st.world event ≡ with_new_call st.world c → StoreIsSound (record st { windows = windows; world = with_new_call st.world c })
+begun_sound : (st : LanesState) (windows : WindowsValue) (event : WorldEvent) (c : Call) → LanesAreSound st → step st.world event ≡ with_new_call st.world c → LanesAreSound (record st { windows = windows; world = with_new_call st.world c })
 begun_sound st windows event c sound begun = record {
   made = subst IsMade begun (step_made st.world event sound.made);
   lanes = lanes_same (record st { windows = windows }) (with_new_call st.world c) refl (same_stay st.world) (windows_keep st windows sound).lanes;
@@ -59,13 +60,13 @@ each_call old now c end nonce_is there others j d at = go (j == length old) refl
         let apart : j ≡ length old → ⊥ = λ e. (let equal : (j == length old) ≡ true = ap (λ k. k == length old) e ∙ number_same (length old) in let clash : true ≡ false = sym equal ∙ is in cc) in
         elim (get_last old c j d (sym (others j apart) ∙ at)) [ inl before ↦ inl before | inr last ↦ absurd (apart last.0) ]
 
-call_gone : (st : LanesState) (windows : WindowsValue) (event : WorldEvent) (c : Call) → StoreIsSound st → step st.world event ≡ with_new_call st.world c → is_new st.world (nonce_of c) ≡ true
+call_gone : (st : LanesState) (windows : WindowsValue) (event : WorldEvent) (c : Call) → LanesAreSound st → step st.world event ≡ with_new_call st.world c → is_new st.world (nonce_of c) ≡ true
     → CallGone st windows c (gone_on (after_event (record st { windows = windows }) event) (length st.world.calls))
 call_gone st windows event c sound begun new =
     let n : ℕ = length st.world.calls in
     let w : WorldValue = with_new_call st.world c in
     let u : LanesState = record st { windows = windows; world = w } in
-    let u_sound : StoreIsSound u = begun_sound st windows event c sound begun in
+    let u_sound : LanesAreSound u = begun_sound st windows event c sound begun in
     let gone : Gone u n c (gone_on u n) = goes_on u n c u_sound.made u_sound.lanes (get_new st.world.calls c) in
     let C : WorldValue → Type 0 = λ x. CallGone st windows c (gone_on (record st { windows = windows; world = x }) n) in
     subst C (sym begun) (record {
@@ -80,7 +81,7 @@ call_gone st windows event c sound begun new =
     })
 
 -- the read of a fetch line
-pub read_gone : (s : SessionsState) (cookie : Cookie) (st : LanesState) → StoreIsSound st → may_read st.world (nonce s) cookie.bricks ≡ true → CallGone st st.windows (call.Read (read_start s.moment (nonce s) cookie)) (store_read s cookie st)
+pub read_gone : (s : SessionsState) (cookie : Cookie) (st : LanesState) → LanesAreSound st → may_read st.world (nonce s) cookie.bricks ≡ true → CallGone st st.windows (call.Read (read_start s.moment (nonce s) cookie)) (store_read s cookie st)
 read_gone s cookie st sound may =
     let c : Call = call.Read (read_start s.moment (nonce s) cookie) in
     call_gone st st.windows (Read (nonce s) s.moment cookie) c sound (ap (λ b. if b then with_new_call st.world c else st.world) may) (both _ _ may).0
@@ -111,19 +112,19 @@ begun_if : (s : SessionsState) (key : ℕ) (value : List ℕ) (st : LanesState) 
 begun_if s key value st may at = ap (λ b. if b then with_new_call st.world (new_write s key value st) else st.world) at
 
 -- the write of a write line, where it may begin
-pub write_begins : (s : SessionsState) (key : ℕ) (value : List ℕ) (st : LanesState) → StoreIsSound st → is_new st.world (nonce s) ≡ true → may_write st.world (nonce s) (bricks_of_write s st) st.windows.wq ≡ true
+pub write_begins : (s : SessionsState) (key : ℕ) (value : List ℕ) (st : LanesState) → LanesAreSound st → is_new st.world (nonce s) ≡ true → may_write st.world (nonce s) (bricks_of_write s st) st.windows.wq ≡ true
     → CallGone st (taken st.windows (passes_of s st)) (new_write s key value st) (store_after_write s key value st)
 write_begins s key value st sound new may = call_gone st (taken st.windows (passes_of s st)) (write_event s key value st) (new_write s key value st) sound (begun_if s key value st true may) new
 
 -- its end, which has an answer
-pub write_ended : (s : SessionsState) (key : ℕ) (value : List ℕ) (st : LanesState) → StoreIsSound st → may_write st.world (nonce s) (bricks_of_write s st) st.windows.wq ≡ true
+pub write_ended : (s : SessionsState) (key : ℕ) (value : List ℕ) (st : LanesState) → LanesAreSound st → may_write st.world (nonce s) (bricks_of_write s st) st.windows.wq ≡ true
     → WriteGone (write_start (bricks_of_write s st) st.windows.wq (nonce s) (session_key key) value (expiry s)) (length st.world.calls) (store_after_write s key value st)
 write_ended s key value st sound may =
     let n : ℕ = length st.world.calls in
     let windows : WindowsValue = taken st.windows (passes_of s st) in
     let c : WriteState = write_start (bricks_of_write s st) st.windows.wq (nonce s) (session_key key) value (expiry s) in
     let begun : step st.world (write_event s key value st) ≡ with_new_call st.world (call.Write c) = begun_if s key value st true may in
-    let u : StoreIsSound (record st { windows = windows; world = with_new_call st.world (call.Write c) }) = begun_sound st windows (write_event s key value st) (call.Write c) sound begun in
+    let u : LanesAreSound (record st { windows = windows; world = with_new_call st.world (call.Write c) }) = begun_sound st windows (write_event s key value st) (call.Write c) sound begun in
     let W : WorldValue → Type 0 = λ x. WriteGone c n (gone_on (record st { windows = windows; world = x }) n) in
     subst W (sym begun) (write_gone (record st { windows = windows; world = with_new_call st.world (call.Write c) }) n c u.made u.lanes (get_new st.world.calls (call.Write c)))
 

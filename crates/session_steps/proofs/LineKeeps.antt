@@ -33,7 +33,9 @@ use Rattle.session_lanes.specs.Lanes.{LanesState}
 use Rattle.session_steps.specs.Texts.{overload_text}
 use Rattle.session_steps.specs.declared.sessions.TheConstants.{MAX_MOMENT}
 use Rattle.session_steps.proofs.KeptCookies.{holders_kept}
-use Rattle.session_steps.proofs.LanesKept.{StoreIsSound, SoundIfAny, AreSound, event_keeps, windows_keep, gone_keeps, one_turn_keeps, set_up_sound}
+use Rattle.session_steps.proofs.LanesKept.{SoundIfAny, AreSound, one_turn_keeps, set_up_sound}
+use Rattle.session_lanes.proofs.Keeping.{event_keeps, windows_keep, gone_keeps}
+use Rattle.session_lanes.specs.Sound.{LanesAreSound}
 use Rattle.session_steps.proofs.SettledWrites.{names_holders}
 
 -- the present moment is one of the clock, and each cookie names holders
@@ -73,7 +75,7 @@ write_leaves s key value are sound =
       as_said st write (Err (missing.Missed causes)) names = record { in_time = are.in_time; cookies = are.cookies }
       as_said st write (Err missing.OutOfMemory) names = tt
 
-      go : (st : LanesState) → StoreIsSound st → (b : Bool) → LeavesTimely (if b then Done (with_store (drawn s) (record st { windows = refused st.windows })) (overload_text key (full_facts st.windows.facts))
+      go : (st : LanesState) → LanesAreSound st → (b : Bool) → LeavesTimely (if b then Done (with_store (drawn s) (record st { windows = refused st.windows })) (overload_text key (full_facts st.windows.facts))
           else answered_write (drawn s) key (chosen st.windows s.serial) (length st.world.calls) (store_written s key value (chosen st.windows s.serial) st))
       go st its true = record { in_time = are.in_time; cookies = are.cookies }
       go st its false =
@@ -81,7 +83,7 @@ write_leaves s key value are sound =
           let before : LanesState = record st { windows = taken st.windows passes } in
           let n : ℕ = length st.world.calls in
           let gone : LanesState = store_written s key value passes st in
-          let ended : StoreIsSound gone = gone_keeps _ n (event_keeps before (Write (nonce s) (session_key key) value (expiry s) (map (λ (pass : Pass). pass.brick) passes) st.windows.wq) (windows_keep st (taken st.windows passes) its)) in
+          let ended : LanesAreSound gone = gone_keeps _ n (event_keeps before (Write (nonce s) (session_key key) value (expiry s) (map (λ (pass : Pass). pass.brick) passes) st.windows.wq) (windows_keep st (taken st.windows passes) its)) in
           leaves-or_refused AreTimely (write_of (slice_get gone.world.calls n)) _ (λ write at.
           leaves-or_refused AreTimely (write_answer write) _ (λ answer answers.
           as_said (spent_by write passes gone) write answer (λ cookie same.

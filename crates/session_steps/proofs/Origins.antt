@@ -16,7 +16,8 @@ use Rattle.session_steps.specs.Setup.{set_up}
 use Rattle.session_lanes.specs.Lanes.{LanesState}
 use Rattle.session_steps.proofs.Acknowledging.{StayLaw, MadeCookie, cookie_before, IsKept, turn_keeps, turns_keep, kept_not_new}
 use Rattle.session_steps.proofs.ByRule.{read_by_rule}
-use Rattle.session_steps.proofs.LanesKept.{StoreIsSound, SoundIfAny, one_turn_keeps, lead_keeps, set_up_sound, all_sound}
+use Rattle.session_steps.proofs.LanesKept.{SoundIfAny, one_turn_keeps, lead_keeps, set_up_sound, all_sound}
+use Rattle.session_lanes.specs.Sound.{LanesAreSound}
 use Rattle.session_steps.proofs.Cookies.{kept_cookie, other_cookie, same_cookie}
 use Rattle.session_steps.proofs.Lines.{WriteDone, write_done, FetchDone, fetch_done}
 use Rattle.session_steps.proofs.Promised.{set_up_kept}
@@ -116,7 +117,7 @@ pub cookie_from : (setup : SetupState) (boot : ℕ) (turns : List SessionTurn) (
 cookie_from setup boot turns u key cookie leads has = elim (before_or_from turns (set_up setup boot) u key cookie (set_up_sound setup boot) leads has) [ inl none ↦ absurd (cc) | inr from ↦ from ]
 
 -- a fetch with a new nonce is done
-fetches : (u : SessionsState) (key : ℕ) (cookie : Cookie) (st : LanesState) → cookie_of u key ≡ Some cookie → u.store ≡ Some st → StoreIsSound st → may_read st.world (nonce u) cookie.bricks ≡ true → fetch_line u key ≡ Refused → ⊥
+fetches : (u : SessionsState) (key : ℕ) (cookie : Cookie) (st : LanesState) → cookie_of u key ≡ Some cookie → u.store ≡ Some st → LanesAreSound st → may_read st.world (nonce u) cookie.bricks ≡ true → fetch_line u key ≡ Refused → ⊥
 unfolding fetch_line
 fetches u key cookie st has store_is sound may is =
     let by = read_by_rule st (nonce u) u.moment cookie sound.made sound.lanes may in
@@ -155,7 +156,7 @@ fetch_refused stay setup boot turns u key cookie leads has is = (kept.store, kep
     kept : IsKept u key cookie
     kept = turns_keep stay turns start u (set_up_sound setup boot) (set_up_kept setup boot) leads key cookie has
 
-    sound : StoreIsSound kept.store
+    sound : LanesAreSound kept.store
     sound = all_sound setup boot turns u kept.store leads kept.store_is
 
     go : (new : Bool) → is_new kept.store.world (nonce u) ≡ new → new ≡ false
@@ -214,5 +215,5 @@ fetched_askable stay setup boot story = made_askable kept.store.world story.cook
         turn_keeps stay story.at_write turn story.after_write (lead_keeps start story.at_write story.before (set_up_sound setup boot) story.to_write)
         (turns_keep stay story.before start story.at_write (set_up_sound setup boot) (set_up_kept setup boot) story.to_write) story.writes story.key story.cookie story.cookie_is
 
-    sound : StoreIsSound kept.store
+    sound : LanesAreSound kept.store
     sound = sound_of story.after_write.store kept.store kept.store_is sound_t

@@ -37,7 +37,8 @@ use Rattle.session_steps.proofs.Outcomes.{IsHeardRight, outcome_right, result_ri
 use Rattle.session_steps.proofs.Replies.{holder_replies}
 use Rattle.session_steps.proofs.TurnsMade.{sound_of, GoOn, TurnGoes, turn_goes, TurnsGo, turns_go}
 use Rattle.session_steps.proofs.ByRule.{read_by_rule}
-use Rattle.session_steps.proofs.LanesKept.{StoreIsSound, SoundIfAny, set_up_sound, one_turn_keeps, lead_keeps, all_sound}
+use Rattle.session_steps.proofs.LanesKept.{SoundIfAny, set_up_sound, one_turn_keeps, lead_keeps, all_sound}
+use Rattle.session_lanes.specs.Sound.{LanesAreSound}
 use Rattle.session_lanes.proofs.Ending.{made_is_sound}
 use Rattle.session_steps.proofs.Went.{Goes, made_grows}
 use Rattle.session_steps.proofs.Written.{Acknowledged, Unacknowledged, write_ends}
@@ -145,7 +146,7 @@ record Bricks (setup : SetupState) (boot : ℕ) (story : FetchedWrite setup boot
   pub ended : LanesState
   pub store : LanesState
   pub store_is : story.at_fetch.store ≡ Some store
-  pub sound : StoreIsSound store
+  pub sound : LanesAreSound store
   pub ended_made : IsMade ended.world
   pub worlds : WriteWorlds n (set_up setup boot).moment story.before story.at_write.moment (Does (lines.Write story.key story.value) story.written) story.since begun.world ended.world store.world story.cookie.version
   pub acknowledged : IsAcknowledged ended.world story.cookie story.value

@@ -28,7 +28,8 @@ use Rattle.session_steps.specs.Sessions.{SessionsState, with_store, drawn, nonce
 use Rattle.session_lanes.specs.Lanes.{LanesState, after_event, with_lane}
 use Rattle.session_steps.proofs.Bricks.{SweepsBrick, goes_crash, goes_sweep}
 use Rattle.session_steps.proofs.Calls.{CallGone, new_write, write_begins, write_may, read_gone}
-use Rattle.session_steps.proofs.LanesKept.{StoreIsSound, SoundIfAny, one_turn_keeps}
+use Rattle.session_steps.proofs.LanesKept.{SoundIfAny, one_turn_keeps}
+use Rattle.session_lanes.specs.Sound.{LanesAreSound}
 use Rattle.ssm_stub.specs.Reads.{read_start}
 use Rattle.ssm_world.specs.declared.call.Call.{Call}
 use Rattle.ssm_world.specs.declared.call.Call.TheVariants as call
@@ -88,7 +89,7 @@ go_same : (now : Moment) (turn : SessionTurn) (o : Option LanesState) → IsQuie
 go_same now turn None quiet = tt
 go_same now turn (Some st) quiet = goes_quiet now turn st.world st.world quiet ([], refl) (stores_same st.world st.world refl)
 
-pub sound_of : (o : Option LanesState) (st : LanesState) → o ≡ Some st → SoundIfAny o → StoreIsSound st
+pub sound_of : (o : Option LanesState) (st : LanesState) → o ≡ Some st → SoundIfAny o → LanesAreSound st
 sound_of o st is sound = subst (λ x. SoundIfAny x) is sound
 
 go_with : (now : Moment) (turns : List SessionTurn) (a b : Option LanesState) (st later : LanesState) → a ≡ Some st → b ≡ Some later → Goes now turns st.world later.world → GoOn now turns a b
@@ -148,7 +149,7 @@ write_goes s key value t text sound is = go d.by
     st : LanesState
     st = d.store
 
-    st_sound : StoreIsSound st
+    st_sound : LanesAreSound st
     st_sound = sound_of s.store st d.store_is sound
 
     take_of : Bool → WindowsValue

@@ -31,7 +31,8 @@ use Rattle.session_steps.specs.Texts.{overload_text}
 use Rattle.scenario_text.specs.declared.setup.BrickCounts.{BrickCounts}
 use Rattle.scenario_text.specs.declared.setup.TheConstants.{LEAST_KEY_BYTES, MOST_KEY_BYTES}
 use Rattle.session_steps.proofs.Calls.{bricks_of_write, write_ended}
-use Rattle.session_steps.proofs.LanesKept.{StoreIsSound, set_up_sound, all_sound}
+use Rattle.session_steps.proofs.LanesKept.{set_up_sound, all_sound}
+use Rattle.session_lanes.specs.Sound.{LanesAreSound}
 use Rattle.session_lanes.proofs.Ending.{WriteGone}
 use Rattle.session_steps.proofs.Lines.{not_false, not_refused, done_state, passes_of, store_after_write}
 use Rattle.session_steps.proofs.TurnsMade.{LimitsLaw, KeepWindows, windows_of, TurnsGo, turns_go}
@@ -102,7 +103,7 @@ written_done s key write (Err (missing.Missed causes)) answers is = cc
 written_done s key write (Err missing.OutOfMemory) answers is = has_memory write answers
 
 -- a write that may begin is not refused
-answered : (s : SessionsState) (key : ℕ) (value : List ℕ) (st : LanesState) → StoreIsSound st → may_write st.world (nonce s) (bricks_of_write s st) st.windows.wq ≡ true
+answered : (s : SessionsState) (key : ℕ) (value : List ℕ) (st : LanesState) → LanesAreSound st → may_write st.world (nonce s) (bricks_of_write s st) st.windows.wq ≡ true
     → answered_write (drawn s) key (passes_of s st) (length st.world.calls) (store_after_write s key value st) ≡ Refused → ⊥
 answered s key value st sound may is =
     let v : LanesState = store_after_write s key value st in
@@ -114,7 +115,7 @@ answered s key value st sound may is =
     let second : told_write later key write ≡ written_as later key gone.answer = ap (λ o. or_refused o (λ a. written_as later key a)) gone.answers in
     written_done later key write gone.answer gone.answers (sym second ∙ sym first ∙ is)
 
-not_refused_new : (s : SessionsState) (key : ℕ) (value : List ℕ) (st : LanesState) → TakenLaw → s.store ≡ Some st → StoreIsSound st → KeepLimits st.windows → is_new st.world (nonce s) ≡ true → write_line s key value ≡ Refused → ⊥
+not_refused_new : (s : SessionsState) (key : ℕ) (value : List ℕ) (st : LanesState) → TakenLaw → s.store ≡ Some st → LanesAreSound st → KeepLimits st.windows → is_new st.world (nonce s) ≡ true → write_line s key value ≡ Refused → ⊥
 unfolding write_line
 not_refused_new s key value st taken_law store_is sound keep new is =
     go (nat_lt (open_count st.windows.facts) st.windows.wq) refl (sym second ∙ sym first ∙ is)

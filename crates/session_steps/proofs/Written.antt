@@ -39,7 +39,8 @@ use Rattle.session_lanes.specs.Lanes.{LanesState}
 use Rattle.session_steps.specs.Texts.{version_text}
 use Rattle.session_steps.proofs.Calls.{bricks_of_write, write_ended, write_may}
 use Rattle.session_lanes.proofs.Ending.{WriteGone}
-use Rattle.session_steps.proofs.LanesKept.{StoreIsSound, SoundIfAny, one_turn_keeps}
+use Rattle.session_steps.proofs.LanesKept.{SoundIfAny, one_turn_keeps}
+use Rattle.session_lanes.specs.Sound.{LanesAreSound}
 use Rattle.session_steps.proofs.TurnsMade.{sound_of}
 use Rattle.session_steps.proofs.Lines.{passes_of, store_after_write, HasAnswered, WriteDone, write_done, IsAcknowledgedAs, IsMissed, written_by}
 
@@ -72,7 +73,7 @@ among_asked asks passes least are place holder at =
     let ask : HolderAsk asks holder = holder_ask asks place holder (get_taken least (filter_map holder_of asks) place holder at) in
     (ask.place, ap (λ (bricks : List BrickNo). slice_get bricks ask.place) (sym are) ∙ slice_get-map who asks ask.place ∙ ap (option_map who) ask.there ∙ ap (λ b. Some b) ask.who_is)
 
-acknowledged_by : (s : SessionsState) (key : ℕ) (value : List ℕ) (st : LanesState) (t : SessionsState) (text : List ℕ) → s.store ≡ Some st → StoreIsSound st → (a : HasAnswered s key value st t text)
+acknowledged_by : (s : SessionsState) (key : ℕ) (value : List ℕ) (st : LanesState) (t : SessionsState) (text : List ℕ) → s.store ≡ Some st → LanesAreSound st → (a : HasAnswered s key value st t text)
     → IsAcknowledgedAs (with_store (drawn s) (spent_by a.write (passes_of s st) (store_after_write s key value st))) key a.answer t text → Acknowledged s key value t text
 acknowledged_by s key value st t text store_is sound a ok =
     let start : WriteState = write_start (bricks_of_write s st) st.windows.wq (nonce s) (session_key key) value (expiry s) in
@@ -136,7 +137,7 @@ asked_when_missed n events place write causes why there =
     asked_in (new_world n) why.earlier why.order why.later place write why.may_begin why.place_is (ap (λ es. slice_get (after (new_world n) es).calls place) (sym why.parts) ∙ there)
 
 -- the write of the line was missed in the world of the bricks
-missed_by : (s : SessionsState) (key : ℕ) (value : List ℕ) (st : LanesState) (t : SessionsState) (text : List ℕ) → s.store ≡ Some st → StoreIsSound st → (a : HasAnswered s key value st t text)
+missed_by : (s : SessionsState) (key : ℕ) (value : List ℕ) (st : LanesState) (t : SessionsState) (text : List ℕ) → s.store ≡ Some st → LanesAreSound st → (a : HasAnswered s key value st t text)
     → IsMissed (with_store (drawn s) (spent_by a.write (passes_of s st) (store_after_write s key value st))) key a.answer t text → SoundIfAny t.store → WasMissed s key value t text
 missed_by s key value st t text store_is sound a missed after_sound =
     let start : WriteState = write_start (bricks_of_write s st) st.windows.wq (nonce s) (session_key key) value (expiry s) in

@@ -246,8 +246,11 @@ impl Parts {
             SessionLine::Mute(brick, more) => Ok(self.mute_line(brick, more)),
             SessionLine::Repeat(brick, number) => self.repeat_line(brick, number),
             SessionLine::Crash(brick) => self.crash_line(alloc, brick),
-            SessionLine::Sweep(brick, moment) =>
-                self.sweep_line(alloc, brick, moment.unwrap_or(self.moment.0)),
+            SessionLine::Sweep(brick, moment) => self.sweep_line(
+                alloc,
+                brick,
+                moment.unwrap_or(self.moment.0),
+            ),
             SessionLine::Values(brick) => self.values_line(alloc, brick),
             SessionLine::Windows => self.windows_line(alloc),
             SessionLine::Hold(brick) => self.hold_line(alloc, brick),
