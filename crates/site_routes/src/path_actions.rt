@@ -13,21 +13,37 @@ pub const MAX_ID: u64 = 4_294_967_295;
 /// One of the sixteen actions, with what a path says of it.
 #[derive(Clone, Copy)]
 pub enum SiteAction {
+    /// The first page, at `/`.
     Home,
+    /// Become a user.
     Register,
+    /// Sign in.
     SignIn,
+    /// Sign out.
     SignOut,
+    /// The list of categories.
     Categories,
+    /// A category more.
     AddCategory,
+    /// The items of a category.
     Browse { category: u32 },
+    /// The page of an item.
     Item { item: u32 },
+    /// The page of a user.
     User { user: u32 },
+    /// The last items of the user who asks.
     About,
+    /// Offer an item.
     Sell,
+    /// Bid on an item.
     Bid,
+    /// Buy an item at once.
     Buy,
+    /// End the auction of an own item.
     Close,
+    /// Say something about the other side of a sale.
     Feedback,
+    /// The form of an action.
     Form { kind: FormKind },
 }
 
