@@ -6,7 +6,7 @@ use Rattle.std.proofs.lemmas.List.Folds.{list_any-append}
 use Rattle.outside.specs.Faults.{Rose}
 use Rattle.outside.specs.declared.keeper.KeeperFault.TheVariants as faults
 use Rattle.outside.specs.Keeper.{KeeperTold, TellsRefusal}
-use Rattle.scenario_engine.specs.KeeperCalls.{KeeperCall, KeeperSeen, TellsCalls, is_failed, has_failed, AreCounted, AreMade, AreSomeMade}
+use Rattle.scenario_engine.specs.KeeperCalls.{KeeperCall, Gave, Kept, Failed, KeeperSeen, TellsCalls, is_failed, has_failed, AreCounted, AreMade, AreSomeMade}
 
 -- a count that rose, and did not fall before or after
 
@@ -109,3 +109,13 @@ some_first calls more old new some = record {
   last = next_first some.more more some.between new.told some.last;
   counted = some.counted;
 }
+
+-- a keeper has failed at calls among which is a failed one
+pub failed_among : (calls before after : List KeeperCall) → calls ≡ before ++ Failed ∷ after → has_failed calls ≡ true
+failed_among calls before after is = ap has_failed is ∙ go before
+  where
+    go : (before : List KeeperCall) → has_failed (before ++ Failed ∷ after) ≡ true
+    go [] = refl
+    go (Gave rows ∷ more) = go more
+    go (Kept writes ∷ more) = go more
+    go (Failed ∷ more) = refl

@@ -19,7 +19,7 @@ use Rattle.line_steps.specs.Callers.{caller_at, ended}
 use Rattle.line_steps.specs.Texts.{commit_refusal_text}
 use Rattle.line_steps.specs.declared.callers.Caller.{Caller}
 use Rattle.line_steps.specs.declared.callers.Caller.TheVariants.{Live}
-use Rattle.scenario_engine.specs.KeeperCalls.{KeeperCall, KeeperSeen, seen, AreMade}
+use Rattle.scenario_engine.specs.KeeperCalls.{KeeperCall, Failed, KeeperSeen, seen, AreMade}
 use Rattle.scenario_engine.specs.Running.{since_refused, with_keeper, boot_refusal, commit_ends, caller_commits, commit_step, keep_calls, caller_calls, commit_calls}
 use Rattle.scenario_engine.specs.State.{RunningState}
 use Rattle.scenario_engine.specs.Telling.{Commits, CommitsPartly}
@@ -156,3 +156,13 @@ refused_in k n callers taken sessions caller ticket cause text live memory is le
     ∙ ap (λ (cs : List Caller). Done (over k.boot (since_refused k.since ticket.call.request cause) cs) text) took
     ∙ ap (λ t. Done (over k.boot (since_refused k.since ticket.call.request cause) (ended callers caller)) t) wrote in
     refused_so r caller ticket cause _ (seen k.told k.faults) (seen n.told n.faults) live memory is (asked_of cause ticket.call k n leaves count failed) answers
+
+-- a commit that is told that the keeper failed, and not refused by its boot, made one call, which failed
+pub called_where_failed : (r : RunningState) (caller : ℕ) (ticket : TicketValue) (keeps : Bool) → caller_at r.callers caller ≡ Live ticket → boot_refusal r ticket ≡ None → with_keeper None ticket.call.writes keeps ≡ Some commits.KeeperFailed → commit_calls r caller keeps ≡ Failed ∷ []
+called_where_failed r caller ticket keeps live none failed =
+    sym (calls_of r caller ticket keeps live) ∙ ap (λ o. keep_calls o ticket.call.writes keeps) none ∙ go ticket.call.writes keeps failed
+  where
+    go : (writes : List RowWrite) (keeps : Bool) → with_keeper None writes keeps ≡ Some commits.KeeperFailed → keep_calls None writes keeps ≡ Failed ∷ []
+    go [] keeps failed = absurd (cc)
+    go (w ∷ ws) true failed = absurd (cc)
+    go (w ∷ ws) false failed = refl

@@ -1,10 +1,15 @@
 //! Laws of scenarios. Each is the contract of a function that does nothing: a caller that needs the law calls the
 //! function.
 
-ghost use Rattle.std.specs.Prelude.{◌≡◌, ◌≢◌, ◌<◌, ◌-◌, ◌^◌, ℕ, List, Option, Some, All, true};
+ghost use Rattle.std.specs.Prelude.{◌≡◌, ◌≢◌, ◌<◌, ◌-◌, ◌^◌, ◌++◌, ◌∷◌, [], ℕ, Bool, List, Option, Some, None, All, true};
 ghost use Rattle.boot_core.specs.Sound.{IsSound};
+ghost use Rattle.boot_core.specs.declared.refusals.CommitRefusal.TheVariants as commits;
+ghost use Rattle.call_ticket.specs.Ticket.{TicketValue};
+ghost use Rattle.line_steps.specs.Callers.{caller_at};
+ghost use Rattle.line_steps.specs.declared.callers.Caller.TheVariants.{Live};
 ghost use Rattle.outside.specs.Keeper.{KeeperTold};
-ghost use Rattle.scenario_engine.specs.KeeperCalls.{KeeperSeen, TellsCalls};
+ghost use Rattle.scenario_engine.specs.KeeperCalls.{KeeperCall, Failed, KeeperSeen, TellsCalls, has_failed};
+ghost use Rattle.scenario_engine.specs.Running.{with_keeper, boot_refusal, commit_calls};
 ghost use Rattle.scenario_engine.specs.Sound.{CommitsUnrebooted, RunsSerially, CommitsOwnRequests};
 ghost use Rattle.scenario_text.specs.Answer.{Refused};
 ghost use Rattle.scenario_text.specs.declared.line.Line.{Line};
@@ -129,4 +134,16 @@ pub fn keepers_decide()
 pub fn no_commit_is_kept_partly()
     ensures { (s : State) (line : Option Line) (old new : KeeperSeen) →
         DoesPartly s line old new → HoldsRowsButNumber old.told new.told }
+{}
+
+/// A commit that its boot does not refuse is told that the keeper failed only where its one call of the keeper failed;
+/// and a keeper has failed at calls among which is a failed one. So over any keeper the count of faults rose where a
+/// commit was told `keeper failed`.
+pub fn failures_are_of_calls()
+    ensures commits { (r : RunningState) (caller : ℕ) (ticket : TicketValue) (keeps : Bool) →
+        caller_at r.callers caller ≡ Live ticket → boot_refusal r ticket ≡ None →
+        with_keeper None ticket.call.writes keeps ≡ Some commits.KeeperFailed →
+        commit_calls r caller keeps ≡ Failed ∷ [] }
+    ensures calls { (calls before after : List KeeperCall) → calls ≡ before ++ Failed ∷ after →
+        has_failed calls ≡ true }
 {}

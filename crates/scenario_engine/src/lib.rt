@@ -30,7 +30,7 @@ mod running;
 pub use engine::Engine;
 pub use failure::{LineFailure, UnstartedCause};
 pub use laws::{
-    boots_are_sound, boots_rise, commits_are_of_their_boot, keepers_decide, keepers_tell,
-    no_commit_is_kept_partly, no_turns_break_the_order, no_turns_commit_after_a_reboot,
-    scenarios_have_sessions,
+    boots_are_sound, boots_rise, commits_are_of_their_boot, failures_are_of_calls, keepers_decide,
+    keepers_tell, no_commit_is_kept_partly, no_turns_break_the_order,
+    no_turns_commit_after_a_reboot, scenarios_have_sessions,
 };
