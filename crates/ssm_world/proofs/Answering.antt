@@ -1,5 +1,5 @@
 -- What a read of an acknowledged cookie answers.
-use Rattle.std.proofs.Common.{◌≡◌, ◌⊎◌, inl, inr, ℕ, zero, suc, ◌+◌, ◌<◌, ◌≤◌, Bool, true, false, if◌then◌else◌, nat_lt, List, [], ◌∷◌, ◌++◌, length, Option, Some, None, Result, Ok, Err, refl, sym, ap, ◌∙◌, subst, arith, append_assoc}
+use Rattle.std.proofs.Common.{◌≡◌, ◌⊎◌, inl, inr, ℕ, zero, suc, ◌<◌, ◌≤◌, Bool, true, false, if◌then◌else◌, nat_lt, List, [], ◌∷◌, ◌++◌, length, Option, Some, None, Result, Ok, Err, refl, sym, ap, ◌∙◌, subst, arith, append_assoc}
 use Rattle.std.specs.Prelude.{slice_get}
 use Rattle.std.specs.List.{filter_map, cons_option}
 use Rattle.std.proofs.lemmas.Bool.Decides.{nat_tests}
@@ -13,7 +13,6 @@ use Rattle.ssm_frames.specs.Requests.{is_request}
 use Rattle.brick_store.specs.declared.event.BrickEvent.{BrickEvent}
 use Rattle.brick_store.specs.declared.event.BrickEvent.TheVariants as happened
 use Rattle.brick_store.specs.declared.kept.Kept.{Kept}
-use Rattle.ssm_frames.specs.declared.frame.TheConstants.{SWEEP_GRACE}
 use Rattle.brick_store.specs.Bricks.{get_reply}
 use Rattle.brick_store.specs.History.{all_held, incarnation_after, swept_after}
 use Rattle.brick_store.specs.Kept.{is_under, is_late, kept_under}
@@ -33,20 +32,22 @@ use Rattle.ssm_stub.specs.declared.reply.ReadReply.{ReadReply}
 use Rattle.ssm_stub.specs.declared.reply.ReadReply.TheVariants as get
 use Rattle.ssm_stub.specs.Turns.{turn_in_order}
 use Rattle.ssm_stub.specs.Writes.{with_brick}
+use Rattle.ssm_stub.specs.Lawful.{IsGetReply}
 use Rattle.ssm_stub.specs.Reads.{ReadState, get_lawful, value_by, found_in, loss_by, loss_of, lost_unless, found_or, read_answer}
 use Rattle.ssm_world.specs.declared.call.Call.TheVariants as call
 use Rattle.ssm_world.specs.declared.event.WorldEvent.{WorldEvent}
 use Rattle.ssm_world.specs.Facts.{AllStored, has_late_sweep, frame_nonce, WasStored, WasSweptAt}
 use Rattle.ssm_world.specs.Worlds.{WorldValue, new_world, after}
 use Rattle.ssm_world.specs.Sound.{asked_of, WasSent, WasWritten, ReadIsSound}
-use Rattle.ssm_world.specs.Claims.{kept_for, IsIntact, HasCrashed, WasSwept, ReadOrder, HeardAs, IsLost, AreLost, WasGiven, IsRight, read_world, told_since, ReadAfter}
+use Rattle.ssm_world.specs.Claims.{kept_for, IsIntact, HasCrashed, WasSwept, ReadOrder, HeardAs, IsLossCause, AreLost, WasGiven, IsRight, read_world, told_since, ReadAfter}
 use Rattle.ssm_world.proofs.Ending.{FoundAt, found_at, none_found, HasOutcome, all_ended}
 use Rattle.ssm_world.proofs.Histories.{incarnation_grows, crash_stands, stored_front, stored_behind, stored_weaker, held_on, greatest_swept, swept_before, LateSweep, late_sweep, late_among, stands_behind, no_late_behind}
 use Rattle.ssm_world.proofs.Holding.{written_is}
-use Rattle.ssm_world.proofs.Lawful.{IsGetReply, lawful_get_is}
+use Rattle.ssm_world.proofs.Lawful.{lawful_get_is}
 use Rattle.ssm_world.proofs.Replying.{AbsentFor, absent_for}
 use Rattle.ssm_world.proofs.Scenes.{Scene, IsOrdered, scene, ordered, runs, distinct, found_is, Replied, replied}
-use Rattle.ssm_world.proofs.Tests.{both, late_is}
+use Rattle.ssm_stub.proofs.Tests.{both}
+use Rattle.ssm_world.proofs.Tests.{late_is, late_from}
 use Rattle.ssm_world.proofs.Tracing.{OwnLaw, EndLaw, heard_as}
 
 -- a holder that tells another incarnation has crashed since it stored the value
@@ -188,7 +189,7 @@ found_value n w v order value h x s its = found_is n w v order value h its.2.0 i
 -- a holder that did not give the value has its cause
 lost_by : (n : ℕ) (w v : WorldValue) (order : ReadOrder) (value : List ℕ) (i : ℕ) (h : Holder) (told : List Told) (o : Outcome ReadReply) → Scene n w v order value → slice_get order.cookie.bricks i ≡ Some h
     → HeardAs order h told o → ((reply : ReadReply) → o ≡ outcome.Answered reply → Evidence v order h reply) → value_by (Heard o) ≡ None
-    → (c : Cause) × (loss_by (Heard o) ≡ Some c) × IsLost v order (kept_for order.cookie value) h told c
+    → (c : Cause) × (loss_by (Heard o) ≡ Some c) × IsLossCause v order (kept_for order.cookie value) h told c
 unfolding Evidence
 lost_by n w v order value i h told outcome.Silent s among heard_so its none = (cause.Silent, refl, heard_so)
 lost_by n w v order value i h told outcome.Strayed s among heard_so its none = (cause.Strayed, refl, heard_so)
@@ -202,15 +203,15 @@ lost_by n w v order value i h told (outcome.Answered (get.Swept moment)) s among
     let e = its (get.Swept moment) refl in
     let frame : Frame = Absent order.nonce order.cookie.key order.cookie.version h.brick h.incarnation moment in
     let was : WasSent v h.brick frame = subst (λ f. WasSent v h.brick f) e.2.0 e.1 in
-    (cause.Swept moment, refl, (heard_so, swept_is n w v order value h moment s (replied n w v order value i h frame s among was refl refl) e.2.1))
+    (cause.Swept moment, refl, (heard_so, swept_is n w v order value h moment s (replied n w v order value i h frame s among was refl refl) (late_from moment order.cookie.expiry e.2.1)))
 
 -- where each has its cause, all have them in order
 lost_all : (v : WorldValue) (order : ReadOrder) (kept : Kept) (told : Holder → List Told) (asks : List (Ask Holder ReadReply))
-    → ((i : ℕ) (a : Ask Holder ReadReply) → slice_get asks i ≡ Some a → (c : Cause) × (loss_by a.ear ≡ Some c) × IsLost v order kept a.who (told a.who) c)
+    → ((i : ℕ) (a : Ask Holder ReadReply) → slice_get asks i ≡ Some a → (c : Cause) × (loss_by a.ear ≡ Some c) × IsLossCause v order kept a.who (told a.who) c)
     → AreLost v order kept told (asked_of asks) (filter_map loss_of asks)
 lost_all v order kept told [] each = tt
 lost_all v order kept told (a ∷ asks) each =
-    let first : (c : Cause) × (loss_by a.ear ≡ Some c) × IsLost v order kept a.who (told a.who) c = each 0 a refl in
+    let first : (c : Cause) × (loss_by a.ear ≡ Some c) × IsLossCause v order kept a.who (told a.who) c = each 0 a refl in
     let later : AreLost v order kept told (asked_of asks) (filter_map loss_of asks) = lost_all v order kept told asks (λ i b there. each (suc i) b there) in
     let P : Option Cause → Type 0 = λ o. AreLost v order kept told (a.who ∷ asked_of asks) (cons_option (with_brick a.who.brick o) (filter_map loss_of asks)) in
     subst P (sym first.1) (refl, first.2, later)
@@ -240,7 +241,7 @@ right n w v order value r told result s its sound heard_so is = go (nat_lt r.exp
     causes : found_in r.asks ≡ None → turn_in_order r.asks ≡ None → AreLost v order (kept_for order.cookie value) told (asked_of r.asks) (filter_map loss_of r.asks)
     causes none ended = lost_all v order (kept_for order.cookie value) told r.asks (λ i a there.
         let end : HasOutcome a = all_ended r.asks ended i a there in
-        let lost : (c : Cause) × (loss_by (Heard end.outcome) ≡ Some c) × IsLost v order (kept_for order.cookie value) a.who (told a.who) c =
+        let lost : (c : Cause) × (loss_by (Heard end.outcome) ≡ Some c) × IsLossCause v order (kept_for order.cookie value) a.who (told a.who) c =
         lost_by n w v order value i a.who (told a.who) end.outcome s (among_holders r order i a its there) (heard_so i a end.outcome there end.ear_is)
         (λ reply o. evidence v order r i a reply sound its there (end.ear_is ∙ ap (λ x. Heard x) o))
         (ap value_by (sym end.ear_is) ∙ none_found r.asks none i a there) in
@@ -310,9 +311,6 @@ uncrashed v h kept i intact crashed =
     let now : incarnation_after 1 crashed.events ≡ h.incarnation = ap (incarnation_after 1) (sym events) ∙ intact.uncrashed in
     omega (arith, now, crashed.greater, crashed.reached)
 
-late_from : (moment expiry : Moment) → expiry.0 + SWEEP_GRACE < moment.0 → is_late moment expiry ≡ true
-late_from moment expiry late = grind (arith, nat_tests)
-
 unswept : (v : WorldValue) (h : Holder) (kept : Kept) (moment : Moment) → IsIntact v h kept → WasSwept v h kept moment → ⊥
 unswept v h kept moment intact swept =
     let one : Some intact.events ≡ Some swept.events = sym intact.history_is ∙ swept.history_is in
@@ -333,16 +331,16 @@ served n w v order value i h told outcome.Strayed s among heard_so its intact = 
 served n w v order value i h told (outcome.Answered (get.Found x)) s among heard_so its intact =
     inl (ap (λ y. outcome.Answered (get.Found y)) (found_value n w v order value h x s (its (get.Found x) refl)))
 served n w v order value i h told (outcome.Answered (get.Crashed j)) s among heard_so its intact = absurd (
-    let lost : (c : Cause) × (loss_by (Heard (outcome.Answered (get.Crashed j))) ≡ Some c) × IsLost v order (kept_for order.cookie value) h told c = lost_by n w v order value i h told (outcome.Answered (get.Crashed j)) s among heard_so its refl in
+    let lost : (c : Cause) × (loss_by (Heard (outcome.Answered (get.Crashed j))) ≡ Some c) × IsLossCause v order (kept_for order.cookie value) h told c = lost_by n w v order value i h told (outcome.Answered (get.Crashed j)) s among heard_so its refl in
     let same : lost.0 ≡ cause.Crashed j = cc in
-    let P : Cause → Type 0 = λ c. IsLost v order (kept_for order.cookie value) h told c in
-    let its : IsLost v order (kept_for order.cookie value) h told (cause.Crashed j) = subst P same lost.2 in
+    let P : Cause → Type 0 = λ c. IsLossCause v order (kept_for order.cookie value) h told c in
+    let its : IsLossCause v order (kept_for order.cookie value) h told (cause.Crashed j) = subst P same lost.2 in
     uncrashed v h (kept_for order.cookie value) j intact its.1)
 served n w v order value i h told (outcome.Answered (get.Swept moment)) s among heard_so its intact = absurd (
-    let lost : (c : Cause) × (loss_by (Heard (outcome.Answered (get.Swept moment))) ≡ Some c) × IsLost v order (kept_for order.cookie value) h told c = lost_by n w v order value i h told (outcome.Answered (get.Swept moment)) s among heard_so its refl in
+    let lost : (c : Cause) × (loss_by (Heard (outcome.Answered (get.Swept moment))) ≡ Some c) × IsLossCause v order (kept_for order.cookie value) h told c = lost_by n w v order value i h told (outcome.Answered (get.Swept moment)) s among heard_so its refl in
     let same : lost.0 ≡ cause.Swept moment = cc in
-    let P : Cause → Type 0 = λ c. IsLost v order (kept_for order.cookie value) h told c in
-    let its : IsLost v order (kept_for order.cookie value) h told (cause.Swept moment) = subst P same lost.2 in
+    let P : Cause → Type 0 = λ c. IsLossCause v order (kept_for order.cookie value) h told c in
+    let its : IsLossCause v order (kept_for order.cookie value) h told (cause.Swept moment) = subst P same lost.2 in
     unswept v h (kept_for order.cookie value) moment intact its.1)
 
 pub holder_heard : OwnLaw → EndLaw → (n : ℕ) (earlier later : List WorldEvent) (order : ReadOrder) (value : List ℕ) (r : ReadState) (place : ℕ) (a : Ask Holder ReadReply) (o : Outcome ReadReply)
@@ -362,7 +360,7 @@ holder_heard own ends n earlier later order value r place a o read there ear int
     )
 
 -- a cause of a holder that is intact is the link's
-unheard : (v : WorldValue) (order : ReadOrder) (kept : Kept) (h : Holder) (told : List Told) (c : Cause) → IsLost v order kept h told c → IsIntact v h kept → (c ≡ cause.Silent) ⊎ (c ≡ cause.Strayed)
+unheard : (v : WorldValue) (order : ReadOrder) (kept : Kept) (h : Holder) (told : List Told) (c : Cause) → IsLossCause v order kept h told c → IsIntact v h kept → (c ≡ cause.Silent) ⊎ (c ≡ cause.Strayed)
 unheard v order kept h told cause.Silent lost intact = inl refl
 unheard v order kept h told cause.Strayed lost intact = inr refl
 unheard v order kept h told (cause.Full entries bytes) lost intact = absurd lost

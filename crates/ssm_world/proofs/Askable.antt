@@ -23,7 +23,7 @@ use Rattle.ssm_world.specs.Sound.{asked_of, WriteIsSound}
 use Rattle.ssm_world.specs.Claims.{IsAcknowledged}
 use Rattle.ssm_world.proofs.Holding.{cookie_of, answer_cookie}
 use Rattle.ssm_world.proofs.Steps.{world_is_sound}
-use Rattle.ssm_world.proofs.Tests.{both, number_same}
+use Rattle.ssm_stub.proofs.Tests.{both, number_same}
 
 -- a holder comes from its ask
 holder_brick : (a : Ask BrickNo WriteReply) (hs : List Holder) → (bricks_of (cons_option (holder_of a) hs) ≡ bricks_of hs) ⊎ (bricks_of (cons_option (holder_of a) hs) ≡ a.who ∷ bricks_of hs)

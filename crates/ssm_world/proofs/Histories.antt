@@ -1,5 +1,6 @@
 -- What histories say that grow.
 use Rattle.std.proofs.Common.{◌≡◌, ℕ, suc, ◌<◌, ◌≤◌, ◌||◌, Bool, true, false, if◌then◌else◌, nat_lt, List, [], ◌∷◌, ◌++◌, Option, Some, None, refl, ap, subst, arith}
+use Rattle.std.proofs.lemmas.Bool.{or_parts}
 use Rattle.std.specs.Prelude.{slice_get}
 use Rattle.std.proofs.lemmas.Bool.Decides.{nat_tests}
 use Rattle.crash_base.specs.declared.numbers.Moment.{Moment}
@@ -11,7 +12,7 @@ use Rattle.brick_store.specs.declared.event.BrickEvent.TheVariants.{Stored, Swee
 use Rattle.brick_store.specs.Kept.{is_under, is_late}
 use Rattle.brick_store.specs.History.{left_by, held, incarnation_after, swept_after}
 use Rattle.ssm_world.specs.Facts.{is_late_sweep, has_late_sweep, AllStored, WasSweptAt}
-use Rattle.ssm_world.proofs.Tests.{key_same, version_same, or_parts}
+use Rattle.ssm_stub.proofs.Tests.{key_same, version_same}
 
 -- a crash alone raises the incarnation
 pub incarnation_grows : (later h : List BrickEvent) → incarnation_after 1 h ≤ incarnation_after 1 (later ++ h)

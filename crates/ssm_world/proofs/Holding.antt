@@ -39,7 +39,7 @@ use Rattle.ssm_world.proofs.Histories.{stored_front, stored_weaker, held_on}
 use Rattle.ssm_world.proofs.Lawful.{lawful_stored}
 use Rattle.ssm_world.proofs.Replying.{StoredFor, stored_for}
 use Rattle.ssm_world.proofs.Steps.{world_is_sound, world_replies}
-use Rattle.ssm_world.proofs.Tests.{both, version_is}
+use Rattle.ssm_stub.proofs.Tests.{both, version_is}
 
 -- the cookie that a write names once it answers Ok
 abbrev pub cookie_of : WriteState → Cookie

@@ -22,7 +22,7 @@ use Rattle.ssm_world.proofs.CallAsks.{put_asked, ask_is_request}
 use Rattle.ssm_world.proofs.Growing.{same_nonce, grows_same, grows_on, grows_packet, grows_new_call, grows_call, grows_history, ask_of_call, brick_asked_stays, sent_stays, stored_stays, call_stays, made_stays}
 use Rattle.ssm_world.proofs.Lists.{get_last, get_set, history_set, history_set_same, none_passes}
 use Rattle.ssm_world.proofs.Replying.{heard_is, RepliesTo, reply_to}
-use Rattle.ssm_world.proofs.Tests.{version_same}
+use Rattle.ssm_stub.proofs.Tests.{version_same}
 
 -- The later world has grown, is sound where the earlier one is, and its replies were made since a third one
 -- where those of the earlier are and that one has grown to it.

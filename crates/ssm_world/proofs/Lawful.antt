@@ -14,7 +14,9 @@ use Rattle.ssm_stub.specs.declared.reply.ReadReply.TheVariants as get
 use Rattle.ssm_stub.specs.Replies.{is_reply, refers}
 use Rattle.ssm_stub.specs.Writes.{put_lawful}
 use Rattle.ssm_stub.specs.Reads.{get_lawful}
-use Rattle.ssm_world.proofs.Tests.{reply_is, same_number, number_same}
+pub use Rattle.ssm_stub.specs.Lawful.{IsGetReply}
+use Rattle.ssm_stub.proofs.Tests.{reply_is, same_number, number_same}
+use Rattle.ssm_world.proofs.Tests.{late_is}
 
 -- a lawful Stored is the brick's Stored to this write
 pub lawful_stored : (nonce : Version) (key : SessionKey) (brick : BrickNo) (frame : Frame) (i : ℕ) → put_lawful nonce key brick frame ≡ Some (put.Stored i) → frame ≡ Stored nonce key nonce brick i
@@ -62,15 +64,7 @@ lawful_full nonce key brick (Found n k v b j expiry value) entries bytes h = abs
 lawful_full nonce key brick (Absent n k v b j swept) entries bytes h = absurd (cc)
 lawful_full nonce key brick (Swept n b j moment) entries bytes h = absurd (cc)
 
--- What a lawful reply to a Get is.
-abbrev pub IsGetReply : Version → SessionKey → Version → Moment → Holder → Frame → ReadReply → Type 0
-IsGetReply nonce key version expiry holder frame (get.Found value) =
-    (i : ℕ) × (until : Moment) × (frame ≡ Found nonce key version holder.brick i until value)
-IsGetReply nonce key version expiry holder frame (get.Crashed incarnation) =
-    (moment : Moment) × (frame ≡ Absent nonce key version holder.brick incarnation moment) × (incarnation ≡ holder.incarnation → ⊥)
-IsGetReply nonce key version expiry holder frame (get.Swept moment) =
-    (frame ≡ Absent nonce key version holder.brick holder.incarnation moment) × (is_late moment expiry ≡ true)
-
+-- and a lawful reply to a Get is the holder's to this read
 pub lawful_get_is : (nonce : Version) (key : SessionKey) (version : Version) (expiry : Moment) (holder : Holder) (frame : Frame) (reply : ReadReply)
     → get_lawful nonce key version expiry holder frame ≡ Some reply → IsGetReply nonce key version expiry holder frame reply
 lawful_get_is nonce key version expiry h (Found n k v b j until value) reply is = go (is_reply (refers nonce key version h.brick) (refers n k v b)) refl is
@@ -93,7 +87,7 @@ lawful_get_is nonce key version expiry h (Absent n k v b j moment) reply is =
         let number : j ≡ h.incarnation = same_number j h.incarnation named in
         let swept : get.Swept moment ≡ reply = cc in
         let P : ReadReply → Type 0 = λ r. IsGetReply nonce key version expiry h (Absent n k v b j moment) r in
-        subst P swept ((λ l. Absent (to l).nonce (to l).key (to l).version (to l).brick (number l) moment), past)
+        subst P swept ((λ l. Absent (to l).nonce (to l).key (to l).version (to l).brick (number l) moment), late_is moment expiry past)
     go true true false met named past e = absurd (cc)
     go true false late met named past e =
         let to : refers n k v b ≡ refers nonce key version h.brick = reply_is (refers nonce key version h.brick) (refers n k v b) met in

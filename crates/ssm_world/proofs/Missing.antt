@@ -25,7 +25,7 @@ use Rattle.ssm_stub.specs.declared.reply.WriteReply.{WriteReply}
 use Rattle.ssm_stub.specs.declared.reply.WriteReply.TheVariants as put
 use Rattle.ssm_stub.specs.declared.write_call.WriteRefusal.TheVariants.{Missed}
 use Rattle.ssm_stub.specs.Ears.{ear_after}
-use Rattle.ssm_stub.specs.Outcomes.{IsMissedBy}
+use Rattle.ssm_stub.specs.Outcomes.{missed_of, IsMissedBy}
 use Rattle.ssm_stub.specs.Runs.{after as run}
 use Rattle.ssm_stub.specs.Turns.{none_asked, turn_after_asks}
 use Rattle.ssm_stub.specs.Writes.{WriteState, put_lawful, cause_by, with_brick, write_answer, write_machine}
@@ -41,7 +41,7 @@ use Rattle.ssm_world.specs.declared.event.WorldEvent.{WorldEvent}
 use Rattle.ssm_world.specs.Facts.{frame_nonce}
 use Rattle.ssm_world.specs.Worlds.{WorldValue, new_world, nonce_of, is_new, are_distinct, after}
 use Rattle.ssm_world.specs.Sound.{WasSent, Grows, WasMade, IsSound, RepliesSince, WriteIsSound}
-use Rattle.ssm_world.specs.Claims.{WriteOrder, write_event, write_state, told_to_write, told_to_write_of, missed_by, kept_by, HadNoRoom, EndsAs, IsMissed, WasMissed}
+use Rattle.ssm_world.specs.Claims.{WriteOrder, write_event, write_state, told_to_write, told_to_write_of, kept_by, HadNoRoom, EndsAs, IsMissCause, WasMissed}
 use Rattle.ssm_world.proofs.CallAsks.{asked_nonce, one_ask}
 use Rattle.ssm_world.proofs.Growing.{WasAsked, ask_of_call}
 use Rattle.ssm_world.proofs.Lawful.{lawful_full}
@@ -49,7 +49,7 @@ use Rattle.ssm_world.proofs.Lists.{none_passes}
 use Rattle.ssm_world.proofs.Origins.{Origin, Story, story, run_keeps, after_append}
 use Rattle.ssm_world.proofs.Replying.{FullFor, full_for, RepliesTo, reply_to}
 use Rattle.ssm_world.proofs.Steps.{world_is_sound, world_replies, worlds_grow, worlds_reply}
-use Rattle.ssm_world.proofs.Tests.{both, version_same}
+use Rattle.ssm_stub.proofs.Tests.{both, version_same}
 use Rattle.ssm_world.proofs.Tracing.{bricks_differ}
 
 -- the replies of a world that have this nonce were sent no earlier than another
@@ -109,9 +109,9 @@ no_room since w k s value i a entries bytes sound replies are_since there ask_is
 -- a brick of a write with its cause
 pub record Missing (since w : WorldValue) (order : WriteOrder) (told : BrickNo → List Told) (brick : BrickNo) (c : BrickCause) : Type 0 where
   pub brick_is : brick ≡ c.brick
-  pub why : IsMissed since w order brick (told brick) c.cause
+  pub why : IsMissCause since w order brick (told brick) c.cause
 
-missing_as : (since w : WorldValue) (order : WriteOrder) (told : BrickNo → List Told) (brick : BrickNo) (why : Cause) (c : BrickCause) → Some (record { brick = brick; cause = why }) ≡ Some c → IsMissed since w order brick (told brick) why
+missing_as : (since w : WorldValue) (order : WriteOrder) (told : BrickNo → List Told) (brick : BrickNo) (why : Cause) (c : BrickCause) → Some (record { brick = brick; cause = why }) ≡ Some c → IsMissCause since w order brick (told brick) why
     → Missing since w order told brick c
 missing_as since w order told brick why c e is =
     let same : record { brick = brick; cause = why } ≡ c = cc in
@@ -158,13 +158,13 @@ missed_for n events place s causes there answers =
     let new : AreSince w v order.nonce = subst S whole (are_sent_since n o.earlier (write_event order ∷ o.later) order.nonce (both _ _ (both _ _ o.may_begin).0).0) in
     let nonce_is : s.nonce ≡ order.nonce = ap (λ (r : WriteState). r.nonce) state in
     let since : AreSince w v s.nonce = λ j p at none is. new j p at none (is ∙ nonce_is) in
-    let Q : BrickCause → Type 0 = λ c. IsMissed w v order c.brick (told c.brick) c.cause in
-    let each : (i : ℕ) (b : BrickNo) (c : BrickCause) → slice_get order.bricks i ≡ Some b → missed_by order told b ≡ Some c → Q c = λ i b c here e.
+    let Q : BrickCause → Type 0 = λ c. IsMissCause w v order c.brick (told c.brick) c.cause in
+    let each : (i : ℕ) (b : BrickNo) (c : BrickCause) → slice_get order.bricks i ≡ Some b → missed_of order.nonce order.key told b ≡ Some c → Q c = λ i b c here e.
     let room : (entries bytes : ℕ) → ear_of b ≡ Heard (outcome.Answered (put.Full entries bytes)) → HadNoRoom w v b (kept_by order) entries bytes = λ entries bytes is.
     let K : WriteState → Type 0 = λ r. HadNoRoom w v b (put_value r.key r.nonce r.expiry order.value) entries bytes in
     subst K state (no_room w v place s order.value i (mk b) entries bytes (world_is_sound n events) replies since there value_is (ap (λ (r : WriteState). slice_get r.asks i) state ∙ at i b here) is) in
     let its : Missing w v order told b c = missing w v order told b (ear_of b) c e (λ out is. heard_so (put_lawful order.nonce order.key b) b (told b) out (heard.fitting i b here) is) room in
-    let P : BrickNo → Type 0 = λ x. IsMissed w v order x (told x) c.cause in
+    let P : BrickNo → Type 0 = λ x. IsMissCause w v order x (told x) c.cause in
     subst P its.brick_is its.why in
     let All_of : List BrickCause → Type 0 = All Q in
     record {
@@ -178,5 +178,5 @@ missed_for n events place s causes there answers =
       few = missed.few;
       causes_are = missed.causes_are;
       all_heard = missed.all_heard;
-      each = subst All_of (sym missed.causes_are) (all_found (missed_by order told) Q order.bricks each);
+      each = subst All_of (sym missed.causes_are) (all_found (missed_of order.nonce order.key told) Q order.bricks each);
     }

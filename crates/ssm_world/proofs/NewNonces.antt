@@ -1,5 +1,6 @@
 -- A nonce that no call has stays new until a call begins with it.
 use Rattle.std.proofs.Common.{◌≡◌, ℕ, ◌||◌, Bool, true, false, not, if◌then◌else◌, List, [], ◌∷◌, Option, Some, None, refl, ap, ◌∙◌}
+use Rattle.std.proofs.lemmas.Bool.{or_parts}
 use Rattle.std.specs.Prelude.{slice_get}
 use Rattle.std.specs.List.{list_any}
 use Rattle.std.proofs.lemmas.List.Folds.{list_any-append}
@@ -16,7 +17,6 @@ use Rattle.ssm_world.specs.declared.event.WorldEvent.TheVariants.{Write, Read, S
 use Rattle.ssm_world.specs.Facts.{begins}
 use Rattle.ssm_world.specs.Worlds.{WorldValue, nonce_of, ask_of, next_of, hear, history, with_new_call, is_new, may_write, may_read, told_by_send, told_by_hush, told_by_packet, packet_by_send, with_told, sent, came, hushed, step, after}
 use Rattle.ssm_world.proofs.Nonces.{any_set, hear_nonce}
-use Rattle.ssm_world.proofs.Tests.{or_parts}
 use Rattle.ssm_world.proofs.Tracing.{sent_calls, delivered_calls, crashed_calls, swept_calls}
 
 same_calls : (w v : WorldValue) (nonce : Version) → v.calls ≡ w.calls → is_new v nonce ≡ is_new w nonce

@@ -19,6 +19,7 @@ use Rattle.ssm_stub.specs.declared.ear.Outcome.TheVariants as outcome
 use Rattle.ssm_stub.specs.declared.reply.WriteReply.{WriteReply}
 use Rattle.ssm_stub.specs.declared.reply.WriteReply.TheVariants.{Stored}
 use Rattle.ssm_stub.specs.declared.write_call.WriteRefusal.{WriteRefusal}
+use Rattle.ssm_stub.specs.Outcomes.{stored_of}
 use Rattle.ssm_stub.specs.Runs.{Fits, after as run}
 use Rattle.ssm_stub.specs.Writes.{WriteState, put_lawful, holder_by, holder_of, write_start, write_answer, write_next, write_machine, hear_write}
 use Rattle.ssm_stub.proofs.ByEvents.{ask_by}
@@ -33,10 +34,10 @@ use Rattle.ssm_world.specs.declared.event.WorldEvent.{WorldEvent}
 use Rattle.ssm_world.specs.declared.event.WorldEvent.TheVariants.{Write, Read, Send, Deliver, Hear, Hush, Crash, Sweep}
 use Rattle.ssm_world.specs.Worlds.{WorldValue, new_world, are_distinct, ask_of, next_of, hear, history, with_new_call, may_write, may_read, told_by_send, told_by_hush, told_by_packet, packet_by_send, with_told, sent, came, hushed, step, after}
 use Rattle.ssm_world.specs.Traces.{told_at, all_told}
-use Rattle.ssm_world.specs.Claims.{IsAcknowledged, WriteOrder, write_event, write_state, told_to_write, told_to_write_of, stored_by, NamesWhoStored}
+use Rattle.ssm_world.specs.Claims.{IsAcknowledged, WriteOrder, write_event, write_state, told_to_write, told_to_write_of, NamesWhoStored}
 use Rattle.ssm_world.proofs.Holding.{cookie_of, answer_cookie}
 use Rattle.ssm_world.proofs.Lists.{get_last, get_new, get_set}
-use Rattle.ssm_world.proofs.Tests.{both}
+use Rattle.ssm_stub.proofs.Tests.{both}
 use Rattle.ssm_world.proofs.Tracing.{sent_calls, delivered_calls, crashed_calls, swept_calls, IsRun, call_runs, bricks_differ}
 
 -- a write that a world has at a place
@@ -275,7 +276,7 @@ names_who_stored n events cookie value acknowledged =
     let facts = told_facts all order.bricks start (Ok cookie) refl (bricks_differ order.bricks distinct) t.fitting answered in
     let heard : WriteState = record start { asks = map mk order.bricks } in
     let answers : (cookie_of heard ≡ cookie) × (nat_le order.least (length (filter_map holder_of (map mk order.bricks))) ≡ true) = answer_cookie heard cookie facts.0 in
-    let stored : List Holder = filter_map (stored_by order told) order.bricks in
+    let stored : List Holder = filter_map (stored_of order.nonce order.key told) order.bricks in
     let holders_are : filter_map holder_of (map mk order.bricks) ≡ stored = filter_map_map holder_of mk order.bricks in
     let bricks_are : cookie.bricks ≡ take order.least stored = ap (λ (c : Cookie). c.bricks) (sym answers.0) ∙ ap (take order.least) holders_are in
     let enough : order.least ≤ length stored = enough_for order.least (length stored) (ap (λ hs. nat_le order.least (length hs)) (sym holders_are) ∙ answers.1) in

@@ -40,7 +40,7 @@ use Rattle.ssm_world.proofs.Holding.{cookie_of, answer_cookie, Holds, holder_hol
 use Rattle.ssm_world.proofs.Lists.{get_new, none_passes}
 use Rattle.ssm_world.proofs.Replying.{FoundFor, found_for, RepliesTo, reply_to}
 use Rattle.ssm_world.proofs.Steps.{after_stays, world_is_sound, world_replies, replies_since}
-use Rattle.ssm_world.proofs.Tests.{both, version_same}
+use Rattle.ssm_stub.proofs.Tests.{both, version_same}
 use Rattle.ssm_world.proofs.Tracing.{IsReadRun, read_runs}
 
 -- What the proofs use of the world in which a read began and of a later one: both are sound, each reply was made by

@@ -28,7 +28,7 @@ use Rattle.ssm_world.proofs.Hearing.{hear_untold, hear_is_sound, write_begins, r
 use Rattle.ssm_world.proofs.Keeping.{StaysSound, stays_same, stays_on, new_call_stays, call_stays_sound, request_stays, history_stays, delivery_stays}
 use Rattle.ssm_world.proofs.Lists.{get_set_same}
 use Rattle.ssm_world.proofs.Sending.{SendsTo, same_sends, next_sends}
-use Rattle.ssm_world.proofs.Tests.{both, brick_is}
+use Rattle.ssm_stub.proofs.Tests.{both, brick_is}
 
 -- a call that begins
 begins_stay : (since w : WorldValue) (c : Call) (may : Bool) → (may ≡ true → is_new w (nonce_of c) ≡ true) → (may ≡ true → (v : WorldValue) → CallIsSound v c) → StaysSound since w (if may then with_new_call w c else w)

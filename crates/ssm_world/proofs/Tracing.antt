@@ -36,7 +36,7 @@ use Rattle.ssm_world.specs.Worlds.{WorldValue, ask_of, next_of, hear, history, w
 use Rattle.ssm_world.specs.Traces.{told_by, told_at, all_told}
 use Rattle.ssm_world.specs.Claims.{ReadOrder, HeardAs}
 use Rattle.ssm_world.proofs.Lists.{get_front, get_set_same, none_passes}
-use Rattle.ssm_world.proofs.Tests.{both, same_number, number_same}
+use Rattle.ssm_stub.proofs.Tests.{both, same_number, number_same}
 
 -- a call after it was told something, if it was
 abbrev told_on : Call → Option Told → Call

@@ -1,6 +1,6 @@
 -- What the laws of worlds speak of: acknowledged cookies, what their holders keep, what reads answer, and why
 -- writes are missed.
-use Rattle.std.specs.Prelude.{◌≡◌, ℕ, ◌+◌, ◌<◌, ◌≤◌, true, false, All, List, [], ◌∷◌, ◌++◌, length, take, filter_map, slice_get, Option, Some, Result, Ok, Err}
+use Rattle.std.specs.Prelude.{◌≡◌, ℕ, ◌+◌, ◌<◌, ◌≤◌, true, false, All, List, [], ◌∷◌, ◌++◌, length, take, filter_map, slice_get, Some, Result, Ok, Err}
 use Rattle.crash_base.specs.declared.numbers.BrickNo.{BrickNo}
 use Rattle.crash_base.specs.declared.numbers.Moment.{Moment}
 use Rattle.crash_base.specs.declared.numbers.SessionKey.{SessionKey}
@@ -27,10 +27,10 @@ use Rattle.ssm_stub.specs.declared.reply.ReadReply.{ReadReply}
 use Rattle.ssm_stub.specs.declared.reply.ReadReply.TheVariants as answer
 use Rattle.ssm_stub.specs.declared.reply.WriteReply.{WriteReply}
 use Rattle.ssm_stub.specs.declared.reply.WriteReply.TheVariants.{Stored, Full}
-use Rattle.ssm_stub.specs.Ears.{ear_after}
 use Rattle.ssm_stub.specs.Hearing.{EndsIn, told_to}
+use Rattle.ssm_stub.specs.Outcomes.{stored_of, missed_of}
 use Rattle.ssm_stub.specs.Turns.{none_asked}
-use Rattle.ssm_stub.specs.Writes.{WriteState, put_lawful, holder_by, cause_by, with_brick, write_answer, write_start, write_machine}
+use Rattle.ssm_stub.specs.Writes.{WriteState, put_lawful, write_answer, write_start, write_machine}
 use Rattle.ssm_stub.specs.Reads.{ReadState, get_lawful, read_start, read_machine}
 use Rattle.ssm_world.specs.declared.call.Call.TheVariants as call
 use Rattle.ssm_world.specs.declared.event.WorldEvent.{WorldEvent}
@@ -106,20 +106,20 @@ HeardAs order holder told outcome =
 -- read's send, or to its receiving; or 64 frames came that are no lawful reply; or the holder told that
 -- it has another incarnation, and has crashed since it stored the value; or it told that it was swept
 -- past the lease and the grace, and was since it stored the value.
-abbrev pub IsLost : WorldValue → ReadOrder → Kept → Holder → List Told → Cause → Type 0
-IsLost w order s holder told cause.Silent = HeardAs order holder told outcome.Silent
-IsLost w order s holder told cause.Strayed = HeardAs order holder told outcome.Strayed
-IsLost w order s holder told (cause.Full entries bytes) = ⊥
-IsLost w order s holder told (cause.Crashed incarnation) =
+abbrev pub IsLossCause : WorldValue → ReadOrder → Kept → Holder → List Told → Cause → Type 0
+IsLossCause w order s holder told cause.Silent = HeardAs order holder told outcome.Silent
+IsLossCause w order s holder told cause.Strayed = HeardAs order holder told outcome.Strayed
+IsLossCause w order s holder told (cause.Full entries bytes) = ⊥
+IsLossCause w order s holder told (cause.Crashed incarnation) =
     HeardAs order holder told (outcome.Answered (answer.Crashed incarnation)) × HasCrashed w holder s incarnation
-IsLost w order s holder told (cause.Swept moment) =
+IsLossCause w order s holder told (cause.Swept moment) =
     HeardAs order holder told (outcome.Answered (answer.Swept moment)) × WasSwept w holder s moment
 
 -- each holder has its cause, in order, by what the read was told of it
 abbrev pub AreLost : WorldValue → ReadOrder → Kept → (Holder → List Told) → List Holder → List BrickCause → Type 0
 AreLost w order s told [] [] = Unit {0}
 AreLost w order s told (holder ∷ holders) (c ∷ causes) =
-    (c.brick ≡ holder.brick) × IsLost w order s holder (told holder) c.cause × AreLost w order s told holders causes
+    (c.brick ≡ holder.brick) × IsLossCause w order s holder (told holder) c.cause × AreLost w order s told holders causes
 AreLost w order s told [] (c ∷ causes) = ⊥
 AreLost w order s told (holder ∷ holders) [] = ⊥
 
@@ -191,11 +191,6 @@ told_to_write w order events = all_told (step w (write_event order)) (length w.c
 abbrev pub told_to_write_of : WorldValue → WriteOrder → List WorldEvent → BrickNo → List Told
 told_to_write_of w order events brick = told_to write_machine (write_state order) (told_to_write w order events) brick
 
--- the brick as a holder, where what the write was told of it ends in a lawful Stored
-abbrev pub stored_by : WriteOrder → (BrickNo → List Told) → BrickNo → Option Holder
-stored_by order told brick =
-    holder_by brick (ear_after (put_lawful order.nonce order.key brick) (told brick))
-
 -- How a cookie was acknowledged with a value in a world that these events made of a new one: a write of the
 -- value began among them, with its key, nonce and expiry, and the cookie names the first `least` of the
 -- write's bricks of which the events since told it a lawful Stored, in asked order, with the incarnations
@@ -212,15 +207,10 @@ pub record NamesWhoStored (bricks : ℕ) (events : List WorldEvent) (cookie : Co
   pub version_is : cookie.version ≡ order.nonce
   pub expiry_is : cookie.expiry ≡ order.expiry
   pub enough : length cookie.bricks ≡ order.least
-  pub first : cookie.bricks ≡ take order.least (filter_map (stored_by order (told_to_write_of (after (new_world bricks) earlier) order later)) order.bricks)
+  pub first : cookie.bricks ≡ take order.least (filter_map (stored_of order.nonce order.key (told_to_write_of (after (new_world bricks) earlier) order later)) order.bricks)
   pub stored : All (λ (holder : Holder). EndsIn (put_lawful order.nonce order.key holder.brick) (told_to_write_of (after (new_world bricks) earlier) order later holder.brick) (outcome.Answered (Stored holder.incarnation))) cookie.bricks
   pub none_left : (brick : BrickNo) (incarnation : ℕ) → EndsIn (put_lawful order.nonce order.key brick) (told_to_write_of (after (new_world bricks) earlier) order later brick) (outcome.Answered (Stored incarnation))
-      → stored_by order (told_to_write_of (after (new_world bricks) earlier) order later) brick ≡ Some (record { brick = brick; incarnation = incarnation })
-
--- the brick with its cause, where what the write was told of it gives one
-abbrev pub missed_by : WriteOrder → (BrickNo → List Told) → BrickNo → Option BrickCause
-missed_by order told brick =
-    with_brick brick (cause_by (ear_after (put_lawful order.nonce order.key brick) (told brick)))
+      → stored_of order.nonce order.key (told_to_write_of (after (new_world bricks) earlier) order later) brick ≡ Some (record { brick = brick; incarnation = incarnation })
 
 -- At some time no earlier than a world, a brick had no room for a value, and so many values then, of so many bytes in
 -- all.
@@ -244,14 +234,14 @@ EndsAs order brick told outcome = EndsIn (put_lawful order.nonce order.key brick
 -- Why a brick did not store the value of a write that was told this of it: the link was silent to the write's
 -- send, or to its receiving; or 64 frames came that are no lawful reply; or the brick told that it is full, and
 -- had no room for the value, at a time no earlier than the world in which the write began.
-abbrev pub IsMissed : WorldValue → WorldValue → WriteOrder → BrickNo → List Told → Cause → Type 0
-IsMissed since w order brick told cause.Silent = EndsAs order brick told outcome.Silent
-IsMissed since w order brick told cause.Strayed = EndsAs order brick told outcome.Strayed
-IsMissed since w order brick told (cause.Full entries bytes) =
+abbrev pub IsMissCause : WorldValue → WorldValue → WriteOrder → BrickNo → List Told → Cause → Type 0
+IsMissCause since w order brick told cause.Silent = EndsAs order brick told outcome.Silent
+IsMissCause since w order brick told cause.Strayed = EndsAs order brick told outcome.Strayed
+IsMissCause since w order brick told (cause.Full entries bytes) =
     EndsAs order brick told (outcome.Answered (Full entries bytes))
     × HadNoRoom since w brick (kept_by order) entries bytes
-IsMissed since w order brick told (cause.Crashed incarnation) = ⊥
-IsMissed since w order brick told (cause.Swept moment) = ⊥
+IsMissCause since w order brick told (cause.Crashed incarnation) = ⊥
+IsMissCause since w order brick told (cause.Swept moment) = ⊥
 
 -- Why the write at a place was missed in a world that these events made of a new one: it began among them; fewer
 -- than `least` of its bricks told it a lawful Stored since; and each other brick has its cause, in asked order.
@@ -263,7 +253,7 @@ pub record WasMissed (bricks : ℕ) (events : List WorldEvent) (place : ℕ) (wr
   pub may_begin : may_write (after (new_world bricks) earlier) order.nonce order.bricks order.least ≡ true
   pub place_is : place ≡ length (after (new_world bricks) earlier).calls
   pub order_is : record write { asks = none_asked order.bricks } ≡ write_state order
-  pub few : length (filter_map (stored_by order (told_to_write_of (after (new_world bricks) earlier) order later)) order.bricks) < order.least
-  pub causes_are : causes ≡ filter_map (missed_by order (told_to_write_of (after (new_world bricks) earlier) order later)) order.bricks
-  pub all_heard : length (filter_map (stored_by order (told_to_write_of (after (new_world bricks) earlier) order later)) order.bricks) + length causes ≡ length order.bricks
-  pub each : All (λ (c : BrickCause). IsMissed (after (new_world bricks) earlier) (after (new_world bricks) events) order c.brick (told_to_write_of (after (new_world bricks) earlier) order later c.brick) c.cause) causes
+  pub few : length (filter_map (stored_of order.nonce order.key (told_to_write_of (after (new_world bricks) earlier) order later)) order.bricks) < order.least
+  pub causes_are : causes ≡ filter_map (missed_of order.nonce order.key (told_to_write_of (after (new_world bricks) earlier) order later)) order.bricks
+  pub all_heard : length (filter_map (stored_of order.nonce order.key (told_to_write_of (after (new_world bricks) earlier) order later)) order.bricks) + length causes ≡ length order.bricks
+  pub each : All (λ (c : BrickCause). IsMissCause (after (new_world bricks) earlier) (after (new_world bricks) events) order c.brick (told_to_write_of (after (new_world bricks) earlier) order later c.brick) c.cause) causes
