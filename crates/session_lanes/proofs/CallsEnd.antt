@@ -18,10 +18,10 @@ use Rattle.ssm_world.proofs.Lists.{get_front}
 use Rattle.ssm_world.proofs.Tests.{same_number, number_same}
 use Rattle.session_lanes.specs.declared.lanes.TheConstants.{TURNS_PER_BRICK}
 use Rattle.session_lanes.specs.Ends.{bricks_asked, IsAnswered, HasEnded}
-use Rattle.session_lanes.specs.Lanes.{LanesState, turn_of, turn_to}
+use Rattle.session_lanes.specs.Lanes.{LanesState, turn_of, turn_to, gone_on}
 use Rattle.session_lanes.specs.Sound.{LanesAreSound}
 use Rattle.session_lanes.specs.Steps.{LanesStep, Takes, BeginsWrite, BeginsRead, TakesTurn, Settles, Loses, DropsAsks, Repeats, Crashes, Sweeps, Holds, Frees, after_step, after_steps, is_turn_of, turns_of}
-use Rattle.session_lanes.proofs.Ending.{call_weight, call_falls, none_left, ended_or, turn_tells, turn_keeps, made_is_sound, write_ends, read_ends}
+use Rattle.session_lanes.proofs.Ending.{goes_on, call_weight, call_falls, none_left, ended_or, turn_tells, turn_keeps, made_is_sound, write_ends, read_ends}
 use Rattle.session_lanes.proofs.Keeping.{step_keeps}
 use Rattle.session_lanes.proofs.StepCases.{TellsNoCall, step_cases}
 
@@ -145,3 +145,8 @@ ends st steps n c sound there enough =
     let few : call_weight c ≤ TURNS_PER_BRICK * bricks_asked c = weight_asked c in
     let end = nears_end n steps st c sound there (inr (omega (arith, few, enough))) in
     record { end = end.0; there = end.1; over = end.2; answered = answered end.0 end.2 }
+
+pub ends_gone : (st : LanesState) (n : ℕ) (c : Call) → LanesAreSound st → slice_get st.world.calls n ≡ Some c → HasEnded (gone_on st n) n
+ends_gone st n c sound there =
+    let gone = goes_on st n c sound.made sound.lanes there in
+    record { end = gone.end; there = gone.there; over = gone.over; answered = answered gone.end gone.over }

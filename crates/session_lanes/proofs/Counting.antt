@@ -1,13 +1,16 @@
 -- Counts never fall.
-use Rattle.std.proofs.Common.{arith, ◌≡◌, ◌⊎◌, inl, inr, refl, sym, ap, ◌∙◌, ℕ, zero, suc, ◌+◌, ◌-◌, ◌<◌, ◌^◌, min, Bool, true, false, nat_lt, if◌then◌else◌, List, [], ◌∷◌, length, Option, Some, None}
+use Rattle.std.proofs.Common.{arith, ◌≡◌, ◌⊎◌, inl, inr, refl, sym, ap, subst, ◌∙◌, ℕ, zero, suc, ◌+◌, ◌-◌, ◌<◌, ◌≤◌, ◌^◌, min, Bool, true, false, nat_lt, if◌then◌else◌, List, [], ◌∷◌, length, Option, Some, None}
 use Rattle.std.specs.Prelude.{slice_get, slice_set}
+use Rattle.std.proofs.lemmas.Bool.Decides.{nat_tests}
 use lib.ListN.{replicate}
-use Rattle.outside.specs.Faults.{NeverFalls, counted}
+use Rattle.crash_base.specs.declared.numbers.BrickNo.{BrickNo}
+use Rattle.outside.specs.Faults.{NeverFalls, Rose, counted}
 use Rattle.ssm_stub.specs.declared.event.StubNext.{StubNext}
 use Rattle.ssm_stub.specs.declared.event.StubNext.TheVariants as next
 use Rattle.ssm_world.specs.declared.event.WorldEvent.TheVariants.{Send, Deliver}
 use Rattle.ssm_world.specs.Worlds.{next_of}
-use Rattle.session_lanes.specs.Counts.{CountsState, new_counts, CountsFit, CountsGrow, or_unknown, silences_of, silent_at, silent_by, frame_got}
+use Rattle.ssm_world.proofs.Lists.{get_set_same}
+use Rattle.session_lanes.specs.Counts.{CountsState, new_counts, CountsFit, CountsGrow, SilenceRose, or_unknown, silences_of, silent_at, silent_by, frame_got}
 use Rattle.session_lanes.specs.Lane.{LaneState, lane_at, with_reply}
 use Rattle.session_lanes.specs.Lanes.{LanesState, after_event, with_lane, asks, hears, listens, turn_to}
 use Rattle.session_lanes.specs.Steps.{LanesStep, after_step}
@@ -126,3 +129,41 @@ new_fit bricks = record { silences = each; hushed = omega arith; got = omega ari
   each : (brick : ℕ) → silences_of (new_counts bricks) brick < 2 ^ 64
   each zero = omega arith
   each (suc place) = (let none : or_unknown (slice_get (replicate bricks 0) place) 0 ≡ 0 = none_yet bricks place in omega (arith, none))
+
+rose_counted : (n : ℕ) → n < 2 ^ 64 → Rose n (counted n)
+rose_counted n fit = go (nat_lt n (2 ^ 64 - 1)) refl where
+  go : (b : Bool) → nat_lt n (2 ^ 64 - 1) ≡ b → Rose n (counted n)
+  go true is = inl (let less : n < 2 ^ 64 - 1 = grind (arith, nat_tests) in omega (arith, less))
+  go false is = inr (let most : 2 ^ 64 - 1 ≤ n = grind (arith, nat_tests) in omega (arith, most))
+
+silence_rose : (c : CountsState) (brick : ℕ) → CountsFit c → SilenceRose brick c (silent_by brick c)
+silence_rose c zero fit = record { silences = rose_counted c.unknown (fit.silences 0); hushed = rose_counted c.hushed fit.hushed }
+silence_rose c (suc place) fit = go (slice_get c.silences place) refl where
+  go : (o : Option ℕ) → slice_get c.silences place ≡ o → SilenceRose (suc place) c (silent_at place o c)
+  go None is = record {
+    silences = subst (λ (o : Option ℕ). Rose (or_unknown o c.unknown) (or_unknown o (counted c.unknown))) (sym is) (rose_counted c.unknown (fit.silences 0));
+    hushed = rose_counted c.hushed fit.hushed;
+  }
+  go (Some n) is = record {
+    silences =
+        let few : n < 2 ^ 64 = subst (λ (o : Option ℕ). or_unknown o c.unknown < 2 ^ 64) is (fit.silences (suc place)) in
+        let R : Option ℕ → Option ℕ → Type 0 = λ a b. Rose (or_unknown a c.unknown) (or_unknown b c.unknown) in
+        subst (λ a. R a (slice_get (slice_set c.silences place (counted n)) place)) (sym is) (subst (λ b. R (Some n) b) (sym (get_set_same c.silences place (counted n) n is)) (rose_counted n few));
+    hushed = rose_counted c.hushed fit.hushed;
+  }
+
+pub unsent_rose : (st : LanesState) (n : ℕ) (brick : BrickNo) → CountsFit st.counts → lane_at st.lanes brick.0 ≡ None → SilenceRose brick.0 st.counts (turn_to st n (next.Send brick)).counts
+unsent_rose st n brick fit none = subst (λ (o : Option LaneState). SilenceRose brick.0 st.counts (asks st n brick o).counts) (sym none) (silence_rose st.counts brick.0 fit)
+
+pub unheard_rose : (st : LanesState) (n : ℕ) (brick : BrickNo) → CountsFit st.counts → lane_at st.lanes brick.0 ≡ None → SilenceRose brick.0 st.counts (turn_to st n (next.Receive brick)).counts
+unheard_rose st n brick fit none = subst (λ (o : Option LaneState). SilenceRose brick.0 st.counts (listens st n brick o).counts) (sym none) (silence_rose st.counts brick.0 fit)
+
+pub empty_rose : (st : LanesState) (n : ℕ) (brick : BrickNo) (lane : LaneState) → CountsFit st.counts → lane_at st.lanes brick.0 ≡ Some lane → lane.queue ≡ [] → SilenceRose brick.0 st.counts (turn_to st n (next.Receive brick)).counts
+empty_rose st n brick lane fit at empty =
+    subst (λ (o : Option LaneState). SilenceRose brick.0 st.counts (listens st n brick o).counts) (sym at)
+    (subst (λ (q : List ℕ). SilenceRose brick.0 st.counts (hears st n brick lane q).counts) (sym empty) (silence_rose st.counts brick.0 fit))
+
+pub got_rose : (st : LanesState) (n : ℕ) (brick : BrickNo) (lane : LaneState) (packet : ℕ) (rest : List ℕ) → CountsFit st.counts → lane_at st.lanes brick.0 ≡ Some lane → lane.queue ≡ packet ∷ rest → Rose st.counts.got (turn_to st n (next.Receive brick)).counts.got
+got_rose st n brick lane packet rest fit at queue =
+    subst (λ (o : Option LaneState). Rose st.counts.got (listens st n brick o).counts.got) (sym at)
+    (subst (λ (q : List ℕ). Rose st.counts.got (hears st n brick lane q).counts.got) (sym queue) (rose_counted st.counts.got fit.got))

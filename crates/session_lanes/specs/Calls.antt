@@ -64,8 +64,8 @@ abbrev pub count_or_0 : Option ℕ → ℕ
 count_or_0 None = 0
 count_or_0 (Some n) = n
 
--- What is answered where a pass to a brick is to be held, by the pass that was given: how many are in flight by then, or
--- that its window is full.
+-- What is answered where a pass to a brick is to be held, by the pass that was given: how many are in flight by then,
+-- or that its window is full.
 abbrev pub answer_by : WindowsValue → BrickNo → Option Pass → HoldAnswer
 answer_by windows brick None = Full (count_or_0 (window_in windows brick)) (count_or_0 (in_flight_in windows brick))
 answer_by windows brick (Some pass) = Held (count_or_0 (in_flight_in (after_try windows brick) brick))

@@ -1,7 +1,7 @@
 -- What is counted of all calls: silences, and frames.
 use Rattle.std.specs.Prelude.{ℕ, zero, suc, ◌<◌, ◌^◌, List, slice_get, slice_set, Option, Some, None}
 use lib.ListN.{replicate}
-use Rattle.outside.specs.Faults.{NeverFalls, counted}
+use Rattle.outside.specs.Faults.{NeverFalls, Rose, counted}
 
 -- How often each brick was silent to a call, in order of number, and how often a number without a brick was; how often
 -- any was; and how many frames calls heard. A count stays at its last value.
@@ -45,6 +45,11 @@ pub record CountsFit (counts : CountsState) : Type 0 where
   pub silences : (brick : ℕ) → silences_of counts brick < 2 ^ 64
   pub hushed : counts.hushed < 2 ^ 64
   pub got : counts.got < 2 ^ 64
+
+-- the silences of the brick of a number, and those of all, have risen
+pub record SilenceRose (brick : ℕ) (old new : CountsState) : Type 0 where
+  pub silences : Rose (silences_of old brick) (silences_of new brick)
+  pub hushed : Rose old.hushed new.hushed
 
 -- no count falls
 pub record CountsGrow (old new : CountsState) : Type 0 where

@@ -32,7 +32,8 @@ dropping more lane = record lane { to_drop = raised lane.to_drop more }
 abbrev pub waiting : ℕ → LaneState → LaneState
 waiting packet lane = record lane { queue = lane.queue ++ packet ∷ [] }
 
--- A lane after the reply of a packet was made: it is lost where one is still to be lost, and else waits behind the others.
+-- A lane after the reply of a packet was made: it is lost where one is still to be lost, and else waits behind the
+-- others.
 abbrev pub with_reply : ℕ → LaneState → LaneState
 with_reply packet lane =
     if nat_lt 0 lane.to_lose

@@ -1,5 +1,6 @@
 -- Bricks with their lanes: a world, whose packets come in the order of lanes, and the windows on what is sent.
-use Rattle.std.specs.Prelude.{◌≡◌, ◌≤◌, IsTrue, ℕ, zero, suc, ◌+◌, ◌*◌, ◌-◌, nat_lt, true, false, if◌then◌else◌, List, [], ◌∷◌, length, map, slice_get, Option, Some, None}
+use Rattle.std.specs.Prelude.{◌≡◌, ◌≤◌, IsTrue, ℕ, zero, suc, ◌+◌, ◌*◌, ◌-◌, nat_lt, Bool, true, false, if◌then◌else◌, List, [], ◌∷◌, length, map, slice_get, Option, Some, None}
+use Rattle.std.specs.Option.{option_map}
 use lib.ListN.{replicate}
 use Rattle.crash_base.specs.declared.numbers.BrickNo.{BrickNo}
 use Rattle.session_cookie.specs.declared.cookie.TheConstants.{MAX_HOLDERS}
@@ -101,6 +102,17 @@ abbrev pub turn_of : LanesState → ℕ → Option Call → LanesState
 turn_of st call None = st
 turn_of st call (Some c) = turn_to st call (next_of c)
 
+-- whether a call that wants this next, if there is one, wants more: to send, or to hear
+abbrev pub is_more : Option StubNext → Bool
+is_more None = false
+is_more (Some (next.Send brick)) = true
+is_more (Some (next.Receive brick)) = true
+is_more (Some next.Ended) = false
+
+-- whether the call of a number, if there is one, wants more
+abbrev pub wants_more : LanesState → ℕ → Bool
+wants_more st call = is_more (option_map next_of (slice_get st.world.calls call))
+
 -- the call of a number goes on for so many turns
 abbrev pub turns : ℕ → LanesState → ℕ → LanesState
 turns zero st call = st
@@ -130,8 +142,8 @@ begun_write st nonce key value expiry passes =
 abbrev pub begun_read : LanesState → Version → Moment → Cookie → LanesState
 begun_read st nonce now cookie = after_event st (Read nonce now cookie)
 
--- The lanes after a write with this nonce, of a value under a session key until a moment, has begun at the bricks of these
--- passes, and has gone on to its end.
+-- The lanes after a write with this nonce, of a value under a session key until a moment, has begun at the bricks of
+-- these passes, and has gone on to its end.
 abbrev pub written_out : LanesState → Version → SessionKey → List ℕ → Moment → List Pass → LanesState
 written_out st nonce key value expiry passes =
     gone_on (begun_write st nonce key value expiry passes) (length st.world.calls)

@@ -15,8 +15,8 @@ use Rattle.session_lanes.specs.Lane.{lane_at}
 use Rattle.session_lanes.specs.Lanes.{LanesState, begun_write, begun_read, turn_of, heard_by, spent_as}
 
 -- One call of lanes: passes are taken from a number on; a write or a read begins; a call takes a turn; the passes of a
--- write are settled; replies are lost, asks dropped, a reply is repeated; a brick crashes or is swept; a pass is held or
--- freed.
+-- write are settled; replies are lost, asks dropped, a reply is repeated; a brick crashes or is swept; a pass is held
+-- or freed.
 pub data LanesStep : Type 0 where
   Takes : (first : ℕ) → LanesStep
   BeginsWrite : (nonce : Version) (key : SessionKey) (value : List ℕ) (expiry : Moment) (passes : List Pass) → LanesStep

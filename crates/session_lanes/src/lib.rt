@@ -15,8 +15,8 @@
 //! which asks are dropped, and which replies come once more. A write and a read are calls of the world that go on turn
 //! by turn; other calls may take turns between.
 //!
-//! Each function leaves just what its definition says, and nothing changes where it is refused. Only after out of memory
-//! may anything between have been done.
+//! Each function leaves just what its definition says, and nothing changes where it is refused. Only after out of
+//! memory may anything between have been done.
 //!
 //! What holds whatever is done with lanes:
 //!

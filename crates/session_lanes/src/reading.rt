@@ -26,7 +26,8 @@ impl Lanes {
         Ok(())
     }
 
-    /// A read of a cookie begins at a moment, and goes on to its answer. The answer is its number.
+    /// A read of a cookie begins at a moment, and goes on to its answer. The answer is its number, which is that of no
+    /// call where it did not begin.
     pub fn read_out(
         &mut self,
         alloc: Global,

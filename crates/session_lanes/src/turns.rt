@@ -1,12 +1,12 @@
 //! How a call goes on.
 
-ghost use Rattle.std.specs.Prelude.{◌≡◌, ◌<◌, suc, true, false, length, slice_get, option_map, Some, Ok, OnOk};
+ghost use Rattle.std.specs.Prelude.{◌≡◌, ◌<◌, suc, true, false, length, slice_get, option_map, Some, Ok, IfOk, OnOk};
 ghost use Rattle.crash_base.specs.declared.numbers.BrickNo.{BrickNo};
 ghost use Rattle.ssm_stub.specs.declared.event.StubNext.TheVariants as next;
 ghost use Rattle.ssm_world.specs.declared.event.WorldEvent.TheVariants.{Send, Hush};
 ghost use Rattle.ssm_world.specs.Worlds.{next_of};
 ghost use Rattle.session_lanes.specs.Lane.{LaneState, lane_at};
-ghost use Rattle.session_lanes.specs.Lanes.{after_event, in_silence, gets, asks, listens, turn_of, turns, gone_on};
+ghost use Rattle.session_lanes.specs.Lanes.{after_event, in_silence, gets, asks, listens, turn_of, wants_more, turns, gone_on};
 
 use crate::lanes::{Lanes, TURNS_PER_BRICK};
 use crash_base::{BrickNo, OutOfMemory};
@@ -119,10 +119,11 @@ impl Lanes {
         }
     }
 
-    /// The call of a number does what it wants next. False, and nothing changes, where it wants nothing, or there is no
-    /// such call.
+    /// The call of a number does what it wants next. True where it wanted something; false, and nothing changes, where
+    /// it wants nothing, or there is no such call.
     pub fn turn(&mut self, alloc: Global, call: u64) -> Result<bool, OutOfMemory>
         ensures turn { OnOk result (self.new ≡ turn_of self.old call (slice_get self.old.world.calls call)) }
+        ensures more { IfOk result (λ more. more ≡ wants_more self.old call) }
         ensures ended { result ≡ Ok false → self.new ≡ self.old }
     {
         match self.world.next_of(call) {

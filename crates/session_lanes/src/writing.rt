@@ -63,7 +63,8 @@ impl Lanes {
         Ok(())
     }
 
-    /// A write begins at the bricks of these passes, and goes on to its end. The answer is its number.
+    /// A write begins at the bricks of these passes, and goes on to its end. The answer is its number, which is that of
+    /// no call where it did not begin.
     pub fn write_out(
         &mut self,
         alloc: Global,

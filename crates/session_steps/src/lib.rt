@@ -14,9 +14,9 @@
 //! sessions.step(alloc, SessionLine::Fetch(7))?;      // k7 found 00ff
 //! ```
 //!
-//! The bricks are those of `session_lanes`. A brick replies at once, and its replies wait in its lane: they come in that
-//! order, and lines say which are lost, dropped or come once more. A write and a fetch are calls that go on, turn by
-//! turn, until they want nothing more.
+//! The bricks are those of `session_lanes`. A brick replies at once, and its replies wait in its lane: they come in
+//! that order, and lines say which are lost, dropped or come once more. A write and a fetch are calls that go on, turn
+//! by turn, until they want nothing more.
 //!
 //! Between two lines `IsSessions` holds: the present moment is below 2^62, each cookie names 1 to 16 distinct bricks,
 //! and the packets that wait in a lane are replies of its brick. So a call ends within 66 turns for each brick that it
