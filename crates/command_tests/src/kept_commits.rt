@@ -113,8 +113,8 @@ fn all_rows_of_a_commit_are_kept_or_none(rt: HostRuntime) {
     expect_driven(&rt, alloc, ALONE, &rows);
 }
 
-/// What a call writes is kept before its commit is answered, and the next boot is started before that is told. What comes
-/// behind a read that fails is not done. A row has the outside in front.
+/// What a call writes is kept before its commit is answered, and the next boot is started before that is told. What
+/// comes behind a read that fails is not done. A row has the outside in front.
 const OUTSIDES: &str = "0 0 1 0||0|3|0 0 00000001;40 7 61;|5|write failed;||begin c1
 0 0 1 0||3|3|0 0 00000001;|5|write failed;||begin c1
 0 0 2 0||0|5|0 0 00000002;40 7 61;|5|write failed;|c1 committed 0;|reopen;begin c1

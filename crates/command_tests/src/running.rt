@@ -19,8 +19,8 @@ pub struct Ran {
 pub const SURE: &str = "0 0 0 0";
 
 /// A command of these words, which have spaces between them, over a text and an outside `PIECE READ WRITE REPORT`: the
-/// size of the pieces that are read, 0 for all at once, and the numbers of the read, the write and the report that fail,
-/// 0 for none. A failure prints the row.
+/// size of the pieces that are read, 0 for all at once, and the numbers of the read, the write and the report that
+/// fail, 0 for none. A failure prints the row.
 #[derive(Clone, Copy)]
 pub struct Case<'a> {
     pub row: &'a str,

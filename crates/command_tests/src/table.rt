@@ -1,8 +1,8 @@
 //! Compares what a command did, and what it left of its keeper, with a row.
 //!
-//! A row is `GIVEN|FAILING|CALLS|KEPT|STATUS|REPORTED|WRITTEN|TEXT`: a keeper of the rows GIVEN, of whose calls the one of
-//! the number FAILING fails; how many calls it should have had, and which rows it should hold, when a command over TEXT has
-//! ended; and what the command should have done. A row of a keeper is `T K HEX` and a semicolon.
+//! A row is `GIVEN|FAILING|CALLS|KEPT|STATUS|REPORTED|WRITTEN|TEXT`: a keeper of the rows GIVEN, of whose calls the one
+//! of the number FAILING fails; how many calls it should have had, and which rows it should hold, when a command over
+//! TEXT has ended; and what the command should have done. A row of a keeper is `T K HEX` and a semicolon.
 
 use crate::keepers::TestKeeper;
 use crate::running::{Case, Ran, SURE, run};

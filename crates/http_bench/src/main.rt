@@ -1,8 +1,8 @@
 //! Loops over the heads of requests and the bytes of a response, whose time `bench/http` takes.
 //!
-//! The words are a loop, `take`, `browser`, `bytes` or `respond`, and how often it goes round. What it writes is the loop
-//! and a sum, which is known beforehand: how many requests were taken, how often a long head was refused once its last
-//! byte was there, or the bytes of the responses.
+//! The words are a loop, `take`, `browser`, `bytes` or `respond`, and how often it goes round. What it writes is the
+//! loop and a sum, which is known beforehand: how many requests were taken, how often a long head was refused once its
+//! last byte was there, or the bytes of the responses.
 #![tactic(auto)]
 
 mod loops;

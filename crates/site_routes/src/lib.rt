@@ -13,7 +13,8 @@
 //! that text and then at least one byte with no `/`, where the route has a parameter, and the first such route counts.
 //! A path that is no UTF-8 takes none. `specs/PathActions.antt` has the table of which action each route has by which
 //! method. Whether anything is at a path is asked before the method is looked at, so a path that leads nowhere is 404
-//! by every method (the law `missing_paths_have_no_method`), and HEAD leads where GET does (`heads_are_routed_as_gets`).
+//! by every method (the law `missing_paths_have_no_method`), and HEAD leads where GET does
+//! (`heads_are_routed_as_gets`).
 //!
 //! The search is that of `matchit`: it visits the path's bytes, and takes no memory.
 #![tactic(auto)]
