@@ -1,6 +1,7 @@
 -- A nonce with which no call begins stays new.
 use Rattle.std.proofs.Common.{◌≡◌, ℕ, ◌-◌, ◌+◌, Bool, true, false, nat_lt, if◌then◌else◌, ◌||◌, List, [], ◌∷◌, length, Option, Some, None, refl, sym, ap, subst, ◌∙◌}
 use Rattle.std.specs.List.{list_any}
+use Rattle.std.proofs.lemmas.Bool.{or_parts}
 use Rattle.crash_base.specs.declared.numbers.Version.{Version}
 use Rattle.ssm_stub.specs.declared.event.StubNext.{StubNext}
 use Rattle.ssm_stub.specs.declared.event.StubNext.TheVariants as next
@@ -8,7 +9,6 @@ use Rattle.ssm_world.specs.declared.event.WorldEvent.{WorldEvent}
 use Rattle.ssm_world.specs.declared.event.WorldEvent.TheVariants as event
 use Rattle.ssm_world.specs.Facts.{begins}
 use Rattle.ssm_world.specs.Worlds.{WorldValue, next_of, is_new, after}
-use Rattle.ssm_world.proofs.Tests.{or_parts}
 use Rattle.session_lanes.specs.Lane.{LaneState, lane_at, with_reply}
 use Rattle.session_lanes.specs.Lanes.{LanesState, after_event, with_lane, asks, hears, listens, turn_to}
 use Rattle.session_lanes.specs.Steps.{LanesStep, after_step, after_steps, begins_with}
