@@ -10,6 +10,10 @@
 #[cfg(test)]
 mod bases;
 #[cfg(test)]
+mod forms;
+#[cfg(test)]
+mod heads;
+#[cfg(test)]
 mod keeper_opening;
 #[cfg(test)]
 mod keeper_rows;
@@ -21,6 +25,10 @@ mod lines;
 mod outsides;
 #[cfg(test)]
 mod pages;
+#[cfg(test)]
+mod responses;
+#[cfg(test)]
+mod routes;
 #[cfg(test)]
 mod scenario_lines;
 #[cfg(test)]
