@@ -2,17 +2,20 @@
 
 use crate::keeper_words::{add_fault, add_load, add_rows};
 use crate::words::{add_number, add_text, add_word, cut, expect_words, number, rows};
-use crash_base::InputBytes;
+use crash_base::{InputBytes, Moment};
 use outside::{
-    BytesSink, BytesSource, CallList, Failed, InputRefusal, InputSource, Keeper, MapKeeper,
-    OutputSink, PlainSerials, Serials, Sink, SizeList, Source, SureKeeper, SureSink, SureSource,
-    read_to_end, write_all,
+    BytesSink, BytesSource, CallList, Clock, Failed, InputRefusal, InputSource, Keeper, MapKeeper,
+    OutputSink, PlainClock, PlainRandom, PlainSerials, Random, Serials, Sink, SizeList, Source,
+    SureKeeper, SureSink, SureSource, SystemClock, SystemRandom, read_to_end, write_all,
 };
 use std::alloc::Global;
 use std::cell::Cell;
 use std::io;
 use std::io::{ErrorKind, Read, Write};
 use std::process::Abort;
+use std::random::RandomSource;
+use std::time;
+use std::time::Duration;
 
 /// The numbers that words spell.
 fn numbers(rt: &impl Abort, alloc: Global, text: &str) -> CallList {
@@ -353,4 +356,102 @@ fn serials_are_counted_until_they_are_spent(rt: HostRuntime) {
         add_draws(&rt, &mut words, &mut PlainSerials::new(number(&rt, next)));
         expect_words(&rt, &words, want, row);
     }
+}
+
+fn add_moments<C: Clock>(rt: &impl Abort, words: &mut String, clock: &mut C, times: u8) {
+    for _ in 0..times {
+        add_number(rt, words, clock.now().0);
+    }
+}
+
+#[test]
+fn a_clock_stands_until_it_is_set(rt: HostRuntime) {
+    let mut clock = PlainClock::new(Moment(5));
+    let mut words = String::new(rt.alloc());
+    add_moments(&rt, &mut words, &mut clock, 2);
+    clock.set(Moment(5));
+    clock.set(Moment(9));
+    add_moments(&rt, &mut words, &mut clock, 2);
+    expect_words(&rt, &words, "5 5 9 9", "moments");
+}
+
+/// Tells moments, the third of which it fails to tell.
+#[derive(Drop)]
+struct Readings {
+    calls: Cell<usize>,
+}
+
+impl time::Clock for Readings {
+    fn monotonic(&self) -> io::Result<Duration> {
+        Ok(Duration::from_millis(1))
+    }
+
+    fn since_1970(&self) -> io::Result<Duration> {
+        let calls = self.calls.get();
+        self.calls.set(calls.saturating_add(1));
+        match calls {
+            0 => Ok(Duration::from_micros(7_999)),
+            1 => Ok(Duration::from_millis(5)),
+            2 => Err(io::Error::from(ErrorKind::Other)),
+            3 => Ok(Duration::from_millis(8)),
+            _ => Ok(Duration::from_secs(1 << 62)),
+        }
+    }
+}
+
+#[test]
+fn a_system_clock_goes_back_and_fails(rt: HostRuntime) {
+    let mut clock = SystemClock::new(Readings { calls: Cell::new(0) });
+    let mut words = String::new(rt.alloc());
+    for _ in 0..5 {
+        add_moments(&rt, &mut words, &mut clock, 1);
+        add_number(&rt, &mut words, clock.faults());
+    }
+    let want = "7 0 7 0 7 1 8 1 4611686018427387903 1";
+    expect_words(&rt, &words, want, "moments and faults");
+}
+
+/// Gives bytes that are all 1, but for the calls that fail.
+#[derive(Drop)]
+struct Ones {
+    calls: Cell<usize>,
+    failing: usize,
+}
+
+impl RandomSource for Ones {
+    fn fill_bytes(&self, buf: &mut [u8]) -> io::Result<()> {
+        let calls = self.calls.get();
+        self.calls.set(calls.saturating_add(1));
+        if calls == self.failing {
+            return Err(io::Error::from(ErrorKind::Other));
+        }
+        buf.fill(1);
+        Ok(())
+    }
+}
+
+fn add_draw<R: Random>(rt: &impl Abort, words: &mut String, random: &mut R) {
+    add_number(rt, words, random.word());
+}
+
+#[test]
+fn words_are_counted_or_the_systems(rt: HostRuntime) {
+    let mut words = String::new(rt.alloc());
+    let mut counted = PlainRandom::new(u64::MAX);
+    add_draw(&rt, &mut words, &mut counted);
+    add_draw(&rt, &mut words, &mut counted);
+    for failing in 0..3 {
+        match SystemRandom::new(Ones {
+            calls: Cell::new(0),
+            failing,
+        }) {
+            Ok(mut random) => {
+                add_draw(&rt, &mut words, &mut random);
+                add_number(&rt, &mut words, random.faults());
+            }
+            Err(Failed) => add_word(&rt, &mut words, "failed"),
+        }
+    }
+    let want = "18446744073709551615 0 failed 8272389604347480059 1 72340172838076673 0";
+    expect_words(&rt, &words, want, "words and faults");
 }

@@ -8,4 +8,6 @@ pub mod Places
 pub mod MapKeeper
 pub mod Link
 pub mod Serials
+pub mod Clock
+pub mod Random
 pub use Rattle.crash_base.specs.Rows

@@ -1,5 +1,5 @@
 //! What reaches outside: where bytes come from, where bytes go, what keeps rows, what carries frames
-//! to bricks, and what gives serial numbers.
+//! to bricks, what gives serial numbers and random words, and what tells the present moment.
 //!
 //! A program is written over the traits `Source`, `Sink` and `Keeper`, and is handed an object of
 //! each when it runs:
@@ -24,10 +24,15 @@
 //! A `Link` tells a relation: which states a call, seen as an event, may lead to. It counts the silences
 //! of each brick and the frames that came, and the law `links_count_their_events` says how far these
 //! counts rise over any calls. `Serials` gives numbers, each once; `PlainSerials` counts them.
+//!
+//! A `Clock` tells moments that never fall, and a `Random` words of which it tells what it knows.
+//! `PlainClock` stands until it is set, and `PlainRandom` counts; `SystemClock` and `SystemRandom` are
+//! adapters over the system's, which may fail: they go on then, and count it.
 #![tactic(auto)]
 
 mod bytes_sink;
 mod bytes_source;
+mod clock;
 mod failed;
 mod feed;
 mod input;
@@ -38,6 +43,7 @@ mod link;
 mod lists;
 mod map_keeper;
 mod output_sink;
+mod random;
 mod row_map;
 mod serials;
 mod sink;
@@ -45,9 +51,12 @@ mod source;
 mod sure_keeper;
 mod sure_sink;
 mod sure_source;
+mod system_clock;
+mod system_random;
 
 pub use bytes_sink::BytesSink;
 pub use bytes_source::BytesSource;
+pub use clock::{Clock, MOMENTS_END, PlainClock, moments_add_up};
 pub use failed::Failed;
 pub use input::{InputRefusal, read_to_end};
 pub use input_source::InputSource;
@@ -57,9 +66,12 @@ pub use link::{Link, LinkCounts, LinkEvent, Received, Sent, links_count_their_ev
 pub use lists::{CallList, SizeList};
 pub use map_keeper::MapKeeper;
 pub use output_sink::OutputSink;
+pub use random::{PlainRandom, Random};
 pub use serials::{PlainSerials, SERIALS_END, Serials, Spent, serials_differ};
 pub use sink::{Sink, write_all};
 pub use source::Source;
 pub use sure_keeper::SureKeeper;
 pub use sure_sink::SureSink;
 pub use sure_source::SureSource;
+pub use system_clock::SystemClock;
+pub use system_random::SystemRandom;
