@@ -10,12 +10,11 @@ use outside::{
 };
 use std::alloc::Global;
 use std::cell::Cell;
-use std::io;
 use std::io::{ErrorKind, Read, Write};
 use std::process::Abort;
 use std::random::RandomSource;
-use std::time;
 use std::time::Duration;
+use std::{io, time};
 
 /// The numbers that words spell.
 fn numbers(rt: &impl Abort, alloc: Global, text: &str) -> CallList {
@@ -358,20 +357,23 @@ fn serials_are_counted_until_they_are_spent(rt: HostRuntime) {
     }
 }
 
-fn add_moments<C: Clock>(rt: &impl Abort, words: &mut String, clock: &mut C, times: u8) {
-    for _ in 0..times {
-        add_number(rt, words, clock.now().0);
-    }
+fn add_moment<C: Clock>(rt: &impl Abort, words: &mut String, clock: &mut C) {
+    add_number(rt, words, clock.now().0);
 }
 
 #[test]
 fn a_clock_stands_until_it_is_set(rt: HostRuntime) {
-    let mut clock = PlainClock::new(Moment(5));
     let mut words = String::new(rt.alloc());
-    add_moments(&rt, &mut words, &mut clock, 2);
+    let mut clock = PlainClock::new(Moment(5));
+    let first = clock.now();
     clock.set(Moment(5));
+    let second = clock.now();
     clock.set(Moment(9));
-    add_moments(&rt, &mut words, &mut clock, 2);
+    let third = clock.now();
+    for moment in [first, second, third] {
+        add_number(&rt, &mut words, moment.0);
+    }
+    add_moment(&rt, &mut words, &mut clock);
     expect_words(&rt, &words, "5 5 9 9", "moments");
 }
 
@@ -401,10 +403,12 @@ impl time::Clock for Readings {
 
 #[test]
 fn a_system_clock_goes_back_and_fails(rt: HostRuntime) {
-    let mut clock = SystemClock::new(Readings { calls: Cell::new(0) });
+    let mut clock = SystemClock::new(Readings {
+        calls: Cell::new(0),
+    });
     let mut words = String::new(rt.alloc());
     for _ in 0..5 {
-        add_moments(&rt, &mut words, &mut clock, 1);
+        add_moment(&rt, &mut words, &mut clock);
         add_number(&rt, &mut words, clock.faults());
     }
     let want = "7 0 7 0 7 1 8 1 4611686018427387903 1";
