@@ -23,27 +23,55 @@ pub fn taken(alloc: Global, bytes: &[u8], count: u64) -> Result<u64, OutOfMemory
 }
 
 /// Whether a head that does not end is refused as soon as it has as many bytes as a head may have, which come one by
-/// one.
-fn is_refused(alloc: Global) -> Result<bool, OutOfMemory> {
+/// one. The byte at each 256th place is `other`.
+fn is_refused(alloc: Global, other: u8) -> Result<bool, OutOfMemory> {
     let mut received = Received::new(alloc);
-    for _ in 0..MAX_HEAD_BYTES {
+    for index in 0..MAX_HEAD_BYTES {
+        if received.is_settled() {
+            return Ok(false);
+        }
+        let byte = if index % 256 == 255 { other } else { b'x' };
+        received.feed(&[byte])?;
+    }
+    Ok(received.is_settled())
+}
+
+/// How many long heads were refused, of so many. Their byte at each 256th place is `other`.
+pub fn refused(alloc: Global, other: u8, count: u64) -> Result<u64, OutOfMemory> {
+    let mut heads: u64 = 0;
+    for _ in 0..count {
+        if is_refused(alloc, other)? {
+            heads = heads.wrapping_add(1);
+        }
+    }
+    Ok(heads)
+}
+
+/// Whether a request is taken as soon as the last byte of its body is there, whose bytes come one by one.
+fn is_taken(alloc: Global, head: &[u8], size: usize) -> Result<bool, OutOfMemory> {
+    let mut received = Received::new(alloc);
+    received.feed(head)?;
+    for _ in 0..size {
         if received.is_settled() {
             return Ok(false);
         }
         received.feed(b"x")?;
     }
-    Ok(received.is_settled())
+    match received.take(alloc)? {
+        Taken::Request(request) => Ok(request.body.len() == size),
+        _ => Ok(false),
+    }
 }
 
-/// How many long heads were refused, of so many.
-pub fn refused(alloc: Global, count: u64) -> Result<u64, OutOfMemory> {
-    let mut heads: u64 = 0;
+/// How many requests were taken behind the last byte of a body of so many bytes, of so many.
+pub fn bodies(alloc: Global, head: &[u8], size: usize, count: u64) -> Result<u64, OutOfMemory> {
+    let mut requests: u64 = 0;
     for _ in 0..count {
-        if is_refused(alloc)? {
-            heads = heads.wrapping_add(1);
+        if is_taken(alloc, head, size)? {
+            requests = requests.wrapping_add(1);
         }
     }
-    Ok(heads)
+    Ok(requests)
 }
 
 /// The bytes of so many responses with the page of who is signed out.

@@ -1,14 +1,14 @@
 //! Loops over the heads of requests and the bytes of a response, whose time `bench/http` takes.
 //!
-//! The words are a loop, `take`, `browser`, `bytes` or `respond`, and how often it goes round. What it writes is the
-//! loop and a sum, which is known beforehand: how many requests were taken, how often a long head was refused once its
-//! last byte was there, or the bytes of the responses.
+//! The words are a loop, `take`, `browser`, `bytes`, `lines`, `body` or `respond`, and how often it goes round. What it
+//! writes is the loop and a sum, which is known beforehand: how many requests were taken, how often a long head was
+//! refused once its last byte was there, with or without line feeds in it, or the bytes of the responses.
 #![tactic(auto)]
 
 mod loops;
 
 use crash_base::OutOfMemory;
-use loops::{refused, responded, taken};
+use loops::{bodies, refused, responded, taken};
 use std::alloc::Global;
 use std::env;
 use std::process::ExitCode;
@@ -27,6 +27,12 @@ const BROWSER: &str =
     Upgrade-Insecure-Requests: 1\r\nSec-Fetch-Dest: document\r\nSec-Fetch-Mode: navigate\r\nSec-Fetch-Site: same-origin\
     \r\nSec-Fetch-User: ?1\r\nPriority: u=0, i\r\n\r\n";
 
+/// The head of a request with a long body.
+const FORM: &str = "POST /sell HTTP/1.1\r\nHost: localhost\r\nContent-Length: 16384\r\n\r\n";
+
+/// How many bytes its body has.
+const FORM_BYTES: usize = 16_384;
+
 /// A loop and how often it goes round, where there are two words and the second one is a number.
 fn words(rt: &HostRuntime) -> Option<(String, u64)> {
     let mut words = env::args(rt).ok()?.skip(1);
@@ -40,7 +46,9 @@ fn sum_of(alloc: Global, name: &str, count: u64) -> Result<Option<u64>, OutOfMem
     match name {
         "take" => Ok(Some(taken(alloc, CURL.as_bytes(), count)?)),
         "browser" => Ok(Some(taken(alloc, BROWSER.as_bytes(), count)?)),
-        "bytes" => Ok(Some(refused(alloc, count)?)),
+        "bytes" => Ok(Some(refused(alloc, b'x', count)?)),
+        "lines" => Ok(Some(refused(alloc, b'\n', count)?)),
+        "body" => Ok(Some(bodies(alloc, FORM.as_bytes(), FORM_BYTES, count)?)),
         "respond" => Ok(Some(responded(alloc, count)?)),
         _ => Ok(None),
     }
