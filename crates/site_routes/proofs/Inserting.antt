@@ -43,9 +43,26 @@ only_memory route routes old new error h taken =
     fails (parse_route (route_text route)) route old new error h
     (λ none. taken (ap (option_and_then (inserted routes)) none))
 
--- the routes of the site are all taken
-pub site_is_taken : inserted
-    (Home ∷ Register ∷ SignIn ∷ SignOut ∷ Categories ∷ Category ∷ Item ∷ User ∷ About ∷ Sell ∷ Bid ∷ Buy ∷ Close ∷ Feedback ∷ Form ∷ [])
-    [] ≡ Some site
+-- the routes in the order in which they are inserted
+abbrev pub all_routes : List SiteRoute
+all_routes =
+    Home ∷ Register ∷ SignIn ∷ SignOut ∷ Categories ∷ Category ∷ Item ∷ User ∷ About ∷ Sell ∷ Bid ∷ Buy ∷ Close ∷ Feedback ∷ Form ∷ []
+
+-- none of them is refused
+site_is_taken : inserted all_routes [] ≡ Some site
 unfolding matchit_on_literals inserted
 site_is_taken = refl
+
+pub none_refused : (rows : SiteRows) → rows ≡ [] → inserted all_routes rows ≢ None
+none_refused rows is none =
+    let taken : Some site ≡ None = sym site_is_taken ∙ ap (inserted all_routes) (sym is) ∙ none in cc
+
+-- so what they leave is the site
+pub leaves_site : (rows new : SiteRows) → rows ≡ [] → Some new ≡ inserted all_routes rows → new ≡ site
+leaves_site rows new is left =
+    let same : Some new ≡ Some site = left ∙ ap (inserted all_routes) is ∙ site_is_taken in cc
+
+-- behind the last route nothing is to be inserted
+pub none_left : (routes : List SiteRoute) (rows : SiteRows) → routes ≡ [] → Some rows ≡ inserted routes rows
+unfolding inserted
+none_left routes rows is = ap (λ left. inserted left rows) (sym is)

@@ -8,7 +8,7 @@ use Rattle.site_routes.specs.declared.path_actions.PathActions.TheVariants.{Read
 use Rattle.site_routes.specs.declared.routed.Routed.TheVariants.{NotThere}
 
 -- a path with actions leads somewhere by each method
-is_there : (method : MethodKind) (actions : PathActions) → routed_by method actions ≢ NotThere
+pub is_there : (method : MethodKind) (actions : PathActions) → routed_by method actions ≢ NotThere
 is_there Get (Read asked) h = cc
 is_there Get (Write asked) h = cc
 is_there Get (Both read written) h = cc
@@ -22,10 +22,10 @@ is_there Other (Read asked) h = cc
 is_there Other (Write asked) h = cc
 is_there Other (Both read written) h = cc
 
-pub nowhere : (found : Option PathActions) (method other : MethodKind)
-    → routed_to method found ≡ NotThere → routed_to other found ≡ NotThere
-nowhere None method other h = refl
-nowhere (Some actions) method other h = absurd (is_there method actions h)
+pub nowhere : (found : Option PathActions) (method second : MethodKind)
+    → routed_to method found ≡ NotThere → routed_to second found ≡ NotThere
+nowhere None method second h = refl
+nowhere (Some actions) method second h = absurd (is_there method actions h)
 
 pub same_by_head : (found : Option PathActions) → routed_to HeadOnly found ≡ routed_to Get found
 same_by_head None = refl

@@ -1,2 +1,4 @@
+pub mod Inserting
 pub mod PathActions
+pub mod Paths
 pub mod Routes

@@ -1,6 +1,7 @@
 //! The routes, and what stands behind the text of one.
 
 ghost use Rattle.std.specs.Prelude.{◌≡◌, drop};
+ghost use Rattle.site_routes.specs.Inserting.{route_text};
 ghost use Rattle.site_routes.specs.PathActions.{text_size};
 
 /// What a path leads to.
@@ -36,6 +37,29 @@ pub enum SiteRoute {
     Feedback,
     /// `/form/{kind}`
     Form,
+}
+
+/// The text of a route, where a parameter stands in braces.
+pub fn route_text(route: SiteRoute) -> &'static str
+    ensures { result.now ≡ route_text route }
+{
+    match route {
+        SiteRoute::Home => "/",
+        SiteRoute::Register => "/register",
+        SiteRoute::SignIn => "/signin",
+        SiteRoute::SignOut => "/signout",
+        SiteRoute::Categories => "/categories",
+        SiteRoute::Category => "/category/{id}",
+        SiteRoute::Item => "/item/{id}",
+        SiteRoute::User => "/user/{id}",
+        SiteRoute::About => "/about",
+        SiteRoute::Sell => "/sell",
+        SiteRoute::Bid => "/bid",
+        SiteRoute::Buy => "/buy",
+        SiteRoute::Close => "/close",
+        SiteRoute::Feedback => "/feedback",
+        SiteRoute::Form => "/form/{kind}",
+    }
 }
 
 /// How many bytes a path has before the parameter of its route, and 0 for a route without one.
