@@ -1,10 +1,9 @@
 -- Where paths and methods lead, from the action and from the path.
-use Rattle.std.proofs.Common.{◌≡◌, ◌≢◌, ◌⊎◌, ℕ, ◌<◌, ◌≤◌, ◌^◌, ◌==◌, ◌||◌, nat_lt, Bool, true, false, not, cond, List, [], ◌∷◌, ◌++◌, drop, Option, Some, None, codes, refl, ap, sym, ◌∙◌, subst, inl, inr, arith}
+use Rattle.std.proofs.Common.{◌≡◌, ◌≢◌, ℕ, ◌<◌, ◌^◌, ◌==◌, ◌||◌, nat_lt, Bool, true, false, not, cond, List, ◌++◌, drop, Option, Some, None, codes, refl, ap, sym, ◌∙◌, subst, inl, inr, arith}
 use Rattle.std.specs.Fmt.{decimal}
 use Rattle.std.proofs.lemmas.Bool.{or_parts}
 use Rattle.std.proofs.lemmas.Bool.Decides.{nat_tests}
 use Rattle.auction_calls.specs.Reading.{kind_of}
-use Rattle.auction_calls.specs.Texts.{kind_text}
 use Rattle.auction_calls.specs.declared.action.FormKind.{FormKind}
 use Rattle.auction_calls.proofs.ExactFields.{kind_found}
 use Rattle.decimal_digits.specs.Digits.{plain_number}
@@ -19,7 +18,6 @@ use Rattle.site_routes.specs.declared.path_actions.PathActions.{PathActions}
 use Rattle.site_routes.specs.declared.path_actions.PathActions.TheVariants.{Read, Write, Both}
 use Rattle.site_routes.specs.declared.path_actions.SiteAction.{SiteAction}
 use Rattle.site_routes.specs.declared.path_actions.SiteAction.TheVariants as action
-use Rattle.site_routes.specs.declared.routed.Routed.{Routed}
 use Rattle.site_routes.specs.declared.routed.Routed.TheVariants.{Action, NotThere, NotAllowed}
 use Rattle.site_routes.specs.declared.site_route.SiteRoute.{SiteRoute}
 use Rattle.site_routes.specs.declared.site_route.SiteRoute.TheVariants.{Home, Register, SignIn, SignOut, Categories, Category, Item, User, About, Sell, Bid, Buy, Close, Feedback, Form}
