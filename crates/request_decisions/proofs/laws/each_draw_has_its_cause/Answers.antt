@@ -1,0 +1,17 @@
+use Rattle.request_decisions.proofs.Causes.{key_cause, other_causes, read_cause, request_cause, token_cause}
+use Rattle.request_decisions.proofs.laws.each_draw_has_its_cause.Goals as goal
+
+pub returns-clause-request : goal.returns-clause-request
+returns-clause-request c = request_cause
+
+pub returns-clause-token : goal.returns-clause-token
+returns-clause-token c = token_cause
+
+pub returns-clause-key : goal.returns-clause-key
+returns-clause-key c = key_cause
+
+pub returns-clause-read : goal.returns-clause-read
+returns-clause-read c = read_cause
+
+pub returns-clause-others : goal.returns-clause-others
+returns-clause-others c = other_causes
