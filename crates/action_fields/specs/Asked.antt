@@ -1,5 +1,5 @@
--- The action that a request asks for. `asked_action` is the table of the sixteen actions: from where a path and a method
--- lead, with what the path says, and the fields of the query or of the form, in their order.
+-- The action that a request asks for. `asked_action` is the table of the sixteen actions: from where a path and a
+-- method lead, with what the path says, and the fields of the query or of the form, in their order.
 use Rattle.std.specs.Prelude.{ℕ, List, Result, Ok, Err}
 use Rattle.auction_calls.specs.declared.action.Action.{Action}
 use Rattle.auction_calls.specs.declared.action.Action.TheVariants as action

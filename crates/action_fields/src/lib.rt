@@ -14,7 +14,7 @@
 //! | register, sign in | `name` 1 to 24 letters of ASCII, digits or `_`; `password` 1 to 72 bytes |
 //! | add category | `name` 1 to 40 bytes |
 //! | browse | `page` 0 to 9,999 in the query, 0 where it is missing |
-//! | sell | `title` 1 to 80 bytes; `category`; `start` 1 to 4,000,000,000; `buy_now` 0 to 4,000,000,000; `hours` 1 to 720 |
+//! | sell | `title` 1 to 80 bytes; `category`; `start` 1 to 4,000,000,000; `buy_now` 0 to the same; `hours` 1 to 720 |
 //! | bid | `item`; `amount` 1 to 4,000,000,000 |
 //! | buy, close | `item` |
 //! | feedback | `item`; `good` 0 or 1; `text` 0 to 200 bytes |

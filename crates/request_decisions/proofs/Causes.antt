@@ -7,7 +7,7 @@ use Rattle.request_decisions.specs.declared.decision.Order.{Order}
 use Rattle.request_decisions.specs.declared.draws.DrawKind.{DrawKind}
 use Rattle.request_decisions.specs.declared.draws.DrawKind.TheVariants.{Request, Token, KeyWord, Fresh, Read, Write}
 
--- the draws of a request that has no number or one, shows a form or not, begins a session or not, and has a cookie or not
+-- the draws of a request: whether it has no number, shows a form, begins a session, and has a cookie
 abbrev drawn : Bool → Bool → Bool → Bool → List DrawKind
 drawn bare form begins cookie =
     where_so bare (Request ∷ [])

@@ -178,8 +178,8 @@ fn parts_of(target: &[u8]) -> (&[u8], &[u8])
 /// What is decided of a request under the service's key, in this boot: the first refusal in the order of the decisions,
 /// or its order. A key has any length, and a cookie that is none under it counts as none.
 ///
-/// It fails only where memory ran out. It visits the path once, the form once for each field and each byte of the cookie
-/// a few times.
+/// It fails only where memory ran out. It visits the path once, the form once for each field, and each byte of the
+/// cookie a few times.
 #[tactic(auto, unfolding(crate::specs::Decisions::IsDecided))]
 pub fn decide(
     alloc: Global,

@@ -101,8 +101,8 @@ fn add_key(draws: &mut Vec<DrawKind>, begins: bool) -> Result<(), OutOfMemory>
 }
 
 /// What is drawn for an order, in the order of the draws: the number of a GET; the number of the token of a form; the
-/// two words of the key of a new session; the fresh word; the nonce of a read, where the request bears a cookie; and the
-/// nonce of a write. There are at most 6.
+/// two words of the key of a new session; the fresh word; the nonce of a read, where the request bears a cookie; and
+/// the nonce of a write. There are at most 6.
 ///
 /// It fails only where memory ran out.
 #[tactic(auto, unfolding(crate::specs::Draws::drawn_for))]

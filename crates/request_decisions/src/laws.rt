@@ -1,5 +1,5 @@
-//! Laws of what is decided of a request and drawn for it. Each is the contract of a function that does nothing: a caller
-//! that needs the law calls the function.
+//! Laws of what is decided of a request and drawn for it. Each is the contract of a function that does nothing: a
+//! caller that needs the law calls the function.
 
 ghost use Rattle.std.specs.Prelude.{◌≡◌, ℕ, List, is_none, is_some, if◌then◌else◌};
 ghost use Rattle.http_wire.specs.declared.taken.Head.{Head};

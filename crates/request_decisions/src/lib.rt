@@ -27,7 +27,7 @@
 //! `posts_have_tokens_of_their_session` that a POST which is ordered has the number of its token, and that this token
 //! was written for the session of its cookie, in this boot.
 //!
-//! `specs/Draws.antt` has what is drawn for an order, in its order. The law `each_draw_has_its_cause` says when each is.
+//! `specs/Draws.antt` has what is drawn for an order, in its order. The law `each_draw_has_its_cause` says when.
 #![tactic(auto)]
 
 mod deciding;

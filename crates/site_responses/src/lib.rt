@@ -25,9 +25,9 @@
 //! | `BodyTooLong` | 413 | `Body too long` | the connection ends |
 //! | `NoCoding` | 501 | `Coding not supported` | the connection ends |
 //!
-//! `specs/Responses.antt` has this table as `said` and `said_untaken`, and the bytes over it as `response`. Each page but
-//! the first is its heading and no lines. The law `cookies_change_with_sessions` says when a response sets the cookie or
-//! clears it, `retries_keep_cookies` that the one that tells the client to try again does neither, and
+//! `specs/Responses.antt` has this table as `said` and `said_untaken`, and the bytes over it as `response`. Each page
+//! but the first is its heading and no lines. The law `cookies_change_with_sessions` says when a response sets the
+//! cookie or clears it, `retries_keep_cookies` that the one that tells the client to try again does neither, and
 //! `heads_are_answered_as_gets` that HEAD leaves out the page and nothing else.
 //!
 //! A response is written once, and a cookie's text is copied before.
