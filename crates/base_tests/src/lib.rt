@@ -8,7 +8,13 @@
 #![tactic(auto)]
 
 #[cfg(test)]
+mod answers;
+#[cfg(test)]
+mod asked;
+#[cfg(test)]
 mod bases;
+#[cfg(test)]
+mod decisions;
 #[cfg(test)]
 mod forms;
 #[cfg(test)]
