@@ -1,0 +1,5 @@
+mod Ending
+mod GoingOn
+mod Holders
+mod PassesKept
+mod Settled

@@ -1,0 +1,6 @@
+pub mod Asks
+pub mod Lease
+pub mod Reading
+pub mod Runs
+pub mod Way
+pub mod Writing

@@ -1,0 +1,24 @@
+-- A write of a session, and the passes by which it asks.
+use Rattle.std.specs.Prelude.{ℕ, List, map}
+use Rattle.send_windows.specs.declared.pass.Pass.{Pass}
+use Rattle.send_windows.specs.Passes.{hushed}
+use Rattle.ssm_stub.specs.Ends.{bricks_of}
+use Rattle.ssm_stub.specs.Writes.{WriteState, write_start, heard_passes}
+use Rattle.session_way.specs.declared.session_write.WriteOrder.{WriteOrder}
+
+-- A write so far, and the passes by which it asks, as they were taken.
+pub record WritingState : Type 0 where
+  pub write : WriteState
+  pub passes : List Pass
+
+-- a write of this order, of which nothing was sent, to the bricks of these passes; so many of them are to store it
+abbrev pub write_begun : WriteOrder → ℕ → List Pass → WritingState
+write_begun order least passes =
+    record {
+      write = write_start (bricks_of passes) least order.nonce order.key order.value order.expiry;
+      passes = passes;
+    }
+
+-- the passes of a write as they are spent: by what it heard of their bricks, and Silent where it heard nothing
+abbrev pub passes_spent : WritingState → List Pass
+passes_spent w = map hushed (heard_passes w.write w.passes)

@@ -1,0 +1,113 @@
+//! A read of a session by its cookie.
+
+ghost use Rattle.std.specs.Prelude.{◌≡◌, ◌≢◌, Some, IfOk, OnOk, OnErr};
+ghost use Rattle.std.specs.Option.{option_map};
+ghost use Rattle.ssm_frames.specs.Spelling.{encode_of};
+ghost use Rattle.ssm_stub.specs.declared.event.StubNext.TheVariants.{Ended};
+ghost use Rattle.ssm_stub.specs.Reads.{read_answer, read_ask, read_machine, read_next, read_start};
+ghost use Rattle.ssm_stub.specs.Runs.{BreaksOff, Steps};
+ghost use Rattle.session_way.specs.Reading.{answer_of};
+
+use crate::lease::SessionLease;
+use crash_base::{FrameBytes, Moment, OutOfMemory, SessionBytes, Version};
+use outside::Link;
+use session_cookie::Cookie;
+use ssm_stub::{CauseList, ReadCall, ReadRefusal, StubNext, read_step};
+use std::alloc::Global;
+use std::marker::Model;
+
+/// What a read came to.
+#[derive(Drop)]
+pub enum ReadOutcome {
+    /// The session, as a brick of the cookie gave it.
+    Found(SessionLease),
+    /// The moment of the read is past the expiry of the cookie.
+    Expired { now: Moment, expiry: Moment },
+    /// Each brick of the cookie has its cause.
+    Lost(CauseList),
+}
+
+/// A read of a session by its cookie, and the bytes of its ask.
+#[derive(Drop)]
+pub struct SessionRead {
+    call: ReadCall,
+    expiry: Moment,
+    ask: FrameBytes,
+}
+
+impl Model for SessionRead {
+    ghost use Rattle.std.specs.Prelude.{◌≡◌};
+    ghost use Rattle.ssm_stub.specs.Reads.{ReadState, read_ask};
+    ghost use Rattle.session_way.specs.Asks.{IsAskOf};
+
+    ghost Value = { ReadState };
+
+    ghost view = { λ r. r.call };
+
+    ghost invariant = { λ r. IsAskOf r.ask (read_ask r.call) × (r.expiry ≡ r.call.expiry) };
+}
+
+impl SessionRead {
+    /// A read of which nothing was sent yet: at the moment of its request, by this cookie, with a nonce that was drawn
+    /// for it. It visits each brick of the cookie once.
+    ///
+    /// # Errors
+    /// There is no memory.
+    pub fn new(
+        alloc: Global,
+        now: Moment,
+        nonce: Version,
+        cookie: Cookie,
+    ) -> Result<SessionRead, OutOfMemory>
+        ensures { IfOk result (λ read. read ≡ read_start now nonce cookie) }
+    {
+        let expiry = cookie.expiry;
+        let call = ReadCall::new(alloc, now, nonce, cookie)?;
+        let ask = call.frame(alloc)?;
+        Ok(SessionRead { call, expiry, ask })
+    }
+
+    /// What it wants next; nothing once it has its answer. It takes no memory.
+    pub fn next(&self) -> StubNext
+        ensures { result ≡ read_next self.now }
+    {
+        self.call.next()
+    }
+
+    /// The answer; None while there is none. It takes no memory.
+    pub fn answer(&self) -> Option<&Result<SessionBytes, ReadRefusal>>
+        ensures { option_map (λ a. a.now) result ≡ read_answer self.now }
+    {
+        self.call.answer()
+    }
+
+    /// Makes the call of the link that the read wants: one send of its ask, or one receive.
+    ///
+    /// # Errors
+    /// There is no memory. The read is as it was; the link may have made the call.
+    pub fn step<L: Link>(&mut self, alloc: Global, link: &mut L) -> Result<(), OutOfMemory>
+        requires { read_next self.old ≢ Ended }
+        ensures step { OnOk result (Steps read_machine L.makes (encode_of (read_ask self.old)) self.old link.old self.new link.new) }
+        ensures same { OnErr result (self.new ≡ self.old) }
+        ensures want { OnErr result (BreaksOff L.makes (encode_of (read_ask self.old)) (read_next self.old) link.old link.new) }
+    {
+        let mut into = FrameBytes::new(alloc);
+        read_step(alloc, link, &mut self.call, self.ask.as_slice(), &mut into)
+    }
+
+    /// What a read came to that wants nothing more. It takes no memory.
+    pub fn into_outcome(self) -> ReadOutcome
+        requires { read_next self ≡ Ended }
+        ensures answer { read_answer self ≡ Some (answer_of result) }
+        ensures lease { (lease : SessionLease) → result ≡ ReadOutcome.Found lease → lease.expiry ≡ self.expiry }
+    {
+        let expiry = self.expiry;
+        match self.call.into_answer() {
+            Some(Ok(value)) => ReadOutcome::Found(SessionLease { value, expiry }),
+            Some(Err(ReadRefusal::Expired { now, expiry })) => ReadOutcome::Expired { now, expiry },
+            Some(Err(ReadRefusal::Lost(causes))) => ReadOutcome::Lost(causes),
+            Some(Err(ReadRefusal::OutOfMemory)) => unreachable!(),
+            None => unreachable!(),
+        }
+    }
+}
