@@ -176,6 +176,15 @@ fn odd_heads_are_requests(rt: HostRuntime) {
             "GET / HTTP/1.1\r\nConnection: closed, not-close\r\n\r\n",
             "get /",
         ),
+        // blanks and tabs at the ends of an element
+        (
+            "GET / HTTP/1.1\r\nConnection: close ,te\r\n\r\n",
+            "get / close",
+        ),
+        (
+            "GET / HTTP/1.1\r\nConnection: te , close\t, x\r\n\r\n",
+            "get / close",
+        ),
         // pairs of Cookie: the first of the name; a space before `=` makes another name
         (
             "GET / HTTP/1.1\r\nCookie: a=1;crash=2; crash=3\r\n\r\n",
@@ -193,6 +202,29 @@ fn odd_heads_are_requests(rt: HostRuntime) {
         (
             "GET / HTTP/1.1\r\nCookie:   crash=a=b c  \r\n\r\n",
             "get / cookie=a=b c",
+        ),
+        (
+            "GET / HTTP/1.1\r\nCookie: crash=1\r\nCookie: crash=2\r\n\r\n",
+            "get / cookie=1",
+        ),
+        // spaces at the ends of a pair are no part of it, and tabs are
+        (
+            "GET / HTTP/1.1\r\nCookie: crash=2 ;b=3\r\n\r\n",
+            "get / cookie=2",
+        ),
+        (
+            "GET / HTTP/1.1\r\nCookie: crash=2\t;b=3\r\n\r\n",
+            "get / cookie=2\t",
+        ),
+        ("GET / HTTP/1.1\r\nCookie: a=1;\tcrash=2\r\n\r\n", "get /"),
+        // a type that has `multipart` in it and does not begin with `multipart/`
+        (
+            "POST / HTTP/1.1\r\nContent-Type: multipart\r\n\r\n",
+            "post /",
+        ),
+        (
+            "POST / HTTP/1.1\r\nContent-Type: text/multipart/x\r\n\r\n",
+            "post /",
         ),
         // a second Content-Type, and lengths that are the same number
         (
@@ -229,6 +261,8 @@ fn heads_that_are_none_are_refused(rt: HostRuntime) {
         ("GET /\0 HTTP/1.1\r\n\r\n", "bad"),
         ("GET / HTTP/1.1\r\nA: b\rc\r\n\r\n", "bad"),
         ("GET / HTTP/1.1\r\nA : b\r\n\r\n", "bad"),
+        ("GET  / HTTP/1.1\r\n\r\n", "bad"),
+        ("GET / HTTP/1.1 \r\n\r\n", "bad"),
         ("GET / HTTP/1.1\r\nA\r\n\r\n", "bad"),
         ("GET / HTTP/1.1\r\n: b\r\n\r\n", "bad"),
         // lengths
@@ -254,6 +288,19 @@ fn heads_that_are_none_are_refused(rt: HostRuntime) {
         (
             "POST / HTTP/1.1\r\nContent-Length: 9999999999\r\n\r\n",
             "body 9999999999",
+        ),
+        // each length is looked at before one is too great
+        (
+            "POST / HTTP/1.1\r\nContent-Length: 65537\r\nContent-Length: 1\r\n\r\n",
+            "bad",
+        ),
+        (
+            "POST / HTTP/1.1\r\nContent-Length: 65537\r\nContent-Length: x\r\n\r\n",
+            "bad",
+        ),
+        (
+            "POST / HTTP/1.1\r\nContent-Length: 65537\r\nContent-Length: 065537\r\n\r\n",
+            "body 65537",
         ),
         // a coding, whatever the length
         (

@@ -99,3 +99,18 @@ fn a_status_has_its_reason(rt: HostRuntime) {
         expect_response(&rt, alloc, status, &extra, head.as_str());
     }
 }
+
+/// The first page of who is signed out has 120 bytes.
+#[test]
+fn a_response_tells_the_length_of_its_page(rt: HostRuntime) {
+    let alloc = rt.alloc();
+    let home = "<!doctype html>\n<title>Auctions</title>\n<h1>Auctions</h1>\n<p>Signed out</p>\n\
+                <p><a href=\"/categories\">Categories</a></p>\n";
+    let page = PageText::copied(alloc, home.as_bytes()).expect(&rt, "a page");
+    let none = extra(CookieField::None, false, 0, false);
+    let response = response_bytes(alloc, 200, &none, &page, false).expect(&rt, "a response");
+    let want = format!(in alloc;
+        "HTTP/1.1 200 OK\r\nContent-Type: text/html; charset=utf-8\r\nContent-Length: 120\r\n\r\n{home}"
+    ).expect(&rt, "a response");
+    expect_bytes(&rt, response.as_slice(), want.as_bytes(), "the first page");
+}

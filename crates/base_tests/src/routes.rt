@@ -58,7 +58,7 @@ fn add_routed(
     add_word(rt, words, "|");
 }
 
-/// Asserts where a path leads by GET, HEAD, POST and any other method.
+/// Asserts where a path leads by GET, HEAD, POST and any other method, as PUT.
 fn expect_routes(rt: &impl Abort, alloc: Global, router: &SiteRouter, row: &str) {
     let (path, want) = cut(rt, row, ' ');
     let mut words = String::new(alloc);
