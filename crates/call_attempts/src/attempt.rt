@@ -1,0 +1,145 @@
+//! An attempt: a call that follows a program.
+
+ghost use Rattle.std.specs.Prelude.{◌≡◌, ◌&&◌, IfOk, OnOk};
+ghost use Rattle.call_ticket.specs.Following.{Follows, MayMake};
+ghost use Rattle.call_ticket.specs.Repeated.{may_repeat};
+ghost use Rattle.boot_core.specs.Fits.{FitsIn};
+ghost use Rattle.container_core.specs.Container.{HasGrownBy};
+ghost use Rattle.call_attempts.specs.Attempt.{HasStepped, IsUnderWay, rows_at_begin, attempt_of};
+
+use crate::steps::{Made, make};
+use crate::stop::Stop;
+use boot_core::{DoneText, Ticket};
+use call_ticket::{AnswerList, Next, Program, calls_follow};
+use container_core::{Container, histories_grow};
+use crash_base::OutOfMemory;
+use deployment::Deployment;
+use outside::Keeper;
+use std::alloc::Global;
+use std::marker::Model;
+
+/// What a step of an attempt comes to.
+#[derive(Drop)]
+pub enum Stepped {
+    /// The attempt goes on.
+    Went,
+    /// The call is done, and answers this where it commits.
+    Done(DoneText),
+    /// A reboot stopped the attempt.
+    Stopped(Stop),
+}
+
+/// A call that follows a program: its ticket, the answers that it had so far, and whether each step that it made may be
+/// made again.
+#[derive(Drop)]
+pub struct Attempt {
+    ticket: Ticket,
+    answers: AnswerList,
+    repeats: bool,
+}
+
+impl Model for Attempt {
+    ghost use Rattle.call_attempts.specs.Attempt.{AttemptValue};
+
+    ghost Value = { AttemptValue };
+
+    ghost view = { λ a. record { ticket = a.ticket; answers = a.answers; repeats = a.repeats } };
+}
+
+/// The step that a program asks for after these answers, which the call may make.
+fn ask<K: Keeper + Drop, P: Program>(
+    alloc: Global,
+    container: &Container<K>,
+    program: &P,
+    ticket: &Ticket,
+    answers: &AnswerList,
+) -> Result<Next, OutOfMemory>
+    requires accepts { P.accepts program.now container.now.boot.start.deployment }
+    requires follows { Follows (P.asks program.now) (rows_at_begin container.now.boot ticket.now.call)
+        answers.now ticket.now.call }
+    ensures asked { IfOk result (λ next. next ≡ P.asks program.now answers.now) }
+    ensures may { IfOk result (λ next.
+        MayMake container.now.boot.start.deployment ticket.now.call next) }
+{
+    calls_follow();
+    let next = program.next(alloc, answers)?;
+    Ok(next)
+}
+
+/// Whether a step may be made again.
+fn may_repeat(deployment: &Deployment, next: &Next) -> bool
+    ensures { result ≡ may_repeat deployment.now next.now }
+{
+    match next {
+        Next::Enter { component, method } => deployment.idempotent(*component, *method),
+        _ => true,
+    }
+}
+
+/// Whether all steps so far may be made again, and this one too.
+fn repeats_after(repeats: bool, deployment: &Deployment, next: &Next) -> bool
+    ensures { result ≡ repeats && may_repeat deployment.now next.now }
+{
+    repeats && may_repeat(deployment, next)
+}
+
+impl Attempt {
+    /// An attempt that begins with this ticket. It takes no memory.
+    pub fn new(alloc: Global, ticket: Ticket) -> Attempt
+        ensures { result ≡ attempt_of ticket }
+    {
+        Attempt {
+            ticket,
+            answers: AnswerList::new(alloc),
+            repeats: true,
+        }
+    }
+
+    /// The ticket, to commit the call or to give it up. It takes no memory.
+    pub fn into_ticket(self) -> Ticket
+        ensures { result ≡ self.ticket }
+    {
+        self.ticket
+    }
+
+    /// Whether each step that it made may be made again: no method that it entered says otherwise.
+    pub fn repeats(&self) -> bool
+        ensures { result ≡ self.now.repeats }
+    {
+        self.repeats
+    }
+
+    /// Makes the step that the program asks for next, by one call of the container, or none where the program is done.
+    /// It takes what `Program::next` and the step take, and room for the answer.
+    ///
+    /// # Errors
+    /// Out of memory. The attempt can then only be given up, by `into_ticket`.
+    pub fn step<K: Keeper + Drop, P: Program>(
+        &mut self,
+        alloc: Global,
+        container: &mut Container<K>,
+        program: &P,
+    ) -> Result<Stepped, OutOfMemory>
+        requires accepts { P.accepts program.now container.old.boot.start.deployment }
+        requires under_way { IsUnderWay container.old.boot (P.asks program.now) self.old }
+        ensures stepped { IfOk result (λ came.
+            HasStepped container.old.boot (P.asks program.now) self.old came self.new) }
+        ensures under_way { OnOk result (IsUnderWay container.old.boot (P.asks program.now) self.new) }
+        ensures fits { FitsIn container.new.boot self.new.ticket.call }
+        ensures same { container.new ≡ container.old }
+        ensures grown { HasGrownBy container.old container.new }
+    {
+        histories_grow();
+        let next = ask(alloc, container, program, &self.ticket, &self.answers)?;
+        let repeats = repeats_after(self.repeats, container.deployment(), &next);
+        match make(alloc, container, &mut self.ticket, next)? {
+            Made::Answered(answer) => {
+                self.repeats = repeats;
+                self.answers.push(answer)?;
+                Ok(Stepped::Went)
+            }
+            Made::Done(done) => Ok(Stepped::Done(done)),
+            Made::Stopped(stop) => Ok(Stepped::Stopped(stop)),
+        }
+    }
+}

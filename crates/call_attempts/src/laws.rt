@@ -1,0 +1,54 @@
+//! Laws of attempts, as contracts of functions that do nothing.
+
+ghost use Rattle.std.specs.Prelude.{◌≡◌, ◌↔◌, ℕ, List, length, None, Some};
+ghost use Rattle.crash_base.specs.declared.numbers.ComponentNo.{ComponentNo};
+ghost use Rattle.crash_base.specs.declared.numbers.GroupNo.{GroupNo};
+ghost use Rattle.crash_base.specs.declared.numbers.Place.{Place};
+ghost use Rattle.crash_base.specs.declared.numbers.RequestNo.{RequestNo};
+ghost use Rattle.crash_base.specs.declared.numbers.WorkerNo.{WorkerNo};
+ghost use Rattle.deployment.specs.declared.parts.Parts.{Parts};
+ghost use Rattle.deployment.specs.Groups.{group_of, group_no};
+ghost use Rattle.journal_model.specs.declared.entry.Entry.{Entry};
+ghost use Rattle.journal_model.specs.declared.stale.Stale.{Stale};
+ghost use Rattle.journal_model.specs.Calls.{Call};
+ghost use Rattle.journal_model.specs.Reboots.{down_of};
+ghost use Rattle.journal_model.specs.Stale.{stale_in};
+ghost use Rattle.call_ticket.specs.declared.next.Answer.{Answer};
+ghost use Rattle.call_ticket.specs.declared.next.Next.{Next};
+ghost use Rattle.call_ticket.specs.declared.next.Next.TheVariants as next;
+ghost use Rattle.boot_core.specs.Boot.{BootValue, HasGrown};
+ghost use Rattle.call_attempts.specs.Attempt.{AttemptValue, HasStepped, IsUnderWay, attempt_begun};
+ghost use Rattle.call_attempts.specs.Stops.{stop_of};
+ghost use Rattle.call_attempts.specs.declared.attempt.Stepped.{Stepped};
+ghost use Rattle.call_attempts.specs.declared.stop.Stop.TheVariants.{Revoked, Sentinel};
+
+/// An attempt is under way from its begin on, and stays so whatever others do: in each boot that has grown from this
+/// one.
+pub fn attempts_stay_under_way()
+    ensures begun { (boot : BootValue) (asks : List Answer → Next) (request : RequestNo) (worker : WorkerNo) →
+        IsUnderWay boot asks (attempt_begun request worker (record { 0 = length boot.entries })) }
+    ensures meanwhile { (old new : BootValue) (asks : List Answer → Next) (a : AttemptValue) →
+        HasGrown old new → IsUnderWay old asks a → IsUnderWay new asks a }
+{}
+
+/// A step of an attempt comes to something, and to one thing alone, with one attempt after it. So a meaning of steps
+/// that nothing could meet is refused, and so is one that would let a step be left out.
+pub fn steps_are_fixed()
+    ensures some { (boot : BootValue) (asks : List Answer → Next) (a : AttemptValue) →
+        (came : Stepped) × (after : AttemptValue) × HasStepped boot asks a came after }
+    ensures one { (boot : BootValue) (asks : List Answer → Next) (a after other : AttemptValue)
+        (came went : Stepped) → HasStepped boot asks a came after → HasStepped boot asks a went other →
+        (came ≡ went) × (after ≡ other) }
+{}
+
+/// A step is stopped only by a reboot: as revoked exactly where a group that its call entered was rebooted since, which
+/// is then the first such one; and by a sentinel exactly where none was, and the step enters a component whose group is
+/// down.
+pub fn reboots_alone_stop()
+    ensures revoked { (parts : Parts) (es : List Entry) (call : Call) (x : Next) (shown : Stale) →
+        (stop_of parts es call x ≡ Some (Revoked shown)) ↔ (stale_in es call.touched ≡ Some shown) }
+    ensures sentinel { (parts : Parts) (es : List Entry) (call : Call) (x : Next) (group : GroupNo) (down : Place) →
+        (stop_of parts es call x ≡ Some (Sentinel group down)) ↔ ((stale_in es call.touched ≡ None)
+        × ((c : ComponentNo) × (m : ℕ) × (x ≡ next.Enter c m) × (group ≡ group_no (group_of parts c.0))
+        × (down_of es (group_of parts c.0) ≡ Some down))) }
+{}

@@ -1,0 +1,30 @@
+//! Attempts: calls that follow a program in a container, one step at a time.
+//!
+//! ```text
+//! let ticket = container.begin(alloc, request, worker)?;
+//! let mut attempt = Attempt::new(alloc, ticket);
+//! match attempt.step(alloc, &mut container, &program)? {
+//!     Stepped::Went => { .. }
+//!     Stepped::Done(done) => container.commit(alloc, attempt.into_ticket(), Some(action)),
+//!     Stepped::Stopped(stop) => container.abandon(attempt.into_ticket()),
+//! }
+//! ```
+//!
+//! An attempt is under way (`IsUnderWay` in `specs/Attempt`) from its begin on: its call made just the steps that the
+//! program asked for, over the rows at its begin. Others may use the container between any two of its steps, and it
+//! stays under way (`attempts_stay_under_way`). Each step comes to one thing alone (`steps_are_fixed`): it is answered,
+//! or the program is done, or a reboot stops it (`reboots_alone_stop`). No limit of a call can stop it, since a program
+//! keeps them.
+//!
+//! A step costs one call of the container. The answers are kept until the attempt ends, and the program sees all of
+//! them at each step.
+#![tactic(auto)]
+
+mod attempt;
+mod laws;
+mod steps;
+mod stop;
+
+pub use attempt::{Attempt, Stepped};
+pub use laws::{attempts_stay_under_way, reboots_alone_stop, steps_are_fixed};
+pub use stop::Stop;
