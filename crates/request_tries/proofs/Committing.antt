@@ -1,0 +1,291 @@
+-- What a commit, or a stop, brings to a request.
+use Rattle.std.specs.Prelude.{All, IfErr, IfSome, IsSome, Result, Ok, Err, option_map}
+use Rattle.std.proofs.Common.{◌≡◌, ◌≢◌, ℕ, ◌+◌, ◌≤◌, Bool, true, false, List, [], ◌∷◌, ◌++◌, length, map, take, slice_get, Option, Some, None, refl, sym, ap, ◌∙◌, subst, arith, length-append}
+use Rattle.std.proofs.lemmas.Grind.{flat_map-append}
+use Rattle.std.proofs.lemmas.List.{append-nil, take_at}
+use Rattle.std.proofs.lemmas.List.Elements.{All-append, All-map}
+use Rattle.crash_base.specs.Refusals.{first_of}
+use Rattle.crash_base.specs.declared.numbers.Place.{Place}
+use Rattle.crash_base.specs.declared.numbers.RequestNo.{RequestNo}
+use Rattle.crash_base.specs.declared.rows.RowWrite.{RowWrite}
+use Rattle.deployment.specs.declared.parts.Parts.{Parts}
+use Rattle.journal_model.specs.declared.conflict.Conflict.{Conflict}
+use Rattle.journal_model.specs.declared.entry.CommitEntry.{CommitEntry}
+use Rattle.journal_model.specs.declared.entry.DoneText.{DoneText}
+use Rattle.journal_model.specs.declared.entry.Entry.{Entry}
+use Rattle.journal_model.specs.declared.entry.Entry.TheVariants.{Commit}
+use Rattle.journal_model.specs.declared.entry.Mark.{Mark}
+use Rattle.journal_model.specs.declared.entry.ReadMark.{ReadMark}
+use Rattle.journal_model.specs.declared.entry.ReadMark.TheVariants as read
+use Rattle.journal_model.specs.declared.limits.FullAt.{FullAt}
+use Rattle.journal_model.specs.declared.stale.Stale.{Stale}
+use Rattle.journal_model.specs.Calls.{Call, entry_of}
+use Rattle.journal_model.specs.Conflicts.{conflict_of, rests_on, IsFirstNewer}
+use Rattle.journal_model.specs.Legal.{MayCommit}
+use Rattle.journal_model.specs.Limits.{entry_bytes, full_for}
+use Rattle.journal_model.specs.Reboots.{down_of}
+use Rattle.journal_model.specs.Requests.{commit_of}
+use Rattle.journal_model.specs.Rows.{rows_after}
+use Rattle.journal_model.specs.Stale.{stale_in}
+use Rattle.journal_model.proofs.Conflicting.{first_newer}
+use Rattle.journal_model.proofs.Fitting.{fits_commit}
+use Rattle.outside.specs.Faults.{Rose}
+use Rattle.call_ticket.specs.declared.next.Answer.{Answer}
+use Rattle.call_ticket.specs.declared.next.Next.{Next}
+use Rattle.call_ticket.specs.declared.next.Next.TheVariants as next
+use Rattle.call_ticket.specs.Following.{Follows}
+use Rattle.call_ticket.specs.Runs.{Makes, run_of}
+use Rattle.call_ticket.proofs.EqualRuns.{serial}
+use Rattle.boot_core.specs.Boot.{BootValue, with_entry}
+use Rattle.boot_core.specs.Refusals.{CommitAnswer, IsCause, commit_refusal}
+use Rattle.boot_core.specs.declared.refusals.CommitRefusal.{CommitRefusal}
+use Rattle.boot_core.specs.declared.refusals.CommitRefusal.TheVariants as commits
+use Rattle.boot_core.specs.declared.refusals.Refused.{Refused}
+use Rattle.boot_core.proofs.Sounding.{IsFree, is_free}
+use Rattle.container_core.specs.Container.{ContainerValue, CommitLeaves, RefusalLeaves, events_of}
+use Rattle.container_core.specs.History.{entries_in, entry_in}
+use Rattle.container_core.specs.declared.history.Event.{Event}
+use Rattle.container_core.specs.declared.history.Event.TheVariants.{Added, KeeperFailed as FailedMark, Started}
+use Rattle.call_attempts.specs.Attempt.{Accesses, AttemptValue, EntersOnce, IsUnderWay, rows_at_begin, stop_of_attempt, table_in, wanted}
+use Rattle.call_attempts.specs.declared.stop.Stop.{Stop}
+use Rattle.call_attempts.specs.declared.stop.Stop.TheVariants as stops
+use Rattle.call_attempts.proofs.Stopping.{revoked_is}
+use Rattle.request_tries.specs.Ends.{Adds, HasNoRoom, IsServed, EndStands, OutcomeStands, StepAdds, WasRevoked, done_at, done_if, done_in}
+use Rattle.request_tries.specs.Serving.{TriesValue, IsOpen, IsServing, asked, closed}
+use Rattle.request_tries.specs.Steps.{Brings, CommitsTry, EndsTry, HearsCommit, IsRefused, IsStopped, action_of, ended_at, from_of, front_at, outcome_by, refusal_of, try_ended}
+use Rattle.request_tries.specs.Tries.{CauseStands, first_begin}
+use Rattle.request_tries.specs.declared.outcome.Ended.{Ended}
+use Rattle.request_tries.specs.declared.outcome.Outcome.{Outcome}
+use Rattle.request_tries.specs.declared.outcome.Outcome.TheVariants.{Page, Sentinel, JournalFull, KeeperFailed}
+use Rattle.request_tries.specs.declared.outcome.Try.{Try}
+use Rattle.request_tries.specs.declared.outcome.TryCause.{TryCause}
+use Rattle.request_tries.specs.declared.outcome.TryCause.TheVariants as cause
+use Rattle.request_tries.proofs.Ending.{TryMayEnd, all_middle, revoked_shows, sentinel_shows, stands, try_ends}
+use Rattle.request_tries.proofs.Trying.{first_before}
+
+-- which of the causes a refusal is
+record FirstCause (a : Option Place) (s : Option Stale) (c : Option Conflict) (f : Option FullAt) (why : CommitRefusal) : Type 0 where
+  already : (p : Place) → why ≡ commits.Already p → a ≡ Some p
+  stale : (x : Stale) → why ≡ commits.Revoked x → s ≡ Some x
+  conflict : (x : Conflict) → why ≡ commits.Conflict x → c ≡ Some x
+  full : (x : FullAt) → why ≡ commits.JournalFull x → f ≡ Some x
+
+first_cause : (a : Option Place) (s : Option Stale) (c : Option Conflict) (f : Option FullAt) (why : CommitRefusal)
+    → first_of (option_map (λ (place : Place). commits.Already place) a ∷ option_map (λ (x : Stale). commits.Revoked x) s ∷ option_map (λ (x : Conflict). commits.Conflict x) c ∷ option_map (λ (x : FullAt). commits.JournalFull x) f ∷ []) ≡ Some why
+    → FirstCause a s c f why
+first_cause (Some p) s c f why e = record { already = λ q is. cc; stale = λ x is. absurd (cc); conflict = λ x is. absurd (cc); full = λ x is. absurd (cc) }
+first_cause None (Some y) c f why e = record { already = λ q is. absurd (cc); stale = λ x is. cc; conflict = λ x is. absurd (cc); full = λ x is. absurd (cc) }
+first_cause None None (Some y) f why e = record { already = λ q is. absurd (cc); stale = λ x is. absurd (cc); conflict = λ x is. cc; full = λ x is. absurd (cc) }
+first_cause None None None (Some y) why e = record { already = λ q is. absurd (cc); stale = λ x is. absurd (cc); conflict = λ x is. absurd (cc); full = λ x is. cc }
+first_cause None None None None why e = absurd (cc)
+
+-- the last of a list
+get_last : {A : Type 0} (xs : List A) (y : A) → slice_get (xs ++ y ∷ []) (length xs) ≡ Some y
+get_last [] y = refl
+get_last (x ∷ xs) y = get_last xs y
+
+-- the law of calls that follow a program to its end
+abbrev pub DoneLaw : Type 0
+DoneLaw = (parts : Parts) (asks : List Answer → Next) (rows : List RowWrite) (answers : List Answer) (call : Call) (d : DoneText)
+    → IsSome (run_of parts asks rows) → Follows asks rows answers call → asks answers ≡ next.Done d
+    → run_of parts asks rows ≡ Some (record { marks = call.marks; writes = call.writes; done = d })
+
+-- What an attempt made that is done is what its program makes over the rows at its begin.
+made_there : (law : DoneLaw) (boot : BootValue) (asks : List Answer → Next) (s : TriesValue) (a : AttemptValue) (done : DoneText)
+    → IsSome (run_of boot.start.deployment asks (rows_at_begin boot a.ticket.call)) → IsUnderWay boot asks a → wanted asks a ≡ next.Done done
+    → Makes boot.start.deployment asks (rows_at_begin boot a.ticket.call) (entry_of a.ticket.call (action_of s done)) done
+unfolding Makes
+made_there law boot asks s a done some way is = law boot.start.deployment asks (rows_at_begin boot a.ticket.call) a.answers a.ticket.call done some way.follows is
+
+-- An attempt whose commit nothing refuses is served by its entry.
+served_at : (law : DoneLaw) (boot : BootValue) (asks : List Answer → Next) (s : TriesValue) (a : AttemptValue) (done : DoneText)
+    → IsSome (run_of boot.start.deployment asks (rows_at_begin boot a.ticket.call)) → IsServing boot asks s → IsOpen boot asks s a → wanted asks a ≡ next.Done done
+    → commit_refusal boot.start.limits boot.entries a.ticket.call (action_of s done) ≡ None
+    → IsServed boot.start (boot.entries ++ Commit (entry_of a.ticket.call (action_of s done)) ∷ []) (asked s asks) (first_begin s.tries a.ticket.call.at.0) (length boot.entries)
+served_at law boot asks s a done some serving opened is none =
+    let e : CommitEntry = entry_of a.ticket.call (action_of s done) in
+    let free : IsFree boot.start.limits boot.entries a.ticket.call (action_of s done) = is_free boot.start.limits boot.entries a.ticket.call (action_of s done) none in
+    let may : MayCommit boot.start.base boot.entries e = fits_commit boot.start.base boot.entries a.ticket.call (action_of s done) opened.way.fits.journal free.once free.fresh free.current in
+    let made : Makes boot.start.deployment asks (rows_after boot.start.base boot.entries) e done = serial boot.start.deployment asks boot.start.base boot.entries e done may.current (made_there law boot asks s a done some opened.way is) in
+    record {
+      entry = e;
+      done = done;
+      is_there = get_last boot.entries (Commit e);
+      asked_for = record { request = opened.request; action = refl; since = first_before boot.start.deployment asks boot.entries s.tries a.ticket.call.at.0 serving.tries opened.after };
+      made = rw (take_at boot.entries (Commit e ∷ []) (length boot.entries) refl) made;
+    }
+
+-- the entries of a history that is one event longer
+entries_more : (since : List Event) (e : Event) → entries_in (since ++ e ∷ []) ≡ entries_in since ++ entries_in (e ∷ [])
+entries_more since e = flat_map-append entry_in since (e ∷ [])
+
+-- where a request began
+began : (boot : BootValue) (asks : List Answer → Next) (s : TriesValue) (a : AttemptValue) → IsServing boot asks s → IsOpen boot asks s a
+    → first_begin s.tries a.ticket.call.at.0 ≤ length boot.entries
+began boot asks s a serving opened =
+    let before = first_before boot.start.deployment asks boot.entries s.tries a.ticket.call.at.0 serving.tries opened.after in
+    let within = opened.way.fits.journal.at in
+    omega (arith, before, within)
+
+-- A commit that nothing refuses brings an end that stands, and adds just its entry.
+committed : (law : DoneLaw) (old new : ContainerValue) (asks : List Answer → Next) (s after : TriesValue) (a : AttemptValue) (done : DoneText) (place : Place) (end : Option Ended)
+    → entries_in old.since ≡ old.boot.entries
+    → IsSome (run_of old.boot.start.deployment asks (rows_at_begin old.boot a.ticket.call)) → IsServing old.boot asks s → IsOpen old.boot asks s a → wanted asks a ≡ next.Done done
+    → refusal_of old s a done ≡ None → CommitLeaves a.ticket.call (action_of s done) (Ok place) old new
+    → end ≡ Some (ended_at (front_at new) (from_of s a.ticket.call.at) (Page place false) (Some done)) → Brings old new asks s after end
+committed law old new asks s after a done place end seen some serving opened is none left hears =
+    let e : CommitEntry = entry_of a.ticket.call (action_of s done) in
+    let from : Place = from_of s a.ticket.call.at in
+    let page : Outcome = Page place false in
+    let boot : new.boot ≡ with_entry old.boot (Commit e) = ap (λ (c : ContainerValue). c.boot) left.1 in
+    let since : new.since ≡ old.since ++ Added (Commit e) ∷ [] = ap (λ (c : ContainerValue). c.since) left.1 in
+    let entries : new.boot.entries ≡ old.boot.entries ++ Commit e ∷ [] = ap (λ (b : BootValue). b.entries) boot in
+    let now : entries_in new.since ≡ new.boot.entries =
+    ap entries_in since ∙ entries_more old.since (Added (Commit e)) ∙ ap (λ (es : List Entry). es ++ Commit e ∷ []) seen ∙ sym entries in
+    let served : IsServed old.boot.start (old.boot.entries ++ Commit e ∷ []) (asked s asks) from.0 place.0 =
+    subst (λ (n : ℕ). IsServed old.boot.start (old.boot.entries ++ Commit e ∷ []) (asked s asks) from.0 n) (sym left.0) (served_at law old.boot asks s a done some serving opened is none) in
+    let there : IsServed new.boot.start new.boot.entries (asked s asks) from.0 place.0 =
+    subst (λ (b : BootValue). IsServed b.start b.entries (asked s asks) from.0 place.0) (sym boot) served in
+    let shows : OutcomeStands new.boot.start (events_of new) (asked s asks) from.0 page =
+    subst (λ (es : List Entry). IsServed new.boot.start es (asked s asks) from.0 place.0) (sym now) there in
+    let answers : done_at new.boot.entries place ≡ Some done =
+    ap (λ (es : List Entry). done_at es place) entries ∙ ap (λ (n : ℕ). done_if (slice_get (old.boot.entries ++ Commit e ∷ []) n)) left.0 ∙ ap done_if (get_last old.boot.entries (Commit e)) in
+    let before = began old.boot asks s a serving opened in
+    let longer : length new.boot.entries ≡ length old.boot.entries + 1 = ap (λ (es : List Entry). length es) entries ∙ length-append old.boot.entries (Commit e ∷ []) in
+    let stood : EndStands new.boot.start (events_of new) (asked s asks) (ended_at (front_at new) from page (Some done)) = stands new (asked s asks) from page (Some done) now (omega (arith, before, longer)) shows (sym answers) in
+    let P : Option Ended → Type 0 = λ o. Brings old new asks s after o in
+    subst P (sym hears) (record { serving = λ never. absurd (cc); ended = stood; adds = (e, since, left.0); failed = λ never. absurd (cc) })
+
+-- what the end of a try adds to the history, where the container has stayed as it was
+adds_nothing : (c : ContainerValue) (request : RequestNo) (s : TriesValue) (at : Place) (why : TryCause) (repeats : Bool) (end : Option Ended) (after : TriesValue)
+    → EndsTry (front_at c) s at why repeats end after → StepAdds request end c c
+adds_nothing c request s at why repeats None after ends = refl
+adds_nothing c request s at (cause.Revoked shown) repeats (Some e) after ends = subst (λ (x : Ended). Adds request x.outcome c c) (sym ends.1) refl
+adds_nothing c request s at (cause.Conflict mark newest) repeats (Some e) after ends = subst (λ (x : Ended). Adds request x.outcome c c) (sym ends.1) refl
+
+-- and no keeper failed
+never_failed : (why : TryCause) (ts : List Try) → outcome_by why ts ≢ KeeperFailed
+never_failed (cause.Revoked shown) ts is = absurd (cc)
+never_failed (cause.Conflict mark newest) ts is = absurd (cc)
+
+none_failed : (c : ContainerValue) (s : TriesValue) (at : Place) (why : TryCause) (repeats : Bool) (end : Option Ended) (after : TriesValue)
+    → EndsTry (front_at c) s at why repeats end after → IfSome end (λ e. e.outcome ≡ KeeperFailed → Rose c.faults c.faults)
+none_failed c s at why repeats None after ends = tt
+none_failed c s at why repeats (Some e) after ends = λ is. absurd (never_failed why (s.tries ++ try_ended (front_at c) at why ∷ []) (sym (ap (λ (x : Ended). x.outcome) ends.1) ∙ is))
+
+-- a try that ends with the container as it was
+try_brings : (c : ContainerValue) (asks : List Answer → Next) (s : TriesValue) (a : AttemptValue) (why : TryCause) (repeats : Bool) (end : Option Ended) (after : TriesValue)
+    → entries_in c.since ≡ c.boot.entries → IsServing c.boot asks s → IsOpen c.boot asks s a
+    → CauseStands c.boot.start.deployment asks c.boot.entries a.ticket.call.at.0 why → (repeats ≡ false → EntersOnce c.boot.start.deployment asks × WasRevoked why)
+    → EndsTry (front_at c) (closed s) a.ticket.call.at why repeats end after → Brings c c asks s after end
+try_brings c asks s a why repeats end after seen serving opened shows once ends =
+    let may : TryMayEnd c asks (closed s) a.ticket.call.at why repeats = record { seen = seen; few = serving.few; tries = serving.tries; after = opened.after; within = opened.way.fits.journal.at; shows = shows; once = once } in
+    let both = try_ends c asks (closed s) a.ticket.call.at why repeats end after may ends in
+    record { serving = both.0; ended = both.1; adds = adds_nothing c s.request (closed s) a.ticket.call.at why repeats end after ends; failed = none_failed c (closed s) a.ticket.call.at why repeats end after ends }
+
+-- a program entered once where its attempt tells it
+entered_once : (boot : BootValue) (asks : List Answer → Next) (a : AttemptValue) (shown : Stale) → IsUnderWay boot asks a → a.repeats ≡ false → EntersOnce boot.start.deployment asks × WasRevoked (cause.Revoked shown)
+entered_once boot asks a shown way is = let h = way.once.0 is in (record { answers = take h.before a.answers; once = h.once }, tt)
+
+-- an end that leaves the container as it was
+end_brings : (c : ContainerValue) (asks : List Answer → Next) (s after : TriesValue) (a : AttemptValue) (o : Outcome) (done : Option DoneText) (end : Option Ended)
+    → entries_in c.since ≡ c.boot.entries → IsServing c.boot asks s → IsOpen c.boot asks s a
+    → OutcomeStands c.boot.start (events_of c) (asked s asks) (first_begin s.tries a.ticket.call.at.0) o → done ≡ done_in c.boot.entries o → Adds s.request o c c → o ≢ KeeperFailed
+    → end ≡ Some (ended_at (front_at c) (from_of s a.ticket.call.at) o done) → Brings c c asks s after end
+end_brings c asks s after a o done end seen serving opened shows answers adds other is =
+    let stood : EndStands c.boot.start (events_of c) (asked s asks) (ended_at (front_at c) (from_of s a.ticket.call.at) o done) = stands c (asked s asks) (from_of s a.ticket.call.at) o done seen (began c.boot asks s a serving opened) shows answers in
+    subst (λ (x : Option Ended). Brings c c asks s after x) (sym is) (record { serving = λ none. absurd (cc); ended = stood; adds = adds; failed = λ failed. absurd (other failed) })
+
+-- The stop of an attempt brings its end, and adds nothing.
+pub stopped : (c : ContainerValue) (asks : List Answer → Next) (s after : TriesValue) (a : AttemptValue) (stop : Stop) (end : Option Ended)
+    → entries_in c.since ≡ c.boot.entries → IsServing c.boot asks s → IsOpen c.boot asks s a → stop_of_attempt c.boot asks a ≡ Some stop
+    → IsStopped (front_at c) (closed s) a.ticket.call.at a.repeats stop end after → Brings c c asks s after end
+stopped c asks s after a (stops.Sentinel group down) end seen serving opened is ends =
+    let shows = sentinel_shows c.boot asks a group down is in
+    let o : Outcome = Sentinel group down in
+    let now : OutcomeStands c.boot.start (events_of c) (asked s asks) (first_begin s.tries a.ticket.call.at.0) o = (subst (λ (es : List Entry). down_of es group.0 ≡ Some down) (sym seen) shows.0, shows.1) in
+    end_brings c asks s after a o None end seen serving opened now refl refl (λ never. absurd (cc)) ends
+stopped c asks s after a (stops.Revoked shown) end seen serving opened is ends =
+    let stale = (revoked_is c.boot.start.deployment c.boot.entries a.ticket.call (wanted asks a) shown).0 is in
+    try_brings c asks s a (cause.Revoked shown) a.repeats end after seen serving opened (revoked_shows c.boot asks a shown opened.way stale) (entered_once c.boot asks a shown opened.way) ends
+
+-- all that a call rests on is of tables that its program accesses
+all_accessed : (asks : List Answer → Next) (call : Call) → All (λ (m : Mark). Accesses asks (table_in m.read)) call.marks → All (λ (w : RowWrite). Accesses asks w.id.table) call.writes → All (λ (r : ReadMark). Accesses asks (table_in r)) (rests_on call)
+all_accessed asks call marks writes =
+    let P : ReadMark → Type 0 = λ r. Accesses asks (table_in r) in
+    All-append P (map (λ (m : Mark). m.read) call.marks) (map (λ (w : RowWrite). read.Row w.id) call.writes)
+    (All-map P (λ (m : Mark). m.read) call.marks marks) (All-map P (λ (w : RowWrite). read.Row w.id) call.writes writes)
+
+-- A commit that is refused brings its end, and adds the mark of a keeper that failed alone.
+uncommitted : (law : DoneLaw) (old new : ContainerValue) (asks : List Answer → Next) (s after : TriesValue) (a : AttemptValue) (done : DoneText) (end : Option Ended) (why : CommitRefusal)
+    → entries_in old.since ≡ old.boot.entries
+    → IsSome (run_of old.boot.start.deployment asks (rows_at_begin old.boot a.ticket.call)) → IsServing old.boot asks s → IsOpen old.boot asks s a → wanted asks a ≡ next.Done done
+    → IsCause (refusal_of old s a done) why → RefusalLeaves why a.ticket.call old new → (why ≡ commits.KeeperFailed → Rose old.faults new.faults)
+    → IsRefused (front_at new) new.boot.entries (closed s) a.ticket.call.at why a.repeats end after → Brings old new asks s after end
+uncommitted law old new asks s after a done end why seen some serving opened is is_why leaves failed refused = go why is_why leaves failed refused
+  where
+    call : Call
+    call = a.ticket.call
+
+    from : Place
+    from = from_of s call.at
+
+    first : (w : CommitRefusal) → refusal_of old s a done ≡ Some w → FirstCause (commit_of old.boot.entries call.request) (stale_in old.boot.entries call.touched) (conflict_of old.boot.entries call) (full_for old.boot.start.limits old.boot.entries 1 (entry_bytes (Commit (entry_of call (action_of s done))))) w
+    first w e = first_cause (commit_of old.boot.entries call.request) (stale_in old.boot.entries call.touched) (conflict_of old.boot.entries call) (full_for old.boot.start.limits old.boot.entries 1 (entry_bytes (Commit (entry_of call (action_of s done))))) w e
+
+    -- where the container is as it was
+    as_it_was : (w : CommitRefusal) → new ≡ old → IsRefused (front_at new) new.boot.entries (closed s) call.at w a.repeats end after
+        → (IsRefused (front_at old) old.boot.entries (closed s) call.at w a.repeats end after → Brings old old asks s after end) → Brings old new asks s after end
+    as_it_was w e h brings =
+        subst (λ (c : ContainerValue). Brings old c asks s after end) (sym e) (brings (subst (λ (c : ContainerValue). IsRefused (front_at c) c.boot.entries (closed s) call.at w a.repeats end after) e h))
+
+    go : (w : CommitRefusal) → IsCause (refusal_of old s a done) w → RefusalLeaves w call old new → (w ≡ commits.KeeperFailed → Rose old.faults new.faults) → IsRefused (front_at new) new.boot.entries (closed s) call.at w a.repeats end after → Brings old new asks s after end
+    go (commits.Already place) why left failed h =
+        let there : commit_of old.boot.entries s.request ≡ Some place = rw (sym opened.request) ((first (commits.Already place) why).already place refl) in
+        let shows : OutcomeStands old.boot.start (events_of old) (asked s asks) from.0 (Page place true) = subst (λ (es : List Entry). commit_of es s.request ≡ Some place) (sym seen) there in
+        as_it_was (commits.Already place) left h (λ now. end_brings old asks s after a (Page place true) (done_at old.boot.entries place) end seen serving opened shows refl refl (λ never. absurd (cc)) now)
+    go (commits.Revoked shown) why left failed h =
+        let stale = (first (commits.Revoked shown) why).stale shown refl in
+        as_it_was (commits.Revoked shown) left h (λ now. try_brings old asks s a (cause.Revoked shown) a.repeats end after seen serving opened (revoked_shows old.boot asks a shown opened.way stale) (entered_once old.boot asks a shown opened.way) now)
+    go (commits.Conflict conflict) why left failed h =
+        let newer : IsFirstNewer old.boot.entries call.at.0 (rests_on call) conflict = first_newer old.boot.entries call.at.0 (rests_on call) conflict ((first (commits.Conflict conflict) why).conflict conflict refl) in
+        let accessed : Accesses asks (table_in newer.read) = all_middle (λ (r : ReadMark). Accesses asks (table_in r)) newer.before newer.read newer.after
+        (subst (λ (rs : List ReadMark). All (λ (r : ReadMark). Accesses asks (table_in r)) rs) newer.parts (all_accessed asks call opened.way.marks opened.way.writes)) in
+        let shows : CauseStands old.boot.start.deployment asks old.boot.entries call.at.0 (cause.Conflict conflict.mark conflict.newest) =
+        subst (λ (x : Conflict). CauseStands old.boot.start.deployment asks old.boot.entries call.at.0 (cause.Conflict x.mark x.newest)) (sym newer.shown) (record { newest_is = refl; newer = newer.newer }, accessed) in
+        as_it_was (commits.Conflict conflict) left h (λ now. try_brings old asks s a (cause.Conflict conflict.mark conflict.newest) true end after seen serving opened shows (λ no_more. absurd (cc)) now)
+    go (commits.JournalFull full) why left failed h =
+        let none : HasNoRoom old.boot.start old.boot.entries (asked s asks) from.0 = record {
+          entry = entry_of call (action_of s done);
+          done = done;
+          asked_for = record { request = opened.request; action = refl; since = first_before old.boot.start.deployment asks old.boot.entries s.tries call.at.0 serving.tries opened.after };
+          within = opened.way.fits.journal.at;
+          made = made_there law old.boot asks s a done some opened.way is;
+        } in
+        let shows : OutcomeStands old.boot.start (events_of old) (asked s asks) from.0 (JournalFull full) =
+        subst (λ (es : List Entry). (n : HasNoRoom old.boot.start es (asked s asks) from.0) × (full_for old.boot.start.limits es 1 (entry_bytes (Commit n.entry)) ≡ Some full)) (sym seen)
+        (none, (first (commits.JournalFull full) why).full full refl) in
+        as_it_was (commits.JournalFull full) left h (λ now. end_brings old asks s after a (JournalFull full) None end seen serving opened shows refl refl (λ never. absurd (cc)) now)
+    go commits.KeeperFailed why left failed h =
+        let since : new.since ≡ old.since ++ FailedMark s.request ∷ [] = rw (sym opened.request) left.1 in
+        let entries : new.boot.entries ≡ old.boot.entries = ap (λ (b : BootValue). b.entries) left.0 in
+        let now : entries_in new.since ≡ new.boot.entries = ap entries_in since ∙ entries_more old.since (FailedMark s.request) ∙ append-nil (entries_in old.since) ∙ seen ∙ sym entries in
+        let shows : OutcomeStands new.boot.start (events_of new) (asked s asks) from.0 KeeperFailed = (Started new.boot.start ∷ old.since, ap (λ (xs : List Event). Started new.boot.start ∷ xs) since) in
+        let before = began old.boot asks s a serving opened in
+        let same : length new.boot.entries ≡ length old.boot.entries = ap (λ (es : List Entry). length es) entries in
+        let stood : EndStands new.boot.start (events_of new) (asked s asks) (ended_at (front_at new) from KeeperFailed None) = stands new (asked s asks) from KeeperFailed None now (omega (arith, before, same)) shows refl in
+        subst (λ (x : Option Ended). Brings old new asks s after x) (sym h) (record { serving = λ never. absurd (cc); ended = stood; adds = since; failed = λ is. failed refl })
+    go commits.OutOfMemory why left failed h = absurd h
+
+-- A commit brings its end.
+pub commit_brings : (law : DoneLaw) (old new : ContainerValue) (asks : List Answer → Next) (s after : TriesValue) (a : AttemptValue) (done : DoneText) (end : Option Ended)
+    → entries_in old.since ≡ old.boot.entries
+    → IsSome (run_of old.boot.start.deployment asks (rows_at_begin old.boot a.ticket.call)) → IsServing old.boot asks s → IsOpen old.boot asks s a → wanted asks a ≡ next.Done done
+    → CommitsTry old s a done end new after → Brings old new asks s after end
+commit_brings law old new asks s after a done end seen some serving opened is c = go c.answer c.is_answer c.leaves c.failed c.hears
+  where
+    go : (answer : Result Place Refused) → CommitAnswer (refusal_of old s a done) answer → CommitLeaves a.ticket.call (action_of s done) answer old new
+        → IfErr answer (λ refused. refused.cause ≡ commits.KeeperFailed → Rose old.faults new.faults)
+        → HearsCommit (front_at new) new.boot.entries (closed s) a.ticket.call.at done a.repeats answer end after → Brings old new asks s after end
+    go (Ok place) none left failed hears = committed law old new asks s after a done place end seen some serving opened is none left hears
+    go (Err refused) why left failed hears = uncommitted law old new asks s after a done end refused.cause seen some serving opened is why left.0 failed hears

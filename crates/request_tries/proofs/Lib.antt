@@ -1,0 +1,6 @@
+mod Trying
+mod Ending
+mod Committing
+mod Serving
+mod Answering
+mod Once

@@ -1,0 +1,4 @@
+pub mod Tries
+pub mod Ends
+pub mod Serving
+pub mod Steps

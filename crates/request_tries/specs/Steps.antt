@@ -1,0 +1,162 @@
+-- The steps of a request in a container.
+use Rattle.std.specs.Prelude.{◌≡◌, ◌⊎◌, ◌+◌, ◌<◌, ◌≤◌, Bool, true, false, List, [], ◌∷◌, ◌++◌, length, Option, Some, None, IfSome, IfErr, Result, Ok, Err}
+use Rattle.crash_base.specs.declared.numbers.Place.{Place}
+use Rattle.journal_model.specs.declared.entry.ActionEntry.{ActionEntry}
+use Rattle.journal_model.specs.declared.entry.DoneText.{DoneText}
+use Rattle.journal_model.specs.declared.entry.Entry.{Entry}
+use Rattle.outside.specs.Faults.{Rose}
+use Rattle.call_ticket.specs.declared.next.Answer.{Answer}
+use Rattle.call_ticket.specs.declared.next.Next.{Next}
+use Rattle.boot_core.specs.Boot.{BootValue}
+use Rattle.boot_core.specs.Refusals.{CommitAnswer, commit_refusal}
+use Rattle.boot_core.specs.declared.refusals.CommitRefusal.{CommitRefusal}
+use Rattle.boot_core.specs.declared.refusals.CommitRefusal.TheVariants as commits
+use Rattle.boot_core.specs.declared.refusals.Refused.{Refused}
+use Rattle.container_core.specs.Container.{ContainerValue, CommitLeaves, event_count, events_of}
+use Rattle.call_attempts.specs.Attempt.{AttemptValue, HasStepped, IsUnderWay, stepped, wanted}
+use Rattle.call_attempts.specs.declared.attempt.Stepped.{Stepped}
+use Rattle.call_attempts.specs.declared.attempt.Stepped.TheVariants as coming
+use Rattle.call_attempts.specs.declared.stop.Stop.{Stop}
+use Rattle.call_attempts.specs.declared.stop.Stop.TheVariants as stops
+use Rattle.request_tries.specs.Ends.{MayEnd, StepAdds, done_at}
+use Rattle.request_tries.specs.Serving.{IsServing, TriesValue, asked, closed, has_begun, with_try}
+use Rattle.request_tries.specs.Tries.{first_begin}
+use Rattle.request_tries.specs.declared.outcome.Ended.{Ended}
+use Rattle.request_tries.specs.declared.outcome.HistoryFront.{HistoryFront}
+use Rattle.request_tries.specs.declared.outcome.Outcome.{Outcome}
+use Rattle.request_tries.specs.declared.outcome.Outcome.TheVariants.{Page, Sentinel, Revoked, Conflict, JournalFull, KeeperFailed}
+use Rattle.request_tries.specs.declared.outcome.Try.{Try}
+use Rattle.request_tries.specs.declared.outcome.TryCause.{TryCause}
+use Rattle.request_tries.specs.declared.outcome.TryCause.TheVariants as cause
+use Rattle.request_tries.specs.declared.outcome.TheConstants.{MAX_TRIES}
+
+-- how far the history of a container has come
+abbrev pub front_at : ContainerValue → HistoryFront
+front_at c = record { front = record { 0 = length c.boot.entries }; held = event_count c }
+
+-- an end, when the history has come so far
+abbrev pub ended_at : HistoryFront → Place → Outcome → Option DoneText → Ended
+ended_at now from outcome done =
+    record { outcome = outcome; from = from; front = now.front; held = now.held; done = done }
+
+-- where the first try of a request began, whose last one began at a place
+abbrev pub from_of : TriesValue → Place → Place
+from_of s at = record { 0 = first_begin s.tries at.0 }
+
+-- the outcome of a request whose last try ended so
+abbrev pub outcome_by : TryCause → List Try → Outcome
+outcome_by (cause.Revoked shown) tries = Revoked tries
+outcome_by (cause.Conflict mark newest) tries = Conflict tries
+
+-- a try that ends now
+abbrev pub try_ended : HistoryFront → Place → TryCause → Try
+try_ended now at why = record { at = at; cause = why; front = now.front }
+
+-- A try that began at a place has ended without a commit: another one may be made, where there were fewer than there
+-- may be and all that it entered may be called again; and else the request has ended.
+abbrev pub EndsTry : HistoryFront → TriesValue → Place → TryCause → Bool → Option Ended → TriesValue → Type 0
+EndsTry now old at why repeats None new =
+    (length old.tries + 1 < MAX_TRIES) × (repeats ≡ true) × (new ≡ with_try old (try_ended now at why))
+EndsTry now old at why repeats (Some e) new =
+    ((MAX_TRIES ≤ length old.tries + 1) ⊎ (repeats ≡ false))
+    × (e ≡ ended_at now (from_of old at) (outcome_by why (old.tries ++ try_ended now at why ∷ [])) None)
+
+-- A commit of a try was refused for this cause: the try has ended, or the request. A conflict leaves nothing, so it may
+-- always be tried again. Without memory nothing is told.
+abbrev pub IsRefused : HistoryFront → List Entry → TriesValue → Place → CommitRefusal → Bool → Option Ended → TriesValue → Type 0
+IsRefused now es old at (commits.Revoked shown) repeats end new = EndsTry now old at (cause.Revoked shown) repeats end new
+IsRefused now es old at (commits.Conflict conflict) repeats end new =
+    EndsTry now old at (cause.Conflict conflict.mark conflict.newest) true end new
+IsRefused now es old at (commits.Already place) repeats end new =
+    end ≡ Some (ended_at now (from_of old at) (Page place true) (done_at es place))
+IsRefused now es old at (commits.JournalFull full) repeats end new =
+    end ≡ Some (ended_at now (from_of old at) (JournalFull full) None)
+IsRefused now es old at commits.KeeperFailed repeats end new =
+    end ≡ Some (ended_at now (from_of old at) KeeperFailed None)
+IsRefused now es old at commits.OutOfMemory repeats end new = ⊥
+
+-- A request hears the answer to the commit of a try that began at a place and answers this: it has ended by its entry;
+-- or the try, or the request, has ended by the cause.
+abbrev pub HearsCommit : HistoryFront → List Entry → TriesValue → Place → DoneText → Bool → Result Place Refused → Option Ended → TriesValue → Type 0
+HearsCommit now es old at done repeats (Ok place) end new =
+    end ≡ Some (ended_at now (from_of old at) (Page place false) (Some done))
+HearsCommit now es old at done repeats (Err refused) end new = IsRefused now es old at refused.cause repeats end new
+
+-- A reboot stopped a try that began at a place: it met a group that is down, and the request has ended; or it was
+-- revoked.
+abbrev pub IsStopped : HistoryFront → TriesValue → Place → Bool → Stop → Option Ended → TriesValue → Type 0
+IsStopped now old at repeats (stops.Sentinel group down) end new =
+    end ≡ Some (ended_at now (from_of old at) (Sentinel group down) None)
+IsStopped now old at repeats (stops.Revoked shown) end new = EndsTry now old at (cause.Revoked shown) repeats end new
+
+-- the action that a request commits with its answer
+abbrev pub action_of : TriesValue → DoneText → Option ActionEntry
+action_of s done = Some (record { text = s.text; done = done })
+
+-- the refusal of the commit of an attempt that is done
+abbrev pub refusal_of : ContainerValue → TriesValue → AttemptValue → DoneText → Option CommitRefusal
+refusal_of c s a done =
+    commit_refusal c.boot.start.limits c.boot.entries a.ticket.call (action_of s done)
+
+-- An attempt that is done was committed, or was not, and the request heard the answer.
+pub record CommitsTry (old : ContainerValue) (s : TriesValue) (a : AttemptValue) (done : DoneText) (end : Option Ended) (new : ContainerValue) (after : TriesValue) : Type 0 where
+  pub answer : Result Place Refused
+  pub is_answer : CommitAnswer (refusal_of old s a done) answer
+  pub leaves : CommitLeaves a.ticket.call (action_of s done) answer old new
+  pub failed : IfErr answer (λ refused. refused.cause ≡ commits.KeeperFailed → Rose old.faults new.faults)
+  pub hears : HearsCommit (front_at new) new.boot.entries (closed s) a.ticket.call.at done a.repeats answer end after
+
+-- The open attempt has made a step, and is under way still.
+pub record HasAdvanced (boot : BootValue) (asks : List Answer → Next) (old : TriesValue) (came : Stepped) (new : TriesValue) : Type 0 where
+  pub before : AttemptValue
+  pub after : AttemptValue
+  pub was_open : old.attempt ≡ Some before
+  pub has_stepped : HasStepped boot asks before came after
+  pub way : IsUnderWay boot asks after
+  pub open_now : new ≡ record old { attempt = Some after }
+
+-- the open attempt makes a step, if one is open
+abbrev pub Advances : BootValue → (List Answer → Next) → TriesValue → Option Stepped → TriesValue → Type 0
+Advances boot asks old None new = (old.attempt ≡ None) × (new ≡ old)
+Advances boot asks old (Some came) new = HasAdvanced boot asks old came new
+
+-- what the step of an open attempt comes to in a container: it goes on; its commit is made; or it is given up
+abbrev pub ComesTo : ContainerValue → (List Answer → Next) → TriesValue → AttemptValue → Stepped → Option Ended → ContainerValue → TriesValue → Type 0
+ComesTo c asks s a coming.Went end new after =
+    (end ≡ None) × (new ≡ c) × (after ≡ record s { attempt = Some (stepped c.boot a (wanted asks a)) })
+ComesTo c asks s a (coming.Done done) end new after = CommitsTry c s a done end new after
+ComesTo c asks s a (coming.Stopped stop) end new after =
+    (new ≡ c) × IsStopped (front_at c) (closed s) a.ticket.call.at a.repeats stop end after
+
+-- The one step that a request makes in a container: an attempt begins where none is open; and else the open one makes
+-- the step that its program asks for. So the step is fixed but for memory and the keeper.
+abbrev pub StepsAs : ContainerValue → (List Answer → Next) → TriesValue → Option AttemptValue → Option Ended → ContainerValue → TriesValue → Type 0
+StepsAs c asks s None end new after = (end ≡ None) × (new ≡ c) × (after ≡ has_begun c.boot s)
+StepsAs c asks s (Some a) end new after =
+    (came : Stepped) × (next : AttemptValue) × HasStepped c.boot asks a came next × ComesTo c asks s a came end new after
+
+-- What a step of a request brings: the request is served still, in the container as it is then; or it has ended, by an
+-- end that stands in the history; and the history has just what that adds.
+pub record Brings (old new : ContainerValue) (asks : List Answer → Next) (s after : TriesValue) (end : Option Ended) : Type 0 where
+  pub serving : end ≡ None → IsServing new.boot asks after
+  pub ended : MayEnd new.boot.start (events_of new) (asked s asks) end
+  pub adds : StepAdds s.request end old new
+  pub failed : IfSome end (λ e. e.outcome ≡ KeeperFailed → Rose old.faults new.faults)
+
+-- A container has the boot and the history that it had.
+abbrev pub KeepsHistory : ContainerValue → ContainerValue → Type 0
+KeepsHistory old new = (new.boot ≡ old.boot) × (new.since ≡ old.since)
+
+-- the cause of a refused commit is no keeper that failed
+abbrev pub CauseAddsNothing : CommitRefusal → Type 0
+CauseAddsNothing commits.KeeperFailed = ⊥
+CauseAddsNothing commits.OutOfMemory = Unit {0}
+CauseAddsNothing (commits.Already place) = Unit {0}
+CauseAddsNothing (commits.Revoked s) = Unit {0}
+CauseAddsNothing (commits.Conflict c) = Unit {0}
+CauseAddsNothing (commits.JournalFull full) = Unit {0}
+
+-- An answer to a commit that adds nothing to the history, and after which memory may be wanted.
+abbrev pub AddsNothing : Result Place Refused → Type 0
+AddsNothing (Ok place) = ⊥
+AddsNothing (Err refused) = CauseAddsNothing refused.cause

@@ -1,0 +1,66 @@
+//! What becomes of a request in a container.
+
+use container_core::{DoneText, FullAt, ReadMark, Stale};
+use crash_base::{GroupNo, Items, Place};
+
+/// The most tries of a request.
+pub const MAX_TRIES: usize = 3;
+
+/// Why a try did not commit, so that another one may be made.
+#[derive(Clone, Copy)]
+pub enum TryCause {
+    /// A group that it entered was rebooted since: the one that it entered first among these.
+    Revoked(Stale),
+    /// What it read or writes was written since it began: the first such one, and the place after the last such write.
+    Conflict { mark: ReadMark, newest: Place },
+}
+
+/// A try that did not commit: the journal's lengths at its begin and at its end, and its cause.
+#[derive(Clone, Copy)]
+pub struct Try {
+    pub at: Place,
+    pub cause: TryCause,
+    pub front: Place,
+}
+
+/// Tries of a request, in order.
+pub type TryList = Items<Try>;
+
+/// What became of a request. A component that failed would be another outcome; none is told now.
+#[derive(Drop)]
+pub enum Outcome {
+    /// It is committed, by the entry at this place of the journal: by an earlier call of it where `again` is true.
+    Page { place: Place, again: bool },
+    /// The group of a component that it enters is down, by the Down at this place.
+    Sentinel { group: GroupNo, down: Place },
+    /// Its last try was revoked.
+    Revoked(TryList),
+    /// Its last try, the third, was in conflict.
+    Conflict(TryList),
+    /// The journal has no room for its entry. This is how full the journal is.
+    JournalFull(FullAt),
+    /// The keeper failed, and counted a fault.
+    KeeperFailed,
+}
+
+/// How far the history of a container has come: the journal's length, and the number of events.
+#[derive(Clone, Copy)]
+pub struct HistoryFront {
+    pub front: Place,
+    pub held: u64,
+}
+
+/// The end of a request in a container.
+#[derive(Drop)]
+pub struct Ended {
+    /// What became of it.
+    pub outcome: Outcome,
+    /// The journal's length at the begin of its first try.
+    pub from: Place,
+    /// The journal's length after its last step.
+    pub front: Place,
+    /// The number of events of the history after its last step.
+    pub held: u64,
+    /// What the entry of a page answers, copied; None where that one has no action, and for any other outcome.
+    pub done: Option<DoneText>,
+}
