@@ -3,6 +3,7 @@
 use crate::driver::row_at;
 use crate::shop::SHOP;
 use crate::tables::{change, rows_of};
+use crate::words::expect_so;
 use auction_rows::{AuctionRow, BidRow, CounterRow, ItemRow, TableRow, decode_row};
 use crash_base::{RowId, RowWrite};
 use std::alloc::Global;
@@ -177,8 +178,8 @@ fn is_broken(rt: &impl Abort, alloc: Global, line: &str) -> bool {
 #[test]
 fn coherence_is_told(rt: HostRuntime) {
     let rows = rows_of(&rt, rt.alloc(), SHOP);
-    assert!(rt; are_coherent(&rt, rt.alloc(), &rows));
+    expect_so(&rt, are_coherent(&rt, rt.alloc(), &rows), "the shop");
     for line in BROKEN.split('\n') {
-        assert!(rt; is_broken(&rt, rt.alloc(), line), "{line}");
+        expect_so(&rt, is_broken(&rt, rt.alloc(), line), line);
     }
 }

@@ -8,7 +8,9 @@ use crate::calls::program_of;
 use crate::driver::drive;
 use crate::shop::SHOP;
 use crate::tables::rows_of;
-use crate::words::{add_hex, cut, expect_words, first_word, number};
+use crate::words::{
+    add_hex, add_marked, add_part, cut, expect_so, expect_words, first_word, number, short_number,
+};
 use auction_actions::ActionProgram;
 use auction_calls::action_text;
 use auction_rows::site_deployment;
@@ -23,7 +25,6 @@ use crash_base::{
 };
 use outside::{CallList, MapKeeper};
 use std::alloc::Global;
-use std::fmt::Write;
 use std::process::Abort;
 
 /// The number of the request whose call is held.
@@ -290,14 +291,14 @@ fn act_alone(rt: &impl Abort, alloc: Global, container: &mut Container<MapKeeper
     );
     let done = done_of(rt, end, words);
     let answer = commit(rt, alloc, container, ticket, &program, done);
-    assert!(rt; answer == "committed", "{words}");
+    expect_so(rt, answer == "committed", words);
 }
 
 /// Begins the reboot of a group.
 fn begin_reboot(rt: &impl Abort, container: &mut Container<MapKeeper>, group: &str)
     ensures { HasGrownBy container.old container.new }
 {
-    let group: u16 = group.parse().expect(rt, group);
+    let group = short_number(rt, group);
     assert!(rt; group < MAX_GROUPS);
     let answer = container.begin_reboot(Scope::Group(GroupNo(group)));
     assert!(rt; answer.is_ok());
@@ -415,7 +416,9 @@ fn act_in_order(
 /// Adds each row but those of the service's own table, as its id and its bytes.
 fn add_rows(rt: &impl Abort, words: &mut String, rows: &[RowWrite]) {
     for row in rows.iter().filter(|row| row.id.table > 0) {
-        write!(words, "{}.{} ", row.id.table, row.id.key).expect(rt, "an id");
+        add_marked(rt, words, "", u64::from(row.id.table));
+        add_marked(rt, words, ".", row.id.key);
+        add_part(rt, words, " ");
         add_hex(rt, words, row.bytes.as_slice());
     }
 }
@@ -461,7 +464,7 @@ fn expect_held(rt: &impl Abort, alloc: Global, row: &str) {
     let kept = container.into_keeper().rows(alloc).expect(rt, row);
     let mut found = String::new(alloc);
     add_rows(rt, &mut found, kept.as_slice());
-    assert!(rt; found == ordered, "{row}");
+    expect_so(rt, found == ordered, row);
 }
 
 /// What the keeper holds is what the committed calls leave one after the other.

@@ -2,11 +2,11 @@
 
 ghost use Rattle.auction_rows.specs.Parts.{site_parts};
 
+use crate::words::{add_marked, add_part};
 use call_ticket::{Answer, AnswerList, MAX_STEPS, Next, Program};
 use crash_base::{RowBytes, RowId, RowList, RowWrite};
 use journal_model::DoneText;
 use std::alloc::Global;
-use std::fmt::Write;
 use std::process::Abort;
 
 /// What a program did.
@@ -20,20 +20,27 @@ pub struct Driven {
     pub done: DoneText,
 }
 
+/// Adds a name and two numbers with a dot between them.
+fn add_dotted(rt: &impl Abort, steps: &mut String, name: &str, first: u64, second: u64) {
+    add_marked(rt, steps, name, first);
+    add_marked(rt, steps, ".", second);
+}
+
 fn add_id(rt: &impl Abort, steps: &mut String, name: &str, id: RowId) {
-    write!(steps, " {name}{}.{}", id.table, id.key).expect(rt, "an id");
+    add_dotted(rt, steps, name, u64::from(id.table), id.key);
 }
 
 fn add_step(rt: &impl Abort, steps: &mut String, step: &Next) {
+    add_part(rt, steps, " ");
     match step {
         Next::Enter { component, method } => {
-            write!(steps, " e{}.{method}", component.0).expect(rt, "an enter")
+            add_dotted(rt, steps, "e", u64::from(component.0), u64::from(*method))
         }
         Next::Read(id) => add_id(rt, steps, "r", *id),
-        Next::List(table) => write!(steps, " l{table}").expect(rt, "a list"),
+        Next::List(table) => add_marked(rt, steps, "l", u64::from(*table)),
         Next::Put(row) => add_id(rt, steps, "p", row.id),
-        Next::Exit => write!(steps, " x").expect(rt, "an exit"),
-        Next::Done(done) => write!(steps, " d{}", done.status).expect(rt, "an end"),
+        Next::Exit => add_part(rt, steps, "x"),
+        Next::Done(done) => add_marked(rt, steps, "d", u64::from(done.status)),
     }
 }
 

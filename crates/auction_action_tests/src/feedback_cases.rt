@@ -3,8 +3,8 @@
 use crate::shop::SHOP;
 use crate::tables::expect_table;
 
-/// The buyer and the seller each give feedback once about the other. That about user 2, who has 4, is the fifth, at
-/// 2 * 2^20 + 5; the first about user 3 stands at 3 * 2^20 + 1.
+/// Feedback is given. The buyer and the seller each give feedback once about the other. That about user 2, who has 4,
+/// is the fifth, at 2 * 2^20 + 5; the first about user 3 stands at 3 * 2^20 + 1.
 const GIVEN: &str = "\
 3 1000 feedback 4 good Fine|is 200 Thanks|put 8.2097157 feedback 3 4 good Fine|\
 put 1.2 user bob 2222222222222222 eaf91caada6d287903772c44cad4af15ff67445affc73b6006f018cdc15aeb2e 4 1 5|\
@@ -24,7 +24,8 @@ put 8.2097157 feedback 3 4 good Fine|\
 put 1.2 user bob 2222222222222222 eaf91caada6d287903772c44cad4af15ff67445affc73b6006f018cdc15aeb2e 4 1 5|\
 put 4.4 item sold 2 1 100 500 0 0 0 5000 3 both Diary";
 
-/// Who bought the own item counts as its buyer, and gives feedback once, about himself.
+/// Who is both counts as the buyer. Who bought the own item counts as its buyer, and gives feedback once, about
+/// himself.
 const BOTH: &str = "\
 2 1000 feedback 4 good Mine|with 4.4 item sold 2 1 100 500 0 0 0 5000 2 none Diary|is 200 Thanks|\
 put 8.2097157 feedback 2 4 good Mine|\
@@ -36,7 +37,7 @@ put 1.2 user bob 2222222222222222 eaf91caada6d287903772c44cad4af15ff67445affc73b
 put 4.4 item sold 2 1 100 500 0 0 0 5000 2 both Diary
 2 1000 feedback 4 good Mine|with 4.4 item sold 2 1 100 500 0 0 0 5000 2 buyer Diary|is 409 Already given";
 
-/// The last feedback about a user has number 2^20 - 1.
+/// Feedback has a last number. The last feedback about a user has number 2^20 - 1.
 const LAST: &str = "\
 3 1000 feedback 4 good Fine|\
 with 1.2 user bob 2222222222222222 eaf91caada6d287903772c44cad4af15ff67445affc73b6006f018cdc15aeb2e 1000000 48574 5|\
@@ -56,7 +57,7 @@ is 409 No more numbers
 with 1.2 user bob 2222222222222222 eaf91caada6d287903772c44cad4af15ff67445affc73b6006f018cdc15aeb2e 4294967295 \
 4294967295 5|is 409 No more numbers";
 
-/// The first refusal that holds is answered.
+/// Feedback is refused. The first refusal that holds is answered.
 const REFUSED: &str = "\
 0 1000 feedback 4 good Fine|is 403 Sign in first
 3 1000 feedback 99 good Fine|is 404 Not there
@@ -76,21 +77,9 @@ const REFUSED: &str = "\
 3 1000 feedback 4 good Fine|with 1.2 bytes 0001ff|is 500 Bad row 1 2";
 
 #[test]
-fn feedback_is_given(rt: HostRuntime) {
+fn feedback_is_given_or_refused(rt: HostRuntime) {
     expect_table(&rt, rt.alloc(), SHOP, GIVEN);
-}
-
-#[test]
-fn who_is_both_counts_as_the_buyer(rt: HostRuntime) {
     expect_table(&rt, rt.alloc(), SHOP, BOTH);
-}
-
-#[test]
-fn feedback_has_a_last_number(rt: HostRuntime) {
     expect_table(&rt, rt.alloc(), SHOP, LAST);
-}
-
-#[test]
-fn feedback_is_refused(rt: HostRuntime) {
     expect_table(&rt, rt.alloc(), SHOP, REFUSED);
 }

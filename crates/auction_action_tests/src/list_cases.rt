@@ -3,7 +3,7 @@
 use crate::shop::SHOP;
 use crate::tables::expect_table;
 
-/// Each category by its number. Its name is shown as a text.
+/// Categories are shown and added. Each category by its number. Its name is shown as a text.
 const CATEGORIES: &str = "\
 0 1000 categories|is 200 Categories|line <p><a href=\"/category/1\">Books</a></p>|\
 line <p><a href=\"/category/2\">Lamps</a></p>
@@ -27,13 +27,8 @@ put 5.4294967295 category Maps
 1 1000 addcategory Maps|with 3.3 counter 4294967295|is 409 No more numbers
 1 1000 addcategory Maps|with 3.3 bytes 000000000000000001|is 500 Bad row 3 3";
 
-#[test]
-fn categories_are_shown_and_added(rt: HostRuntime) {
-    expect_table(&rt, rt.alloc(), SHOP, CATEGORIES);
-    expect_table(&rt, rt.alloc(), SHOP, ADDED);
-}
-
-/// The entries of a category, each item with its best bid, or its start where nothing was bid.
+/// Categories are browsed. The entries of a category, each item with its best bid, or its start where nothing was
+/// bid.
 const BROWSED: &str = "\
 0 1000 browse 1 0|is 200 Books|line <p><a href=\"/item/1\">Atlas, 100</a></p>|\
 line <p><a href=\"/item/2\">Novel, 250</a></p>|line <p><a href=\"/item/3\">Map, 100</a></p>|\
@@ -59,12 +54,8 @@ line <p><a href=\"/item/6\">Lantern, 99</a></p>|line <p><a href=\"/item/7\">Torc
 0 1000 browse 1 0|with 4.5 bytes 00|is 500 Bad row 4 5
 0 1000 browse 1 0|gone 4.4|with 4.5 bytes 00|is 404 Not there";
 
-#[test]
-fn categories_are_browsed(rt: HostRuntime) {
-    expect_table(&rt, rt.alloc(), SHOP, BROWSED);
-}
-
-/// An item's page goes by its state alone, also past its end. Its price is the best bid, also one below the start.
+/// Items are shown. An item's page goes by its state alone, also past its end. Its price is the best bid, also one
+/// below the start.
 const ITEMS: &str = "\
 0 1000 item 1|is 200 Atlas|line <p>Seller bob</p>|line <p>Price 100</p>|line <p>Running until 5000</p>
 3 9000 item 2|is 200 Novel|line <p>Seller bob</p>|line <p>Price 250</p>|line <p>Running until 5000</p>
@@ -83,12 +74,7 @@ line <p>Price 18446744073709551615</p>|line <p>Running until 1844674407370955161
 0 1000 item 1|with 4.1 bytes 00|is 500 Bad row 4 1
 0 1000 item 1|with 1.2 bytes 00|is 500 Bad row 1 2";
 
-#[test]
-fn items_are_shown(rt: HostRuntime) {
-    expect_table(&rt, rt.alloc(), SHOP, ITEMS);
-}
-
-/// What the user who asks offers, the newest first.
+/// Own items are shown. What the user who asks offers, the newest first.
 const ABOUT: &str = "\
 2 1000 about|is 200 bob|line <p><a href=\"/item/5\">Poems</a></p>|line <p><a href=\"/item/4\">Diary</a></p>|\
 line <p><a href=\"/item/3\">Map</a></p>|line <p><a href=\"/item/2\">Novel</a></p>|\
@@ -105,6 +91,10 @@ line <p><a href=\"/item/7\">5&quot; &lt;hot&gt; &amp; new</a></p>|line <p><a hre
 2 1000 about|with 4.1 bytes 00|is 500 Bad row 4 1";
 
 #[test]
-fn own_items_are_shown(rt: HostRuntime) {
+fn lists_and_items_are_shown(rt: HostRuntime) {
+    expect_table(&rt, rt.alloc(), SHOP, CATEGORIES);
+    expect_table(&rt, rt.alloc(), SHOP, ADDED);
+    expect_table(&rt, rt.alloc(), SHOP, BROWSED);
+    expect_table(&rt, rt.alloc(), SHOP, ITEMS);
     expect_table(&rt, rt.alloc(), SHOP, ABOUT);
 }

@@ -129,14 +129,9 @@ line <p><a href=\"/category/17\">Shelf 17</a></p>
 0 1000 categories|with 5.17 bytes 00|is 500 Bad row 5 17
 1 1000 addcategory Maps|is 200 Category 18|put 3.3 counter 18|put 5.18 category Maps";
 
+/// A page has sixteen items, and all categories.
 #[test]
-fn a_page_has_sixteen_items(rt: HostRuntime) {
-    let rows = many_rows(&rt, rt.alloc());
-    expect_table(&rt, rt.alloc(), &rows, MANY);
-}
-
-#[test]
-fn a_page_has_all_categories(rt: HostRuntime) {
-    let rows = category_rows(&rt, rt.alloc());
-    expect_table(&rt, rt.alloc(), &rows, SHELVES);
+fn pages_are_cut_after_sixteen_items(rt: HostRuntime) {
+    expect_table(&rt, rt.alloc(), &many_rows(&rt, rt.alloc()), MANY);
+    expect_table(&rt, rt.alloc(), &category_rows(&rt, rt.alloc()), SHELVES);
 }

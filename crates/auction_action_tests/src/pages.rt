@@ -2,7 +2,7 @@
 
 use crate::shop::SHOP;
 use crate::tables::driven_by;
-use crate::words::text_of;
+use crate::words::{expect_so, text_of};
 use std::alloc::Global;
 use std::process::Abort;
 
@@ -30,8 +30,8 @@ const ITEM: &str = "<!doctype html>
 fn expect_page(rt: &impl Abort, alloc: Global, call: &str, want: &str, len: usize) {
     let driven = driven_by(rt, alloc, SHOP, call);
     let page = driven.done.page.as_slice();
-    assert_eq!(rt; text_of(rt, page), want, "{call}");
-    assert!(rt; page.len() == len, "{call}");
+    expect_so(rt, text_of(rt, page) == want, call);
+    expect_so(rt, page.len() == len, call);
 }
 
 #[test]

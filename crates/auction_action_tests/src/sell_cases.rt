@@ -3,8 +3,9 @@
 use crate::shop::SHOP;
 use crate::tables::expect_table;
 
-/// Item 8 is entry 3 of category 2, and own item 1 of user 4, at 4 * 2^32 + 1. An hour has 3,600,000 ms, so 24 hours
-/// from 1000 on end at 86401000; 720 hours are 2592000000, and 2^62 - 1 is 4611686018427387903.
+/// Items are offered. Item 8 is entry 3 of category 2, and own item 1 of user 4, at 4 * 2^32 + 1. An hour has
+/// 3,600,000 ms, so 24 hours from 1000 on end at 86401000; 720 hours are 2592000000, and 2^62 - 1 is
+/// 4611686018427387903.
 const OFFERED: &str = "\
 4 1000 sell 2 150 0 24 Globe|is 200 Item 8|put 3.2 counter 8|put 3.4294967298 counter 3|\
 put 4.8 item running 4 2 150 0 0 0 0 86401000 0 none Globe|put 7.8589934595 entry 8|\
@@ -27,7 +28,7 @@ put 4.4294967295 item running 4 2 1 1 0 0 0 3600000 0 none Globe|put 7.128849018
 put 1.4 user dan 4444444444444444 aac88105b1a750037a118a942d283caace2a2aaf675a891e28935bcc3f3c1dc4 7 1 4294967295|\
 put 9.21474836479 own 4294967295";
 
-/// The first refusal that holds is answered, and what it does not need is not read.
+/// Offers are refused. The first refusal that holds is answered, and what it does not need is not read.
 const REFUSED: &str = "\
 0 1000 sell 2 100 99 24 Globe|is 403 Sign in first
 4 1000 sell 2 100 99 24 Globe|is 400 Bad field buy_now
@@ -49,11 +50,7 @@ is 409 No more numbers
 4 1000 sell 2 100 99 24 Globe|with 5.2 bytes 00|is 400 Bad field buy_now";
 
 #[test]
-fn items_are_offered(rt: HostRuntime) {
+fn items_are_offered_or_refused(rt: HostRuntime) {
     expect_table(&rt, rt.alloc(), SHOP, OFFERED);
-}
-
-#[test]
-fn offers_are_refused(rt: HostRuntime) {
     expect_table(&rt, rt.alloc(), SHOP, REFUSED);
 }

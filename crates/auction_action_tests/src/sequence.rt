@@ -3,9 +3,9 @@
 use crate::calls::program_of;
 use crate::coherence::{are_coherent, last_item};
 use crate::driver::drive;
+use crate::words::{add_marked, add_part, expect_so};
 use crash_base::RowWrite;
-use std::alloc::{AllocError, Global};
-use std::fmt::Write;
+use std::alloc::Global;
 use std::process::Abort;
 
 /// A linear congruential generator.
@@ -50,29 +50,49 @@ fn make_fields(chance: &mut Chance, now: u64, last: u64) -> Fields {
     }
 }
 
+/// Adds a word, and numbers each behind a space.
+fn add_words(rt: &impl Abort, words: &mut String, word: &str, numbers: &[u64]) {
+    add_part(rt, words, word);
+    for number in numbers {
+        add_marked(rt, words, " ", *number);
+    }
+}
+
+/// Adds the words of feedback.
+fn add_feedback(rt: &impl Abort, words: &mut String, fields: &Fields, good: &str) {
+    add_words(rt, words, "feedback", &[fields.item]);
+    add_part(rt, words, good);
+    add_marked(rt, words, " Said ", fields.one);
+}
+
+/// Adds the words of an action with a name.
+fn add_named(rt: &impl Abort, words: &mut String, kind: &str, number: u64) {
+    add_marked(rt, words, kind, number);
+    add_part(rt, words, " secret");
+}
+
+/// Adds the words of an offer.
+fn add_offer(rt: &impl Abort, words: &mut String, fields: &Fields) {
+    let numbers = [fields.category, fields.one, fields.other, fields.three];
+    add_words(rt, words, "sell", &numbers);
+    add_marked(rt, words, " Item ", fields.one);
+}
+
 /// Adds the words of an action of this kind.
-fn add_action(words: &mut String, kind: u64, fields: &Fields) -> Result<(), AllocError> {
-    let Fields {
-        item,
-        category,
-        one,
-        other,
-        three,
-        bid,
-    } = fields;
+fn add_action(rt: &impl Abort, words: &mut String, kind: u64, fields: &Fields) {
     match kind {
-        1 => write!(words, "register user{one} secret"),
-        2 => write!(words, "addcategory Category {one}"),
-        3 => write!(words, "sell {category} {one} {other} {three} Item {one}"),
-        4 | 5 | 6 | 7 => write!(words, "bid {item} {bid}"),
-        8 => write!(words, "buy {item}"),
-        9 => write!(words, "close {item}"),
-        10 | 11 => write!(words, "feedback {item} good Said {one}"),
-        12 => write!(words, "feedback {item} bad Said {one}"),
-        13 => write!(words, "browse {category} 0"),
-        14 => write!(words, "about"),
-        15 => write!(words, "item {item}"),
-        _ => write!(words, "signin user{one} secret"),
+        1 => add_named(rt, words, "register user", fields.one),
+        2 => add_marked(rt, words, "addcategory Category ", fields.one),
+        3 => add_offer(rt, words, fields),
+        4 | 5 | 6 | 7 => add_words(rt, words, "bid", &[fields.item, fields.bid]),
+        8 => add_marked(rt, words, "buy ", fields.item),
+        9 => add_marked(rt, words, "close ", fields.item),
+        10 | 11 => add_feedback(rt, words, fields, " good"),
+        12 => add_feedback(rt, words, fields, " bad"),
+        13 => add_words(rt, words, "browse", &[fields.category, 0]),
+        14 => add_part(rt, words, "about"),
+        15 => add_marked(rt, words, "item ", fields.item),
+        _ => add_named(rt, words, "signin user", fields.one),
     }
 }
 
@@ -109,7 +129,7 @@ fn count(rt: &impl Abort, counts: &mut Counts, action: &str, status: u16, puts: 
     if status == 200 {
         counts.add(action);
     } else {
-        assert!(rt; puts == 0, "{action}");
+        expect_so(rt, puts == 0, action);
     }
 }
 
@@ -124,10 +144,13 @@ fn act(
 ) {
     let mut action = String::new(alloc);
     let fields = make_fields(chance, now, last_item(rt, alloc, rows));
-    add_action(&mut action, chance.upto(16), &fields).expect(rt, "an action");
+    add_action(rt, &mut action, chance.upto(16), &fields);
     let user = chance.upto(5);
     let mut call = String::new(alloc);
-    write!(call, "{user} {now} {action}").expect(rt, "a call");
+    add_marked(rt, &mut call, "", user);
+    add_marked(rt, &mut call, " ", now);
+    add_part(rt, &mut call, " ");
+    add_part(rt, &mut call, &action);
     let driven = drive(rt, alloc, &program_of(rt, alloc, &call), rows);
     count(rt, counts, &action, driven.done.status, driven.puts.len());
 }
@@ -141,9 +164,10 @@ fn a_shop_stays_coherent(rt: HostRuntime) {
     for number in 1..501 {
         now = now.saturating_add(chance.upto(60_000));
         act(&rt, rt.alloc(), &mut chance, now, &mut rows, &mut counts);
-        assert!(rt; are_coherent(&rt, rt.alloc(), &rows), "action {number}");
+        let is_coherent = are_coherent(&rt, rt.alloc(), &rows);
+        assert!(rt; is_coherent, "action {number}");
     }
     for (count, word) in counts.counts.into_iter().zip(WRITERS) {
-        assert!(rt; count > 0, "{word} {count}");
+        expect_so(&rt, count > 0, word);
     }
 }

@@ -9,11 +9,13 @@ use crate::calls::program_of;
 use crate::driver::{Driven, drive, put_row};
 use crate::row_words::add_row_words;
 use crate::rows_read::{id_of, read_row};
-use crate::words::{add_hex, add_word, end_part, expect_words, first_word, text_of};
+use crate::words::{
+    add_hex, add_marked, add_number, add_part, add_word, end_part, expect_so, expect_words,
+    first_word, text_of,
+};
 use crash_base::{RowId, RowWrite};
 use journal_model::SessionChange;
 use std::alloc::Global;
-use std::fmt::Write;
 use std::process::Abort;
 
 /// What every page begins with.
@@ -51,7 +53,7 @@ pub fn driven_by(rt: &impl Abort, alloc: Global, rows: &str, given: &str) -> Dri
     drive(rt, alloc, &program_of(rt, alloc, call), &mut rows)
 }
 
-fn add_part(rt: &impl Abort, words: &mut String, line: &str) {
+fn add_line(rt: &impl Abort, words: &mut String, line: &str) {
     add_word(rt, words, line);
     end_part(rt, words);
 }
@@ -61,19 +63,19 @@ fn add_page(rt: &impl Abort, words: &mut String, page: &str) {
     let rest = page.strip_prefix(FIRST_LINES).expect(rt, page);
     let (title, rest) = rest.split_once("</title>\n<h1>").expect(rt, page);
     let (heading, lines) = rest.split_once("</h1>\n").expect(rt, page);
-    assert!(rt; title == heading, "{page}");
-    assert!(rt; lines.is_empty() || lines.ends_with('\n'), "{page}");
-    add_part(rt, words, heading);
+    expect_so(rt, title == heading, page);
+    expect_so(rt, lines.is_empty() || lines.ends_with('\n'), page);
+    add_line(rt, words, heading);
     for line in lines.split_terminator('\n') {
         add_word(rt, words, "line");
-        add_part(rt, words, line);
+        add_line(rt, words, line);
     }
 }
 
 fn add_put(rt: &impl Abort, alloc: Global, words: &mut String, row: &RowWrite) {
-    let table = row.id.table;
-    let key = row.id.key;
-    write!(words, "put {table}.{key} ").expect(rt, "a put");
+    add_marked(rt, words, "put ", u64::from(row.id.table));
+    add_marked(rt, words, ".", row.id.key);
+    add_part(rt, words, " ");
     add_row_words(rt, alloc, words, row);
     end_part(rt, words);
 }
@@ -89,8 +91,7 @@ fn add_session(rt: &impl Abort, words: &mut String, session: &SessionChange) {
 /// What a program did, in parts.
 fn parts_of(rt: &impl Abort, alloc: Global, driven: &Driven) -> String {
     let mut words = String::new(alloc);
-    let status = driven.done.status;
-    write!(words, "{status} ").expect(rt, "a status");
+    add_number(rt, &mut words, u64::from(driven.done.status));
     add_page(rt, &mut words, text_of(rt, driven.done.page.as_slice()));
     for row in &driven.puts {
         add_put(rt, alloc, &mut words, row);

@@ -3,9 +3,9 @@
 use crate::shop::SHOP;
 use crate::tables::expect_table;
 
-/// The digest of `open sesame` is SHA-256 of 01 02 03 04 05 06 07 08 and that text, and a name's key the first eight
-/// bytes of its own, both worked out by another program. A session's value is the user and the moment: 1000 is 3e8.
-/// `Ann` is another name than `ann`, and the last of 24 letters counts.
+/// Users register. The digest of `open sesame` is SHA-256 of 01 02 03 04 05 06 07 08 and that text, and a name's key
+/// the first eight bytes of its own, both worked out by another program. A session's value is the user and the
+/// moment: 1000 is 3e8. `Ann` is another name than `ann`, and the last of 24 letters counts.
 const REGISTERED: &str = "\
 0 1000 register eve open sesame|is 200 Welcome eve|put 3.1 counter 5|\
 put 1.5 user eve 0102030405060708 2c885c68d28aa10e4fbefb6375880cf01dfd3838e6ec245736d5aa7b8ff36243 0 0 0|\
@@ -35,7 +35,7 @@ put 1.5 user abcdefghijklmnopqrstuvwy 0102030405060708 \
 fcf85edc0c0fdca589c280076265df7efa0e7cdccf7d689522b76cac1de13d62 0 0 0|\
 put 2.12377881005817517325 name abcdefghijklmnopqrstuvwy 5|session 000000000000000500000000000003e8";
 
-/// A name is taken also where another name stands at its key.
+/// Names are taken once. A name is taken also where another name stands at its key.
 const NOT_REGISTERED: &str = "\
 0 1000 register bob open sesame|is 409 Name taken
 0 1000 register zoe open sesame|with 2.11313462442781569815 name bob 2|is 409 Name taken
@@ -47,17 +47,7 @@ is 409 Name taken
 0 1000 register zoe open sesame|with 2.11313462442781569815 bytes 00|is 500 Bad row 2 11313462442781569815
 0 1000 register zoe open sesame|with 3.1 bytes 00000000000000|is 500 Bad row 3 1";
 
-#[test]
-fn users_register(rt: HostRuntime) {
-    expect_table(&rt, rt.alloc(), SHOP, REGISTERED);
-}
-
-#[test]
-fn names_are_taken_once(rt: HostRuntime) {
-    expect_table(&rt, rt.alloc(), SHOP, NOT_REGISTERED);
-}
-
-/// A user signs in by name and password, whoever is signed in.
+/// Users sign in and out. A user signs in by name and password, whoever is signed in.
 const SIGNED_IN: &str = "\
 0 1000 signin bob secret|is 200 Welcome bob|session 000000000000000200000000000003e8
 3 256 signin ann pw1|is 200 Welcome ann|session 00000000000000010000000000000100
@@ -88,13 +78,7 @@ const SIGNED_OUT: &str = "\
 2 1000 signout|is 200 Signed out|session 000000000000000000000000000003e8
 0 1000 signout|is 200 Signed out|session 000000000000000000000000000003e8";
 
-#[test]
-fn users_sign_in_and_out(rt: HostRuntime) {
-    expect_table(&rt, rt.alloc(), SHOP, SIGNED_IN);
-    expect_table(&rt, rt.alloc(), SHOP, SIGNED_OUT);
-}
-
-/// The first page says who is signed in.
+/// Users are shown. The first page says who is signed in.
 const HOME: &str = "\
 0 1000 home|is 200 Auctions|line <p>Signed out</p>|line <p><a href=\"/categories\">Categories</a></p>
 4294967295 1000 home|is 200 Auctions|line <p>User 4294967295</p>|line <p><a href=\"/categories\">Categories</a></p>";
@@ -110,7 +94,11 @@ with 1.2 user <b>\"&' 2222222222222222 eaf91caada6d287903772c44cad4af15ff67445af
 0 1000 user 2|with 1.2 bytes 00|is 500 Bad row 1 2";
 
 #[test]
-fn users_are_shown(rt: HostRuntime) {
+fn users_register_sign_in_and_are_shown(rt: HostRuntime) {
+    expect_table(&rt, rt.alloc(), SHOP, REGISTERED);
+    expect_table(&rt, rt.alloc(), SHOP, NOT_REGISTERED);
+    expect_table(&rt, rt.alloc(), SHOP, SIGNED_IN);
+    expect_table(&rt, rt.alloc(), SHOP, SIGNED_OUT);
     expect_table(&rt, rt.alloc(), SHOP, HOME);
     expect_table(&rt, rt.alloc(), SHOP, USERS);
 }

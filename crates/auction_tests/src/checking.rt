@@ -2,7 +2,7 @@
 
 use crate::shown::add_call;
 use crate::words::{
-    add_hex_bytes, add_word, cut, expect_bytes, expect_words, first_word, number, small_number,
+    add_byte, add_word, cut, expect_so, expect_words, first_word, hex_bytes, number, small_number,
 };
 use auction_calls::{
     Action, ActionCall, CheckedCall, FormKind, MAX_AMOUNT, MAX_CATEGORY_NAME_BYTES,
@@ -69,13 +69,6 @@ fn expect_checked(rt: &impl Abort, alloc: Global, row: &str) {
     expect_words(rt, &words, want, row);
 }
 
-#[test]
-fn calls_are_checked(rt: HostRuntime) {
-    for row in BIDS.split('\n') {
-        expect_checked(&rt, rt.alloc(), row);
-    }
-}
-
 /// The numbers of letters of a title and the other fields of an offer, and the first that is out of its range.
 const OFFERS: &str = "1 1 1 0 1|none
 80 4294967295 4000000000 4000000000 720|none
@@ -99,8 +92,8 @@ const CREDENTIALS: &str = "1 1|none
 /// A text of so many letters `a`.
 fn letters(rt: &impl Abort, alloc: Global, count: &str) -> FieldText {
     let mut bytes = Vec::new(alloc);
-    for _ in 0..small_number(rt, count) {
-        bytes.push(b'a').expect(rt, count);
+    for _ in 0..number(rt, count) {
+        add_byte(rt, &mut bytes, b'a');
     }
     FieldText::from_vec(bytes)
 }
@@ -128,15 +121,31 @@ fn credentials_of(rt: &impl Abort, alloc: Global, text: &str) -> Action {
 }
 
 fn expect_bad(rt: &impl Abort, action: Action, want: &str, row: &str) {
-    let call = a_call(action, 0);
-    match bad_field(&call) {
-        None => expect_words(rt, "none", want, row),
-        Some(field) => expect_words(rt, field.word(), want, row),
-    }
+    let found = match bad_field(&a_call(action, 0)) {
+        None => "none",
+        Some(field) => field.word(),
+    };
+    expect_words(rt, found, want, row);
+}
+
+fn expect_limits(rt: &impl Abort) {
+    let texts = MAX_USER_NAME_BYTES == 24
+        && MAX_PASSWORD_BYTES == 72
+        && MAX_CATEGORY_NAME_BYTES == 40
+        && MAX_TITLE_BYTES == 80
+        && MAX_FEEDBACK_BYTES == 200;
+    let numbers = MAX_PAGE == 9999
+        && MAX_AMOUNT == 4_000_000_000
+        && MAX_HOURS == 720
+        && MOMENT_LIMIT == 0x4000_0000_0000_0000;
+    expect_so(rt, texts && numbers, "limits");
 }
 
 #[test]
-fn the_first_bad_field_is_named(rt: HostRuntime) {
+fn calls_are_checked(rt: HostRuntime) {
+    for row in BIDS.split('\n') {
+        expect_checked(&rt, rt.alloc(), row);
+    }
     for row in OFFERS.split('\n') {
         let (text, want) = cut(&rt, row, '|');
         expect_bad(&rt, offer_of(&rt, rt.alloc(), text), want, row);
@@ -145,33 +154,24 @@ fn the_first_bad_field_is_named(rt: HostRuntime) {
         let (text, want) = cut(&rt, row, '|');
         expect_bad(&rt, credentials_of(&rt, rt.alloc(), text), want, row);
     }
-}
-
-#[test]
-fn limits_are_told(rt: HostRuntime) {
-    assert!(rt; MAX_USER_NAME_BYTES == 24 && MAX_PASSWORD_BYTES == 72);
-    assert!(rt; MAX_CATEGORY_NAME_BYTES == 40 && MAX_TITLE_BYTES == 80);
-    assert!(rt; MAX_FEEDBACK_BYTES == 200);
-    assert!(rt; MAX_PAGE == 9999 && MAX_AMOUNT == 4_000_000_000);
-    assert!(rt; MAX_HOURS == 720 && MOMENT_LIMIT == 0x4000_0000_0000_0000);
+    expect_limits(&rt);
 }
 
 /// The bytes of a bid of 513 cents on item 7: 0x0102 = 258, 0x0100 = 256 and 0x0201 = 513.
 const BID: &str =
     "0c 0000000000000102 01010101010101010101010101010101 0000000000000100 00000000000000ff 0202020202020202020202020202020202020202020202020202020202020202020202020202020202020202020202020202020202020202 0000000000000007 0000000000000201";
 
-#[test]
-fn a_bid_is_written(rt: HostRuntime) {
-    let mut want = Vec::new(rt.alloc());
-    for word in BID.split(' ') {
-        add_hex_bytes(&rt, &mut want, word);
+/// Whether a bid is checked, and has these bytes.
+fn is_written(rt: &impl Abort, alloc: Global, want: &[u8]) -> bool {
+    match CheckedCall::check(a_bid(7, 513, 256)) {
+        Ok(call) => action_text(alloc, &call).expect(rt, BID).as_slice() == want,
+        Err(_) => false,
     }
-    if let Ok(call) = CheckedCall::check(a_bid(7, 513, 256)) {
-        let text = action_text(rt.alloc(), &call).expect(&rt, BID);
-        expect_bytes(&rt, text.as_slice(), &want, BID);
-    } else {
-        expect_words(&rt, "back", "checked", BID);
-    }
+}
+
+fn expect_bid(rt: &impl Abort, alloc: Global) {
+    let want = hex_bytes(rt, alloc, BID);
+    expect_so(rt, is_written(rt, alloc, want.as_slice()), BID);
 }
 
 /// The words of the forms.
@@ -180,22 +180,24 @@ const KINDS: &str = "register signin signout category sell bid buy close feedbac
 /// Words of no form.
 const NO_KINDS: &str = "Register sign sign_in categories sells bi bidd  home";
 
-#[test]
-fn forms_have_words(rt: HostRuntime) {
-    for word in KINDS.split(' ') {
-        let kind = FormKind::of(word.as_bytes()).expect(&rt, word);
-        expect_words(&rt, kind.word(), word, KINDS);
-    }
-    for word in NO_KINDS.split(' ') {
-        let kind = FormKind::of(word.as_bytes());
-        let found = if kind.is_some() { "form" } else { "none" };
-        expect_words(&rt, found, "none", word);
-    }
+fn expect_kind(rt: &impl Abort, word: &str, is_kind: bool) {
+    let found = match FormKind::of(word.as_bytes()) {
+        None => "none",
+        Some(kind) => kind.word(),
+    };
+    expect_words(rt, found, if is_kind { word } else { "none" }, word);
 }
 
 /// Laws do nothing when they are called.
 #[test]
-fn laws_are_called(_rt: HostRuntime) {
+fn bids_are_written_and_forms_have_words(rt: HostRuntime) {
+    expect_bid(&rt, rt.alloc());
+    for word in KINDS.split(' ') {
+        expect_kind(&rt, word, true);
+    }
+    for word in NO_KINDS.split(' ') {
+        expect_kind(&rt, word, false);
+    }
     bad_fields_are_first();
     ranges_are();
     texts_are_exact();

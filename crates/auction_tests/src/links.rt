@@ -79,15 +79,25 @@ fn add_line(
     }
 }
 
+fn expect_line(rt: &impl Abort, alloc: Global, row: &str) {
+    let (asked, want) = cut(rt, row, '|');
+    let (piece, rest) = first_word(asked);
+    let (start, best) = cut(rt, rest, ' ');
+    let mut words = String::new(alloc);
+    add_line(
+        rt,
+        alloc,
+        &mut words,
+        piece,
+        number(rt, start),
+        number(rt, best),
+    );
+    expect_words(rt, &words, want, row);
+}
+
 #[test]
 fn links_lead_to_categories_and_items(rt: HostRuntime) {
     for row in LINKS.split('\n') {
-        let (asked, want) = cut(&rt, row, '|');
-        let (piece, rest) = first_word(asked);
-        let (start, best) = cut(&rt, rest, ' ');
-        let mut words = String::new(rt.alloc());
-        let (start, best) = (number(&rt, start), number(&rt, best));
-        add_line(&rt, rt.alloc(), &mut words, piece, start, best);
-        expect_words(&rt, &words, want, row);
+        expect_line(&rt, rt.alloc(), row);
     }
 }

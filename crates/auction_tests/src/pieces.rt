@@ -1,8 +1,8 @@
 //! The pieces of actions: what they answer, what they refuse, what they read, and what they write.
 
 use crate::words::{
-    add_hex, add_number, add_text, add_word, cut, expect_words, first_word, hex_bytes, number,
-    small_number,
+    add_hex, add_number, add_pair, add_text, add_word, cut, expect_so, expect_words, first_word,
+    hex_bytes, number, short_number, small_number,
 };
 use action_plans::{Reads, Stop};
 use auction_pieces::{
@@ -17,7 +17,6 @@ use crash_base::{FieldText, Moment, RowBytes, RowId, RowList, RowWrite, WriteLis
 use journal_model::{DoneText, ReadMark, SessionChange};
 use page_text::{PageLine, PageLineList};
 use std::alloc::Global;
-use std::fmt::Write;
 use std::process::Abort;
 
 /// The piece, its status, user or number, and its heading or word. Then the status of the answer, what becomes of the
@@ -91,22 +90,17 @@ fn add_done(rt: &impl Abort, words: &mut String, done: &DoneText) {
     add_page(rt, words, done.page.as_slice());
 }
 
-/// The status that a word spells.
-fn status(rt: &impl Abort, word: &str) -> u16 {
-    word.parse().expect(rt, word)
-}
-
 fn done_of(rt: &impl Abort, alloc: Global, row: &str) -> DoneText {
     let (piece, rest) = first_word(row);
     let (amount, heading) = cut(rt, rest, ' ');
     let bytes = heading.as_bytes();
     let found = match piece {
-        "says" => says(alloc, status(rt, amount), bytes),
+        "says" => says(alloc, short_number(rt, amount), bytes),
         "shows" => {
             let mut lines = PageLineList::new(alloc);
             let text = FieldText::copied(alloc, b"1 & 2").expect(rt, row);
             lines.push(PageLine::Para { text }).expect(rt, row);
-            shows(alloc, status(rt, amount), bytes, &lines)
+            shows(alloc, short_number(rt, amount), bytes, &lines)
         }
         "session" => {
             let lines = PageLineList::new(alloc);
@@ -114,24 +108,21 @@ fn done_of(rt: &impl Abort, alloc: Global, row: &str) -> DoneText {
         }
         "number" => says_number(alloc, heading, small_number(rt, amount)),
         _ => {
-            let done = says(alloc, status(rt, amount), bytes).expect(rt, row);
+            let done = says(alloc, short_number(rt, amount), bytes).expect(rt, row);
             let outcome = answered(alloc, done);
-            assert!(rt; outcome.writes.as_slice().is_empty(), "{row}");
+            expect_so(rt, outcome.writes.as_slice().is_empty(), row);
             Ok(outcome.done)
         }
     };
     found.expect(rt, row)
 }
 
-#[test]
-fn answers_have_their_pages(rt: HostRuntime) {
-    for row in ANSWERS.split('\n') {
-        let (asked, want) = cut(&rt, row, '|');
-        let done = done_of(&rt, rt.alloc(), asked);
-        let mut words = String::new(rt.alloc());
-        add_done(&rt, &mut words, &done);
-        expect_words(&rt, &words, want, row);
-    }
+fn expect_page(rt: &impl Abort, alloc: Global, row: &str) {
+    let (asked, want) = cut(rt, row, '|');
+    let done = done_of(rt, alloc, asked);
+    let mut words = String::new(alloc);
+    add_done(rt, &mut words, &done);
+    expect_words(rt, &words, want, row);
 }
 
 /// The answer of a heading alone.
@@ -156,11 +147,13 @@ fn add_wanted(rt: &impl Abort, words: &mut String, want: &str) {
 fn add_stop(rt: &impl Abort, words: &mut String, stop: &Stop) {
     match stop {
         Stop::Ask(ReadMark::Row(id)) => {
-            add_word(rt, words, "ask ");
-            let (table, key) = (id.table, id.key);
-            write!(words, "{table}.{key}").expect(rt, "an id");
+            add_word(rt, words, "ask");
+            add_pair(rt, words, u64::from(id.table), ".", id.key);
         }
-        Stop::Ask(ReadMark::Table(table)) => write!(words, " ask {table}").expect(rt, "a table"),
+        Stop::Ask(ReadMark::Table(table)) => {
+            add_word(rt, words, "ask");
+            add_number(rt, words, u64::from(*table));
+        }
         Stop::Refuse(done) => add_done(rt, words, done),
         Stop::OutOfMemory => add_word(rt, words, "out of memory"),
     }
@@ -202,13 +195,6 @@ fn expect_refusal(rt: &impl Abort, alloc: Global, row: &str) {
     let mut wanted = String::new(alloc);
     add_wanted(rt, &mut wanted, want);
     expect_words(rt, &words, wanted.trim_start(), row);
-}
-
-#[test]
-fn refusals_have_their_pages(rt: HostRuntime) {
-    for row in REFUSALS.split('\n') {
-        expect_refusal(&rt, rt.alloc(), row);
-    }
 }
 
 /// A row with the bytes that words spell in hexadecimal.
@@ -315,7 +301,7 @@ fn add_read(
 fn expect_rest(rt: &impl Abort, reads: &mut Reads<'_>, is_left: bool, row: &str) {
     let one = reads.take().is_some();
     let more = reads.take().is_some();
-    assert!(rt; one == is_left && !more, "{row}");
+    expect_so(rt, one == is_left && !more, row);
 }
 
 fn expect_read(rt: &impl Abort, alloc: Global, row: &str) {
@@ -331,32 +317,42 @@ fn expect_read(rt: &impl Abort, alloc: Global, row: &str) {
     expect_rest(rt, &mut reads, hex != "left", row);
 }
 
+/// Answers and refusals have their pages, and reads take their answers.
 #[test]
-fn reads_take_their_answers(rt: HostRuntime) {
+fn pieces_answer_refuse_and_read(rt: HostRuntime) {
+    for row in ANSWERS.split('\n') {
+        expect_page(&rt, rt.alloc(), row);
+    }
+    for row in REFUSALS.split('\n') {
+        expect_refusal(&rt, rt.alloc(), row);
+    }
     for row in READS.split('\n') {
         expect_read(&rt, rt.alloc(), row);
     }
 }
 
 fn add_written(rt: &impl Abort, words: &mut String, write: &RowWrite) {
-    let (table, key) = (write.id.table, write.id.key);
-    write!(words, " {table}.{key}").expect(rt, "an id");
+    add_pair(rt, words, u64::from(write.id.table), ".", write.id.key);
     add_hex(rt, words, write.bytes.as_slice());
 }
 
-#[test]
-fn rows_are_written_in_order(rt: HostRuntime) {
-    let mut writes = WriteList::new(rt.alloc());
-    let name = FieldText::copied(rt.alloc(), b"hi").expect(&rt, "a name");
-    write_counter(rt.alloc(), &mut writes, users_counter(), 258).expect(&rt, "a counter");
+/// Writes the counter of users and category 5.
+fn write_two(rt: &impl Abort, alloc: Global, writes: &mut WriteList) {
+    write_counter(alloc, writes, users_counter(), 258).expect(rt, "a counter");
+    let name = FieldText::copied(alloc, b"hi").expect(rt, "a name");
     let category = CategoryRow { name };
-    assert!(rt; is_category(&category), "a category");
-    write_row(rt.alloc(), &mut writes, category_id(5), &category).expect(&rt, "a row");
-    let mut words = String::new(rt.alloc());
+    assert!(rt; is_category(&category));
+    write_row(alloc, writes, category_id(5), &category).expect(rt, "a row");
+}
+
+fn expect_written(rt: &impl Abort, alloc: Global) {
+    let mut writes = WriteList::new(alloc);
+    write_two(rt, alloc, &mut writes);
+    let mut words = String::new(alloc);
     for write in writes.as_slice() {
-        add_written(&rt, &mut words, write);
+        add_written(rt, &mut words, write);
     }
-    expect_words(&rt, &words, "3.1 0000000000000102 5.5 00026869", "writes");
+    expect_words(rt, &words, "3.1 0000000000000102 5.5 00026869", "writes");
 }
 
 /// A count, whether it is the last number, and the next one.
@@ -375,12 +371,18 @@ fn add_next(rt: &impl Abort, words: &mut String, count: u64) {
     }
 }
 
+fn expect_next(rt: &impl Abort, alloc: Global, row: &str) {
+    let (count, want) = cut(rt, row, ' ');
+    let mut words = String::new(alloc);
+    add_next(rt, &mut words, number(rt, count));
+    expect_words(rt, &words, want, row);
+}
+
+/// Rows are written in order, and numbers follow each other.
 #[test]
-fn numbers_follow_each_other(rt: HostRuntime) {
+fn rows_are_written_under_new_numbers(rt: HostRuntime) {
+    expect_written(&rt, rt.alloc());
     for row in COUNTS.split('\n') {
-        let (count, want) = cut(&rt, row, ' ');
-        let mut words = String::new(rt.alloc());
-        add_next(&rt, &mut words, number(&rt, count));
-        expect_words(&rt, &words, want, row);
+        expect_next(&rt, rt.alloc(), row);
     }
 }

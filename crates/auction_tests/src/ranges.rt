@@ -1,8 +1,9 @@
 //! Each range of a call at its ends, and one over and one under.
 
-use crate::texts::HEAD;
-use crate::words::{add_hex_bytes, cut, expect_words, number, small_number};
-use auction_calls::read_action;
+use crate::texts::{HEAD, read};
+use crate::words::{
+    add_byte, add_hex_bytes, add_slice, byte_number, cut, expect_words, number, short_number,
+};
 use std::alloc::Global;
 use std::process::Abort;
 
@@ -94,37 +95,20 @@ n4294967295 n4611686018427387903 n18446744073709551615|call
 n4294967296 n0 n0|none
 n0 n4611686018427387904 n0|none";
 
-/// Adds the letter `a` so many times.
-fn add_letters(rt: &impl Abort, bytes: &mut Vec<u8>, count: u32) {
+/// Adds a byte so many times.
+fn add_times(rt: &impl Abort, bytes: &mut Vec<u8>, byte: u8, count: u64) {
     for _ in 0..count {
-        bytes.push(b'a').expect(rt, "a letter");
+        add_byte(rt, bytes, byte);
     }
-}
-
-/// Adds a number in eight bytes.
-fn add_number_bytes(rt: &impl Abort, bytes: &mut Vec<u8>, text: &str) {
-    let number = number(rt, text);
-    bytes
-        .extend_from_slice(&number.to_be_bytes())
-        .expect(rt, text);
-}
-
-/// Adds a text of so many letters.
-fn add_letters_text(rt: &impl Abort, bytes: &mut Vec<u8>, text: &str) {
-    let count = small_number(rt, text);
-    let size = u16::try_from(count).expect(rt, text);
-    bytes
-        .extend_from_slice(&size.to_be_bytes())
-        .expect(rt, text);
-    add_letters(rt, bytes, count);
 }
 
 /// Adds the bytes of a field.
 fn add_field(rt: &impl Abort, bytes: &mut Vec<u8>, field: &str) {
     if let Some(text) = field.strip_prefix('n') {
-        add_number_bytes(rt, bytes, text);
+        add_slice(rt, bytes, &number(rt, text).to_be_bytes());
     } else if let Some(text) = field.strip_prefix('t') {
-        add_letters_text(rt, bytes, text);
+        add_slice(rt, bytes, &short_number(rt, text).to_be_bytes());
+        add_times(rt, bytes, b'a', number(rt, text));
     } else if let Some(text) = field.strip_prefix('x') {
         add_hex_bytes(rt, bytes, text);
     }
@@ -132,52 +116,42 @@ fn add_field(rt: &impl Abort, bytes: &mut Vec<u8>, field: &str) {
 
 /// Asserts whether bytes are a call.
 fn expect_call(rt: &impl Abort, alloc: Global, bytes: &[u8], want: &str, row: &str) {
-    let found = match read_action(alloc, bytes).expect(rt, row) {
-        Some(_) => "call",
-        None => "none",
-    };
-    expect_words(rt, found, want, row);
+    let is_call = read(rt, alloc, bytes).is_some();
+    expect_words(rt, if is_call { "call" } else { "none" }, want, row);
+}
+
+fn expect_fields(rt: &impl Abort, alloc: Global, row: &str) {
+    let (text, want) = cut(rt, row, '|');
+    let (number, fields) = cut(rt, text, ' ');
+    let mut bytes = Vec::new(alloc);
+    add_byte(rt, &mut bytes, byte_number(rt, number));
+    add_hex_bytes(rt, &mut bytes, HEAD);
+    for field in fields.split(' ') {
+        add_field(rt, &mut bytes, field);
+    }
+    expect_call(rt, alloc, &bytes, want, row);
+}
+
+fn expect_head(rt: &impl Abort, alloc: Global, row: &str) {
+    let (text, want) = cut(rt, row, '|');
+    let (user, rest) = cut(rt, text, ' ');
+    let (now, fresh) = cut(rt, rest, ' ');
+    let mut bytes = Vec::new(alloc);
+    add_byte(rt, &mut bytes, 1);
+    add_field(rt, &mut bytes, user);
+    add_times(rt, &mut bytes, 0, 16);
+    add_field(rt, &mut bytes, now);
+    add_field(rt, &mut bytes, fresh);
+    add_times(rt, &mut bytes, 0, 56);
+    expect_call(rt, alloc, &bytes, want, row);
 }
 
 #[test]
-fn fields_have_ranges(rt: HostRuntime) {
+fn fields_and_heads_have_ranges(rt: HostRuntime) {
     for row in FIELDS.split('\n') {
-        let (text, want) = cut(&rt, row, '|');
-        let (number, fields) = cut(&rt, text, ' ');
-        let mut bytes = Vec::new(rt.alloc());
-        bytes
-            .push(u8::try_from(small_number(&rt, number)).expect(&rt, row))
-            .expect(&rt, row);
-        for word in HEAD.split(' ') {
-            add_hex_bytes(&rt, &mut bytes, word);
-        }
-        for field in fields.split(' ') {
-            add_field(&rt, &mut bytes, field);
-        }
-        expect_call(&rt, rt.alloc(), &bytes, want, row);
+        expect_fields(&rt, rt.alloc(), row);
     }
-}
-
-/// Adds so many bytes.
-fn add_zeros(rt: &impl Abort, bytes: &mut Vec<u8>, count: u32) {
-    for _ in 0..count {
-        bytes.push(0).expect(rt, "a zero");
-    }
-}
-
-#[test]
-fn heads_have_ranges(rt: HostRuntime) {
     for row in HEADS.split('\n') {
-        let (text, want) = cut(&rt, row, '|');
-        let (user, rest) = cut(&rt, text, ' ');
-        let (now, fresh) = cut(&rt, rest, ' ');
-        let mut bytes = Vec::new(rt.alloc());
-        bytes.push(1).expect(&rt, row);
-        add_field(&rt, &mut bytes, user);
-        add_zeros(&rt, &mut bytes, 16);
-        add_field(&rt, &mut bytes, now);
-        add_field(&rt, &mut bytes, fresh);
-        add_zeros(&rt, &mut bytes, 56);
-        expect_call(&rt, rt.alloc(), &bytes, want, row);
+        expect_head(&rt, rt.alloc(), row);
     }
 }

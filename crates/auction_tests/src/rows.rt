@@ -3,8 +3,8 @@
 //! Bytes are written in hexadecimal, each field as a word.
 
 use crate::words::{
-    add_byte, add_hex, add_hex_bytes, add_number, add_text, add_word, cut, expect_words, hex_bytes,
-    number, small_number, table_number,
+    add_byte, add_hex, add_hex_bytes, add_number, add_pair, add_slice, add_text, add_word,
+    byte_number, cut, expect_so, expect_words, hex_bytes, number,
 };
 use auction_rows::{
     AuctionRow, BidRow, CategoryRow, CounterRow, EntryRow, FeedbackRow, GivenFeedback, ItemRow,
@@ -17,7 +17,6 @@ use crash_base::{ComponentNo, Moment, RowId};
 use deployment::Deployment;
 use descriptor_text::read_descriptors;
 use std::alloc::Global;
-use std::fmt::Write;
 use std::process::Abort;
 
 fn add_user(rt: &impl Abort, words: &mut String, user: &UserRow) {
@@ -126,7 +125,7 @@ fn add_found(rt: &impl Abort, alloc: Global, words: &mut String, row: &AuctionRo
     add_row(rt, words, row);
     assert!(rt; is_row(row));
     let again = encode_row(alloc, row).expect(rt, "a row");
-    assert!(rt; again.as_slice() == bytes);
+    expect_so(rt, again.as_slice() == bytes, "a row encoded");
 }
 
 /// Adds the row of a table that bytes spell.
@@ -146,19 +145,17 @@ fn expect_row(rt: &impl Abort, alloc: Global, table: u8, bytes: &[u8], want: &st
 
 /// A row is a table, after a space its bytes, and after a bar the words. With a byte more or a byte
 /// less it is none.
-fn expect_rows(rt: &impl Abort, alloc: Global, table: &str) {
-    for row in table.split('\n') {
-        let (bytes, want) = cut(rt, row, '|');
-        let (table, bytes) = cut(rt, bytes, ' ');
-        let table = table_number(rt, table);
-        let mut bytes = hex_bytes(rt, alloc, bytes);
-        expect_row(rt, alloc, table, bytes.as_slice(), want, row);
-        add_byte(rt, &mut bytes, 0);
-        expect_row(rt, alloc, table, bytes.as_slice(), "no", row);
-        bytes.pop();
-        bytes.pop();
-        expect_row(rt, alloc, table, bytes.as_slice(), "no", row);
-    }
+fn expect_coded(rt: &impl Abort, alloc: Global, row: &str) {
+    let (bytes, want) = cut(rt, row, '|');
+    let (table, bytes) = cut(rt, bytes, ' ');
+    let table = byte_number(rt, table);
+    let mut bytes = hex_bytes(rt, alloc, bytes);
+    expect_row(rt, alloc, table, bytes.as_slice(), want, row);
+    add_byte(rt, &mut bytes, 0);
+    expect_row(rt, alloc, table, bytes.as_slice(), "no", row);
+    bytes.pop();
+    bytes.pop();
+    expect_row(rt, alloc, table, bytes.as_slice(), "no", row);
 }
 
 /// One row of each table.
@@ -200,12 +197,6 @@ item sold 1 1 1 0 1 2 1 1 2 seller a
 bid 4294967295 18446744073709551615 18446744073709551615
 8 00000000ffffffff 00000000ffffffff 00 0000|feedback 4294967295 4294967295 bad ";
 
-#[test]
-fn rows_are_read_and_written(rt: HostRuntime) {
-    expect_rows(&rt, rt.alloc(), ROWS);
-    expect_rows(&rt, rt.alloc(), EXTREMES);
-}
-
 /// The fields of the row of a table in `ROWS`.
 fn fields_of(rt: &impl Abort, table: &str) -> &'static str {
     let row = ROWS
@@ -217,35 +208,20 @@ fn fields_of(rt: &impl Abort, table: &str) -> &'static str {
     fields
 }
 
-/// Adds a field, or another in its place.
-fn push_field(
-    rt: &impl Abort,
-    bytes: &mut Vec<u8>,
-    place: u64,
-    wrong: u64,
-    field: &str,
-    word: &str,
-) {
-    add_hex_bytes(rt, bytes, if place == wrong { word } else { field });
-}
-
 /// A row is a table, the place of a field of its row in `ROWS`, and a word in place of that field.
 /// Then the bytes are no row.
 fn expect_none(rt: &impl Abort, alloc: Global, row: &str) {
     let (table, change) = cut(rt, row, ' ');
     let (wrong, word) = cut(rt, change, ' ');
+    let wrong = number(rt, wrong);
     let mut bytes = Vec::new(alloc);
-    for (place, field) in fields_of(rt, table).split(' ').enumerate() {
-        push_field(rt, &mut bytes, place as u64, number(rt, wrong), field, word);
+    let mut place = 0u64;
+    for field in fields_of(rt, table).split(' ') {
+        add_hex_bytes(rt, &mut bytes, if place == wrong { word } else { field });
+        place = place.wrapping_add(1);
     }
-    expect_row(
-        rt,
-        alloc,
-        table_number(rt, table),
-        bytes.as_slice(),
-        "no",
-        row,
-    );
+    let table = byte_number(rt, table);
+    expect_row(rt, alloc, table, bytes.as_slice(), "no", row);
 }
 
 /// Numbers of users, items and categories over 4,294,967,295; a state, feedback and a truth value over
@@ -275,14 +251,15 @@ const WRONG: &str = "\
 9 0 0000000100000000";
 
 #[test]
-fn wrong_fields_are_refused(rt: HostRuntime) {
+fn rows_are_read_and_written(rt: HostRuntime) {
+    for table in [ROWS, EXTREMES] {
+        for row in table.split('\n') {
+            expect_coded(&rt, rt.alloc(), row);
+        }
+    }
     for row in WRONG.split('\n') {
         expect_none(&rt, rt.alloc(), row);
     }
-}
-
-#[test]
-fn other_tables_have_no_rows(rt: HostRuntime) {
     for table in [0, 10, 255] {
         expect_row(&rt, rt.alloc(), table, &[0; 8], "no", "another table");
     }
@@ -290,80 +267,76 @@ fn other_tables_have_no_rows(rt: HostRuntime) {
 
 /// Adds a text of so many letters: its length in two bytes, and the letters.
 fn push_letters(rt: &impl Abort, bytes: &mut Vec<u8>, count: u16) {
-    for byte in count.to_be_bytes() {
-        add_byte(rt, bytes, byte);
-    }
+    add_slice(rt, bytes, &count.to_be_bytes());
     for _ in 0..count {
         add_byte(rt, bytes, b'a');
     }
 }
 
-/// Adds a field of the row of a table in `ROWS`, or a text of so many letters in its place.
-fn push_or_letters(rt: &impl Abort, bytes: &mut Vec<u8>, is_text: bool, count: u16, field: &str) {
-    if is_text {
-        push_letters(rt, bytes, count);
-    } else {
-        add_hex_bytes(rt, bytes, field);
-    }
-}
-
 /// Whether the row of a table is one with so many letters for the text at this place.
-fn takes_letters(rt: &impl Abort, alloc: Global, table: &str, text: usize, count: u16) -> bool {
+fn takes_letters(rt: &impl Abort, alloc: Global, table: &str, text: u64, count: u16) -> bool {
     let mut bytes = Vec::new(alloc);
-    for (place, field) in fields_of(rt, table).split(' ').enumerate() {
-        push_or_letters(rt, &mut bytes, place == text, count, field);
+    let mut place = 0u64;
+    for field in fields_of(rt, table).split(' ') {
+        if place == text {
+            push_letters(rt, &mut bytes, count);
+        } else {
+            add_hex_bytes(rt, &mut bytes, field);
+        }
+        place = place.wrapping_add(1);
     }
-    decode_row(alloc, table_number(rt, table), bytes.as_slice())
-        .expect(rt, table)
-        .is_some()
+    is_decoded(rt, alloc, table, bytes.as_slice())
 }
 
-fn expect_greatest(rt: &impl Abort, alloc: Global, table: &str, text: usize, count: u16) {
-    assert!(rt; count < 5000);
-    assert!(rt; takes_letters(rt, alloc, table, text, count));
-    assert!(rt; !takes_letters(rt, alloc, table, text, count + 1));
+/// Whether bytes spell a row of a table.
+fn is_decoded(rt: &impl Abort, alloc: Global, table: &str, bytes: &[u8]) -> bool {
+    let row = decode_row(alloc, byte_number(rt, table), bytes);
+    row.expect(rt, table).is_some()
+}
+
+/// Asserts how many letters the text of a table's row has at most.
+fn expect_greatest(rt: &impl Abort, alloc: Global, table: &str, text: u64, count: u16) {
+    expect_so(rt, takes_letters(rt, alloc, table, text, count), table);
+    let more = takes_letters(rt, alloc, table, text, count.wrapping_add(1));
+    expect_so(rt, !more, table);
+}
+
+/// A row of this kind is encoded to the bytes that it was decoded from.
+fn expect_back<T: TableRow>(rt: &impl Abort, alloc: Global, table: &str) {
+    let bytes = hex_bytes(rt, alloc, fields_of(rt, table));
+    let found = T::decode(alloc, bytes.as_slice()).expect(rt, table);
+    let row = found.expect(rt, table);
+    let again = row.encode(alloc).expect(rt, table);
+    expect_so(rt, again.as_slice() == bytes.as_slice(), table);
 }
 
 /// A row has at most 4,096 bytes.
 #[test]
-fn long_rows_are_refused(rt: HostRuntime) {
+fn each_kind_comes_back_and_has_a_limit(rt: HostRuntime) {
     expect_greatest(&rt, rt.alloc(), "1", 0, 4042);
     expect_greatest(&rt, rt.alloc(), "2", 0, 4086);
     expect_greatest(&rt, rt.alloc(), "4", 11, 4024);
     expect_greatest(&rt, rt.alloc(), "5", 0, 4094);
     expect_greatest(&rt, rt.alloc(), "8", 3, 4077);
-}
-
-/// Whether a row of this kind is encoded to the bytes that it was decoded from.
-fn comes_back<T: TableRow>(rt: &impl Abort, alloc: Global, table: &str) -> bool {
-    let bytes = hex_bytes(rt, alloc, fields_of(rt, table));
-    let found = T::decode(alloc, bytes.as_slice()).expect(rt, table);
-    let row = found.expect(rt, table);
-    let again = row.encode(alloc).expect(rt, table);
-    again.as_slice() == bytes.as_slice()
-}
-
-#[test]
-fn each_kind_comes_back(rt: HostRuntime) {
-    assert!(rt; comes_back::<UserRow>(&rt, rt.alloc(), "1"));
-    assert!(rt; comes_back::<NameRow>(&rt, rt.alloc(), "2"));
-    assert!(rt; comes_back::<CounterRow>(&rt, rt.alloc(), "3"));
-    assert!(rt; comes_back::<ItemRow>(&rt, rt.alloc(), "4"));
-    assert!(rt; comes_back::<CategoryRow>(&rt, rt.alloc(), "5"));
-    assert!(rt; comes_back::<BidRow>(&rt, rt.alloc(), "6"));
-    assert!(rt; comes_back::<EntryRow>(&rt, rt.alloc(), "7"));
-    assert!(rt; comes_back::<FeedbackRow>(&rt, rt.alloc(), "8"));
-    assert!(rt; comes_back::<OwnItemRow>(&rt, rt.alloc(), "9"));
+    expect_back::<UserRow>(&rt, rt.alloc(), "1");
+    expect_back::<NameRow>(&rt, rt.alloc(), "2");
+    expect_back::<CounterRow>(&rt, rt.alloc(), "3");
+    expect_back::<ItemRow>(&rt, rt.alloc(), "4");
+    expect_back::<CategoryRow>(&rt, rt.alloc(), "5");
+    expect_back::<BidRow>(&rt, rt.alloc(), "6");
+    expect_back::<EntryRow>(&rt, rt.alloc(), "7");
+    expect_back::<FeedbackRow>(&rt, rt.alloc(), "8");
+    expect_back::<OwnItemRow>(&rt, rt.alloc(), "9");
 }
 
 fn expect_id(rt: &impl Abort, id: RowId, table: u8, key: u64) {
-    assert!(rt; id.table == table && id.key == key);
+    expect_so(rt, id.table == table && id.key == key, "an id");
 }
 
-/// SHA-256 of `abc` begins with ba7816bf8f01cfea, and that of no bytes with e3b0c44298fc1c14. Each byte of a name
+/// Names stand under their digest: SHA-256 of `abc` begins with ba7816bf8f01cfea, and that of no bytes with e3b0c44298fc1c14. Each byte of a name
 /// counts, to the last one of the longest, and a capital is another letter.
 #[test]
-fn names_stand_under_their_digest(rt: HostRuntime) {
+fn ids_are_made_of_digests_and_of_numbers(rt: HostRuntime) {
     expect_id(&rt, name_id(b"abc"), 2, 0xba78_16bf_8f01_cfea);
     expect_id(&rt, name_id(b""), 2, 0xe3b0_c442_98fc_1c14);
     expect_id(&rt, name_id(b"ann"), 2, 0x4991_5e0d_7d4b_402e);
@@ -380,10 +353,6 @@ fn names_stand_under_their_digest(rt: HostRuntime) {
         2,
         0xabc7_1131_a7ce_d50d,
     );
-}
-
-#[test]
-fn ids_are_made_of_numbers(rt: HostRuntime) {
     expect_id(&rt, user_id(7), 1, 7);
     expect_id(&rt, users_counter(), 3, 1);
     expect_id(&rt, items_counter(), 3, 2);
@@ -409,24 +378,26 @@ ffffffffffffffff 0000000000000001|0
 0000000000000007|0
 |0";
 
-#[test]
-fn sessions_tell_their_user(rt: HostRuntime) {
-    for row in SESSIONS.split('\n') {
-        let (value, user) = cut(&rt, row, '|');
-        let value = hex_bytes(&rt, rt.alloc(), value);
-        assert!(rt;
-            session_user(value.as_slice()) == small_number(&rt, user),
-            "{row}"
-        );
-    }
+fn expect_user(rt: &impl Abort, alloc: Global, row: &str) {
+    let (value, user) = cut(rt, row, '|');
+    let value = hex_bytes(rt, alloc, value);
+    let found = session_user(value.as_slice());
+    expect_so(rt, u64::from(found) == number(rt, user), row);
+}
+
+fn expect_session(rt: &impl Abort, alloc: Global) {
+    let mut words = String::new(alloc);
+    let value = encode_session(alloc, 7, Moment(3_600_000)).expect(rt, "a value");
+    add_hex(rt, &mut words, value.as_slice());
+    expect_words(rt, &words, "0000000000000007000000000036ee80", "a session");
 }
 
 #[test]
-fn sessions_are_written(rt: HostRuntime) {
-    let mut words = String::new(rt.alloc());
-    let value = encode_session(rt.alloc(), 7, Moment(3_600_000)).expect(&rt, "a value");
-    add_hex(&rt, &mut words, value.as_slice());
-    expect_words(&rt, &words, "0000000000000007000000000036ee80", "a session");
+fn sessions_tell_their_user(rt: HostRuntime) {
+    for row in SESSIONS.split('\n') {
+        expect_user(&rt, rt.alloc(), row);
+    }
+    expect_session(&rt, rt.alloc());
 }
 
 /// Adds each component with its group and its methods, of which the idempotent ones have a mark.
@@ -447,10 +418,10 @@ fn add_components(rt: &impl Abort, words: &mut String, deployment: &Deployment) 
 fn add_links(rt: &impl Abort, words: &mut String, deployment: &Deployment) {
     for r in deployment.parts().references.as_slice() {
         let sign = if r.hard { "-" } else { "~" };
-        write!(words, " {}{sign}{}", r.from.0, r.to.0).expect(rt, "a reference");
+        add_pair(rt, words, u64::from(r.from.0), sign, u64::from(r.to.0));
     }
     for t in deployment.parts().tables.as_slice() {
-        write!(words, " {}={}", t.table, t.owner.0).expect(rt, "a table");
+        add_pair(rt, words, u64::from(t.table), "=", u64::from(t.owner.0));
     }
 }
 

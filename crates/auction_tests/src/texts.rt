@@ -1,8 +1,8 @@
 //! The text of each action, byte by byte.
 
 use crate::shown::{add_call, add_head};
-use crate::words::{add_hex_bytes, add_word, cut, expect_bytes, expect_words, hex_bytes};
-use auction_calls::{action_text, read_action};
+use crate::words::{add_byte, add_hex, add_hex_bytes, add_slice, add_word, cut, expect_words};
+use auction_calls::{CheckedCall, action_text, read_action};
 use std::alloc::Global;
 use std::process::Abort;
 
@@ -49,53 +49,56 @@ const ACTIONS: &str = "01||Home
 fn bytes_of(rt: &impl Abort, alloc: Global, row: &str) -> Vec<u8> {
     let (number, rest) = cut(rt, row, '|');
     let (fields, _) = cut(rt, rest, '|');
-    let mut bytes = hex_bytes(rt, alloc, number);
-    for word in HEAD.split(' ') {
-        add_hex_bytes(rt, &mut bytes, word);
-    }
-    for word in fields.split(' ') {
-        add_hex_bytes(rt, &mut bytes, word);
+    let mut bytes = Vec::new(alloc);
+    for words in [number, HEAD, fields] {
+        add_hex_bytes(rt, &mut bytes, words);
     }
     bytes
 }
 
-/// Asserts that bytes are read as this action, by who asks.
-fn expect_read(rt: &impl Abort, alloc: Global, bytes: &[u8], row: &str) {
-    let (_, rest) = cut(rt, row, '|');
-    let (_, want) = cut(rt, rest, '|');
-    let call = read_action(alloc, bytes).expect(rt, row).expect(rt, row);
-    let mut action = String::new(alloc);
-    add_call(rt, &mut action, call.call());
-    expect_words(rt, &action, want, row);
-    let mut head = String::new(alloc);
-    add_head(rt, &mut head, call.call());
-    expect_words(rt, &head, HEAD_WORDS, row);
+/// The call that bytes are read as.
+pub fn read(rt: &impl Abort, alloc: Global, bytes: &[u8]) -> Option<CheckedCall> {
+    read_action(alloc, bytes).expect(rt, "a call")
 }
 
-/// Asserts that the call that bytes are read as is written as them.
-fn expect_written_back(rt: &impl Abort, alloc: Global, bytes: &[u8], row: &str) {
-    let call = read_action(alloc, bytes).expect(rt, row).expect(rt, row);
-    let text = action_text(alloc, &call).expect(rt, row);
-    expect_bytes(rt, text.as_slice(), bytes, row);
-}
-
-#[test]
-fn each_action_has_its_bytes(rt: HostRuntime) {
-    for row in ACTIONS.split('\n') {
-        let bytes = bytes_of(&rt, rt.alloc(), row);
-        expect_read(&rt, rt.alloc(), &bytes, row);
-        expect_written_back(&rt, rt.alloc(), &bytes, row);
+/// Adds the action that bytes are read as, or `none`.
+fn add_action_of(rt: &impl Abort, alloc: Global, words: &mut String, bytes: &[u8]) {
+    match read(rt, alloc, bytes) {
+        Some(call) => add_call(rt, words, call.call()),
+        None => add_word(rt, words, "none"),
     }
+}
+
+/// Asserts which action bytes are read as, or none.
+fn expect_action(rt: &impl Abort, alloc: Global, bytes: &[u8], want: &str, row: &str) {
+    let mut words = String::new(alloc);
+    add_action_of(rt, alloc, &mut words, bytes);
+    expect_words(rt, &words, want, row);
 }
 
 /// Asserts that bytes are read as no call.
 fn expect_none(rt: &impl Abort, alloc: Global, bytes: &[u8], row: &str) {
+    expect_action(rt, alloc, bytes, "none", row);
+}
+
+/// Adds who asks by a call, and the bytes that it is written as.
+fn add_written(rt: &impl Abort, alloc: Global, words: &mut String, call: &CheckedCall) {
+    add_head(rt, words, call.call());
+    let text = action_text(alloc, call).expect(rt, "a text");
+    add_hex(rt, words, text.as_slice());
+}
+
+/// Asserts that bytes are read as a call by who asks in the head, and that it is written as them.
+fn expect_written_back(rt: &impl Abort, alloc: Global, bytes: &[u8], row: &str) {
     let mut words = String::new(alloc);
-    match read_action(alloc, bytes).expect(rt, row) {
-        Some(call) => add_call(rt, &mut words, call.call()),
+    let mut want = String::new(alloc);
+    match read(rt, alloc, bytes) {
+        Some(call) => add_written(rt, alloc, &mut words, &call),
         None => add_word(rt, &mut words, "none"),
     }
-    expect_words(rt, &words, "none", row);
+    add_word(rt, &mut want, HEAD_WORDS);
+    add_hex(rt, &mut want, bytes);
+    expect_words(rt, &words, want.trim_start(), row);
 }
 
 /// Asserts that no beginning of these bytes is read, and not one with a byte or a text more.
@@ -105,35 +108,42 @@ fn expect_exact(rt: &impl Abort, alloc: Global, bytes: &mut Vec<u8>, row: &str) 
             expect_none(rt, alloc, front, row);
         }
     }
-    bytes.push(0).expect(rt, row);
+    add_byte(rt, bytes, 0);
     expect_none(rt, alloc, bytes, row);
 }
 
-/// Asserts that these bytes twice are no call.
-fn expect_one(rt: &impl Abort, alloc: Global, bytes: &[u8], row: &str) {
-    let mut twice = Vec::from_slice(alloc, bytes).expect(rt, row);
-    twice.extend_from_slice(bytes).expect(rt, row);
-    expect_none(rt, alloc, &twice, row);
-}
-
-/// Asserts that these bytes are no call with another first byte.
-fn expect_none_of_number(rt: &impl Abort, alloc: Global, bytes: &[u8], number: u8, row: &str) {
+/// Asserts that these bytes with another first byte, or after others, are no call.
+fn expect_none_behind(rt: &impl Abort, alloc: Global, front: &[u8], bytes: &[u8], row: &str) {
     let mut other = Vec::new(alloc);
-    other.push(number).expect(rt, row);
-    if let Some((_, rest)) = bytes.split_first() {
-        other.extend_from_slice(rest).expect(rt, row);
-    }
+    add_slice(rt, &mut other, front);
+    add_slice(rt, &mut other, bytes);
     expect_none(rt, alloc, &other, row);
 }
 
+/// Asserts that these bytes twice are no call, and none with another first byte.
+fn expect_one(rt: &impl Abort, alloc: Global, bytes: &[u8], row: &str) {
+    expect_none_behind(rt, alloc, bytes, bytes, row);
+    if let Some((_, rest)) = bytes.split_first() {
+        for number in [0, 17, 255] {
+            expect_none_behind(rt, alloc, &[number], rest, row);
+        }
+    }
+}
+
+/// Asserts what a row's bytes are read as, and that damaged ones are no calls.
+fn expect_row(rt: &impl Abort, alloc: Global, row: &str) {
+    let (_, rest) = cut(rt, row, '|');
+    let (_, want) = cut(rt, rest, '|');
+    let mut bytes = bytes_of(rt, alloc, row);
+    expect_action(rt, alloc, &bytes, want, row);
+    expect_written_back(rt, alloc, &bytes, row);
+    expect_one(rt, alloc, &bytes, row);
+    expect_exact(rt, alloc, &mut bytes, row);
+}
+
 #[test]
-fn damaged_texts_are_no_calls(rt: HostRuntime) {
+fn each_action_has_its_bytes_and_no_others(rt: HostRuntime) {
     for row in ACTIONS.split('\n') {
-        let mut bytes = bytes_of(&rt, rt.alloc(), row);
-        expect_one(&rt, rt.alloc(), &bytes, row);
-        expect_none_of_number(&rt, rt.alloc(), &bytes, 0, row);
-        expect_none_of_number(&rt, rt.alloc(), &bytes, 17, row);
-        expect_none_of_number(&rt, rt.alloc(), &bytes, 255, row);
-        expect_exact(&rt, rt.alloc(), &mut bytes, row);
+        expect_row(&rt, rt.alloc(), row);
     }
 }

@@ -1,7 +1,8 @@
 //! Fields, lists, rows and names.
 
 use crate::words::{
-    add_bytes, add_number, add_row, add_word, bytes, cut, expect_bytes, expect_words, row, rows,
+    add_bytes, add_number, add_row, add_word, bytes, cut, expect_bytes, expect_so, expect_words,
+    row, rows,
 };
 use crash_base::{
     ComponentNo, FaultKind, FaultList, FaultPlan, LatestRows, Level, MAX_FAULT_PLANS, MAX_GROUPS,
@@ -61,42 +62,33 @@ fn expect_field(rt: &impl Abort, alloc: Global, row: &str) {
     expect_words(rt, &words, want, row);
 }
 
-#[test]
-fn fields_are_taken_off_bytes(rt: HostRuntime) {
-    for row in FIELDS.split('\n') {
-        expect_field(&rt, rt.alloc(), row);
-    }
-}
-
 fn expect_components(rt: &impl Abort, path: &PathList, want: &[ComponentNo]) {
-    assert!(rt; path.as_slice() == want);
-    assert!(rt; path.len() == want.len());
-    assert!(rt; path.is_empty() == want.is_empty());
+    let has = path.as_slice() == want && path.len() == want.len();
+    expect_so(rt, has && path.is_empty() == want.is_empty(), "a list");
 }
 
-#[test]
-fn a_list_grows(rt: HostRuntime) {
-    let mut path = PathList::new(rt.alloc());
-    expect_components(&rt, &path, &[]);
-    path.push(ComponentNo(3)).expect(&rt, "the first");
-    path.push(ComponentNo(1)).expect(&rt, "the second");
-    expect_components(&rt, &path, &[ComponentNo(3), ComponentNo(1)]);
+/// A list grows.
+fn grow_list(rt: &impl Abort, path: &mut PathList) {
+    expect_components(rt, path, &[]);
+    path.push(ComponentNo(3)).expect(rt, "the first");
+    path.push(ComponentNo(1)).expect(rt, "the second");
+    expect_components(rt, path, &[ComponentNo(3), ComponentNo(1)]);
 }
 
-#[test]
-fn a_list_is_a_vector(rt: HostRuntime) {
-    let bytes = Vec::from_slice(rt.alloc(), b"hi").expect(&rt, "two bytes");
+/// A list is a vector.
+fn expect_text(rt: &impl Abort, alloc: Global) {
+    let bytes = Vec::from_slice(alloc, b"hi").expect(rt, "two bytes");
     let mut text = PageText::from_vec(bytes);
-    text.push(33).expect(&rt, "one more");
-    expect_bytes(&rt, text.into_vec().as_slice(), b"hi!", "one more");
+    text.push(33).expect(rt, "one more");
+    expect_bytes(rt, text.into_vec().as_slice(), b"hi!", "one more");
 }
 
-#[test]
-fn a_bounded_list_of_bytes_is_a_vector(rt: HostRuntime) {
-    let bytes = Vec::from_slice(rt.alloc(), &[0, 255]).expect(&rt, "two bytes");
+/// A bounded list of bytes is a vector.
+fn expect_session(rt: &impl Abort, alloc: Global) {
+    let bytes = Vec::from_slice(alloc, &[0, 255]).expect(rt, "two bytes");
     let session = SessionBytes::from_vec(bytes);
-    expect_bytes(&rt, session.as_slice(), &[0, 255], "lent");
-    expect_bytes(&rt, session.into_vec().as_slice(), &[0, 255], "moved out");
+    expect_bytes(rt, session.as_slice(), &[0, 255], "lent");
+    expect_bytes(rt, session.into_vec().as_slice(), &[0, 255], "moved out");
 }
 
 const PLAN: FaultPlan = FaultPlan {
@@ -107,24 +99,23 @@ const PLAN: FaultPlan = FaultPlan {
 };
 
 fn expect_plan(rt: &impl Abort, found: &[FaultPlan]) {
-    assert!(rt; found == [PLAN].as_slice());
+    expect_so(rt, found == [PLAN].as_slice(), "plans");
 }
 
-#[test]
-fn a_bounded_list_of_plans_is_a_vector(rt: HostRuntime) {
-    let plans = Vec::from_slice(rt.alloc(), &[PLAN]).expect(&rt, "one plan");
+/// A bounded list of plans is a vector.
+fn expect_faults(rt: &impl Abort, alloc: Global) {
+    let plans = Vec::from_slice(alloc, &[PLAN]).expect(rt, "one plan");
     let faults = FaultList::from_vec(plans);
-    expect_plan(&rt, faults.as_slice());
-    expect_plan(&rt, faults.into_vec().as_slice());
+    expect_plan(rt, faults.as_slice());
+    expect_plan(rt, faults.into_vec().as_slice());
 }
 
-#[test]
-fn a_row_is_copied(rt: HostRuntime) {
-    let row = row(&rt, rt.alloc(), "40.7=ab");
-    let copy = row.copied(rt.alloc()).expect(&rt, "a copy");
-    let mut words = String::new(rt.alloc());
-    add_row(&rt, &mut words, &copy);
-    expect_words(&rt, &words, "40.7=ab", "a copy");
+fn expect_copy(rt: &impl Abort, alloc: Global) {
+    let row = row(rt, alloc, "40.7=ab");
+    let copy = row.copied(alloc).expect(rt, "a copy");
+    let mut words = String::new(alloc);
+    add_row(rt, &mut words, &copy);
+    expect_words(rt, &words, "40.7=ab", "a copy");
 }
 
 /// The first row, one after it, one before it, another table with a lesser key, and two in place of
@@ -132,12 +123,13 @@ fn a_row_is_copied(rt: HostRuntime) {
 const WRITES: &str = "2.5=a 2.9=b 2.1=c 3.0=d 2.5=e 3.0=f";
 
 /// Asserts that the latest of those rows are there, each once.
-fn expect_latest(rt: &impl Abort, words: &mut String, latest: &LatestRows, case: &str) {
-    add_number(rt, words, latest.len() as u64);
+fn expect_latest(rt: &impl Abort, alloc: Global, latest: &LatestRows, case: &str) {
+    let mut words = String::new(alloc);
+    add_number(rt, &mut words, latest.len() as u64);
     for row in latest.as_slice() {
-        add_row(rt, words, row);
+        add_row(rt, &mut words, row);
     }
-    expect_words(rt, words, "4 2.1=c 2.5=e 2.9=b 3.0=f", case);
+    expect_words(rt, &words, "4 2.1=c 2.5=e 2.9=b 3.0=f", case);
 }
 
 fn put_each<'a>(rt: &impl Abort, latest: &mut LatestRows<'a>, rows: &'a [RowWrite]) {
@@ -146,30 +138,37 @@ fn put_each<'a>(rt: &impl Abort, latest: &mut LatestRows<'a>, rows: &'a [RowWrit
     }
 }
 
-#[test]
-fn rows_that_are_put_one_by_one_are_the_latest(rt: HostRuntime) {
-    let writes = rows(&rt, rt.alloc(), WRITES);
-    let mut latest = LatestRows::new(rt.alloc());
-    assert!(rt; latest.is_empty());
-    put_each(&rt, &mut latest, writes.as_slice());
-    expect_latest(&rt, &mut String::new(rt.alloc()), &latest, "one by one");
+/// Rows that are put one by one or at once are the latest.
+fn put_rows(rt: &impl Abort, alloc: Global, writes: &[RowWrite]) {
+    let mut latest = LatestRows::new(alloc);
+    expect_so(rt, latest.is_empty(), "no rows");
+    put_each(rt, &mut latest, writes);
+    expect_latest(rt, alloc, &latest, "one by one");
+    let mut latest = LatestRows::new(alloc);
+    latest.put_all(writes).expect(rt, WRITES);
+    expect_latest(rt, alloc, &latest, "at once");
 }
 
 #[test]
-fn rows_that_are_put_at_once_are_the_latest(rt: HostRuntime) {
-    let writes = rows(&rt, rt.alloc(), WRITES);
-    let mut latest = LatestRows::new(rt.alloc());
-    latest.put_all(writes.as_slice()).expect(&rt, WRITES);
-    expect_latest(&rt, &mut String::new(rt.alloc()), &latest, "at once");
+fn fields_lists_and_rows_hold_their_bytes(rt: HostRuntime) {
+    for row in FIELDS.split('\n') {
+        expect_field(&rt, rt.alloc(), row);
+    }
+    grow_list(&rt, &mut PathList::new(rt.alloc()));
+    expect_text(&rt, rt.alloc());
+    expect_session(&rt, rt.alloc());
+    expect_faults(&rt, rt.alloc());
+    expect_copy(&rt, rt.alloc());
+    put_rows(&rt, rt.alloc(), rows(&rt, rt.alloc(), WRITES).as_slice());
 }
 
-/// Asserts whether bytes are a name, and whether they are the name of a component.
-fn expect_name(rt: &impl Abort, bytes: &[u8], name: bool, component: bool) {
-    let found = (is_name(bytes), is_component_name(bytes));
-    assert!(rt;
-        found == (name, component),
-        "the name {}",
-        bytes.escape_ascii()
+/// Asserts whether a text is a name, and whether it is the name of a component.
+fn expect_name(rt: &impl Abort, text: &str, name: bool, component: bool) {
+    let bytes = text.as_bytes();
+    expect_so(
+        rt,
+        is_name(bytes) == name && is_component_name(bytes) == component,
+        text,
     );
 }
 
@@ -179,25 +178,20 @@ const NAMES: &str = "abcdefghijklmnopqrstuvwxyz_ABZ09|_|App|ap|apps";
 /// 33 bytes, none, the bytes beside each range of letters and digits, and others below 128.
 const NO_NAMES: &str = "abcdefghijklmnopqrstuvwxyz_ABZ092||a/|a:|a@|a[|a^|a`|a{|a |a\0";
 
+/// Names are letters, digits and underscores, and no component is named `app`. Contracts cite limits by their names
+/// alone, so their values are tested.
 #[test]
-fn names_are_letters_digits_and_underscores(rt: HostRuntime) {
+fn names_and_limits_are_exact(rt: HostRuntime) {
     for name in NAMES.split('|') {
-        expect_name(&rt, name.as_bytes(), true, true);
+        expect_name(&rt, name, true, true);
     }
     for name in NO_NAMES.split('|') {
-        expect_name(&rt, name.as_bytes(), false, false);
+        expect_name(&rt, name, false, false);
     }
-    expect_name(&rt, &[b'a', 200], false, false);
-}
-
-#[test]
-fn no_component_is_named_app(rt: HostRuntime) {
-    expect_name(&rt, b"app", true, false);
-}
-
-/// Contracts cite limits by their names alone, so their values are tested.
-#[test]
-fn limits_have_their_values(rt: HostRuntime) {
-    assert!(rt; MAX_GROUPS == 64 && SERVICE_TABLE == 0 && MAX_NAME_BYTES == 32);
-    assert!(rt; MAX_ROW_BYTES == 4096 && MAX_SESSION_BYTES == 4096 && MAX_FAULT_PLANS == 65_536);
+    expect_name(&rt, "app", true, false);
+    expect_so(&rt, !is_name(&[b'a', 200]), "another byte");
+    expect_so(&rt, !is_component_name(&[b'a', 200]), "another byte");
+    let counts = MAX_GROUPS == 64 && SERVICE_TABLE == 0 && MAX_FAULT_PLANS == 65_536;
+    let sizes = MAX_NAME_BYTES == 32 && MAX_ROW_BYTES == 4096 && MAX_SESSION_BYTES == 4096;
+    expect_so(&rt, counts && sizes, "limits");
 }

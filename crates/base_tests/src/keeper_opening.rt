@@ -1,6 +1,7 @@
 //! Databases that a keeper is made over, or not.
 
 use crate::keeper_words::{database, opening};
+use crate::words::{cut, expect_so};
 use std::alloc::Global;
 use std::process::Abort;
 
@@ -24,22 +25,20 @@ CREATE TABLE crash_rows (t INTEGER NOT NULL CHECK (t > 0), k BLOB NOT NULL, v BL
 CREATE VIEW crash_rows AS SELECT 1 AS t|other_schema
 BEGIN|failed";
 
-fn expect_opening(rt: &impl Abort, alloc: Global, row: &str) {
-    let (statement, want) = row.split_once('|').expect(rt, row);
-    let found = opening(database(rt, alloc, &[statement]));
-    assert!(rt; found == want, "{row}");
+/// Asserts what an opening answers after statements.
+fn expect_opening(rt: &impl Abort, alloc: Global, statements: &[&str], want: &str, row: &str) {
+    let found = opening(database(rt, alloc, statements));
+    expect_so(rt, found == want, row);
 }
 
+/// Another schema is refused, and an index of the name is another schema.
 #[test]
 fn another_schema_is_refused(rt: HostRuntime) {
     for row in OPENINGS.split('\n') {
-        expect_opening(&rt, rt.alloc(), row);
+        let (statement, want) = cut(&rt, row, '|');
+        expect_opening(&rt, rt.alloc(), &[statement], want, row);
     }
-}
-
-#[test]
-fn an_index_of_the_name_is_another_schema(rt: HostRuntime) {
     let index = "CREATE INDEX crash_rows ON other (t)";
-    let connection = database(&rt, rt.alloc(), &["CREATE TABLE other (t INTEGER)", index]);
-    assert!(&rt; opening(connection) == "other_schema");
+    let statements = ["CREATE TABLE other (t INTEGER)", index];
+    expect_opening(&rt, rt.alloc(), &statements, "other_schema", index);
 }

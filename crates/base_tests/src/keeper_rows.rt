@@ -1,7 +1,7 @@
 //! Rows that are put, and come back.
 
 use crate::keeper_words::{TABLE, add_apply, add_load, keeper};
-use crate::words::expect_words;
+use crate::words::{expect_so, expect_words};
 use keeper_sqlite::SqlKeeper;
 use sqlite::MemStore;
 use std::alloc::Global;
@@ -23,61 +23,47 @@ fn expect_calls(
     }
     add_load(rt, alloc, &mut words, keeper);
     expect_words(rt, &words, want, lines);
-    assert!(rt; keeper.faults() == faults);
+    expect_so(rt, keeper.faults() == faults, "faults");
 }
 
+/// Calls of a new keeper over a database after these statements.
+fn expect_after(
+    rt: &impl Abort,
+    alloc: Global,
+    statements: &[&str],
+    lines: &str,
+    want: &str,
+    faults: u64,
+) {
+    let mut keeper = keeper(rt, alloc, statements);
+    expect_calls(rt, alloc, &mut keeper, lines, want, faults);
+}
+
+/// Rows come back in order of their ids, and the later write of an id is kept. A refused apply leaves all rows, and
+/// rows of an earlier run are found. A row with another id is not guessed at.
 #[test]
-fn rows_come_back_in_order_of_id(rt: HostRuntime) {
-    let mut keeper = keeper(&rt, rt.alloc(), &[]);
-    expect_calls(
+fn rows_come_back(rt: HostRuntime) {
+    expect_after(
         &rt,
         rt.alloc(),
-        &mut keeper,
+        &[],
         "255.18446744073709551615=last 0.1099511627776=a 7.256= 7.255=b 0.0=first\n0.1099511627776= 255.0=c 7.256=d",
         "ok ok 0.0=first 0.1099511627776= 7.255=b 7.256=d 255.0=c 255.18446744073709551615=last",
         0,
     );
-}
-
-#[test]
-fn the_later_write_of_an_id_is_kept(rt: HostRuntime) {
-    let mut keeper = keeper(&rt, rt.alloc(), &[]);
-    expect_calls(
-        &rt,
-        rt.alloc(),
-        &mut keeper,
-        "3.1=one 3.2=two 3.1=three\n3.2=four 3.2=five",
-        "ok ok 3.1=three 3.2=five",
-        0,
-    );
-}
-
-#[test]
-fn a_refused_apply_leaves_all_rows(rt: HostRuntime) {
+    let lines = "3.1=one 3.2=two 3.1=three\n3.2=four 3.2=five";
+    let want = "ok ok 3.1=three 3.2=five";
+    expect_after(&rt, rt.alloc(), &[], lines, want, 0);
     let index = "CREATE UNIQUE INDEX one_value ON crash_rows (v)";
-    let mut keeper = keeper(&rt, rt.alloc(), &[TABLE, index]);
-    expect_calls(
-        &rt,
-        rt.alloc(),
-        &mut keeper,
-        "1.1=a 1.2=b\n1.1=c 1.3=d 1.4=b 1.5=e\n1.6=f",
-        "ok failed ok 1.1=a 1.2=b 1.6=f",
-        1,
-    );
-}
-
-#[test]
-fn rows_of_an_earlier_run_are_found(rt: HostRuntime) {
+    let lines = "1.1=a 1.2=b\n1.1=c 1.3=d 1.4=b 1.5=e\n1.6=f";
+    let want = "ok failed ok 1.1=a 1.2=b 1.6=f";
+    expect_after(&rt, rt.alloc(), &[TABLE, index], lines, want, 1);
     let row = "INSERT INTO crash_rows VALUES (9, x'0000000000000102', x'7879')";
-    let mut keeper = keeper(&rt, rt.alloc(), &[TABLE, row]);
-    expect_calls(
-        &rt,
-        rt.alloc(),
-        &mut keeper,
-        "9.257=z",
-        "ok 9.257=z 9.258=xy",
-        0,
-    );
+    let want = "ok 9.257=z 9.258=xy";
+    expect_after(&rt, rt.alloc(), &[TABLE, row], "9.257=z", want, 0);
+    for values in DAMAGED.split('\n') {
+        expect_damaged(&rt, rt.alloc(), values);
+    }
 }
 
 /// Values of a row that no `apply` puts.
@@ -91,13 +77,6 @@ fn expect_damaged(rt: &impl Abort, alloc: Global, values: &str) {
     let text = format!(in alloc; "INSERT INTO crash_rows VALUES ({values}, x'61')").expect(
         rt, values,
     );
-    let mut keeper = keeper(rt, alloc, &[TABLE, text.as_str()]);
-    expect_calls(rt, alloc, &mut keeper, "9.1=a", "ok failed", 1);
-}
-
-#[test]
-fn a_row_with_another_id_is_not_guessed_at(rt: HostRuntime) {
-    for values in DAMAGED.split('\n') {
-        expect_damaged(&rt, rt.alloc(), values);
-    }
+    let statements = [TABLE, text.as_str()];
+    expect_after(rt, alloc, &statements, "9.1=a", "ok failed", 1);
 }

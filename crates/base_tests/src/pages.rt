@@ -1,6 +1,6 @@
 //! Pages, whose bytes and sizes were written by hand.
 
-use crate::words::{cut, expect_bytes};
+use crate::words::{cut, expect_bytes, expect_so};
 use crash_base::FieldText;
 use page_text::{FieldNameList, PageLine, PageLineList, page};
 use std::alloc::Global;
@@ -60,7 +60,7 @@ fn expect_page(rt: &impl Abort, alloc: Global, heading: &str, text: &str, size: 
     let lines = lines(rt, alloc, text);
     let page = page(alloc, heading.as_bytes(), &lines).expect(rt, heading);
     expect_bytes(rt, page.as_slice(), want.as_bytes(), heading);
-    assert!(rt; page.len() == size, "{heading}");
+    expect_so(rt, page.len() == size, heading);
 }
 
 /// 16 + 24 + 18 + 18 + 44.
@@ -70,12 +70,6 @@ const HOME: &str = "<!doctype html>
 <p>Signed out</p>
 <p><a href=\"/categories\">Categories</a></p>
 ";
-
-#[test]
-fn a_page_has_paragraphs_and_links(rt: HostRuntime) {
-    let text = "p Signed out|a /categories Categories|";
-    expect_page(&rt, rt.alloc(), "Auctions", text, 120, HOME);
-}
 
 /// A page without lines has 42 bytes and twice those of its heading.
 const NOT_THERE: &str = "<!doctype html>
@@ -88,12 +82,6 @@ const BAD_REQUEST: &str = "<!doctype html>
 <h1>Bad request</h1>
 ";
 
-#[test]
-fn a_page_may_have_no_lines(rt: HostRuntime) {
-    expect_page(&rt, rt.alloc(), "Not there", "", 60, NOT_THERE);
-    expect_page(&rt, rt.alloc(), "Bad request", "", 64, BAD_REQUEST);
-}
-
 /// 58 + 35 + 48 + 40 + 44 + 22 + 8.
 const FORM: &str = "<!doctype html>
 <title>Form bid</title>
@@ -105,12 +93,6 @@ const FORM: &str = "<!doctype html>
 <button>Send</button>
 </form>
 ";
-
-#[test]
-fn a_form_has_its_token_and_its_fields(rt: HostRuntime) {
-    let text = "form /bid 0a1b item amount|";
-    expect_page(&rt, rt.alloc(), "Form bid", text, 255, FORM);
-}
 
 /// The escaped text has 24 bytes, and stands 9 times: 90 + 32 + 71 + 55 + 68 + 80 + 22 + 8.
 const ESCAPED: &str = "<!doctype html>
@@ -125,12 +107,6 @@ const ESCAPED: &str = "<!doctype html>
 </form>
 ";
 
-#[test]
-fn markup_is_escaped_in_each_text(rt: HostRuntime) {
-    let text = "p &<>\"'|a &<>\"' &<>\"'|form &<>\"' &<>\"' &<>\"'|";
-    expect_page(&rt, rt.alloc(), "&<>\"'", text, 426, ESCAPED);
-}
-
 /// 42 + 8 + 23 + 31 + 44 + 22 + 8.
 const EMPTY: &str = "<!doctype html>
 <title></title>
@@ -143,7 +119,18 @@ const EMPTY: &str = "<!doctype html>
 </form>
 ";
 
+/// A page has paragraphs and links, or no lines; a form has its token and its fields; markup is escaped in each text;
+/// and texts may be empty.
 #[test]
-fn texts_may_be_empty(rt: HostRuntime) {
-    expect_page(&rt, rt.alloc(), "", "p |a  |form   |", 178, EMPTY);
+fn pages_have_their_bytes(rt: HostRuntime) {
+    let home = "p Signed out|a /categories Categories|";
+    let form = "form /bid 0a1b item amount|";
+    let escaped = "p &<>\"'|a &<>\"' &<>\"'|form &<>\"' &<>\"' &<>\"'|";
+    let empty = "p |a  |form   |";
+    expect_page(&rt, rt.alloc(), "Auctions", home, 120, HOME);
+    expect_page(&rt, rt.alloc(), "Not there", "", 60, NOT_THERE);
+    expect_page(&rt, rt.alloc(), "Bad request", "", 64, BAD_REQUEST);
+    expect_page(&rt, rt.alloc(), "Form bid", form, 255, FORM);
+    expect_page(&rt, rt.alloc(), "&<>\"'", escaped, 426, ESCAPED);
+    expect_page(&rt, rt.alloc(), "", empty, 178, EMPTY);
 }

@@ -1,12 +1,12 @@
 //! Lines that are read, and lines that are not.
 
 use crate::lines::{expect_lengths, expect_lines, expect_refused};
-use crate::words::{bytes, cut, expect_bytes, expect_words};
+use crate::words::{bytes, cut, expect_bytes, expect_so, expect_words};
 use scenario_text::{HexBytes, ended_line, write_hex};
 use std::alloc::Global;
 use std::process::Abort;
 
-/// What is read of a line, and after a bar the line.
+/// Each form: what is read of a line, and after a bar the line.
 const FORMS: &str = "pass|
 pass|#
 pass|# put c0  X 
@@ -50,84 +50,43 @@ event table|table
 event journal|journal
 event reopen|reopen";
 
-#[test]
-fn reads_each_form(rt: HostRuntime) {
-    expect_lines(&rt, rt.alloc(), FORMS);
-}
-
+/// Refused lines: more than single spaces.
 const SPACES: &str =
     " /begin  c1/begin c1 / begin c1/ # comment/hard  a b/hard a  b/hard a b /soft  a b/soft a  b/soft a b /limit  1 2/limit 1  2/limit 1 2 /exit  c1/exit c1 /read  c1 2 3/read c1  2 3/read c1 2  3/read c1 2 3 /list  c1 2/list c1  2/list c1 2 /drop  c1/drop c1 /down  a/down a /up  a/up a /reboot  a/reboot a / table/ journal/journal / reopen/reopen ";
 
-#[test]
-fn refuses_more_than_single_spaces(rt: HostRuntime) {
-    expect_refused(&rt, rt.alloc(), SPACES);
-}
-
+/// Refused lines: other bytes.
 const OTHER_BYTES: &str =
     "begin\tc1/begin c1\r/begin c1\n/\r/# comment\r/#\rcomment/# caf\u{e9}/component caf\u{e9}";
 
-#[test]
-fn refuses_other_bytes(rt: HostRuntime) {
-    expect_refused(&rt, rt.alloc(), OTHER_BYTES);
-}
-
+/// Refused lines: other first words.
 const OTHER_FORMS: &str =
     "Begin c1/BEGIN c1/begi c1/begins c1/Hard a b/hards a b/Soft a b/LIMIT 1 2/limits 1 2/Exit c1/exits c1/Read c1 2 3/READ c1 2 3/rea c1 2 3/reads c1 2 3/List c1 2/LIST c1 2/lis c1 2/lists c1 2/DROP c1/Down a/downs a/Up a/UP a/ups a/u a/Reboot a/rebootapp/Journal/journals/Reopen/REOPEN/reope/reopens";
 
-#[test]
-fn refuses_other_first_words(rt: HostRuntime) {
-    expect_refused(&rt, rt.alloc(), OTHER_FORMS);
-}
-
+/// Refused lines: other numbers.
 const NUMBERS: &str =
     "owns a 00/owns a 01/put c1 02 3 -/put c1 2 03 -/owns a 18446744073709551616/owns a 18446744073709551620/owns a 28446744073709551615/put c1 18446744073709551616 3 -/put c1 2 99999999999999999999999 -/read c1 02 3/read c1 2 03/read c1 00 3/read c1 18446744073709551616 3/read c1 2 18446744073709551616/read c1 -2 3/read c1 2 +3/read c1 a 3/read c1 2 3a/list c1 02/list c1 00/list c1 18446744073709551616/list c1 -2/list c1 a/owns a -1/owns a +1/owns a 1a/limit 00 1/limit 01 1/limit 1 00/limit 1 01/limit 18446744073709551616 1/limit 1 18446744073709551616/limit -1 1/limit 1 +1/limit a 1/limit 1 1a/limit c1 1";
 
-#[test]
-fn refuses_other_numbers(rt: HostRuntime) {
-    expect_refused(&rt, rt.alloc(), NUMBERS);
-}
-
+/// Refused lines: other callers.
 const CALLERS: &str =
     "begin c0/begin c01/begin c65536/begin c18446744073709551617/begin c/begin C1/begin 1/begin cc1/enter c0 a/commit c01/put c65536 1 2 -/exit c0/exit c01/exit c65536/exit c18446744073709551617/exit C1/exit 1/read c0 2 3/read c01 2 3/read c65536 2 3/read c18446744073709551617 2 3/read C1 2 3/read 1 2 3/list c0 2/list c01 2/list c65536 2/list c18446744073709551617 2/list C1 2/list 1 2/drop c0/drop c01/drop c65536/drop c18446744073709551617/drop C1/drop 1";
 
-#[test]
-fn refuses_other_callers(rt: HostRuntime) {
-    expect_refused(&rt, rt.alloc(), CALLERS);
-}
-
+/// Refused lines: other hexadecimal.
 const HEX: &str =
     "put c1 2 3 0/put c1 2 3 000/put c1 2 3 AB/put c1 2 3 aB/put c1 2 3 0g/put c1 2 3 --/put c1 2 3 -00/put c1 2 3 00-/put c1 2 3 ";
 
-#[test]
-fn refuses_other_hexadecimal(rt: HostRuntime) {
-    expect_refused(&rt, rt.alloc(), HEX);
-}
-
+/// Refused lines: other names.
 const NAMES: &str =
     "component /component a-b/component a.b/enter c1 /owns  1/hard a-b c/hard a b.c/soft a. b/soft a b-/down /up /reboot /down \u{e9}/up a\r/reboot \r/hard ZZZZZZZZZZZZZZZZZZZZZZZZZZZZZZZZZ b/soft ZZZZZZZZZZZZZZZZZZZZZZZZZZZZZZZZZ b/owns ZZZZZZZZZZZZZZZZZZZZZZZZZZZZZZZZZ 1";
 
-#[test]
-fn refuses_other_names(rt: HostRuntime) {
-    expect_refused(&rt, rt.alloc(), NAMES);
-}
-
+/// Refused lines: missing words.
 const MISSING: &str =
     "component/hard/hard a/soft/soft a/owns/owns a/limit/limit 1/begin/enter/enter c1/put/put c1/put c1 2/put c1 2 3/exit/read/read c1/read c1 2/list/list c1/commit/drop/down/up/reboot";
 
-#[test]
-fn refuses_missing_words(rt: HostRuntime) {
-    expect_refused(&rt, rt.alloc(), MISSING);
-}
-
+/// Refused lines: further words.
 const FURTHER: &str =
     "component a b/hard a b c/soft a b c/owns a 1 2/limit 1 2 3/begin c1 c2/enter c1 a b/put c1 2 3 - -/exit c1 c1/read c1 2 3 4/list c1 2 3/commit c1 c1/drop c1 c1/down a b/up a b/reboot a b/table 1/table /journal 1/reopen 1/reopen c1";
 
-#[test]
-fn refuses_further_words(rt: HostRuntime) {
-    expect_refused(&rt, rt.alloc(), FURTHER);
-}
-
-/// A name has at most 32 bytes. What goes down or comes up is any word.
+/// Names up to the limit, and over it. A name has at most 32 bytes. What goes down or comes up is any word.
 const NAME_LENGTHS: &str = "component |Z|32|0
 component |Z|33|refused
 enter c1 |Z|33|refused
@@ -139,20 +98,12 @@ down |Z|33|33
 up |Z|33|33
 reboot |Z|33|33";
 
-#[test]
-fn reads_names_up_to_the_limit(rt: HostRuntime) {
-    expect_lengths(&rt, rt.alloc(), NAME_LENGTHS);
-}
-
+/// Bytes up to the limit, and over it.
 const HEX_LENGTHS: &str = "put c65535 1 2 |0|8000|4000
 put c65535 1 2 |0|8002|refused
 put c65535 1 2 |0|7999|refused";
 
-#[test]
-fn reads_bytes_up_to_the_limit(rt: HostRuntime) {
-    expect_lengths(&rt, rt.alloc(), HEX_LENGTHS);
-}
-
+/// Lines up to the limit, and over it.
 const LINE_LENGTHS: &str = "#|#|8191|0
 #|#|8192|refused
 begin c1| |8185|refused
@@ -164,8 +115,24 @@ reboot |@|8185|8185
 reboot |@|8186|refused";
 
 #[test]
-fn reads_lines_up_to_the_limit(rt: HostRuntime) {
-    expect_lengths(&rt, rt.alloc(), LINE_LENGTHS);
+fn lines_are_read_or_refused(rt: HostRuntime) {
+    expect_lines(&rt, rt.alloc(), FORMS);
+    for table in [
+        SPACES,
+        OTHER_BYTES,
+        OTHER_FORMS,
+        NUMBERS,
+        CALLERS,
+        HEX,
+        NAMES,
+        MISSING,
+        FURTHER,
+    ] {
+        expect_refused(&rt, rt.alloc(), table);
+    }
+    for table in [NAME_LENGTHS, HEX_LENGTHS, LINE_LENGTHS] {
+        expect_lengths(&rt, rt.alloc(), table);
+    }
 }
 
 /// Texts, each with its first line that has ended and what is left. Commas are between them.
@@ -179,22 +146,8 @@ fn expect_cut(rt: &impl Abort, row: &str) {
     expect_bytes(rt, found.1, left.as_bytes(), row);
 }
 
-#[test]
-fn cuts_off_the_first_line_that_has_ended(rt: HostRuntime) {
-    for row in CUTS.split(',') {
-        expect_cut(&rt, row);
-    }
-}
-
 fn expect_unended(rt: &impl Abort, row: &str) {
-    assert!(rt; ended_line(row.as_bytes()).is_none(), "{row}");
-}
-
-#[test]
-fn a_line_ends_with_a_line_feed_alone(rt: HostRuntime) {
-    for row in ",a,ab\r,a\x0bb".split(',') {
-        expect_unended(&rt, row);
-    }
+    expect_so(rt, ended_line(row.as_bytes()).is_none(), row);
 }
 
 /// Bytes, and what is written of them after an `x`.
@@ -210,16 +163,24 @@ fn expect_hex(rt: &impl Abort, alloc: Global, row: &str) {
     expect_words(rt, &words, want, row);
 }
 
+/// Bytes of a line are a vector.
+fn expect_vector(rt: &impl Abort, alloc: Global) {
+    let bytes = Vec::from_slice(alloc, &[1, 2]).expect(rt, "two bytes");
+    let bytes = HexBytes::from_vec(bytes);
+    expect_bytes(rt, bytes.as_slice(), &[1, 2], "lent");
+}
+
+/// The first line that has ended is cut off, which a line feed alone ends. Bytes are written in hexadecimal.
 #[test]
-fn writes_hexadecimal(rt: HostRuntime) {
+fn texts_are_cut_and_bytes_are_written(rt: HostRuntime) {
+    for row in CUTS.split(',') {
+        expect_cut(&rt, row);
+    }
+    for row in ",a,ab\r,a\x0bb".split(',') {
+        expect_unended(&rt, row);
+    }
     for row in HEXADECIMAL.split('\n') {
         expect_hex(&rt, rt.alloc(), row);
     }
-}
-
-#[test]
-fn bytes_of_a_line_are_a_vector(rt: HostRuntime) {
-    let bytes = Vec::from_slice(rt.alloc(), &[1, 2]).expect(&rt, "two bytes");
-    let bytes = HexBytes::from_vec(bytes);
-    expect_bytes(&rt, bytes.as_slice(), &[1, 2], "lent");
+    expect_vector(&rt, rt.alloc());
 }

@@ -2,7 +2,7 @@
 
 use crate::lines::{expect_lengths, expect_lines, expect_refused};
 
-/// What is read of a line, and after a bar the line.
+/// Each form: what is read of a line, and after a bar the line.
 const FORMS: &str = "bricks 3 2 1|bricks 3 2 1
 bricks 0 18446744073709551615 10|bricks 0 18446744073709551615 10
 bricks 18446744073709551615 0 0|bricks 18446744073709551615 0 0
@@ -50,92 +50,47 @@ event free 1 answered|free 1 answered
 event free 1 silent|free 1 silent
 event free 18446744073709551615 silent|free 18446744073709551615 silent";
 
-#[test]
-fn reads_each_form(rt: HostRuntime) {
-    expect_lines(&rt, rt.alloc(), FORMS);
-}
-
+/// Refused lines: more than single spaces.
 const SPACES: &str =
     " bricks 3 2 1/bricks  3 2 1/bricks 3  2 1/bricks 3 2  1/bricks 3 2 1 / key 00/key  00/key 00 / now 1/now  1/now 1 / write k1 61/write  k1 61/write k1  61/write k1 61 / fetch k1/fetch  k1/fetch k1 / cookie k1/cookie  k1/cookie k1 / present a/present  a/present a / lose 1 2/lose  1 2/lose 1  2/lose 1 2 / mute 1 2/mute  1 2/mute 1  2/mute 1 2 / repeat 1 2/repeat  1 2/repeat 1  2/repeat 1 2 / crash 1/crash  1/crash 1 / sweep 1/sweep  1/sweep 1 / sweep 1 2/sweep  1 2/sweep 1  2/sweep 1 2 / values 1/values  1/values 1 / windows/windows / hold 1/hold  1/hold 1 / free 1 silent/free  1 silent/free 1  silent/free 1 silent ";
 
-#[test]
-fn refuses_more_than_single_spaces(rt: HostRuntime) {
-    expect_refused(&rt, rt.alloc(), SPACES);
-}
-
+/// Refused lines: other first words.
 const OTHER_FORMS: &str =
     "Bricks 3 2 1/brick 3 2 1/brickss 3 2 1/Key 00/keys 00/ke 00/Now 1/nows 1/no 1/Write k1 61/writes k1 61/writ k1 61/Fetch k1/fetchs k1/fetc k1/Cookie k1/cookies k1/cooki k1/Present a/presents a/presen a/Lose 1 2/loses 1 2/los 1 2/Mute 1 2/mutes 1 2/mut 1 2/Repeat 1 2/repeats 1 2/repea 1 2/Crash 1/crashs 1/cras 1/Sweep 1/sweeps 1/swee 1/Sweep 1 2/sweep_at 1 2/Values 1/value 1/valuess 1/Windows/window/windowss/Hold 1/holds 1/hol 1/Free 1 silent/frees 1 silent/fre 1 silent";
 
-#[test]
-fn refuses_other_first_words(rt: HostRuntime) {
-    expect_refused(&rt, rt.alloc(), OTHER_FORMS);
-}
-
+/// Refused lines: other numbers.
 const NUMBERS: &str =
     "bricks 03 2 1/bricks 3 02 1/bricks 3 2 01/bricks 18446744073709551616 2 1/bricks 3 18446744073709551616 1/bricks 3 2 18446744073709551616/bricks a 2 1/bricks 3 -2 1/bricks 3 2 +1/now 00/now 01/now 18446744073709551616/now -1/now +1/now 1a/now k1/now /lose 01 2/lose 1 02/lose 18446744073709551616 2/lose 1 18446744073709551616/lose -1 2/lose 1 a/mute 01 2/mute 1 02/mute 18446744073709551616 2/mute 1 18446744073709551616/mute -1 2/mute 1 a/repeat 01 2/repeat 1 02/repeat 18446744073709551616 2/repeat 1 18446744073709551616/repeat -1 2/repeat 1 a/crash 01/crash 18446744073709551616/crash -1/crash k1/crash /sweep 01/sweep 18446744073709551616/sweep -1/sweep a/sweep /sweep 01 2/sweep 1 02/sweep 18446744073709551616 2/sweep 1 18446744073709551616/sweep a 2/sweep 1 a/values 01/values 18446744073709551616/values -1/values k1/values /hold 01/hold 18446744073709551616/hold -1/hold a/hold /free 01 silent/free 18446744073709551616 silent/free -1 silent/free a silent/free  silent";
 
-#[test]
-fn refuses_other_numbers(rt: HostRuntime) {
-    expect_refused(&rt, rt.alloc(), NUMBERS);
-}
-
-/// Bricks are numbered from 1 on.
+/// Refused lines: brick 0. Bricks are numbered from 1 on.
 const BRICKS: &str =
     "lose 0 1/mute 0 1/repeat 0 1/crash 0/sweep 0/sweep 0 1/values 0/hold 0/free 0 answered/free 0 silent";
 
-#[test]
-fn refuses_brick_0(rt: HostRuntime) {
-    expect_refused(&rt, rt.alloc(), BRICKS);
-}
-
+/// Refused lines: other session keys.
 const KEYS: &str =
     "write k0 61/write k01 61/write k65536 61/write k18446744073709551617 61/write k 61/write K1 61/write 1 61/write c1 61/write kk1 61/write k1a 61/write 61 k1/fetch k0/fetch k01/fetch k65536/fetch k18446744073709551617/fetch k/fetch K1/fetch 1/fetch c1/fetch kk1/fetch /cookie k0/cookie k01/cookie k65536/cookie k18446744073709551617/cookie k/cookie K1/cookie 1/cookie c1/cookie kk1/cookie /begin k1";
 
-#[test]
-fn refuses_other_session_keys(rt: HostRuntime) {
-    expect_refused(&rt, rt.alloc(), KEYS);
-}
-
+/// Refused lines: other hexadecimal.
 const HEX: &str =
     "key 0/key 000/key AB/key aB/key 0g/key --/key -00/key 00-/key /write k1 0/write k1 000/write k1 AB/write k1 aB/write k1 0g/write k1 --/write k1 -00/write k1 00-/write k1 ";
 
-#[test]
-fn refuses_other_hexadecimal(rt: HostRuntime) {
-    expect_refused(&rt, rt.alloc(), HEX);
-}
-
+/// Refused lines: other texts.
 const TEXTS: &str =
     "present /present\ta/present caf\u{e9}/present \u{80}/present a\r/present \r/present a\rb/present k1\r";
 
-#[test]
-fn refuses_other_texts(rt: HostRuntime) {
-    expect_refused(&rt, rt.alloc(), TEXTS);
-}
-
+/// Refused lines: other outcomes.
 const OUTCOMES: &str =
     "free 1 bogus/free 1 Answered/free 1 ANSWERED/free 1 answere/free 1 answereds/free 1 Silent/free 1 silen/free 1 silents/free 1 silence/free 1 /free 1 -/free 1 1/free answered 1/free silent silent";
 
-#[test]
-fn refuses_other_outcomes(rt: HostRuntime) {
-    expect_refused(&rt, rt.alloc(), OUTCOMES);
-}
-
+/// Refused lines: missing words.
 const MISSING: &str =
     "bricks/bricks 3/bricks 3 2/key/now/write/write k1/write 61/fetch/cookie/present/lose/lose 1/mute/mute 1/repeat/repeat 1/crash/sweep/values/hold/free/free 1/free silent";
 
-#[test]
-fn refuses_missing_words(rt: HostRuntime) {
-    expect_refused(&rt, rt.alloc(), MISSING);
-}
-
+/// Refused lines: further words.
 const FURTHER: &str =
     "bricks 3 2 1 0/key 00 00/key - -/now 1 2/write k1 61 62/fetch k1 k1/fetch k1 1/cookie k1 k1/present a b/lose 1 2 3/mute 1 2 3/repeat 1 2 3/crash 1 2/sweep 1 2 3/values 1 2/windows 1/windows windows/hold 1 2/free 1 silent 2/free 1 answered silent";
 
-#[test]
-fn refuses_further_words(rt: HostRuntime) {
-    expect_refused(&rt, rt.alloc(), FURTHER);
-}
-
+/// Bytes and texts up to the limit, and over it.
 const LENGTHS: &str = "key |0|32|16
 key |0|8000|4000
 key |0|8002|refused
@@ -147,6 +102,21 @@ present |a|8184|8184
 present |a|8185|refused";
 
 #[test]
-fn reads_bytes_and_texts_up_to_the_limit(rt: HostRuntime) {
+fn lines_are_read_or_refused(rt: HostRuntime) {
+    expect_lines(&rt, rt.alloc(), FORMS);
+    for table in [
+        SPACES,
+        OTHER_FORMS,
+        NUMBERS,
+        BRICKS,
+        KEYS,
+        HEX,
+        TEXTS,
+        OUTCOMES,
+        MISSING,
+        FURTHER,
+    ] {
+        expect_refused(&rt, rt.alloc(), table);
+    }
     expect_lengths(&rt, rt.alloc(), LENGTHS);
 }

@@ -7,14 +7,19 @@ use std::alloc::Global;
 use std::fmt::Write;
 use std::process::Abort;
 
-/// Asserts that these words were found, and shows the row where they were not.
+/// Asserts that something is so, and shows what where it is not.
+pub fn expect_so(rt: &impl Abort, is_so: bool, what: &str) {
+    assert!(rt; is_so, "{what}");
+}
+
+/// Asserts that these words were found, and shows them and the row where they were not.
 pub fn expect_words(rt: &impl Abort, found: &str, want: &str, row: &str) {
-    assert_eq!(rt; found.trim_start(), want, "{row}");
+    assert!(rt; found.trim_start() == want, "{found}\n{row}");
 }
 
 /// Asserts that these bytes were found, and shows the row where they were not.
 pub fn expect_bytes(rt: &impl Abort, found: &[u8], want: &[u8], row: &str) {
-    assert_eq!(rt; found, want, "{row}");
+    expect_so(rt, found == want, row);
 }
 
 /// The parts of a row before a mark and after it.
@@ -24,12 +29,14 @@ pub fn cut<'a>(rt: &impl Abort, row: &'a str, mark: char) -> (&'a str, &'a str) 
 
 /// The number that a text spells.
 pub fn number(rt: &impl Abort, text: &str) -> u64 {
-    text.parse().expect(rt, text)
+    text.parse().ok().expect(rt, text)
 }
 
 /// The byte that a text spells as a number.
 pub fn byte(rt: &impl Abort, text: &str) -> u8 {
-    u8::try_from(number(rt, text)).expect(rt, text)
+    let number = number(rt, text);
+    assert!(rt; number < 0x100);
+    number as u8
 }
 
 /// The bytes that words spell as numbers.
@@ -67,7 +74,8 @@ pub fn rows(rt: &impl Abort, alloc: Global, text: &str) -> RowList {
 }
 
 pub fn add_word(rt: &impl Abort, words: &mut String, word: &str) {
-    write!(words, " {word}").expect(rt, word);
+    words.push(' ').expect(rt, word);
+    words.push_str(word).expect(rt, word);
 }
 
 pub fn add_number(rt: &impl Abort, words: &mut String, number: u64) {
@@ -85,7 +93,7 @@ pub fn add_bytes(rt: &impl Abort, words: &mut String, bytes: &[u8]) {
 pub fn add_text(rt: &impl Abort, words: &mut String, mark: &str, bytes: &[u8]) {
     words.push_str(mark).expect(rt, mark);
     words
-        .push_str(std::str::from_utf8(bytes).expect(rt, mark))
+        .push_str(std::str::from_utf8(bytes).ok().expect(rt, mark))
         .expect(rt, mark);
 }
 

@@ -5,7 +5,7 @@ ghost use Rattle.boot_core.specs.Fits.{FitsIn};
 
 use crate::boot_fixtures::boot_over_rows;
 use crate::boot_steps::{add_marks, begin, call, commit, do_steps};
-use crate::words::{cut, expect_words, number};
+use crate::words::{cut, expect_so, expect_words, number};
 use boot_core::{Boot, Ticket, calls_go_on_fitting};
 use std::alloc::Global;
 use std::process::Abort;
@@ -55,7 +55,7 @@ fn expect_call(rt: &impl Abort, alloc: Global, row: &str) {
     expect_words(rt, &words, want, row);
 }
 
-/// Over the rows 3.7, 3.2 and 4.1.
+/// A call reads its puts and the rows of its begin. Over the rows 3.7, 3.2 and 4.1.
 const READS: &str = ";e1 r3.7 r3.7 r3.9 r4.1;;|a a none z [ 3.7=a 3.9 4.1=z ] 0
 ;e1 l3 l3 l4;;|( 3.2=b 3.7=a ) ( 3.2=b 3.7=a ) ( 4.1=z ) [ t3 t4 ] 0
 ;e1 p3.7=x r3.7 p3.9=y r3.9;;|x y [ ] 0
@@ -66,14 +66,7 @@ const READS: &str = ";e1 r3.7 r3.7 r3.9 r4.1;;|a a none z [ 3.7=a 3.9 4.1=z ] 0
 ;e1;71:e1 p3.7=m p3.3=n;r3.7 r3.3 l3|0 a none ( 3.2=b 3.7=a ) [ 3.7=a 3.3 t3 ] 3.7 0<1
 ;e1 p3.4=x;71:e1 p3.7=m p3.3=n;l3 r3.4|0 ( 3.2=b 3.4=x 3.7=a ) x [ t3 ] t3 0<1";
 
-#[test]
-fn a_call_reads_its_puts_and_the_rows_of_its_begin(rt: HostRuntime) {
-    for row in READS.split('\n') {
-        expect_call(&rt, rt.alloc(), row);
-    }
-}
-
-/// The last words are the place, or what refuses the commit: where the request has committed, or
+/// A commit is refused for what was written since. The last words are the place, or what refuses the commit: where the request has committed, or
 /// what was written since, with the length of the journal at the begin and after that commit.
 const COMMITS: &str = ";e1 p3.7=x;70:e1 p3.8=y;|0 [ ] already 0
 ;e1 r3.7 p3.7=x;70:e1 p3.7=y;|a 0 [ 3.7=a ] already 0
@@ -97,9 +90,11 @@ const COMMITS: &str = ";e1 p3.7=x;70:e1 p3.8=y;|0 [ ] already 0
 71:e1 p3.7=m;e1 r3.7;72:e1 p3.7=n;|0 m 1 [ 3.7=m ] 3.7 1<2";
 
 #[test]
-fn a_commit_is_refused_for_what_was_written_since(rt: HostRuntime) {
-    for row in COMMITS.split('\n') {
-        expect_call(&rt, rt.alloc(), row);
+fn calls_read_and_commit(rt: HostRuntime) {
+    for table in [READS, COMMITS] {
+        for row in table.split('\n') {
+            expect_call(&rt, rt.alloc(), row);
+        }
     }
 }
 
@@ -132,7 +127,7 @@ fn a_call_has_sixty_four_marks(rt: HostRuntime) {
     let mut words = String::new(rt.alloc());
     let steps = "r3.163 r3.7 l3 p3.7=x r3.7 r3.100 r3.162 l4 r3.163";
     do_steps(&rt, rt.alloc(), &mut words, &boot, &mut ticket, steps);
-    assert!(rt; ticket.marks().len() == 64);
+    expect_so(&rt, ticket.marks().len() == 64, steps);
     commit(&rt, rt.alloc(), &mut words, &mut boot, ticket);
     let want = "reads reads reads x none none ( 4.1=z ) reads 0";
     expect_words(&rt, &words, want, steps);

@@ -6,7 +6,7 @@ use crate::boot_fixtures::{boot_of, name};
 use crate::boot_steps::{begin, call, do_steps};
 use crate::journals::expect_entries;
 use crate::names::add_binding;
-use crate::words::{add_named, add_number, add_pair, add_row, expect_words};
+use crate::words::{add_named, add_number, add_pair, add_row, expect_so, expect_words};
 use boot_core::{
     Boot, MAX_ENTRIES, MAX_FRAMES, MAX_JOURNAL_BYTES, MAX_MARKS, MAX_STEPS, MAX_WRITES,
 };
@@ -24,7 +24,7 @@ fn add_current(rt: &impl Abort, alloc: Global, words: &mut String, boot: &Boot) 
     }
 }
 
-/// Makes two calls, and asserts where they committed and what the current rows are then.
+/// Makes two calls, and asserts where they committed, what the current rows are then, and what the journal holds.
 fn make_calls(rt: &impl Abort, alloc: Global, boot: &mut Boot) {
     let mut words = String::new(alloc);
     let first = "e1 p3.7=o p3.2=t p3.7=n p3.5=f";
@@ -32,31 +32,17 @@ fn make_calls(rt: &impl Abort, alloc: Global, boot: &mut Boot) {
     call(rt, alloc, &mut words, boot, 71, 6, "e1 p3.2=u p3.1=s");
     add_current(rt, alloc, &mut words, boot);
     expect_words(rt, &words, "0 1 3.1=s 3.2=u 3.5=f 3.7=n", first);
-}
-
-#[test]
-fn commits_are_in_the_journal_and_in_the_rows(rt: HostRuntime) {
-    let mut boot = boot_of(&rt, rt.alloc(), "cart stock");
-    make_calls(&rt, rt.alloc(), &mut boot);
     let want = "1:70 4@0 1#0 0 3.7=n 3.2=t 3.5=f 1:71 6@1 1#0 1 3.2=u 3.1=s";
-    expect_entries(&rt, rt.alloc(), boot.journal().entries(), want);
+    expect_entries(rt, alloc, boot.journal().entries(), want);
 }
 
-#[test]
-fn a_call_is_given_up(rt: HostRuntime) {
-    let mut boot = boot_of(&rt, rt.alloc(), "cart stock");
-    let mut words = String::new(rt.alloc());
-    let mut ticket = begin(&rt, rt.alloc(), &mut boot, 70, 4);
-    do_steps(
-        &rt,
-        rt.alloc(),
-        &mut words,
-        &boot,
-        &mut ticket,
-        "e1 p3.7=a x",
-    );
+/// Gives up a call, and asserts that the journal holds nothing of it.
+fn give_up(rt: &impl Abort, alloc: Global, boot: &mut Boot) {
+    let mut words = String::new(alloc);
+    let mut ticket = begin(rt, alloc, boot, 70, 4);
+    do_steps(rt, alloc, &mut words, boot, &mut ticket, "e1 p3.7=a x");
     boot.abandon(ticket);
-    expect_entries(&rt, rt.alloc(), boot.journal().entries(), "");
+    expect_entries(rt, alloc, boot.journal().entries(), "");
 }
 
 /// Begins the reboot of a scope.
@@ -83,24 +69,34 @@ fn add_stock(rt: &impl Abort, alloc: Global, words: &mut String, boot: &Boot) {
     }
 }
 
-#[test]
-fn a_group_is_rebooted(rt: HostRuntime) {
-    let mut boot = boot_of(&rt, rt.alloc(), "cart stock");
-    let mut words = String::new(rt.alloc());
-    add_stock(&rt, rt.alloc(), &mut words, &boot);
-    let down = begin_reboot(&rt, &mut boot, Scope::Group(GroupNo(1)));
-    add_stock(&rt, rt.alloc(), &mut words, &boot);
-    let up = end_reboot(&rt, &mut boot, down);
-    add_stock(&rt, rt.alloc(), &mut words, &boot);
-    add_pair(&rt, &mut words, down.0, "-", up.0);
-    add_number(&rt, &mut words, u64::from(boot.number()));
-    expect_words(&rt, &words, "1.0 1!0 down0 1.1 0-1 1", "stock");
+/// Reboots group 1.
+fn reboot(rt: &impl Abort, alloc: Global, boot: &mut Boot) {
+    let mut words = String::new(alloc);
+    add_stock(rt, alloc, &mut words, boot);
+    let down = begin_reboot(rt, boot, Scope::Group(GroupNo(1)));
+    add_stock(rt, alloc, &mut words, boot);
+    let up = end_reboot(rt, boot, down);
+    add_stock(rt, alloc, &mut words, boot);
+    add_pair(rt, &mut words, down.0, "-", up.0);
+    add_number(rt, &mut words, u64::from(boot.number()));
+    expect_words(rt, &words, "1.0 1!0 down0 1.1 0-1 1", "stock");
 }
 
 /// Contracts cite limits by their names alone, so their values are tested.
+fn expect_limits(rt: &impl Abort) {
+    let calls = MAX_FRAMES == 16
+        && MAX_STEPS == 128
+        && MAX_MARKS == 64
+        && MAX_WRITES == 16
+        && MAX_METHODS == 16;
+    let journal = MAX_ENTRIES == 262_144 && MAX_JOURNAL_BYTES == 268_435_456;
+    expect_so(rt, calls && journal, "limits");
+}
+
 #[test]
-fn limits_have_their_values(rt: HostRuntime) {
-    assert!(rt; MAX_FRAMES == 16 && MAX_STEPS == 128 && MAX_MARKS == 64 && MAX_WRITES == 16);
-    assert!(rt; MAX_METHODS == 16);
-    assert!(rt; MAX_ENTRIES == 262_144 && MAX_JOURNAL_BYTES == 268_435_456);
+fn boots_commit_give_up_and_reboot(rt: HostRuntime) {
+    make_calls(&rt, rt.alloc(), &mut boot_of(&rt, rt.alloc(), "cart stock"));
+    give_up(&rt, rt.alloc(), &mut boot_of(&rt, rt.alloc(), "cart stock"));
+    reboot(&rt, rt.alloc(), &mut boot_of(&rt, rt.alloc(), "cart stock"));
+    expect_limits(&rt);
 }

@@ -5,7 +5,7 @@
 
 ghost use Rattle.boot_core.specs.Fits.{FitsIn};
 
-use crate::container_fixtures::write;
+use crate::boot_fixtures::write;
 use crate::kept_words::add_short_row;
 use crate::words::{add_named, add_pair, add_word, id, text};
 use container_core::{CallRefusal, CommitRefusal, Container, MAX_STEPS, Refused, Ticket};

@@ -1,6 +1,6 @@
 //! Words for methods, and for why parts are no deployment.
 
-use crate::words::{add_number, add_text, add_word};
+use crate::words::{add_number, add_part, add_text, add_word};
 use deployment::{DeployRefusal, MethodPart};
 use std::process::Abort;
 
@@ -8,8 +8,7 @@ use std::process::Abort;
 pub fn add_methods(rt: &impl Abort, words: &mut String, methods: &[MethodPart]) {
     for method in methods {
         add_text(rt, words, ".", method.name.as_slice());
-        let mark = if method.idempotent { "!" } else { "" };
-        words.push_str(mark).expect(rt, mark);
+        add_part(rt, words, if method.idempotent { "!" } else { "" });
     }
 }
 

@@ -1,5 +1,7 @@
 //! Parts that are accepted, with their groups, parts that are refused, and what a deployment answers.
 
+ghost use Rattle.std.specs.Prelude.{◌<◌};
+
 use crate::deploy_words::{add_methods, add_refusal};
 use crate::parts::{add_reference, checked, deployment_of, parts_of};
 use crate::words::{add_number, add_text, add_word, byte, component, cut, expect_words, short};
@@ -38,16 +40,12 @@ fn expect_checks(rt: &impl Abort, alloc: Global, table: &str) {
     }
 }
 
+/// Components without references are their own groups.
 const NO_REFERENCES: &str = "|
 *1|0
 *3|0 1 2";
 
-#[test]
-fn components_without_references_are_their_own_groups(rt: HostRuntime) {
-    expect_checks(&rt, rt.alloc(), NO_REFERENCES);
-}
-
-/// Pairs, chains forward and back, and chains that are declared from their far end.
+/// Chains are one group: pairs, chains forward and back, and chains that are declared from their far end.
 const CHAINS: &str = "*2 0-1|0 0
 *2 1-0|0 0
 *4 0-1 1-2 2-3|0 0 0 0
@@ -55,74 +53,55 @@ const CHAINS: &str = "*2 0-1|0 0
 *4 2-3 1-2 0-1|0 0 0 0
 *6 4-5 3-4 2-3 1-2 0-1|0 0 0 0 0 0";
 
-#[test]
-fn chains_are_one_group(rt: HostRuntime) {
-    expect_checks(&rt, rt.alloc(), CHAINS);
-}
-
-/// References to itself, and the same one twice.
+/// Needless references change nothing: those to itself, and the same one twice.
 const NEEDLESS: &str = "*3 1-1|0 1 2
 *3 1-1 2-2 1-2|0 1 1
 *3 1-2 1-2 2-1|0 1 1";
 
-#[test]
-fn needless_references_change_nothing(rt: HostRuntime) {
-    expect_checks(&rt, rt.alloc(), NEEDLESS);
-}
-
-/// Soft references alone, and between groups.
+/// Soft references join nothing, alone and between groups.
 const SOFT: &str = "*4 0~1 1~2 2~3 3~0|0 1 2 3
 *4 0-1 1~2 2-3|0 0 2 2
 *5 0-1 3-4 1~2|0 0 2 3 3";
 
-#[test]
-fn soft_references_join_nothing(rt: HostRuntime) {
-    expect_checks(&rt, rt.alloc(), SOFT);
-}
-
+/// Rings are one group.
 const RINGS: &str = "*4 0-1 1-2 2-3 3-0|0 0 0 0
 *6 1-3 3-5 5-1 0~1 2~3|0 1 2 1 4 1";
 
-#[test]
-fn rings_are_one_group(rt: HostRuntime) {
-    expect_checks(&rt, rt.alloc(), RINGS);
-}
-
+/// Stars are one group.
 const STARS: &str = "*7 6-5 6-4 6-3 6-2|0 1 2 2 2 2 2
 *7 5-6 4-6 3-6 2-6|0 1 2 2 2 2 2";
 
-#[test]
-fn stars_are_one_group(rt: HostRuntime) {
-    expect_checks(&rt, rt.alloc(), STARS);
-}
-
-/// Groups that the last reference joins, and the highest numbers joined first.
+/// Groups are joined in any order: groups that the last reference joins, and the highest numbers joined first.
 const JOINED_LATE: &str = "*6 0-1 1-2 3-4 4-5 5-0|0 0 0 0 0 0
 *6 2-1 1-0 5-4 4-3 2-5|0 0 0 0 0 0
 *6 5-4 4-3 5-3 2-5 1~2 0~1|0 1 2 2 2 2
 *8 7-0 6-1 5-2 4-3|0 1 2 3 3 2 1 0
 *8 7-0 6-1 5-2 4-3 7-6 5-4|0 0 2 2 2 2 0 0";
 
-#[test]
-fn groups_are_joined_in_any_order(rt: HostRuntime) {
-    expect_checks(&rt, rt.alloc(), JOINED_LATE);
-}
-
-/// Two paths to one component, and one through a component that is reached by soft ones too.
+/// Paths through hard references join: two paths to one component, and one through a component that is reached by
+/// soft ones too.
 const PATHS: &str = "*5 4-1 1-3 4-2 2-3|0 1 1 1 1
 *5 4-2 2~3 3-1|0 1 2 1 2";
 
-#[test]
-fn paths_through_hard_references_join(rt: HostRuntime) {
-    expect_checks(&rt, rt.alloc(), PATHS);
-}
-
+/// Sixty-four components are accepted.
 const ALL: &str =
     "*64 63-62|0 1 2 3 4 5 6 7 8 9 10 11 12 13 14 15 16 17 18 19 20 21 22 23 24 25 26 27 28 29 30 31 32 33 34 35 36 37 38 39 40 41 42 43 44 45 46 47 48 49 50 51 52 53 54 55 56 57 58 59 60 61 62 62";
 
 #[test]
-fn sixty_four_components_are_accepted(rt: HostRuntime) {
-    expect_checks(&rt, rt.alloc(), ALL);
+fn components_have_groups(rt: HostRuntime) {
+    for table in [
+        NO_REFERENCES,
+        CHAINS,
+        NEEDLESS,
+        SOFT,
+        RINGS,
+        STARS,
+        JOINED_LATE,
+        PATHS,
+        ALL,
+    ] {
+        expect_checks(&rt, rt.alloc(), table);
+    }
 }
 
 /// 64 components, each of which needs the one so many before it.
@@ -145,105 +124,82 @@ fn star(rt: &impl Abort, alloc: Global, hub: u16) -> Parts {
     parts
 }
 
-fn expect_group(rt: &impl Abort, found: GroupNo, want: u16, case: &str, n: u16, c: u16) {
-    assert!(rt;
-        found.0 == want,
-        "component {c} in {case} {n} is of group {}",
-        found.0
-    );
-}
-
-/// In steps of n, a component's group is its remainder by n.
-#[test]
-fn sixty_four_components_in_steps(rt: HostRuntime) {
-    for n in 1..MAX_GROUPS {
-        let deployment = checked(&rt, in_steps(&rt, rt.alloc(), n), "steps");
-        for c in 0..deployment.count() {
-            let group = deployment.group_of(ComponentNo(c));
-            expect_group(&rt, group, c % n, "steps of", n, c);
-        }
+/// Asserts that the group of each component is its remainder by a number.
+fn expect_remainders(rt: &impl Abort, alloc: Global, deployment: &Deployment, by: u16, case: &str)
+    requires { 0 < by }
+{
+    let mut words = String::new(alloc);
+    let mut want = String::new(alloc);
+    add_groups(rt, &mut words, deployment);
+    for c in 0..deployment.count() {
+        add_number(rt, &mut want, u64::from(c % by));
     }
+    expect_words(rt, &words, want.trim_start(), case);
 }
 
+/// In steps of n, a component's group is its remainder by n. A star is one group.
 #[test]
-fn sixty_four_components_in_a_star(rt: HostRuntime) {
+fn sixty_four_components_are_joined(rt: HostRuntime) {
     for n in 1..MAX_GROUPS {
-        let deployment = checked(&rt, star(&rt, rt.alloc(), n), "a star");
-        for c in 0..deployment.count() {
-            let group = deployment.group_of(ComponentNo(c));
-            expect_group(&rt, group, 0, "the star of", n, c);
-        }
+        let steps = checked(&rt, in_steps(&rt, rt.alloc(), n), "steps");
+        expect_remainders(&rt, rt.alloc(), &steps, n, "steps");
+        let star = checked(&rt, star(&rt, rt.alloc(), n), "a star");
+        expect_remainders(&rt, rt.alloc(), &star, 1, "a star");
     }
 }
 
 // Parts that are refused also have faults that are looked for later.
 
+/// More than sixty-four components are refused.
 const TOO_MANY: &str = "*65 0-70 0=0|too_many 65
 *100 +a.abcdefghijklmnopq|too_many 101";
 
-#[test]
-fn more_than_sixty_four_components_are_refused(rt: HostRuntime) {
-    expect_checks(&rt, rt.alloc(), TOO_MANY);
-}
-
+/// More than sixteen methods are refused.
 const TOO_MANY_METHODS: &str = "+a +b.abcdefghijklmnopq +a +c.abcdefghijklmnopqr|too_many_methods 1
 +b.aaaaaaaaaaaaaaaaa|too_many_methods 0";
 
-#[test]
-fn more_than_sixteen_methods_are_refused(rt: HostRuntime) {
-    expect_checks(&rt, rt.alloc(), TOO_MANY_METHODS);
-}
-
+/// Components of one name are refused.
 const NAMES_TWICE: &str = "+a +b +c +b +a|duplicate_name 1 3
 +a +b.mm +b +b|duplicate_name 1 2
 +x +x|duplicate_name 0 1";
 
-#[test]
-fn components_of_one_name_are_refused(rt: HostRuntime) {
-    expect_checks(&rt, rt.alloc(), NAMES_TWICE);
-}
-
+/// Methods of one name are refused.
 const METHODS_TWICE: &str = "+a +b.xyzyx +c.mm 0-3|duplicate_method 1 3
 +a.mm|duplicate_method 0 1
 +a.m +b.m +c.xyzXYZmmm 9=9|duplicate_method 2 7";
 
-#[test]
-fn methods_of_one_name_are_refused(rt: HostRuntime) {
-    expect_checks(&rt, rt.alloc(), METHODS_TWICE);
-}
-
+/// References to no component are refused.
 const UNKNOWN_ENDS: &str = "*2 0-1 2-0 0-2 0=0|unknown_reference 1
 *2 0~1 1-0 1~2 5=5|unknown_reference 2
 0-0|unknown_reference 0
 *64 63-64|unknown_reference 0";
 
-#[test]
-fn references_to_no_component_are_refused(rt: HostRuntime) {
-    expect_checks(&rt, rt.alloc(), UNKNOWN_ENDS);
-}
-
+/// Tables of no component are refused.
 const UNKNOWN_OWNERS: &str = "*2 5=1 5=2 0=0|unknown_owner 1
 5=0|unknown_owner 0";
 
-#[test]
-fn tables_of_no_component_are_refused(rt: HostRuntime) {
-    expect_checks(&rt, rt.alloc(), UNKNOWN_OWNERS);
-}
-
+/// The service's own table is refused.
 const SERVICE_TABLES: &str = "*1 5=0 5=0 0=0 0=0|system_table 2
 *1 0=0 0=0|system_table 0";
 
-#[test]
-fn the_services_own_table_is_refused(rt: HostRuntime) {
-    expect_checks(&rt, rt.alloc(), SERVICE_TABLES);
-}
-
+/// Tables of two parts are refused.
 const TABLES_TWICE: &str = "*2 7=0 8=1 9=0 8=0 7=1|table_twice 8
 *2 255=0 1=1 255=1|table_twice 255";
 
 #[test]
-fn tables_of_two_parts_are_refused(rt: HostRuntime) {
-    expect_checks(&rt, rt.alloc(), TABLES_TWICE);
+fn other_parts_are_refused(rt: HostRuntime) {
+    for table in [
+        TOO_MANY,
+        TOO_MANY_METHODS,
+        NAMES_TWICE,
+        METHODS_TWICE,
+        UNKNOWN_ENDS,
+        UNKNOWN_OWNERS,
+        SERVICE_TABLES,
+        TABLES_TWICE,
+    ] {
+        expect_checks(&rt, rt.alloc(), table);
+    }
 }
 
 const SHOP: &str = "+shop.bY +stock +mail.X 0-1 1~0 0~2 40=1 7=0 255=0";
@@ -298,44 +254,25 @@ fn expect_answer(rt: &impl Abort, alloc: Global, deployment: &Deployment, row: &
     expect_words(rt, &words, want, row);
 }
 
-/// A row has a question to the shop, and after a bar the answer.
-fn expect_answers(rt: &impl Abort, alloc: Global, table: &str) {
-    let shop = deployment_of(rt, alloc, SHOP);
-    for row in table.split('\n') {
-        expect_answer(rt, alloc, &shop, row);
-    }
-}
-
+/// Components are found by name.
 const NAMED: &str = "named stock|1
 named sto|none";
 
-#[test]
-fn components_are_found_by_name(rt: HostRuntime) {
-    expect_answers(&rt, rt.alloc(), NAMED);
-}
-
+/// Tables have owners.
 const OWNERS: &str = "owner 40|1
 owner 7|0
 owner 255|0
 owner 0|none
 owner 41|none";
 
-#[test]
-fn tables_have_owners(rt: HostRuntime) {
-    expect_answers(&rt, rt.alloc(), OWNERS);
-}
-
+/// Components call what they refer to.
 const CALLS: &str = "call 0 1|true
 call 1 0|true
 call 0 2|true
 call 2 0|false
 call 0 0|false";
 
-#[test]
-fn components_call_what_they_refer_to(rt: HostRuntime) {
-    expect_answers(&rt, rt.alloc(), CALLS);
-}
-
+/// Idempotent methods are called again.
 const REPEATS: &str = "again 0 0|false
 again 0 1|true
 again 0 2|false
@@ -343,25 +280,35 @@ again 1 0|false
 again 2 0|true
 again 3 0|false";
 
-#[test]
-fn idempotent_methods_are_called_again(rt: HostRuntime) {
-    expect_answers(&rt, rt.alloc(), REPEATS);
-}
-
-/// Whether the scope of the application or of group 2 holds a group.
+/// Scopes hold groups: whether the scope of the application or of group 2 holds one.
 const SCOPES: &str = "app 63|true
 app 64|false
 group 2|true
 group 0|false";
 
+/// A row has a question to the shop, and after a bar the answer.
 #[test]
-fn scopes_hold_groups(rt: HostRuntime) {
-    expect_answers(&rt, rt.alloc(), SCOPES);
+fn a_deployment_answers(rt: HostRuntime) {
+    let shop = deployment_of(&rt, rt.alloc(), SHOP);
+    for table in [NAMED, OWNERS, CALLS, REPEATS, SCOPES] {
+        for row in table.split('\n') {
+            expect_answer(&rt, rt.alloc(), &shop, row);
+        }
+    }
 }
 
+/// Adds the numbers of components and of references, and the name of component 2.
 fn add_parts(rt: &impl Abort, words: &mut String, shop: &Deployment) {
     add_number(rt, words, u64::from(shop.count()));
     add_number(rt, words, shop.parts().references.len() as u64);
+    assert!(rt; shop.parts().named(b"mail") == Some(2) && 2 < shop.count());
+    add_text(rt, words, " ", shop.name(ComponentNo(2)).as_slice());
+}
+
+/// Adds the methods of a component that declares none: one call, which is idempotent.
+fn add_one_call(rt: &impl Abort, alloc: Global, words: &mut String) {
+    let methods = one_call(alloc).expect(rt, "one method");
+    add_methods(rt, words, methods.as_slice());
 }
 
 #[test]
@@ -369,27 +316,6 @@ fn a_deployment_has_its_parts(rt: HostRuntime) {
     let shop = deployment_of(&rt, rt.alloc(), SHOP);
     let mut words = String::new(rt.alloc());
     add_parts(&rt, &mut words, &shop);
-    expect_words(&rt, &words, "3 3", "components and references");
-}
-
-fn add_mail(rt: &impl Abort, words: &mut String, shop: &Deployment) {
-    assert!(rt; shop.parts().named(b"mail") == Some(2));
-    assert!(rt; 2 < shop.count());
-    add_text(rt, words, "", shop.name(ComponentNo(2)).as_slice());
-}
-
-#[test]
-fn a_component_has_its_name(rt: HostRuntime) {
-    let shop = deployment_of(&rt, rt.alloc(), SHOP);
-    let mut words = String::new(rt.alloc());
-    add_mail(&rt, &mut words, &shop);
-    expect_words(&rt, &words, "mail", "component 2");
-}
-
-#[test]
-fn one_call_is_idempotent(rt: HostRuntime) {
-    let methods = one_call(rt.alloc()).expect(&rt, "one method");
-    let mut words = String::new(rt.alloc());
-    add_methods(&rt, &mut words, methods.as_slice());
-    expect_words(&rt, &words, ".call!", "one method");
+    add_one_call(&rt, rt.alloc(), &mut words);
+    expect_words(&rt, &words, "3 3 mail.call!", "the parts of the shop");
 }

@@ -4,12 +4,11 @@
 //! reference, `0~1` a soft one, and `40=1` says that component 1 owns table 40.
 
 use crate::deploy_words::{add_methods, add_refusal};
-use crate::words::{add_number, add_pair, add_text, add_word, expect_words};
+use crate::words::{add_marked, add_number, add_pair, add_text, add_word, expect_words};
 use crash_base::ComponentNo;
 use deployment::{Deployment, Parts};
 use descriptor_text::{FieldName, TextRefusal, read_descriptors};
 use std::alloc::Global;
-use std::fmt::Write;
 use std::process::Abort;
 
 /// Adds each component with its group and its methods.
@@ -19,7 +18,7 @@ fn add_components(rt: &impl Abort, words: &mut String, deployment: &Deployment) 
         let c = &components[number as usize];
         let group = deployment.group_of(ComponentNo(number));
         add_text(rt, words, " ", c.name.as_slice());
-        write!(words, "#{}", group.0).expect(rt, "a group");
+        add_marked(rt, words, "#", u64::from(group.0));
         add_methods(rt, words, c.methods.as_slice());
     }
 }
@@ -91,6 +90,7 @@ fn expect_texts(rt: &impl Abort, alloc: Global, table: &str) {
     }
 }
 
+/// Texts without components are deployments.
 const NO_COMPONENTS: &str = "
 ---
 
@@ -100,11 +100,7 @@ title = 'shop'
 
 component = []";
 
-#[test]
-fn texts_without_components_are_deployments(rt: HostRuntime) {
-    expect_texts(&rt, rt.alloc(), NO_COMPONENTS);
-}
-
+/// Texts that are no documents are refused.
 const NO_DOCUMENTS: &str = "not_toml
 = 1
 ---
@@ -115,11 +111,7 @@ a = 2
 not_toml
 component = [{ name = 'A' }";
 
-#[test]
-fn texts_that_are_no_documents_are_refused(rt: HostRuntime) {
-    expect_texts(&rt, rt.alloc(), NO_DOCUMENTS);
-}
-
+/// Components are an array of tables.
 const NO_TABLES: &str = "wrong 0 component
 component = 5
 ---
@@ -136,12 +128,7 @@ wrong 0 component
 [component]
 name = 'A'";
 
-#[test]
-fn components_are_an_array_of_tables(rt: HostRuntime) {
-    expect_texts(&rt, rt.alloc(), NO_TABLES);
-}
-
-/// One component, written in both ways, and keys that are passed over.
+/// Components have two forms. Keys of other names are passed over.
 const FORMS: &str = "A#0.call!
 [[component]]
 name = 'A'
@@ -156,11 +143,7 @@ component = [{ colour = 1, name = 'A', Hard = 3, soft = ['B'], tables = [7], met
 [other]
 hard = 1";
 
-#[test]
-fn components_have_two_forms(rt: HostRuntime) {
-    expect_texts(&rt, rt.alloc(), FORMS);
-}
-
+/// Names have up to 32 bytes, and may resemble `app`.
 const NAMES: &str = "abcdefghijklmnopqrstuvwxyz_ABC09#0.call!
 [[component]]
 name = 'abcdefghijklmnopqrstuvwxyz_ABC09'
@@ -168,11 +151,7 @@ name = 'abcdefghijklmnopqrstuvwxyz_ABC09'
 App#0.call! apps#1.call! ap#2.call!
 component = [{ name = 'App' }, { name = 'apps' }, { name = 'ap' }]";
 
-#[test]
-fn names_have_32_bytes_and_may_resemble_app(rt: HostRuntime) {
-    expect_texts(&rt, rt.alloc(), NAMES);
-}
-
+/// Other names are refused.
 const WRONG_NAMES: &str = "wrong 0 name
 [[component]]
 name = 'abcdefghijklmnopqrstuvwxyz_ABC099'
@@ -200,11 +179,7 @@ wrong 0 name
 [[component]]
 name = 'app'";
 
-#[test]
-fn other_names_are_refused(rt: HostRuntime) {
-    expect_texts(&rt, rt.alloc(), WRONG_NAMES);
-}
-
+/// References are arrays of texts.
 const WRONG_REFERENCES: &str = "wrong 0 hard
 component = [{ name = 'A', hard = 'A' }]
 ---
@@ -217,19 +192,11 @@ component = [{ name = 'A', soft = { A = 1 } }]
 wrong 0 soft
 component = [{ name = 'A', soft = [['A']] }]";
 
-#[test]
-fn references_are_arrays_of_texts(rt: HostRuntime) {
-    expect_texts(&rt, rt.alloc(), WRONG_REFERENCES);
-}
-
+/// Tables are numbered up to 255.
 const TABLES: &str = "A#0.call! 255=0 1=0
 component = [{ name = 'A', tables = [0xff, 1] }]";
 
-#[test]
-fn tables_are_numbered_up_to_255(rt: HostRuntime) {
-    expect_texts(&rt, rt.alloc(), TABLES);
-}
-
+/// Other tables are refused.
 const WRONG_TABLES: &str = "wrong 0 tables
 component = [{ name = 'A', tables = 5 }]
 ---
@@ -242,11 +209,7 @@ component = [{ name = 'A', tables = [-1] }]
 wrong 0 tables
 component = [{ name = 'A', tables = [1.0] }]";
 
-#[test]
-fn other_tables_are_refused(rt: HostRuntime) {
-    expect_texts(&rt, rt.alloc(), WRONG_TABLES);
-}
-
+/// Methods are written in two ways.
 const METHODS: &str = "A#0 B#1.get!.app
 [[component]]
 name = 'A'
@@ -260,11 +223,7 @@ idempotent = true
 name = 'app'
 idempotent = false";
 
-#[test]
-fn methods_are_written_in_two_ways(rt: HostRuntime) {
-    expect_texts(&rt, rt.alloc(), METHODS);
-}
-
+/// Other methods are refused.
 const WRONG_METHODS: &str = "wrong 0 methods
 component = [{ name = 'A', methods = true }]
 ---
@@ -283,22 +242,14 @@ component = [{ name = 'A', methods = [{ name = 'm', idempotent = 1 }] }]
 wrong 0 methods
 component = [{ name = 'A', methods = [{ name = 'm', idempotent = true }, { name = 'a b', idempotent = true }] }]";
 
-#[test]
-fn other_methods_are_refused(rt: HostRuntime) {
-    expect_texts(&rt, rt.alloc(), WRONG_METHODS);
-}
-
+/// The first wrong key is reported.
 const FIRST_WRONG: &str = "wrong 1 hard
 component = [{ name = 'A' }, { methods = 1, tables = 1, soft = 1, hard = 1, name = 'B' }, { name = 1 }]
 ---
 wrong 1 tables
 component = [{ name = 'A' }, { methods = 1, tables = 1, name = 'B' }, { name = 1 }]";
 
-#[test]
-fn the_first_wrong_key_is_reported(rt: HostRuntime) {
-    expect_texts(&rt, rt.alloc(), FIRST_WRONG);
-}
-
+/// References and tables are in order.
 const LINKS: &str = "A#0.call! B#0.call! C#2.call! 0-1 0~2 1~2 1~0 2~2 3=0 2=0 1=2
 [[component]]
 name = 'A'
@@ -313,11 +264,7 @@ name = 'C'
 soft = ['C']
 tables = [1]";
 
-#[test]
-fn references_and_tables_are_in_order(rt: HostRuntime) {
-    expect_texts(&rt, rt.alloc(), LINKS);
-}
-
+/// Parts that are no deployment are refused.
 const NO_DEPLOYMENTS: &str = "deploy unknown_reference 1
 component = [{ name = 'A', hard = ['A'], soft = ['B'] }]
 ---
@@ -337,8 +284,25 @@ deploy table_twice 9
 component = [{ name = 'A', tables = [9] }, { name = 'B', tables = [9] }]";
 
 #[test]
-fn parts_that_are_no_deployment_are_refused(rt: HostRuntime) {
-    expect_texts(&rt, rt.alloc(), NO_DEPLOYMENTS);
+fn texts_are_deployments_or_refused(rt: HostRuntime) {
+    for table in [
+        NO_COMPONENTS,
+        NO_DOCUMENTS,
+        NO_TABLES,
+        FORMS,
+        NAMES,
+        WRONG_NAMES,
+        WRONG_REFERENCES,
+        TABLES,
+        WRONG_TABLES,
+        METHODS,
+        WRONG_METHODS,
+        FIRST_WRONG,
+        LINKS,
+        NO_DEPLOYMENTS,
+    ] {
+        expect_texts(&rt, rt.alloc(), table);
+    }
 }
 
 #[test]

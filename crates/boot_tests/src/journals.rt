@@ -5,7 +5,9 @@ ghost use Rattle.commit_journal.specs.Journal.{IsScope};
 use crate::boot_fixtures::{LIMITS, boot_of, request};
 use crate::boot_steps::call;
 use crate::boots::{begin_reboot, end_reboot};
-use crate::words::{add_number, add_pair, add_row, add_word, cut, expect_words, number, short};
+use crate::words::{
+    add_number, add_pair, add_row, add_word, cut, expect_so, expect_words, number, short,
+};
 use boot_core::Boot;
 use commit_journal::{CommitEntry, Entry, FullAt, Journal};
 use crash_base::{GroupNo, MAX_GROUPS, Place, Scope};
@@ -49,15 +51,15 @@ pub fn expect_entries(rt: &impl Abort, alloc: Global, entries: &[Entry], want: &
     expect_words(rt, &words, want, "the journal");
 }
 
-#[test]
-fn a_journal_has_room_for_entries(rt: HostRuntime) {
-    let mut journal = Journal::new(rt.alloc(), LIMITS);
-    journal.reserve(2).expect(&rt, "two entries");
+/// Asserts that a journal has room for two entries.
+fn expect_two_entries(rt: &impl Abort, alloc: Global) {
+    let mut journal = Journal::new(alloc, LIMITS);
+    journal.reserve(2).expect(rt, "two entries");
     assert!(rt; journal.full_for(2, 0).is_none());
     let down = journal.push(Entry::Down(Scope::App));
     let up = journal.push(Entry::Up(Scope::App));
-    assert!(rt; down.0 == 0 && up.0 == 1);
-    expect_entries(&rt, rt.alloc(), journal.entries(), "down up");
+    expect_so(rt, down.0 == 0 && up.0 == 1, "places");
+    expect_entries(rt, alloc, journal.entries(), "down up");
 }
 
 /// The scope that a text spells: the number of a group, or `app`.
@@ -191,6 +193,7 @@ room 1 101|9/0
 room 2 0|9/0";
 
 #[test]
-fn a_journal_answers_of_its_entries(rt: HostRuntime) {
+fn a_journal_has_room_and_answers_of_its_entries(rt: HostRuntime) {
+    expect_two_entries(&rt, rt.alloc());
     expect_answers(&rt, rt.alloc(), ENTRIES, ANSWERS);
 }

@@ -1,14 +1,19 @@
 //! Rows in words, with their bytes in hexadecimal.
 
-use crate::words::add_id;
+use crate::words::{add_id, add_marked, add_part};
 use crash_base::RowWrite;
 use std::fmt::Write;
 use std::process::Abort;
 
-fn add_bytes(rt: &impl Abort, words: &mut String, bytes: &[u8]) {
-    words.push_str("=").expect(rt, "a sign");
+fn add_byte(rt: &impl Abort, words: &mut String, byte: u8) {
+    write!(words, "{byte:02x}").expect(rt, "a byte");
+}
+
+/// Adds a sign and bytes in hexadecimal to the last word.
+pub fn add_bytes(rt: &impl Abort, words: &mut String, bytes: &[u8]) {
+    add_part(rt, words, "=");
     for byte in bytes {
-        write!(words, "{byte:02x}").expect(rt, "a byte");
+        add_byte(rt, words, *byte);
     }
 }
 
@@ -16,7 +21,7 @@ fn add_bytes(rt: &impl Abort, words: &mut String, bytes: &[u8]) {
 pub fn add_short_row(rt: &impl Abort, words: &mut String, row: &RowWrite) {
     add_id(rt, words, row.id);
     if row.bytes.len() > 5 {
-        write!(words, "#{}", row.bytes.len()).expect(rt, "a length");
+        add_marked(rt, words, "#", row.bytes.len() as u64);
     } else {
         add_bytes(rt, words, row.bytes.as_slice());
     }

@@ -52,21 +52,17 @@ fn expect_names(rt: &impl Abort, alloc: Global, names: &Names, want: &str, case:
 }
 
 #[test]
-fn a_group_is_rebooted(rt: HostRuntime) {
+fn groups_and_the_application_are_rebooted(rt: HostRuntime) {
     let mut names = new_names(&rt, rt.alloc());
     expect_names(&rt, rt.alloc(), &names, "0.0 1.0 2.0 - 0", "new");
     names.set_down(GroupNo(0), Place(0));
     expect_names(&rt, rt.alloc(), &names, "0!0 0!0 2.0 - 0", "down");
     names.set_up(GroupNo(0));
     expect_names(&rt, rt.alloc(), &names, "0.1 1.1 2.0 - 0", "up");
-}
-
-#[test]
-fn the_application_is_rebooted(rt: HostRuntime) {
     let mut names = new_names(&rt, rt.alloc());
     expect_names(&rt, rt.alloc(), &names, "0.0 1.0 2.0 - 0", "new");
     names.set_scope_down(Scope::App, Place(7));
-    expect_names(&rt, rt.alloc(), &names, "0!7 0!7 2!7 - 1", "down");
+    expect_names(&rt, rt.alloc(), &names, "0!7 0!7 2!7 - 1", "all down");
     names.set_scope_up(Scope::App);
-    expect_names(&rt, rt.alloc(), &names, "0.1 1.1 2.1 - 1", "up");
+    expect_names(&rt, rt.alloc(), &names, "0.1 1.1 2.1 - 1", "all up");
 }

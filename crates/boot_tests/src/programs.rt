@@ -1,12 +1,12 @@
 //! The steps of a program, in order.
 
 use crate::Stamp;
+use crate::words::{add_dotted, add_named, add_text, add_word, expect_words};
 use action_plans::Through;
 use call_ticket::{Answer, AnswerList, Next, Program};
 use crash_base::{ComponentNo, RowBytes, RowId, RowWrite};
 use deployment::TablePart;
 use std::alloc::Global;
-use std::fmt::Write;
 use std::process::Abort;
 
 /// Table 3 is owned by component 1.
@@ -15,14 +15,13 @@ const TABLES: [TablePart; 1] = [TablePart {
     owner: ComponentNo(1),
 }];
 
-fn add_id(rt: &impl Abort, words: &mut String, name: &str, id: RowId) {
-    write!(words, " {name}{}.{}", id.table, id.key).expect(rt, "a row");
+fn add_row_id(rt: &impl Abort, words: &mut String, name: &str, id: RowId) {
+    add_dotted(rt, words, name, u64::from(id.table), id.key);
 }
 
 fn add_put(rt: &impl Abort, words: &mut String, row: &RowWrite) {
-    add_id(rt, words, "p", row.id);
-    let bytes = std::str::from_utf8(row.bytes.as_slice()).expect(rt, "a text");
-    write!(words, "={bytes}").expect(rt, "a row");
+    add_row_id(rt, words, "p", row.id);
+    add_text(rt, words, "=", row.bytes.as_slice());
 }
 
 /// Adds a step: `e1.0` enters component 1 by method 0, `r3.7` reads a row, `l3` lists a table, `p3.7=x` puts a row, `x`
@@ -30,13 +29,13 @@ fn add_put(rt: &impl Abort, words: &mut String, row: &RowWrite) {
 fn add_step(rt: &impl Abort, words: &mut String, step: &Next) {
     match step {
         Next::Enter { component, method } => {
-            write!(words, " e{}.{method}", component.0).expect(rt, "an enter")
+            add_dotted(rt, words, "e", u64::from(component.0), u64::from(*method))
         }
-        Next::Read(id) => add_id(rt, words, "r", *id),
-        Next::List(table) => write!(words, " l{table}").expect(rt, "a list"),
+        Next::Read(id) => add_row_id(rt, words, "r", *id),
+        Next::List(table) => add_named(rt, words, "l", u64::from(*table)),
         Next::Put(row) => add_put(rt, words, row),
-        Next::Exit => write!(words, " x").expect(rt, "an exit"),
-        Next::Done(done) => write!(words, " d{}", done.status).expect(rt, "an end"),
+        Next::Exit => add_word(rt, words, "x"),
+        Next::Done(done) => add_named(rt, words, "d", u64::from(done.status)),
     }
 }
 
@@ -82,32 +81,27 @@ fn expect_steps(
         id: RowId { table: 3, key: 7 },
     };
     let steps = steps_of(rt, alloc, &stamp, row);
-    assert_eq!(rt; steps.trim_start(), want);
+    expect_words(rt, &steps, want, "the steps of a program");
 }
 
+/// What an action goes through: a component, by its method 4.
+fn home(component: u16) -> Option<Through> {
+    Some(Through {
+        component: ComponentNo(component),
+        method: 4,
+    })
+}
+
+/// An access is made in the owner. Where that is what the action goes through, the access enters nothing; else it is
+/// made behind it.
 #[test]
 fn an_access_is_made_in_the_owner(rt: HostRuntime) {
-    let want = "e0.0 e1.0 r3.7 x e1.0 p3.7=x x x d200";
-    expect_steps(&rt, rt.alloc(), None, None, want);
-    expect_steps(&rt, rt.alloc(), None, Some(b"a"), "e0.0 e1.0 r3.7 x x d409");
-}
-
-#[test]
-fn an_access_at_home_enters_nothing(rt: HostRuntime) {
-    let home = Through {
-        component: ComponentNo(1),
-        method: 4,
-    };
-    let want = "e0.0 e1.4 r3.7 p3.7=x x x d200";
-    expect_steps(&rt, rt.alloc(), Some(home), None, want);
-}
-
-#[test]
-fn an_access_is_made_behind_what_the_action_goes_through(rt: HostRuntime) {
-    let home = Through {
-        component: ComponentNo(2),
-        method: 4,
-    };
-    let want = "e0.0 e2.4 e1.0 r3.7 x e1.0 p3.7=x x x x d200";
-    expect_steps(&rt, rt.alloc(), Some(home), None, want);
+    let put = "e0.0 e1.0 r3.7 x e1.0 p3.7=x x x d200";
+    let found = "e0.0 e1.0 r3.7 x x d409";
+    let at_home = "e0.0 e1.4 r3.7 p3.7=x x x d200";
+    let behind = "e0.0 e2.4 e1.0 r3.7 x e1.0 p3.7=x x x x d200";
+    expect_steps(&rt, rt.alloc(), None, None, put);
+    expect_steps(&rt, rt.alloc(), None, Some(b"a"), found);
+    expect_steps(&rt, rt.alloc(), home(1), None, at_home);
+    expect_steps(&rt, rt.alloc(), home(2), None, behind);
 }

@@ -2,6 +2,7 @@
 
 ghost use Rattle.std.specs.Prelude.{◌≡◌, [], None};
 
+use crate::words::expect_so;
 use commit_journal::{
     CommitEntry, Entry, Journal, JournalLimits, MAX_ENTRIES, MarkList, TouchList,
 };
@@ -45,7 +46,8 @@ fn nothing(alloc: Global, request: RequestNo) -> CommitEntry
 fn reserve(rt: &impl Abort, journal: &mut Journal) {
     let len = journal.len();
     if journal.reserve(1).is_err() {
-        assert!(rt; journal.len() == len && journal.fullness().entries == len);
+        let is_same = journal.len() == len && journal.fullness().entries == len;
+        expect_so(rt, is_same, "the journal is as it was");
         journal.reserve(1).expect(rt, "room");
     }
 }
@@ -80,7 +82,7 @@ fn first_commit(entries: &[Entry], request: RequestNo) -> Option<u64> {
 /// Asserts where the commit of a request is.
 fn expect_place(rt: &impl Abort, journal: &Journal, request: RequestNo, want: Option<u64>) {
     let found = journal.commit_of(request).map(|place| place.0);
-    assert!(rt; found == want);
+    expect_so(rt, found == want, "the place of a commit");
 }
 
 /// Asserts that the commits of all requests are those of a scan.
@@ -113,37 +115,35 @@ fn commits_are_those_of_a_scan(rt: HostRuntime) {
     }
 }
 
-/// The serial of the n-th commit, of which each is another, in an order that looks like chance.
-fn scattered(n: u64) -> u64 {
-    n.wrapping_mul(98_765) % MAX_ENTRIES
+/// The serial of the n-th commit, of which each is another: they fall, or come in an order that looks like chance.
+fn serial_of(n: u64, is_falling: bool) -> u64 {
+    if is_falling {
+        FALLING.wrapping_sub(n)
+    } else {
+        n.wrapping_mul(98_765) % MAX_ENTRIES
+    }
+}
+
+/// Asserts that so many commits of boot 1 are found at their places, and none of boot 2.
+fn expect_serials(rt: &impl Abort, alloc: Global, count: u64, is_falling: bool) {
+    let mut journal = journal_of(alloc);
+    for n in 0..count {
+        let serial = serial_of(n, is_falling);
+        commit(rt, alloc, &mut journal, RequestNo { boot: 1, serial });
+    }
+    for n in 0..count {
+        let serial = serial_of(n, is_falling);
+        expect_place(rt, &journal, RequestNo { boot: 1, serial }, Some(n));
+        expect_place(rt, &journal, RequestNo { boot: 2, serial }, None);
+    }
 }
 
 #[test]
 fn requests_come_in_any_order(rt: HostRuntime) {
-    let mut journal = journal_of(rt.alloc());
-    for n in 0..MAX_ENTRIES {
-        let request = RequestNo {
-            boot: 1,
-            serial: scattered(n),
-        };
-        commit(&rt, rt.alloc(), &mut journal, request);
-    }
-    for n in 0..MAX_ENTRIES {
-        let serial = scattered(n);
-        expect_place(&rt, &journal, RequestNo { boot: 1, serial }, Some(n));
-        expect_place(&rt, &journal, RequestNo { boot: 2, serial }, None);
-    }
+    expect_serials(&rt, rt.alloc(), MAX_ENTRIES, false);
 }
 
 #[test]
 fn requests_come_in_falling_order(rt: HostRuntime) {
-    let mut journal = journal_of(rt.alloc());
-    for n in 0..FALLING {
-        let serial = FALLING - n;
-        commit(&rt, rt.alloc(), &mut journal, RequestNo { boot: 1, serial });
-    }
-    for n in 0..FALLING {
-        let serial = FALLING - n;
-        expect_place(&rt, &journal, RequestNo { boot: 1, serial }, Some(n));
-    }
+    expect_serials(&rt, rt.alloc(), FALLING, true);
 }

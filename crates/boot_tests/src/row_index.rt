@@ -3,7 +3,7 @@
 ghost use Rattle.std.specs.Prelude.{ℕ, ◌<◌, All};
 ghost use Rattle.row_store.specs.declared.noted.Noted.{Noted};
 
-use crate::words::{add_row, expect_words};
+use crate::words::{add_row, expect_so, expect_words};
 use crash_base::{Place, RowBytes, RowId, RowList, RowWrite};
 use row_store::Rows;
 use std::alloc::Global;
@@ -124,7 +124,7 @@ fn expect_table(rt: &impl Abort, alloc: Global, rows: &Rows, all: &[Written], ta
     for key in 0..KEYS {
         let id = RowId { table, key };
         let want = last_before(all, id, at);
-        assert!(rt; is_same(rows.row_at(id, Place(at)), want));
+        expect_so(rt, is_same(rows.row_at(id, Place(at)), want), "a row");
     }
 }
 
@@ -142,10 +142,11 @@ fn expect_all(rt: &impl Abort, alloc: Global, rows: &Rows, all: &[Written], at: 
 
 fn expect_newest(rt: &impl Abort, rows: &Rows, all: &[Written]) {
     for table in 0..TABLES {
-        assert!(rt; rows.table_newest(table).0 == table_newest_of(all, table));
+        let newest = table_newest_of(all, table);
+        expect_so(rt, rows.table_newest(table).0 == newest, "a table");
         for key in 0..KEYS {
             let id = RowId { table, key };
-            assert!(rt; rows.newest(id).0 == newest_of(all, id));
+            expect_so(rt, rows.newest(id).0 == newest_of(all, id), "a row");
         }
     }
 }
@@ -209,7 +210,10 @@ fn expect_note(rt: &impl Abort, rows: &Rows, key: u64, at: u64) {
         rows.row_at(RowId { table: 3, key }, Place(at)),
         note_before(at, key),
     ) {
-        (Some(found), Some(n)) => assert!(rt; found.as_slice() == n.to_be_bytes().as_slice()),
+        (Some(found), Some(n)) => {
+            let is_note = found.as_slice() == n.to_be_bytes().as_slice();
+            expect_so(rt, is_note, "the note of a row");
+        }
         (None, None) => {}
         _ => panic!(rt; "row {key} at {at}"),
     }

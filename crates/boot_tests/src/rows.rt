@@ -3,20 +3,12 @@
 ghost use Rattle.std.specs.Prelude.{ℕ, ◌+◌, ◌<◌, length, All};
 ghost use Rattle.row_store.specs.declared.noted.Noted.{Noted};
 
+use crate::boot_fixtures::write;
 use crate::words::{add_number, add_row, add_text, add_word, byte, cut, expect_words, id, number};
 use crash_base::{Place, RowBytes, RowList, RowWrite};
 use row_store::Rows;
 use std::alloc::Global;
 use std::process::Abort;
-
-/// The row that a text spells: its table, its key, and after a sign its bytes.
-fn write(rt: &impl Abort, alloc: Global, text: &str) -> RowWrite {
-    let (row, bytes) = cut(rt, text, '=');
-    RowWrite {
-        id: id(rt, row),
-        bytes: RowBytes::copied(alloc, bytes.as_bytes()).expect(rt, "a row"),
-    }
-}
 
 /// The rows that a text spells, joined by one space.
 fn list(rt: &impl Abort, alloc: Global, text: &str) -> RowList {
@@ -167,19 +159,10 @@ table 3|0";
 
 #[test]
 fn rows_are_read_at_each_place(rt: HostRuntime) {
-    let rows = rows_of(&rt, rt.alloc());
-    expect_answers(&rt, rt.alloc(), &rows, ANSWERS);
-}
-
-#[test]
-fn the_last_note_is_forgotten(rt: HostRuntime) {
     let mut rows = rows_of(&rt, rt.alloc());
+    expect_answers(&rt, rt.alloc(), &rows, ANSWERS);
     rows.forget_last();
     expect_answers(&rt, rt.alloc(), &rows, SHORTER);
-}
-
-#[test]
-fn no_rows_are_read(rt: HostRuntime) {
-    let rows = Rows::new(rt.alloc(), RowList::new(rt.alloc())).expect(&rt, "the rows");
-    expect_answers(&rt, rt.alloc(), &rows, EMPTY);
+    let none = Rows::new(rt.alloc(), RowList::new(rt.alloc())).expect(&rt, "the rows");
+    expect_answers(&rt, rt.alloc(), &none, EMPTY);
 }

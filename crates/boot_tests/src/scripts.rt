@@ -4,20 +4,20 @@ use crate::boot_fixtures::{LIMITS, request};
 use crate::container_fixtures::shop;
 use crate::containers::call;
 use crate::keepers::{SilentKeeper, add_kept, failing_keeper};
+use crate::kept_words::add_bytes;
 use crate::starts::{add_rows, add_start_refusal};
-use crate::words::{add_named, add_word, cut, expect_words, number};
+use crate::words::{add_named, add_pair, add_word, cut, expect_so, expect_words, number};
 use container_core::{Container, StartFail};
 use crash_base::RowList;
 use outside::Keeper;
 use std::alloc::Global;
-use std::fmt::Write;
 use std::process::Abort;
 
 /// What a script has come to: the number of the boot, the byte of each row of table 3 by its key, with 0 where there is
 /// none, the calls of the keeper, which of them fails, and the events of the container.
 #[derive(Drop)]
 struct Expected {
-    boot: u64,
+    boot: u32,
     rows: [u8; 5],
     calls: u64,
     failing: u64,
@@ -67,13 +67,15 @@ impl Expected {
 /// Adds a row, where there is one.
 fn add_expected_row(rt: &impl Abort, words: &mut String, key: usize, byte: u8) {
     if byte > 0 {
-        write!(words, " 3.{key}={byte:02x}").expect(rt, "a row");
+        add_pair(rt, words, 3, ".", key as u64);
+        add_bytes(rt, words, &[byte]);
     }
 }
 
 /// Adds the rows that there have to be.
 fn add_expected(rt: &impl Abort, words: &mut String, expected: &Expected) {
-    write!(words, " 0.0={:08x}", expected.boot).expect(rt, "the boot");
+    add_pair(rt, words, 0, ".", 0);
+    add_bytes(rt, words, &expected.boot.to_be_bytes());
     for key in 0..5 {
         add_expected_row(rt, words, key, expected.rows[key]);
     }
@@ -92,7 +94,7 @@ fn expect_container<K: Keeper + Drop>(
     add_named(rt, &mut words, "", u64::from(container.boot()));
     add_named(rt, &mut words, "", container.events());
     add_rows(rt, alloc, &mut words, container);
-    add_named(rt, &mut want, "", expected.boot);
+    add_named(rt, &mut want, "", u64::from(expected.boot));
     add_named(rt, &mut want, "", expected.events);
     add_expected(rt, &mut want, expected);
     expect_words(rt, &words, want.trim_start(), step);
@@ -108,7 +110,7 @@ fn start_again<K: Keeper + Drop>(
     let mut words = String::new(alloc);
     add_start_refusal(rt, &mut words, fail.refusal);
     expect_words(rt, &words, "keeper_failed", "a start");
-    assert!(rt; !expected.start());
+    expect_so(rt, !expected.start(), "a second start");
     let deployment = shop(rt, alloc);
     match Container::start(alloc, deployment, fail.keeper, LIMITS) {
         Ok(container) => container,
@@ -124,7 +126,7 @@ fn started<K: Keeper + Drop>(
     expected: &mut Expected,
 ) -> Container<K> {
     let refused = expected.start();
-    assert!(rt; answer.is_err() == refused);
+    expect_so(rt, answer.is_err() == refused, "a start");
     match answer {
         Ok(container) => container,
         Err(fail) => start_again(rt, alloc, fail, expected),

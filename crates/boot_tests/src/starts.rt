@@ -123,13 +123,6 @@ fn expect_start(rt: &impl Abort, alloc: Global, row: &str) {
     expect_words(rt, &words, want, row);
 }
 
-#[test]
-fn a_container_starts_over_the_rows_of_its_keeper(rt: HostRuntime) {
-    for row in STARTS.split('\n') {
-        expect_start(&rt, rt.alloc(), row);
-    }
-}
-
 /// The rows that a keeper gives in this order, and after a bar the boot, or what refuses the start.
 const GIVEN: &str = "5.1*1*1 3.1*2*1 5.0*3*1|boot1 0.0=00000001 3.1=02 5.0=03 5.1=01
 5.1*1*1 0.0*1*4|boot16843010 0.0=01010102 5.1=01
@@ -151,8 +144,12 @@ fn expect_given(rt: &impl Abort, alloc: Global, row: &str) {
     expect_words(rt, &words, want, row);
 }
 
+/// A container starts over the rows of its keeper, and judges those that are out of order.
 #[test]
-fn rows_out_of_order_are_judged(rt: HostRuntime) {
+fn containers_start_over_rows(rt: HostRuntime) {
+    for row in STARTS.split('\n') {
+        expect_start(&rt, rt.alloc(), row);
+    }
     for row in GIVEN.split('\n') {
         expect_given(&rt, rt.alloc(), row);
     }

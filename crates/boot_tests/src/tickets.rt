@@ -83,45 +83,54 @@ fn add_parts(rt: &impl Abort, words: &mut String, parts: &TicketParts) {
     }
 }
 
-#[test]
-fn a_ticket_holds_its_call(rt: HostRuntime) {
-    let mut words = String::new(rt.alloc());
-    let mut ticket = Ticket::new(rt.alloc(), request(70), WorkerNo(4), Place(9)).expect(
-        &rt, "a ticket",
-    );
-    add_row_of(&rt, &mut words, &ticket);
-    enter(&rt, &mut ticket);
-    read(&rt, rt.alloc(), &mut ticket);
-    put(&rt, rt.alloc(), &mut ticket);
-    add_row_of(&rt, &mut words, &ticket);
-    add_ticket(&rt, &mut words, &ticket);
-    add_number(&rt, &mut words, leave(&rt, &mut ticket));
-    expect_words(
-        &rt,
-        &words,
-        "none unread xyz read 70 4@9 1 3 5 17",
-        "a ticket",
-    );
+/// Enters, reads and puts.
+fn make_steps(rt: &impl Abort, alloc: Global, ticket: &mut Ticket) {
+    enter(rt, ticket);
+    read(rt, alloc, ticket);
+    put(rt, alloc, ticket);
+}
+
+/// Adds what a ticket holds of its call, before its steps and after them.
+fn add_call(rt: &impl Abort, alloc: Global, words: &mut String, ticket: &mut Ticket) {
+    add_row_of(rt, words, ticket);
+    make_steps(rt, alloc, ticket);
+    add_row_of(rt, words, ticket);
+    add_ticket(rt, words, ticket);
+    add_number(rt, words, leave(rt, ticket));
+}
+
+/// Adds what a ticket holds that is used again.
+fn add_renewed(rt: &impl Abort, alloc: Global, words: &mut String, ticket: &mut Ticket) {
+    make_steps(rt, alloc, ticket);
+    let parts = ticket.take_parts(alloc).expect(rt, "the parts");
+    add_parts(rt, words, &parts);
+    add_ticket(rt, words, ticket);
+    ticket.renew(request(71), WorkerNo(5), Place(10));
+    add_ticket(rt, words, ticket);
+}
+
+fn new_ticket(rt: &impl Abort, alloc: Global) -> Ticket {
+    Ticket::new(alloc, request(70), WorkerNo(4), Place(9)).expect(rt, "a ticket")
 }
 
 #[test]
-fn a_ticket_is_used_again(rt: HostRuntime) {
+fn a_ticket_holds_its_call_and_is_used_again(rt: HostRuntime) {
     let mut words = String::new(rt.alloc());
-    let mut ticket = Ticket::new(rt.alloc(), request(70), WorkerNo(4), Place(9)).expect(
-        &rt, "a ticket",
-    );
-    enter(&rt, &mut ticket);
-    read(&rt, rt.alloc(), &mut ticket);
-    put(&rt, rt.alloc(), &mut ticket);
-    let parts = ticket.take_parts(rt.alloc()).expect(&rt, "the parts");
-    add_parts(&rt, &mut words, &parts);
-    add_ticket(&rt, &mut words, &ticket);
-    ticket.renew(request(71), WorkerNo(5), Place(10));
-    add_ticket(&rt, &mut words, &ticket);
-    expect_words(
+    add_call(
         &rt,
-        &words,
-        "17 2#4 ab 3.7=xyz 70 4@9 0 0 0 71 5@10 0 0 0",
-        "a ticket",
+        rt.alloc(),
+        &mut words,
+        &mut new_ticket(&rt, rt.alloc()),
     );
+    let call = "none unread xyz read 70 4@9 1 3 5 17";
+    expect_words(&rt, &words, call, "a ticket");
+    let mut words = String::new(rt.alloc());
+    add_renewed(
+        &rt,
+        rt.alloc(),
+        &mut words,
+        &mut new_ticket(&rt, rt.alloc()),
+    );
+    let again = "17 2#4 ab 3.7=xyz 70 4@9 0 0 0 71 5@10 0 0 0";
+    expect_words(&rt, &words, again, "a ticket");
 }

@@ -6,9 +6,14 @@ use crash_base::{ComponentNo, RowId, RowWrite};
 use std::fmt::Write;
 use std::process::Abort;
 
-/// Asserts that these words were found, and shows the row where they were not.
+/// Asserts that something is so, and shows what where it is not.
+pub fn expect_so(rt: &impl Abort, is_so: bool, what: &str) {
+    assert!(rt; is_so, "{what}");
+}
+
+/// Asserts that these words were found, and shows them and the row where they were not.
 pub fn expect_words(rt: &impl Abort, found: &str, want: &str, row: &str) {
-    assert_eq!(rt; found.trim_start(), want, "{row}");
+    assert!(rt; found.trim_start() == want, "{found}\n{row}");
 }
 
 /// The parts of a row before a mark and after it.
@@ -18,12 +23,14 @@ pub fn cut<'a>(rt: &impl Abort, row: &'a str, mark: char) -> (&'a str, &'a str) 
 
 /// The number that a text spells.
 pub fn number(rt: &impl Abort, text: &str) -> u64 {
-    text.parse().expect(rt, text)
+    text.parse().ok().expect(rt, text)
 }
 
 /// The number below 2^16 that a text spells.
 pub fn short(rt: &impl Abort, text: &str) -> u16 {
-    u16::try_from(number(rt, text)).expect(rt, text)
+    let number = number(rt, text);
+    assert!(rt; number < 0x1_0000);
+    number as u16
 }
 
 /// The component whose number a text spells.
@@ -33,7 +40,9 @@ pub fn component(rt: &impl Abort, text: &str) -> ComponentNo {
 
 /// The byte whose number a text spells.
 pub fn byte(rt: &impl Abort, text: &str) -> u8 {
-    u8::try_from(number(rt, text)).expect(rt, text)
+    let number = number(rt, text);
+    assert!(rt; number < 0x100);
+    number as u8
 }
 
 /// The id that a text spells: its table and its key.
@@ -47,33 +56,50 @@ pub fn id(rt: &impl Abort, text: &str) -> RowId {
 
 /// The text that bytes spell.
 pub fn text<'a>(rt: &impl Abort, bytes: &'a [u8]) -> &'a str {
-    std::str::from_utf8(bytes).expect(rt, "a text")
+    std::str::from_utf8(bytes).ok().expect(rt, "a text")
+}
+
+/// Adds a text to the last word.
+pub fn add_part(rt: &impl Abort, words: &mut String, part: &str) {
+    words.push_str(part).expect(rt, part);
+}
+
+/// Adds a mark and a number to the last word.
+pub fn add_marked(rt: &impl Abort, words: &mut String, mark: &str, number: u64) {
+    write!(words, "{mark}{number}").expect(rt, mark);
 }
 
 pub fn add_word(rt: &impl Abort, words: &mut String, word: &str) {
-    write!(words, " {word}").expect(rt, word);
+    add_part(rt, words, " ");
+    add_part(rt, words, word);
 }
 
 pub fn add_number(rt: &impl Abort, words: &mut String, number: u64) {
-    write!(words, " {number}").expect(rt, "a number");
+    add_marked(rt, words, " ", number);
 }
 
 /// Adds a name and a number.
 pub fn add_named(rt: &impl Abort, words: &mut String, name: &str, number: u64) {
-    write!(words, " {name}{number}").expect(rt, name);
+    add_part(rt, words, " ");
+    add_marked(rt, words, name, number);
+}
+
+/// Adds a name and two numbers with a dot between them.
+pub fn add_dotted(rt: &impl Abort, words: &mut String, name: &str, first: u64, second: u64) {
+    add_named(rt, words, name, first);
+    add_marked(rt, words, ".", second);
 }
 
 /// Adds two numbers and a sign between them.
 pub fn add_pair(rt: &impl Abort, words: &mut String, first: u64, sign: &str, second: u64) {
-    write!(words, " {first}{sign}{second}").expect(rt, sign);
+    add_number(rt, words, first);
+    add_marked(rt, words, sign, second);
 }
 
 /// Adds a mark and the text that bytes spell, with no space between them.
 pub fn add_text(rt: &impl Abort, words: &mut String, mark: &str, bytes: &[u8]) {
-    words.push_str(mark).expect(rt, mark);
-    words
-        .push_str(std::str::from_utf8(bytes).expect(rt, mark))
-        .expect(rt, mark);
+    add_part(rt, words, mark);
+    add_part(rt, words, text(rt, bytes));
 }
 
 pub fn add_id(rt: &impl Abort, words: &mut String, id: RowId) {

@@ -1,6 +1,6 @@
 //! Requests that tests make, and words for what a brick replies.
 
-use crate::words::{add_number, add_text};
+use crate::words::{add_number, add_text, add_word, expect_so, expect_words};
 use brick_store::Brick;
 use crash_base::{BrickNo, MAX_SESSION_BYTES, Moment, SessionBytes, SessionKey, Version};
 use ssm_frames::{Frame, is_request};
@@ -75,7 +75,13 @@ pub fn crash(rt: &impl Abort, brick: &mut Brick) {
     brick.crash();
 }
 
-fn add_sender(rt: &impl Abort, words: &mut String, word: &str, brick: BrickNo, incarnation: u64) {
+pub fn add_sender(
+    rt: &impl Abort,
+    words: &mut String,
+    word: &str,
+    brick: BrickNo,
+    incarnation: u64,
+) {
     write!(words, " {word} {}.{incarnation}", brick.0).expect(rt, word);
 }
 
@@ -127,7 +133,7 @@ fn add_reply(rt: &impl Abort, words: &mut String, reply: &Frame) {
             add_sender(rt, words, "swept", *brick, *incarnation);
             add_number(rt, words, moment.0);
         }
-        _ => words.push_str(" no reply").expect(rt, "no reply"),
+        _ => add_word(rt, words, "no reply"),
     }
 }
 
@@ -147,7 +153,7 @@ fn has_nonce(reply: &Frame) -> bool {
 pub fn ask(rt: &impl Abort, alloc: Global, brick: &mut Brick, request: &Frame) -> String {
     assert!(rt; is_request(request));
     let reply = brick.answer(alloc, request).expect(rt, "a reply");
-    assert!(rt; has_nonce(&reply));
+    expect_so(rt, has_nonce(&reply), "the nonce");
     let mut words = String::new(alloc);
     add_reply(rt, &mut words, &reply);
     words
@@ -162,10 +168,11 @@ pub fn expect_reply(
     want: &str,
 ) {
     let words = ask(rt, alloc, brick, request);
-    assert_eq!(rt; words.trim_start(), want);
+    expect_words(rt, &words, want, "a reply");
 }
 
 /// Asserts how many values a brick keeps, and how many bytes they have.
 pub fn expect_kept(rt: &impl Abort, brick: &Brick, values: u64, bytes: u64) {
-    assert!(rt; brick.values() == values && brick.bytes() == bytes);
+    let is_kept = brick.values() == values && brick.bytes() == bytes;
+    expect_so(rt, is_kept, "what a brick keeps");
 }

@@ -1,11 +1,13 @@
 //! A brick through many requests, beside a plain list.
 
-use crate::asking::{ask, brick, crash, expect_kept, filled, get, key, put, sweep, version};
-use crate::words::add_text;
+use crate::asking::{
+    add_sender, ask, brick, crash, expect_kept, filled, get, key, put, sweep, version,
+};
+use crate::words::{add_number, add_text, expect_so};
 use brick_store::Brick;
-use crash_base::Moment;
+use crash_base::{BrickNo, Moment};
+use ssm_frames::Frame;
 use std::alloc::Global;
-use std::fmt::Write;
 use std::process::Abort;
 
 /// A value that is kept: how many bytes it has, each of them `A`, under which key and version, and
@@ -84,32 +86,48 @@ impl Rows {
     }
 }
 
-/// What a brick replies to a Get.
-fn reply_to_get(rt: &impl Abort, alloc: Global, rows: &Rows, row: &Row) -> String {
-    let mut words = String::new(alloc);
+/// Asserts what a brick replies.
+fn expect_asked(rt: &impl Abort, alloc: Global, brick: &mut Brick, request: &Frame, want: &str) {
+    expect_so(rt, ask(rt, alloc, brick, request).as_str() == want, want);
+}
+
+/// Adds what a brick replies to a Get.
+fn add_reply_to_get(rt: &impl Abort, alloc: Global, words: &mut String, rows: &Rows, row: &Row) {
     match rows.find(row) {
-        None => write!(words, " absent 3.{} {}", rows.incarnation, rows.swept).expect(rt, "absent"),
+        None => {
+            add_sender(rt, words, "absent", BrickNo(3), rows.incarnation);
+            add_number(rt, words, rows.swept);
+        }
         Some(kept) => {
-            write!(words, " found 3.{} {}", rows.incarnation, kept.expiry).expect(rt, "found");
-            add_text(rt, &mut words, filled(rt, alloc, 65, kept.size).as_slice());
+            add_sender(rt, words, "found", BrickNo(3), rows.incarnation);
+            add_number(rt, words, kept.expiry);
+            add_text(rt, words, filled(rt, alloc, 65, kept.size).as_slice());
         }
     }
-    words
 }
 
 fn put_next(rt: &impl Abort, alloc: Global, brick: &mut Brick, rows: &mut Rows, row: Row) {
     let value = filled(rt, alloc, 65, row.size);
     let request = put(key(row.key), version(row.serial), row.expiry, value);
     let mut want = String::new(alloc);
-    write!(want, " stored 3.{}", rows.incarnation).expect(rt, "stored");
-    assert!(rt; ask(rt, alloc, brick, &request) == want);
+    add_sender(rt, &mut want, "stored", BrickNo(3), rows.incarnation);
+    expect_asked(rt, alloc, brick, &request, &want);
     rows.put(rt, row);
 }
 
 fn get_next(rt: &impl Abort, alloc: Global, brick: &mut Brick, rows: &Rows, row: Row) {
     let request = get(key(row.key), version(row.serial));
-    let want = reply_to_get(rt, alloc, rows, &row);
-    assert!(rt; ask(rt, alloc, brick, &request) == want);
+    let mut want = String::new(alloc);
+    add_reply_to_get(rt, alloc, &mut want, rows, &row);
+    expect_asked(rt, alloc, brick, &request, &want);
+}
+
+/// Sweeps by a request.
+fn ask_sweep(rt: &impl Abort, alloc: Global, brick: &mut Brick, rows: &Rows, moment: u64) {
+    let mut want = String::new(alloc);
+    add_sender(rt, &mut want, "swept", BrickNo(3), rows.incarnation);
+    add_number(rt, &mut want, moment);
+    expect_asked(rt, alloc, brick, &sweep(moment), &want);
 }
 
 /// Sweeps, every other time by a request.
@@ -117,9 +135,7 @@ fn sweep_next(rt: &impl Abort, alloc: Global, brick: &mut Brick, rows: &mut Rows
     if row.size % 2 == 0 {
         brick.sweep(Moment(row.expiry));
     } else {
-        let mut want = String::new(alloc);
-        write!(want, " swept 3.{} {}", rows.incarnation, row.expiry).expect(rt, "swept");
-        assert!(rt; ask(rt, alloc, brick, &sweep(row.expiry)) == want);
+        ask_sweep(rt, alloc, brick, rows, row.expiry);
     }
     rows.sweep(row.expiry);
 }
@@ -127,7 +143,7 @@ fn sweep_next(rt: &impl Abort, alloc: Global, brick: &mut Brick, rows: &mut Rows
 fn crash_next(rt: &impl Abort, brick: &mut Brick, rows: &mut Rows) {
     crash(rt, brick);
     rows.crash();
-    assert!(rt; brick.incarnation() == rows.incarnation);
+    expect_so(rt, brick.incarnation() == rows.incarnation, "a crash");
 }
 
 fn step(rt: &impl Abort, alloc: Global, brick: &mut Brick, rows: &mut Rows, state: &mut u64) {

@@ -1,6 +1,8 @@
 //! Cookies at values, signed by another implementation.
 
-use crate::words::{add_hex, add_number, add_text, add_word, cut, expect_words, hex_bytes};
+use crate::words::{
+    add_hex, add_number, add_text, add_word, cut, expect_so, expect_words, hex_bytes,
+};
 use session_cookie::{Cookie, CookieRefusal, MAX_HOLDERS, decode_cookie, encode_cookie};
 use std::alloc::Global;
 use std::process::Abort;
@@ -75,13 +77,6 @@ fn expect_cookie(rt: &impl Abort, alloc: Global, row: &str) {
     expect_again(rt, alloc, &key, text);
 }
 
-#[test]
-fn cookies_of_another_implementation_are_read(rt: HostRuntime) {
-    for row in SIGNED.split('\n') {
-        expect_cookie(&rt, rt.alloc(), row);
-    }
-}
-
 /// What is wrong with the first text above, the text so, and the refusal, under a key of 32 zero bytes.
 /// Other fields have their own tag under this key, by the same lines of Python.
 const REFUSED: &str =
@@ -108,15 +103,15 @@ fn expect_refusal(rt: &impl Abort, alloc: Global, row: &str) {
     expect_answer(rt, alloc, &[0; 32], text, want);
 }
 
+/// Cookies of another implementation are read, and texts that are no cookie are refused. Contracts cite the greatest
+/// number of bricks by its name alone, so its value is tested.
 #[test]
-fn texts_that_are_no_cookie_are_refused(rt: HostRuntime) {
+fn cookies_are_read_or_refused(rt: HostRuntime) {
+    for row in SIGNED.split('\n') {
+        expect_cookie(&rt, rt.alloc(), row);
+    }
     for row in REFUSED.split('\n') {
         expect_refusal(&rt, rt.alloc(), row);
     }
-}
-
-/// Contracts cite the greatest number of bricks by its name alone, so its value is tested.
-#[test]
-fn a_cookie_has_at_most_16_bricks(rt: HostRuntime) {
-    assert!(rt; MAX_HOLDERS == 16);
+    expect_so(&rt, MAX_HOLDERS == 16, "the greatest number of bricks");
 }

@@ -1,7 +1,8 @@
 //! Frames and the bytes that spell them.
 
 use crate::words::{
-    add_hex, add_number, add_word, cut, expect_bytes, expect_words, hex_byte, hex_bytes, number,
+    add_hex, add_number, add_word, cut, expect_bytes, expect_so, expect_words, hex_byte, hex_bytes,
+    number,
 };
 use crash_base::{BrickNo, MAX_FRAME_BYTES, SessionKey, Version};
 use ssm_frames::{Frame, decode, encode, is_request};
@@ -26,13 +27,14 @@ const FRAMES: &str =
 84 0102 00000003 0000000000000100 000102030405060708090a0b0c0d0e0f 0004 00010000 0000000100000000 0005 0000000000000007 00010000 0000000004000000|reply brick_full 258.3.256 k000102030405060708090a0b0c0d0e0f 4.65536.4294967296 5 7 65536 67108864
 85 0102 00000003 0000000000000100 0005 8000000000000000 000000000000ea60|reply swept 258.3.256 5 9223372036854775808 60000";
 
+/// Adds three numbers with dots between them.
+fn add_three(rt: &impl Abort, words: &mut String, first: u64, second: u64, third: u64) {
+    write!(words, " {first}.{second}.{third}").expect(rt, "a version");
+}
+
 fn add_version(rt: &impl Abort, words: &mut String, version: &Version) {
-    write!(
-        words,
-        " {}.{}.{}",
-        version.node, version.boot, version.serial
-    )
-    .expect(rt, "a version");
+    let (node, boot) = (u64::from(version.node), u64::from(version.boot));
+    add_three(rt, words, node, boot, version.serial);
 }
 
 /// Adds the word of a frame, and which value and call it is about.
@@ -170,16 +172,6 @@ fn expect_encoded_back(rt: &impl Abort, alloc: Global, bytes: &[u8], row: &str) 
     expect_encoded(rt, alloc, &frame, bytes, row);
 }
 
-#[test]
-fn each_frame_has_its_bytes(rt: HostRuntime) {
-    for row in FRAMES.split('\n') {
-        let (text, want) = cut(&rt, row, '|');
-        let bytes = hex_bytes(&rt, rt.alloc(), text);
-        expect_decoded(&rt, rt.alloc(), &bytes, want, row);
-        expect_encoded_back(&rt, rt.alloc(), &bytes, row);
-    }
-}
-
 /// A Get of key 1 and version (1, 1, 0), of the call (1, 1, 5).
 fn a_get() -> Frame {
     let mut key = [0; 16];
@@ -202,10 +194,9 @@ fn a_get() -> Frame {
 const GET: &str =
     "02 0001 00000001 0000000000000005 00000000000000000000000000000001 0001 00000001 0000000000000000";
 
-#[test]
-fn a_get_is_encoded(rt: HostRuntime) {
-    let bytes = hex_bytes(&rt, rt.alloc(), GET);
-    expect_encoded(&rt, rt.alloc(), &a_get(), &bytes, GET);
+fn expect_get(rt: &impl Abort, alloc: Global) {
+    let bytes = hex_bytes(rt, alloc, GET);
+    expect_encoded(rt, alloc, &a_get(), &bytes, GET);
 }
 
 /// Asserts that no beginning of these bytes is decoded, and not one with a byte more.
@@ -219,13 +210,21 @@ fn expect_exact(rt: &impl Abort, alloc: Global, bytes: &mut Vec<u8>, row: &str) 
     expect_decoded(rt, alloc, bytes, "none", row);
 }
 
+fn expect_frame(rt: &impl Abort, alloc: Global, row: &str) {
+    let (text, want) = cut(rt, row, '|');
+    let mut bytes = hex_bytes(rt, alloc, text);
+    expect_decoded(rt, alloc, &bytes, want, row);
+    expect_encoded_back(rt, alloc, &bytes, row);
+    expect_exact(rt, alloc, &mut bytes, row);
+}
+
+/// Each frame has its bytes, and one byte more or less is no frame.
 #[test]
-fn one_byte_more_or_less_is_no_frame(rt: HostRuntime) {
+fn frames_have_their_bytes(rt: HostRuntime) {
     for row in FRAMES.split('\n') {
-        let (text, _) = cut(&rt, row, '|');
-        let mut bytes = hex_bytes(&rt, rt.alloc(), text);
-        expect_exact(&rt, rt.alloc(), &mut bytes, row);
+        expect_frame(&rt, rt.alloc(), row);
     }
+    expect_get(&rt, rt.alloc());
 }
 
 /// The first byte of each frame, its words, and its fields: a version as `v`, a key as `k`, a value as
@@ -242,7 +241,7 @@ const LAYOUTS: &str = "01 request put v k v 8 =
 fn layout_of(rt: &impl Abort, first: u8) -> Option<&'static str> {
     for layout in LAYOUTS.split('\n') {
         let (byte, fields) = cut(rt, layout, ' ');
-        if hex_byte(rt, byte) == first {
+        if hex_byte(rt, byte.as_bytes()) == first {
             return Some(fields);
         }
     }
@@ -263,14 +262,13 @@ fn add_laid_version<'a>(rt: &impl Abort, words: &mut String, bytes: &'a [u8]) ->
     let (node, rest) = bytes.split_at_checked(2)?;
     let (boot, rest) = rest.split_at_checked(4)?;
     let (serial, rest) = rest.split_at_checked(8)?;
-    write!(
+    add_three(
+        rt,
         words,
-        " {}.{}.{}",
         number_of(node),
         number_of(boot),
-        number_of(serial)
-    )
-    .expect(rt, "a version");
+        number_of(serial),
+    );
     Some(rest)
 }
 
@@ -368,37 +366,19 @@ fn expect_changes_at(rt: &impl Abort, alloc: Global, bytes: &[u8], at: usize, ro
     }
 }
 
-/// Asserts it of the frames with this first byte, at each place.
-fn expect_changes(rt: &impl Abort, alloc: Global, first: &str) {
+/// Asserts it at each place of a row's bytes.
+fn expect_changes(rt: &impl Abort, alloc: Global, row: &str) {
+    let (text, _) = cut(rt, row, '|');
+    let bytes = hex_bytes(rt, alloc, text);
+    for at in 0..bytes.len() {
+        expect_changes_at(rt, alloc, &bytes, at, row);
+    }
+}
+
+#[test]
+fn a_changed_byte_changes_its_field(rt: HostRuntime) {
     for row in FRAMES.split('\n') {
-        if row.starts_with(first) {
-            let (text, _) = cut(rt, row, '|');
-            let bytes = hex_bytes(rt, alloc, text);
-            for at in 0..bytes.len() {
-                expect_changes_at(rt, alloc, &bytes, at, row);
-            }
-        }
-    }
-}
-
-#[test]
-fn a_changed_byte_of_a_request_changes_its_field(rt: HostRuntime) {
-    for first in ["01", "02", "03"] {
-        expect_changes(&rt, rt.alloc(), first);
-    }
-}
-
-#[test]
-fn a_changed_byte_of_a_stored_or_a_found_changes_its_field(rt: HostRuntime) {
-    for first in ["81", "82"] {
-        expect_changes(&rt, rt.alloc(), first);
-    }
-}
-
-#[test]
-fn a_changed_byte_of_another_reply_changes_its_field(rt: HostRuntime) {
-    for first in ["83", "84", "85"] {
-        expect_changes(&rt, rt.alloc(), first);
+        expect_changes(&rt, rt.alloc(), row);
     }
 }
 
@@ -410,21 +390,11 @@ const OTHER_FIRST_BYTES: &str =
 84 0102 00000003 0000000000000100 000102030405060708090a0b0c0d0e0f 0004 00010000 0000000100000000 0005 0000000000000007 0000000000000001 0002 4142|reply brick_full 258.3.256 k000102030405060708090a0b0c0d0e0f 4.65536.4294967296 5 7 0 4295115074
 82 0102 00000003 0000000000000100 000102030405060708090a0b0c0d0e0f 0004 00010000 0000000100000000 0000018000000000 0008 00ff1a2b3c4d5e6f|none";
 
-#[test]
-fn another_first_byte_is_another_frame_or_none(rt: HostRuntime) {
-    for row in OTHER_FIRST_BYTES.split('\n') {
-        let (text, want) = cut(&rt, row, '|');
-        let bytes = hex_bytes(&rt, rt.alloc(), text);
-        expect_decoded(&rt, rt.alloc(), &bytes, want, row);
-    }
-}
-
-#[test]
-fn no_bytes_and_one_byte_are_no_frame(rt: HostRuntime) {
-    expect_decoded(&rt, rt.alloc(), &[], "none", "no bytes");
-    for byte in 0..=255 {
-        expect_decoded(&rt, rt.alloc(), &[byte], "none", "one byte");
-    }
+/// Another first byte makes another frame or none.
+fn expect_other(rt: &impl Abort, alloc: Global, row: &str) {
+    let (text, want) = cut(rt, row, '|');
+    let bytes = hex_bytes(rt, alloc, text);
+    expect_decoded(rt, alloc, &bytes, want, row);
 }
 
 /// A Found up to its value, which is not yet begun.
@@ -471,15 +441,19 @@ fn expect_length(rt: &impl Abort, alloc: Global, row: &str) {
     expect_words(rt, &words, want, row);
 }
 
+/// A value has at most 4096 bytes, and no bytes and one byte are no frame. Contracts cite the limit by its name alone,
+/// so its value is tested.
 #[test]
-fn a_value_has_at_most_4096_bytes(rt: HostRuntime) {
+fn other_bytes_are_other_frames_or_none(rt: HostRuntime) {
+    for row in OTHER_FIRST_BYTES.split('\n') {
+        expect_other(&rt, rt.alloc(), row);
+    }
     for row in LENGTHS.split('\n') {
         expect_length(&rt, rt.alloc(), row);
     }
-}
-
-/// Contracts cite the limit by its name alone, so its value is tested.
-#[test]
-fn the_limit_has_its_value(rt: HostRuntime) {
-    assert!(rt; MAX_FRAME_BYTES == 4161);
+    expect_decoded(&rt, rt.alloc(), &[], "none", "no bytes");
+    for byte in 0..=255 {
+        expect_decoded(&rt, rt.alloc(), &[byte], "none", "one byte");
+    }
+    expect_so(&rt, MAX_FRAME_BYTES == 4161, "the limit");
 }

@@ -2,13 +2,14 @@
 
 use crate::stub_causes::{add_missed, add_read};
 use crate::stub_replies::{Wanted, event_of};
-use crate::words::{add_number, add_word, brick, cut, expect_words, key, number, small, value};
+use crate::words::{
+    add_holder, add_named, add_word, brick, cut, expect_so, expect_words, key, number, small, value,
+};
 use crash_base::{BrickNo, Moment, Version, is_same_key, is_same_version};
 use send_windows::PassMark;
 use session_cookie::{Cookie, Holder, HolderList};
 use ssm_stub::{BrickList, ReadCall, StubNext, WriteCall, WriteRefusal};
 use std::alloc::Global;
-use std::fmt::Write;
 use std::process::Abort;
 
 /// The nonce of each call.
@@ -87,19 +88,21 @@ const READS: &str = "1.7;0|sent found.1.7|s1 r1 found 61 end
 
 fn add_next(rt: &impl Abort, words: &mut String, next: StubNext) {
     match next {
-        StubNext::Send { brick } => write!(words, " s{}", brick.0).expect(rt, "a send"),
-        StubNext::Receive { brick } => write!(words, " r{}", brick.0).expect(rt, "a receive"),
+        StubNext::Send { brick } => add_named(rt, words, "s", u64::from(brick.0)),
+        StubNext::Receive { brick } => add_named(rt, words, "r", u64::from(brick.0)),
         StubNext::Ended => add_word(rt, words, "end"),
     }
 }
 
 /// Adds the holders of a cookie, which has the version, the key and the expiry of the write.
 fn add_holders(rt: &impl Abort, words: &mut String, cookie: &Cookie) {
-    assert!(rt; is_same_version(cookie.version, NONCE));
-    assert!(rt; is_same_key(cookie.key, key(7)) && cookie.expiry.0 == EXPIRY.0);
+    let is_same = is_same_version(cookie.version, NONCE)
+        && is_same_key(cookie.key, key(7))
+        && cookie.expiry.0 == EXPIRY.0;
+    expect_so(rt, is_same, "the cookie of a write");
     add_word(rt, words, "ok");
     for holder in cookie.bricks.as_slice() {
-        write!(words, " {}.{}", holder.brick.0, holder.incarnation).expect(rt, "a holder");
+        add_holder(rt, words, holder);
     }
 }
 
@@ -190,13 +193,6 @@ fn expect_write(rt: &impl Abort, alloc: Global, row: &str) {
     expect_words(rt, &words, want, row);
 }
 
-#[test]
-fn writes_answer_by_the_events(rt: HostRuntime) {
-    for row in WRITES.split('\n') {
-        expect_write(&rt, rt.alloc(), row);
-    }
-}
-
 /// Tells a read an event as often as the word says. Adds its answer where it came, and what the
 /// read wants then.
 fn tell_read(rt: &impl Abort, alloc: Global, words: &mut String, call: &mut ReadCall, word: &str) {
@@ -221,10 +217,10 @@ fn tell_read(rt: &impl Abort, alloc: Global, words: &mut String, call: &mut Read
 fn read_call(rt: &impl Abort, alloc: Global, holders: &str, now: u64) -> ReadCall {
     let mut bricks = HolderList::new(alloc);
     for name in holders.split(' ') {
-        let (number, incarnation) = cut(rt, name, '.');
+        let (at, incarnation) = cut(rt, name, '.');
         let holder = Holder {
-            brick: brick(rt, number),
-            incarnation: incarnation.parse().expect(rt, name),
+            brick: brick(rt, at),
+            incarnation: number(rt, incarnation),
         };
         bricks.push(holder).expect(rt, holders);
     }
@@ -254,7 +250,10 @@ fn expect_read(rt: &impl Abort, alloc: Global, row: &str) {
 }
 
 #[test]
-fn reads_answer_by_the_events(rt: HostRuntime) {
+fn writes_and_reads_answer_by_the_events(rt: HostRuntime) {
+    for row in WRITES.split('\n') {
+        expect_write(&rt, rt.alloc(), row);
+    }
     for row in READS.split('\n') {
         expect_read(&rt, rt.alloc(), row);
     }

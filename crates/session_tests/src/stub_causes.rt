@@ -14,6 +14,11 @@ fn add_mark(rt: &impl Abort, words: &mut String, brick: BrickNo, mark: &str) {
     write!(words, " {}:{mark}", brick.0).expect(rt, mark);
 }
 
+/// Adds a slash and a number to the last word.
+fn add_part(rt: &impl Abort, words: &mut String, number: u64) {
+    write!(words, "/{number}").expect(rt, "a number");
+}
+
 /// Adds each brick with its window and what is in flight.
 pub fn add_windows(rt: &impl Abort, words: &mut String, facts: &[WindowFact]) {
     for fact in facts {
@@ -38,15 +43,16 @@ fn add_cause(rt: &impl Abort, words: &mut String, cause: &BrickCause) {
         Cause::Strayed => add_mark(rt, words, cause.brick, "strayed"),
         Cause::Full { entries, bytes } => {
             add_mark(rt, words, cause.brick, "full");
-            write!(words, "/{entries}/{bytes}").expect(rt, "full");
+            add_part(rt, words, u64::from(entries));
+            add_part(rt, words, bytes);
         }
         Cause::Crashed { incarnation } => {
             add_mark(rt, words, cause.brick, "crashed");
-            write!(words, "/{incarnation}").expect(rt, "crashed");
+            add_part(rt, words, incarnation);
         }
         Cause::Swept { moment } => {
             add_mark(rt, words, cause.brick, "swept");
-            write!(words, "/{}", moment.0).expect(rt, "swept");
+            add_part(rt, words, moment.0);
         }
     }
 }
@@ -65,7 +71,9 @@ pub fn add_missed(rt: &impl Abort, words: &mut String, causes: &CauseList) {
 
 /// Adds the serial of a cookie's version and its bricks.
 fn add_cookie(rt: &impl Abort, words: &mut String, cookie: &Cookie) {
-    write!(words, " version {} bricks", cookie.version.serial).expect(rt, "a cookie");
+    add_word(rt, words, "version");
+    add_number(rt, words, cookie.version.serial);
+    add_word(rt, words, "bricks");
     for holder in cookie.bricks.as_slice() {
         add_number(rt, words, u64::from(holder.brick.0));
     }
@@ -110,7 +118,9 @@ pub fn add_read(rt: &impl Abort, words: &mut String, answer: &Result<SessionByte
             add_value(rt, words, value.as_slice());
         }
         Err(ReadRefusal::Expired { now, expiry }) => {
-            write!(words, " expired {} {}", now.0, expiry.0).expect(rt, "expired");
+            add_word(rt, words, "expired");
+            add_number(rt, words, now.0);
+            add_number(rt, words, expiry.0);
         }
         Err(ReadRefusal::Lost(causes)) => {
             add_word(rt, words, "lost");

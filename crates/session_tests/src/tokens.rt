@@ -1,6 +1,8 @@
 //! Form tokens at values.
 
-use crate::words::{add_number, add_text, add_word, cut, expect_words, hex_bytes, number, session};
+use crate::words::{
+    add_number, add_text, add_word, cut, expect_so, expect_words, hex_bytes, number, session,
+};
 use crash_base::RequestNo;
 use session_cookie::{TOKEN_DIGITS, form_token, read_token};
 use std::alloc::Global;
@@ -18,13 +20,20 @@ const TOKENS: &str =
 4a656665|ffffffffffffffffffffffffffffffff|4294967295|18446744073709551615|ffffffffffffffffffffffffde66ae703c54a1652d6bcefe4df62662
 6b6b6b6b6b6b6b6b6b6b6b6b6b6b6b6b6b6b6b6b6b6b6b6b6b6b6b6b6b6b6b6b6b6b6b6b6b6b6b6b6b6b6b6b6b6b6b6b6b6b6b6b6b6b6b6b6b6b6b6b6b6b6b6b6b|00112233445566778899aabbccddeeff|2882400001|81985529216486895|abcdef010123456789abcdefda68e6b968d3c8324c543b0be67b3a7d";
 
+/// The number below 2^32 that a text spells.
+fn word_number(rt: &impl Abort, text: &str) -> u32 {
+    let number = number(rt, text);
+    assert!(rt; number < 0x1_0000_0000);
+    number as u32
+}
+
 fn expect_token(rt: &impl Abort, alloc: Global, row: &str) {
     let (key, rest) = cut(rt, row, '|');
     let (session_text, rest) = cut(rt, rest, '|');
     let (boot, rest) = cut(rt, rest, '|');
     let (serial, want) = cut(rt, rest, '|');
     let request = RequestNo {
-        boot: u32::try_from(number(rt, boot)).expect(rt, row),
+        boot: word_number(rt, boot),
         serial: number(rt, serial),
     };
     let token = form_token(
@@ -35,13 +44,6 @@ fn expect_token(rt: &impl Abort, alloc: Global, row: &str) {
     let mut words = String::new(alloc);
     add_text(rt, &mut words, &token);
     expect_words(rt, &words, want, row);
-}
-
-#[test]
-fn tokens_are_written(rt: HostRuntime) {
-    for row in TOKENS.split('\n') {
-        expect_token(&rt, rt.alloc(), row);
-    }
 }
 
 /// Adds the request that a token is of, or `none`.
@@ -75,13 +77,6 @@ fn expect_request(rt: &impl Abort, alloc: Global, row: &str) {
     expect_words(rt, &words, want, row);
 }
 
-#[test]
-fn tokens_are_read(rt: HostRuntime) {
-    for row in READ.split('\n') {
-        expect_request(&rt, rt.alloc(), row);
-    }
-}
-
 /// The first token above: with capital digits, cut, longer, with its boot, serial or tag changed, with
 /// bytes that are no digits, and as one of another session and under another key.
 const REFUSED: &str =
@@ -102,15 +97,17 @@ const REFUSED: &str =
 0000000000000000000000000000000000000000000000000000000000000000|00000000000000000000000000000002|0000000100000000000000002ce89bc0d438870ec540e9825e0a378c|none
 0100000000000000000000000000000000000000000000000000000000000000|00000000000000000000000000000001|0000000100000000000000002ce89bc0d438870ec540e9825e0a378c|none";
 
+/// Tokens are written and read, and no other text is a token. Contracts cite the number of digits by its name alone, so
+/// its value is tested.
 #[test]
-fn no_other_text_is_a_token(rt: HostRuntime) {
-    for row in REFUSED.split('\n') {
-        expect_request(&rt, rt.alloc(), row);
+fn tokens_are_written_and_read(rt: HostRuntime) {
+    for row in TOKENS.split('\n') {
+        expect_token(&rt, rt.alloc(), row);
     }
-}
-
-/// Contracts cite the number of digits by its name alone, so its value is tested.
-#[test]
-fn a_token_has_56_digits(rt: HostRuntime) {
-    assert!(rt; TOKEN_DIGITS == 56);
+    for table in [READ, REFUSED] {
+        for row in table.split('\n') {
+            expect_request(&rt, rt.alloc(), row);
+        }
+    }
+    expect_so(&rt, TOKEN_DIGITS == 56, "the number of digits");
 }

@@ -1,5 +1,6 @@
 //! Lists of events by chance: whatever they are, a read answers what was written, or says why it does not.
 
+use crate::words::expect_so;
 use crash_base::{BrickNo, Items, Moment, SessionBytes, SessionKey, Version};
 use session_cookie::{Cookie, Holder};
 use ssm_stub::{BrickCause, BrickList, Cause, ReadRefusal, StubNext};
@@ -357,18 +358,34 @@ fn event(rt: &impl Abort, alloc: Global, dice: &mut Dice, game: &mut Game) -> Op
 /// The cause of a holder is right by what happened to its brick, and by what came of it to the read.
 fn expect_cause(rt: &impl Abort, game: &Game, read: &Known, holder: &Holder, cause: &BrickCause) {
     let brick = holder.brick;
-    assert!(rt; cause.brick.0 == brick.0);
+    expect_so(rt, cause.brick.0 == brick.0, "the brick of a cause");
     match cause.cause {
-        Cause::Silent => assert!(rt; count_of(rt, &read.silences, brick) > 0),
-        Cause::Strayed => assert!(rt; count_of(rt, &read.strays, brick) >= 64),
+        Cause::Silent => expect_so(
+            rt,
+            count_of(rt, &read.silences, brick) > 0,
+            "a silent brick",
+        ),
+        Cause::Strayed => expect_so(
+            rt,
+            count_of(rt, &read.strays, brick) >= 64,
+            "strays of a brick",
+        ),
         Cause::Full { .. } => panic!(rt; "a read was told that a brick is full"),
         Cause::Crashed { incarnation } => {
-            assert!(rt; holder.incarnation < incarnation);
-            assert!(rt; incarnation == count_of(rt, &read.replied, brick));
+            expect_so(rt, holder.incarnation < incarnation, "a later incarnation");
+            expect_so(
+                rt,
+                incarnation == count_of(rt, &read.replied, brick),
+                "the incarnation of a reply",
+            );
         }
         Cause::Swept { moment } => {
-            assert!(rt; moment.0 <= count_of(rt, &game.swept, brick));
-            assert!(rt; moment.0 > read.expiry.saturating_add(60_000));
+            expect_so(rt, moment.0 <= count_of(rt, &game.swept, brick), "a sweep");
+            expect_so(
+                rt,
+                moment.0 > read.expiry.saturating_add(60_000),
+                "a value past its grace",
+            );
         }
     }
 }
@@ -396,17 +413,23 @@ fn expect_answer(
     match told.answer() {
         None => return false,
         Some(Ok(value)) => {
-            assert_eq!(rt; value.as_slice(), read.value.to_be_bytes().as_slice());
-            assert!(rt; read.moment <= read.expiry);
+            let is_same = value.as_slice() == read.value.to_be_bytes().as_slice();
+            expect_so(rt, is_same, "the value");
+            expect_so(rt, read.moment <= read.expiry, "a read in time");
             answers.found = answers.found.saturating_add(1);
         }
         Some(Err(ReadRefusal::Expired { now, expiry })) => {
-            assert!(rt; now.0 == read.moment && expiry.0 == read.expiry && expiry.0 < now.0);
+            expect_so(
+                rt,
+                now.0 == read.moment && expiry.0 == read.expiry && expiry.0 < now.0,
+                "a read past the expiry",
+            );
             answers.expired = answers.expired.saturating_add(1);
         }
         Some(Err(ReadRefusal::Lost(causes))) => {
-            assert!(rt; read.moment <= read.expiry);
-            assert_eq!(rt; causes.as_slice().len(), read.holders.len());
+            expect_so(rt, read.moment <= read.expiry, "a read in time");
+            let is_whole = causes.as_slice().len() == read.holders.len();
+            expect_so(rt, is_whole, "a cause of each holder");
             for (holder, cause) in read.holders.iter().zip(causes.as_slice()) {
                 expect_cause(rt, game, read, holder, cause);
             }
@@ -428,15 +451,19 @@ fn expect_cookie(rt: &impl Abort, write: &Known, cookie: &Cookie) {
         let incarnation = count_of(rt, &write.replied, *brick);
         if incarnation > 0 && named < write.least {
             let holder = holders.get(named as usize).expect(rt, "a holder");
-            assert!(rt; holder.brick.0 == brick.0);
-            assert!(rt; holder.incarnation == incarnation);
+            expect_so(rt, holder.brick.0 == brick.0, "the brick of a holder");
+            expect_so(
+                rt,
+                holder.incarnation == incarnation,
+                "the incarnation of a holder",
+            );
             named = named.saturating_add(1);
         }
     }
-    assert!(rt; named == write.least);
-    assert!(rt; holders.len() as u64 == write.least);
-    assert!(rt; cookie.version.serial == write.value);
-    assert!(rt; cookie.expiry.0 == write.expiry);
+    expect_so(rt, named == write.least, "the named bricks");
+    expect_so(rt, holders.len() as u64 == write.least, "the holders");
+    expect_so(rt, cookie.version.serial == write.value, "the version");
+    expect_so(rt, cookie.expiry.0 == write.expiry, "the expiry");
 }
 
 /// Whether a call has answered that had not before; of a write, whether it is acknowledged. A read's answer
@@ -497,8 +524,12 @@ fn play(rt: &impl Abort, alloc: Global, dice: &mut Dice, answers: &mut Answers) 
             flood(rt, alloc, dice, &mut game);
         }
     }
-    assert!(rt; game.world.packets() == game.packets.len() as u64);
-    assert!(rt; game.world.calls() == game.calls.len() as u64);
+    expect_so(
+        rt,
+        game.world.packets() == game.packets.len() as u64,
+        "packets",
+    );
+    expect_so(rt, game.world.calls() == game.calls.len() as u64, "calls");
 }
 
 #[test]
@@ -513,6 +544,10 @@ fn reads_answer_what_was_written(rt: HostRuntime) {
     for _ in 0..WORLDS {
         play(&rt, rt.alloc(), &mut dice, &mut answers);
     }
-    assert!(rt; answers.found > WORLDS && answers.expired > WORLDS && answers.lost > WORLDS);
-    assert!(rt; answers.strayed > WORLDS);
+    expect_so(
+        &rt,
+        answers.found > WORLDS && answers.expired > WORLDS && answers.lost > WORLDS,
+        "answers",
+    );
+    expect_so(&rt, answers.strayed > WORLDS, "strays");
 }

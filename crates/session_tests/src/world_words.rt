@@ -1,25 +1,51 @@
 //! Words for what the calls of a world answer.
 
-use ssm_stub::{BrickCause, Cause, ReadRefusal, StubNext, WriteRefusal};
+use crate::words::{add_holder, add_number, add_text, add_word};
+use ssm_stub::{BrickCause, Cause, CauseList, ReadRefusal, StubNext, WriteRefusal};
 use ssm_world::{Packet, World};
 use std::fmt::Write;
 use std::process::Abort;
 
+/// Adds a brick and a word with a colon between them.
+fn add_mark(rt: &impl Abort, words: &mut String, brick: u16, word: &str) {
+    write!(words, " {brick}:{word}").expect(rt, word);
+}
+
+/// Adds a number in parentheses to the last word.
+fn add_in_parentheses(rt: &impl Abort, words: &mut String, number: u64) {
+    write!(words, "({number})").expect(rt, "a number");
+}
+
+/// Adds two numbers in parentheses to the last word.
+fn add_full(rt: &impl Abort, words: &mut String, entries: u32, bytes: u64) {
+    write!(words, "({entries},{bytes})").expect(rt, "full");
+}
+
 fn add_cause(rt: &impl Abort, words: &mut String, cause: &BrickCause) {
     let brick = cause.brick.0;
     match cause.cause {
-        Cause::Silent => write!(words, " {brick}:silent").expect(rt, "words"),
-        Cause::Strayed => write!(words, " {brick}:strayed").expect(rt, "words"),
+        Cause::Silent => add_mark(rt, words, brick, "silent"),
+        Cause::Strayed => add_mark(rt, words, brick, "strayed"),
         Cause::Full { entries, bytes } => {
-            write!(words, " {brick}:full({entries},{bytes})").expect(rt, "words")
+            add_mark(rt, words, brick, "full");
+            add_full(rt, words, entries, bytes);
         }
         Cause::Crashed { incarnation } => {
-            write!(words, " {brick}:crashed({incarnation})").expect(rt, "words")
+            add_mark(rt, words, brick, "crashed");
+            add_in_parentheses(rt, words, incarnation);
         }
         Cause::Swept { moment } => {
-            let moment = moment.0;
-            write!(words, " {brick}:swept({moment})").expect(rt, "words")
+            add_mark(rt, words, brick, "swept");
+            add_in_parentheses(rt, words, moment.0);
         }
+    }
+}
+
+/// Adds a word and the causes of bricks.
+fn add_causes(rt: &impl Abort, words: &mut String, word: &str, causes: &CauseList) {
+    add_word(rt, words, word);
+    for cause in causes.as_slice() {
+        add_cause(rt, words, cause);
     }
 }
 
@@ -28,21 +54,15 @@ fn add_write(rt: &impl Abort, words: &mut String, world: &World, call: u64) {
         return;
     };
     match write.answer() {
-        None => write!(words, " waits").expect(rt, "words"),
+        None => add_word(rt, words, "waits"),
         Some(Ok(cookie)) => {
-            write!(words, " ok").expect(rt, "words");
+            add_word(rt, words, "ok");
             for holder in cookie.bricks.as_slice() {
-                let (brick, incarnation) = (holder.brick.0, holder.incarnation);
-                write!(words, " {brick}.{incarnation}").expect(rt, "words");
+                add_holder(rt, words, holder);
             }
         }
-        Some(Err(WriteRefusal::Missed(causes))) => {
-            write!(words, " missed").expect(rt, "words");
-            for cause in causes.as_slice() {
-                add_cause(rt, words, cause);
-            }
-        }
-        Some(Err(WriteRefusal::OutOfMemory)) => write!(words, " memory").expect(rt, "words"),
+        Some(Err(WriteRefusal::Missed(causes))) => add_causes(rt, words, "missed", causes),
+        Some(Err(WriteRefusal::OutOfMemory)) => add_word(rt, words, "memory"),
     }
 }
 
@@ -51,60 +71,56 @@ fn add_read(rt: &impl Abort, words: &mut String, world: &World, call: u64) {
         return;
     };
     match read.answer() {
-        None => write!(words, " waits").expect(rt, "words"),
+        None => add_word(rt, words, "waits"),
         Some(Ok(value)) => {
-            let text = std::str::from_utf8(value.as_slice()).expect(rt, "a text");
-            write!(words, " found {text}").expect(rt, "words");
+            add_word(rt, words, "found");
+            add_text(rt, words, value.as_slice());
         }
         Some(Err(ReadRefusal::Expired { now, expiry })) => {
-            let (now, expiry) = (now.0, expiry.0);
-            write!(words, " expired {now} {expiry}").expect(rt, "words");
+            add_word(rt, words, "expired");
+            add_number(rt, words, now.0);
+            add_number(rt, words, expiry.0);
         }
-        Some(Err(ReadRefusal::Lost(causes))) => {
-            write!(words, " lost").expect(rt, "words");
-            for cause in causes.as_slice() {
-                add_cause(rt, words, cause);
-            }
-        }
-        Some(Err(ReadRefusal::OutOfMemory)) => write!(words, " memory").expect(rt, "words"),
+        Some(Err(ReadRefusal::Lost(causes))) => add_causes(rt, words, "lost", causes),
+        Some(Err(ReadRefusal::OutOfMemory)) => add_word(rt, words, "memory"),
     }
 }
 
 /// Adds words for what a call wants next, or `none` where there is no such call.
 pub fn add_next(rt: &impl Abort, words: &mut String, next: Option<StubNext>) {
     match next {
-        None => write!(words, " none").expect(rt, "words"),
-        Some(StubNext::Send { brick }) => write!(words, " send {}", brick.0).expect(rt, "words"),
-        Some(StubNext::Receive { brick }) => {
-            write!(words, " receive {}", brick.0).expect(rt, "words")
+        None => add_word(rt, words, "none"),
+        Some(StubNext::Send { brick }) => {
+            add_word(rt, words, "send");
+            add_number(rt, words, u64::from(brick.0));
         }
-        Some(StubNext::Ended) => write!(words, " ended").expect(rt, "words"),
+        Some(StubNext::Receive { brick }) => {
+            add_word(rt, words, "receive");
+            add_number(rt, words, u64::from(brick.0));
+        }
+        Some(StubNext::Ended) => add_word(rt, words, "ended"),
     }
 }
 
 /// Adds a count, or `none` where there is none.
 pub fn add_count(rt: &impl Abort, words: &mut String, count: Option<u64>) {
     match count {
-        None => write!(words, " none").expect(rt, "words"),
-        Some(count) => write!(words, " {count}").expect(rt, "words"),
+        None => add_word(rt, words, "none"),
+        Some(count) => add_number(rt, words, count),
     }
 }
 
 /// Adds the brick of a packet, or `none` where there is no such packet.
 pub fn add_brick(rt: &impl Abort, words: &mut String, packet: Option<&Packet>) {
     match packet {
-        None => write!(words, " none").expect(rt, "words"),
-        Some(packet) => write!(words, " {}", packet.brick.0).expect(rt, "words"),
+        None => add_word(rt, words, "none"),
+        Some(packet) => add_number(rt, words, u64::from(packet.brick.0)),
     }
 }
 
 /// Adds whether a nonce is new or used.
 pub fn add_new(rt: &impl Abort, words: &mut String, is_new: bool) {
-    if is_new {
-        write!(words, " new").expect(rt, "words")
-    } else {
-        write!(words, " used").expect(rt, "words")
-    }
+    add_word(rt, words, if is_new { "new" } else { "used" });
 }
 
 /// Adds words for what a call answers: none where there is no such call.
