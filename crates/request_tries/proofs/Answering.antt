@@ -1,6 +1,6 @@
 -- What a request makes of the answer to its commit.
-use Rattle.std.specs.Prelude.{IfErr, IfOk, OnErr, Result, Ok, Err}
-use Rattle.std.proofs.Common.{◌≡◌, ◌≢◌, ℕ, Bool, List, Option, Some, None, ap, ◌∙◌, subst}
+use Rattle.std.specs.Prelude.{IfErr, IfOk, IfSome, OnErr, Result, Ok, Err}
+use Rattle.std.proofs.Common.{◌≡◌, ℕ, Bool, List, Option, Some, sym, ap, ◌∙◌, subst}
 use Rattle.std.proofs.lemmas.Result.{IfOk-weaker}
 use Rattle.crash_base.specs.declared.memory.OutOfMemory.{OutOfMemory}
 use Rattle.crash_base.specs.declared.numbers.Place.{Place}
@@ -18,54 +18,48 @@ use Rattle.container_core.specs.Container.{ContainerValue, CommitLeaves, Refusal
 use Rattle.call_attempts.specs.Attempt.{AttemptValue}
 use Rattle.call_attempts.specs.declared.stop.Stop.{Stop}
 use Rattle.request_tries.specs.Serving.{TriesValue, closed}
-use Rattle.request_tries.specs.Steps.{AddsNothing, CauseAddsNothing, CommitsTry, HearsCommit, IsStopped, KeepsHistory, front_at}
+use Rattle.request_tries.specs.Steps.{AddsNothing, CauseAddsNothing, CommitsAs, CommitsTry, HearsCommit, IsStopped, KeepsHistory, front_at}
 use Rattle.request_tries.specs.declared.outcome.Ended.{Ended}
 use Rattle.request_tries.specs.declared.outcome.HistoryFront.{HistoryFront}
 
 -- what a commit of these was answered, and what it left, as the code has them in hand
-pub record WasAnswered (old new : ContainerValue) (s : TriesValue) (a : AttemptValue) (ticket : TicketValue) (text : List ℕ) (at : Place) (repeats : Bool) (page done : DoneText) (answer : Result Place Refused) : Type 0 where
+pub record WasAnswered (old new : ContainerValue) (s : TriesValue) (a : AttemptValue) (ticket : TicketValue) (text : List ℕ) (at : Place) (repeats : Bool) (done : DoneText) (answer : Result Place Refused) : Type 0 where
   pub was_open : s.attempt ≡ Some a
-  pub taken : (b : AttemptValue) × (s.attempt ≡ Some b) × (ticket ≡ b.ticket) × (repeats ≡ b.repeats)
+  pub ticket_is : ticket ≡ a.ticket
+  pub repeats_is : repeats ≡ a.repeats
   pub text_is : text ≡ s.text
   pub at_is : at ≡ ticket.call.at
-  pub page_is : page ≡ done
   pub is_answer : CommitAnswer (commit_refusal old.boot.start.limits old.boot.entries ticket.call (Some (record { text = text; done = done }))) answer
   pub leaves : CommitLeaves ticket.call (Some (record { text = text; done = done })) answer old new
   pub failed : IfErr answer (λ refused. refused.cause ≡ commits.KeeperFailed → Rose old.faults new.faults)
 
-some_same : {A : Type 0} (o : Option A) (a b : A) → o ≡ Some a → o ≡ Some b → a ≡ b
-some_same o a b x y = cc
-
 -- the request heard it
-hears : (old new : ContainerValue) (s after : TriesValue) (a : AttemptValue) (ticket : TicketValue) (text : List ℕ) (at : Place) (repeats : Bool) (page done : DoneText) (answer : Result Place Refused) (now : HistoryFront) (es : List Entry) (end : Option Ended)
-    → WasAnswered old new s a ticket text at repeats page done answer → now ≡ front_at new → es ≡ new.boot.entries
-    → HearsCommit now es (closed s) at page repeats answer end after → CommitsTry old s a done end new after
-hears old new s after a ticket text at repeats page done answer now es end h is_now is_es heard =
-    let same : h.taken.0 ≡ a = some_same s.attempt h.taken.0 a h.taken.1 h.was_open in
-    let tick : ticket ≡ a.ticket = h.taken.2 ∙ ap (λ (b : AttemptValue). b.ticket) same in
-    let again : repeats ≡ a.repeats = h.taken.3 ∙ ap (λ (b : AttemptValue). b.repeats) same in
-    let began : at ≡ a.ticket.call.at = h.at_is ∙ ap (λ (t : TicketValue). t.call.at) tick in
+hears : (old new : ContainerValue) (s after : TriesValue) (a : AttemptValue) (ticket : TicketValue) (text : List ℕ) (at : Place) (repeats : Bool) (done : DoneText) (answer : Result Place Refused) (now : HistoryFront) (es : List Entry) (end : Option Ended)
+    → WasAnswered old new s a ticket text at repeats done answer → now ≡ front_at new → es ≡ new.boot.entries
+    → HearsCommit now es (closed s) at repeats answer end after → CommitsTry old s a done end new after
+hears old new s after a ticket text at repeats done answer now es end h is_now is_es heard =
+    let began : at ≡ a.ticket.call.at = h.at_is ∙ ap (λ (t : TicketValue). t.call.at) h.ticket_is in
     let Answers : TicketValue → List ℕ → Type 0 = λ t x. CommitAnswer (commit_refusal old.boot.start.limits old.boot.entries t.call (Some (record { text = x; done = done }))) answer in
     let Leaves : TicketValue → List ℕ → Type 0 = λ t x. CommitLeaves t.call (Some (record { text = x; done = done })) answer old new in
     record {
       answer = answer;
-      is_answer = subst (λ (x : List ℕ). Answers a.ticket x) h.text_is (subst (λ (t : TicketValue). Answers t text) tick h.is_answer);
-      leaves = subst (λ (x : List ℕ). Leaves a.ticket x) h.text_is (subst (λ (t : TicketValue). Leaves t text) tick h.leaves);
+      is_answer = subst (λ (x : List ℕ). Answers a.ticket x) h.text_is (subst (λ (t : TicketValue). Answers t text) h.ticket_is h.is_answer);
+      leaves = subst (λ (x : List ℕ). Leaves a.ticket x) h.text_is (subst (λ (t : TicketValue). Leaves t text) h.ticket_is h.leaves);
       failed = h.failed;
-      hears = subst (λ (n : HistoryFront). HearsCommit n new.boot.entries (closed s) a.ticket.call.at done a.repeats answer end after) is_now
-          (subst (λ (xs : List Entry). HearsCommit now xs (closed s) a.ticket.call.at done a.repeats answer end after) is_es
-          (subst (λ (p : Place). HearsCommit now es (closed s) p done a.repeats answer end after) began
-          (subst (λ (d : DoneText). HearsCommit now es (closed s) at d a.repeats answer end after) h.page_is
-          (subst (λ (b : Bool). HearsCommit now es (closed s) at page b answer end after) again heard))));
+      hears = subst (λ (n : HistoryFront). HearsCommit n new.boot.entries (closed s) a.ticket.call.at a.repeats answer end after) is_now
+          (subst (λ (xs : List Entry). HearsCommit now xs (closed s) a.ticket.call.at a.repeats answer end after) is_es
+          (subst (λ (p : Place). HearsCommit now es (closed s) p a.repeats answer end after) began
+          (subst (λ (b : Bool). HearsCommit now es (closed s) at b answer end after) h.repeats_is heard)));
     }
 
 -- the same of a result
-pub may_hear : (old new : ContainerValue) (s mid after : TriesValue) (a : AttemptValue) (ticket : TicketValue) (text : List ℕ) (at : Place) (repeats : Bool) (page done : DoneText) (answer : Result Place Refused) (now : HistoryFront) (es : List Entry) (result : Result (Option Ended) OutOfMemory)
-    → WasAnswered old new s a ticket text at repeats page done answer → mid ≡ closed s → now ≡ front_at new → es ≡ new.boot.entries
-    → IfOk result (λ end. HearsCommit now es mid at page repeats answer end after) → IfOk result (λ end. CommitsTry old s a done end new after)
-may_hear old new s mid after a ticket text at repeats page done answer now es result h is_mid is_now is_es heard =
-    IfOk-weaker result (λ end. HearsCommit now es mid at page repeats answer end after) (λ end. CommitsTry old s a done end new after)
-    (λ end it. hears old new s after a ticket text at repeats page done answer now es end h is_now is_es (subst (λ (m : TriesValue). HearsCommit now es m at page repeats answer end after) is_mid it)) heard
+pub may_hear : (old new : ContainerValue) (s mid after : TriesValue) (a : AttemptValue) (ticket : TicketValue) (text : List ℕ) (at : Place) (repeats : Bool) (done : DoneText) (answer : Result Place Refused) (now : HistoryFront) (es : List Entry) (result : Result (Option Ended) OutOfMemory)
+    → WasAnswered old new s a ticket text at repeats done answer → mid ≡ closed s → now ≡ front_at new → es ≡ new.boot.entries
+    → IfOk result (λ end. HearsCommit now es mid at repeats answer end after) → IfOk result (λ end. CommitsAs old s s.attempt done end new after)
+may_hear old new s mid after a ticket text at repeats done answer now es result h is_mid is_now is_es heard =
+    IfOk-weaker result (λ end. HearsCommit now es mid at repeats answer end after) (λ end. CommitsAs old s s.attempt done end new after)
+    (λ end it. subst (λ (o : Option AttemptValue). CommitsAs old s o done end new after) (sym h.was_open)
+    (hears old new s after a ticket text at repeats done answer now es end h is_now is_es (subst (λ (m : TriesValue). HearsCommit now es m at repeats answer end after) is_mid it))) heard
 
 -- a refused commit that adds nothing
 keeps : (call : Call) (old new : ContainerValue) (why : CommitRefusal) → CauseAddsNothing why → RefusalLeaves why call old new → KeepsHistory old new
@@ -86,20 +80,15 @@ pub may_keep : (call : Call) (action : Option ActionEntry) (answer : Result Plac
 may_keep call action answer old new (Ok end) nothing left = tt
 may_keep call action answer old new (Err e) nothing left = keeps_history call action answer old new nothing left
 
--- an end after which no attempt is open
-pub ended_if : (result : Result (Option Ended) OutOfMemory) (after : TriesValue) → after.attempt ≡ None → IfOk result (λ end. end ≢ None → after.attempt ≡ None)
-ended_if (Ok end) after closed = λ some. closed
-ended_if (Err e) after closed = tt
-
 -- A request hears that its open attempt was stopped.
-pub may_stop : (old : ContainerValue) (s mid after : TriesValue) (a b : AttemptValue) (ticket : TicketValue) (at : Place) (repeats : Bool) (now : HistoryFront) (stop : Stop) (result : Result (Option Ended) OutOfMemory)
-    → s.attempt ≡ Some a → s.attempt ≡ Some b → ticket ≡ b.ticket → at ≡ ticket.call.at → repeats ≡ b.repeats → mid ≡ closed s → now ≡ front_at old
-    → IfOk result (λ end. IsStopped now mid at repeats stop end after) → IfOk result (λ end. IsStopped (front_at old) (closed s) a.ticket.call.at a.repeats stop end after)
-may_stop old s mid after a b ticket at repeats now stop result was taken is_ticket is_at is_repeats is_mid is_now stopped =
-    let same : b ≡ a = some_same s.attempt b a taken was in
-    let began : at ≡ a.ticket.call.at = is_at ∙ ap (λ (t : TicketValue). t.call.at) is_ticket ∙ ap (λ (x : AttemptValue). x.ticket.call.at) same in
-    let again : repeats ≡ a.repeats = is_repeats ∙ ap (λ (x : AttemptValue). x.repeats) same in
+pub may_stop : (old : ContainerValue) (s mid after : TriesValue) (a : AttemptValue) (ticket : TicketValue) (at : Place) (repeats : Bool) (now : HistoryFront) (stop : Stop) (result : Result (Option Ended) OutOfMemory)
+    → s.attempt ≡ Some a → ticket ≡ a.ticket → at ≡ ticket.call.at → repeats ≡ a.repeats → mid ≡ closed s → now ≡ front_at old
+    → IfOk result (λ end. IsStopped now mid at repeats stop end after) → IfOk result (λ end. IfSome s.attempt (λ b. IsStopped (front_at old) (closed s) b.ticket.call.at b.repeats stop end after))
+may_stop old s mid after a ticket at repeats now stop result was is_ticket is_at is_repeats is_mid is_now stopped =
+    let began : at ≡ a.ticket.call.at = is_at ∙ ap (λ (t : TicketValue). t.call.at) is_ticket in
+    let there : IfOk result (λ end. IsStopped (front_at old) (closed s) a.ticket.call.at a.repeats stop end after) =
     subst (λ (n : HistoryFront). IfOk result (λ end. IsStopped n (closed s) a.ticket.call.at a.repeats stop end after)) is_now
     (subst (λ (m : TriesValue). IfOk result (λ end. IsStopped now m a.ticket.call.at a.repeats stop end after)) is_mid
     (subst (λ (p : Place). IfOk result (λ end. IsStopped now mid p a.repeats stop end after)) began
-    (subst (λ (f : Bool). IfOk result (λ end. IsStopped now mid at f stop end after)) again stopped)))
+    (subst (λ (f : Bool). IfOk result (λ end. IsStopped now mid at f stop end after)) is_repeats stopped))) in
+    subst (λ (o : Option AttemptValue). IfOk result (λ end. IfSome o (λ b. IsStopped (front_at old) (closed s) b.ticket.call.at b.repeats stop end after))) (sym was) there

@@ -1,5 +1,5 @@
 -- Ends of requests that stand in their history.
-use Rattle.std.specs.Prelude.{All, IfSome}
+use Rattle.std.specs.Prelude.{All, IfSome, option_and_then}
 use Rattle.std.proofs.Common.{◌≡◌, ◌⊎◌, ◌+◌, ◌<◌, ◌≤◌, Bool, false, List, [], ◌∷◌, ◌++◌, length, take, Option, Some, None, refl, sym, ap, ◌∙◌, subst, arith, length-append, inl, inr}
 use Rattle.std.proofs.lemmas.Bool.{cases_lt}
 use Rattle.std.proofs.lemmas.List.{take-append-le, take_all}
@@ -24,12 +24,12 @@ use Rattle.container_core.specs.declared.history.Event.{Event}
 use Rattle.call_attempts.specs.Attempt.{AttemptValue, EntersGroup, EntersOnce, IsUnderWay, stop_of_attempt, wanted}
 use Rattle.call_attempts.specs.declared.stop.Stop.TheVariants as stops
 use Rattle.call_attempts.proofs.Stopping.{sentinel_is}
-use Rattle.request_tries.specs.Ends.{Asked, AreAll, OutcomeStands, EndStands, WasRevoked, WasInConflict, done_in}
-use Rattle.request_tries.specs.Serving.{TriesValue, IsServing, asked, with_try}
+use Rattle.request_tries.specs.Ends.{Errand, AreAll, OutcomeStands, EndStands, WasRevoked, WasInConflict, copied_for, done_at, done_of, page_of}
+use Rattle.request_tries.specs.Serving.{TriesValue, IsServing, errand_of, with_try}
 use Rattle.request_tries.specs.Steps.{EndsTry, ended_at, from_of, front_at, outcome_by, try_ended}
 use Rattle.request_tries.specs.Tries.{CauseStands, AreTries, first_begin, last_front}
 use Rattle.request_tries.specs.declared.outcome.Ended.{Ended}
-use Rattle.request_tries.specs.declared.outcome.Outcome.{Outcome}
+use Rattle.request_tries.specs.declared.outcome.RequestOutcome.{RequestOutcome}
 use Rattle.request_tries.specs.declared.outcome.Try.{Try}
 use Rattle.request_tries.specs.declared.outcome.TryCause.{TryCause}
 use Rattle.request_tries.specs.declared.outcome.TryCause.TheVariants as cause
@@ -37,7 +37,7 @@ use Rattle.request_tries.specs.declared.outcome.TheConstants.{MAX_TRIES}
 use Rattle.request_tries.proofs.Trying.{first_before, from_first, stands_now, tries_more}
 
 -- An end stands in each longer history.
-pub end_longer : (start : Start) (events more : List Event) (a : Asked) (e : Ended) → EndStands start events a e → EndStands start (events ++ more) a e
+pub end_longer : (start : Start) (events more : List Event) (a : Errand) (e : Ended) → EndStands start events a e → EndStands start (events ++ more) a e
 end_longer start events more a e s = record {
   held = omega (arith, s.held, length-append events more);
   front = rw (take-append-le e.held events more s.held) s.front;
@@ -46,9 +46,13 @@ end_longer start events more a e s = record {
   done = rw (take-append-le e.held events more s.held) s.done;
 }
 
+-- What an end answers, it answers in each longer history.
+pub answers_longer : (events more : List Event) (e : Ended) → e.held ≤ length events → done_of (events ++ more) e ≡ done_of events e
+answers_longer events more e held = ap (λ (es : List Event). option_and_then (done_at (entries_in es)) (page_of e.outcome)) (take-append-le e.held events more held)
+
 -- an end stands where the container is as it shows
-pub stands : (c : ContainerValue) (a : Asked) (from : Place) (o : Outcome) (done : Option DoneText) → entries_in c.since ≡ c.boot.entries → from.0 ≤ length c.boot.entries
-    → OutcomeStands c.boot.start (events_of c) a from.0 o → done ≡ done_in c.boot.entries o → EndStands c.boot.start (events_of c) a (ended_at (front_at c) from o done)
+pub stands : (c : ContainerValue) (a : Errand) (from : Place) (o : RequestOutcome) (done : Option DoneText) → entries_in c.since ≡ c.boot.entries → from.0 ≤ length c.boot.entries
+    → OutcomeStands c.boot.start (events_of c) a from.0 o → done ≡ copied_for c.boot.entries o → EndStands c.boot.start (events_of c) a (ended_at (front_at c) from o done)
 stands c a from o done seen le shows is =
     let whole : take (length (events_of c)) (events_of c) ≡ events_of c = take_all (length (events_of c)) (events_of c) (omega arith) in
     record {
@@ -56,7 +60,7 @@ stands c a from o done seen le shows is =
       front = subst (λ (es : List Event). length (entries_in es) ≡ length c.boot.entries) (sym whole) (ap (λ (es : List Entry). length es) seen);
       from = le;
       outcome = subst (λ (es : List Event). OutcomeStands c.boot.start es a from.0 o) (sym whole) shows;
-      done = subst (λ (es : List Event). done ≡ done_in (entries_in es) o) (sym whole) (is ∙ sym (ap (λ (es : List Entry). done_in es o) seen));
+      done = subst (λ (es : List Event). done ≡ copied_for (entries_in es) o) (sym whole) (is ∙ sym (ap (λ (es : List Entry). copied_for es o) seen));
     }
 
 -- what holds of each holds of one in the middle
@@ -118,7 +122,7 @@ with_last c asks s at why repeats h =
 -- the outcome of a request whose last try ends now
 outcome_shows : (c : ContainerValue) (asks : List Answer → Next) (s : TriesValue) (at : Place) (why : TryCause) (repeats : Bool) → TryMayEnd c asks s at why repeats
     → ((MAX_TRIES ≤ length s.tries + 1) ⊎ (repeats ≡ false))
-    → OutcomeStands c.boot.start (events_of c) (asked s asks) (first_begin s.tries at.0) (outcome_by why (s.tries ++ try_ended (front_at c) at why ∷ []))
+    → OutcomeStands c.boot.start (events_of c) (errand_of s asks) (first_begin s.tries at.0) (outcome_by why (s.tries ++ try_ended (front_at c) at why ∷ []))
 outcome_shows c asks s at why repeats h enough = go why refl
   where
     last : Try
@@ -137,7 +141,7 @@ outcome_shows c asks s at why repeats h enough = go why refl
     fewer : EntersOnce c.boot.start.deployment asks → AreAll c.boot.start.deployment asks ts
     fewer once = elim (cases_lt (length ts) MAX_TRIES) [ inl lt ↦ inr (lt, once) | inr ge ↦ inl (let few = h.few in omega (arith, ge, few, length-append s.tries (last ∷ []))) ]
 
-    go : (w : TryCause) → why ≡ w → OutcomeStands c.boot.start (events_of c) (asked s asks) (first_begin s.tries at.0) (outcome_by w ts)
+    go : (w : TryCause) → why ≡ w → OutcomeStands c.boot.start (events_of c) (errand_of s asks) (first_begin s.tries at.0) (outcome_by w ts)
     go (cause.Revoked shown) is = (here, record { before = s.tries; last = last; parts = refl; ended_so = subst WasRevoked (sym is) tt }, elim enough [ inl le ↦ inl (all le) | inr no_more ↦ fewer (h.once no_more).0 ])
     go (cause.Conflict mark newest) is = (
       here,
@@ -146,14 +150,14 @@ outcome_shows c asks s at why repeats h enough = go why refl
     )
 
 -- an end of a try answers nothing
-none_answered : (es : List Entry) (why : TryCause) (ts : List Try) → None ≡ done_in es (outcome_by why ts)
+none_answered : (es : List Entry) (why : TryCause) (ts : List Try) → None ≡ copied_for es (outcome_by why ts)
 none_answered es (cause.Revoked shown) ts = refl
 none_answered es (cause.Conflict mark newest) ts = refl
 
 -- A try that ends leaves a request that is served still, or an end that stands.
 pub try_ends : (c : ContainerValue) (asks : List Answer → Next) (s : TriesValue) (at : Place) (why : TryCause) (repeats : Bool) (e : Option Ended) (new : TriesValue)
     → TryMayEnd c asks s at why repeats → EndsTry (front_at c) s at why repeats e new
-    → (e ≡ None → IsServing c.boot asks new) × IfSome e (λ x. EndStands c.boot.start (events_of c) (asked s asks) x)
+    → (e ≡ None → IsServing c.boot asks new) × IfSome e (λ x. EndStands c.boot.start (events_of c) (errand_of s asks) x)
 try_ends c asks s at why repeats None new h ends =
     let more : IsServing c.boot asks (with_try s (try_ended (front_at c) at why)) = record { few = let low = ends.0 in omega (arith, low, length-append s.tries (try_ended (front_at c) at why ∷ [])); tries = with_last c asks s at why repeats h; attempt = tt } in
     ((λ none. subst (λ (x : TriesValue). IsServing c.boot asks x) (sym ends.2) more), tt)
@@ -161,5 +165,5 @@ try_ends c asks s at why repeats (Some x) new h ends =
     let ts : List Try = s.tries ++ try_ended (front_at c) at why ∷ [] in
     let le = first_before c.boot.start.deployment asks c.boot.entries s.tries at.0 h.tries h.after in
     let within = h.within in
-    let end = stands c (asked s asks) (from_of s at) (outcome_by why ts) None h.seen (omega (arith, le, within)) (outcome_shows c asks s at why repeats h ends.0) (none_answered c.boot.entries why ts) in
-    ((λ none. absurd (cc)), subst (λ (y : Ended). EndStands c.boot.start (events_of c) (asked s asks) y) (sym ends.1) end)
+    let end = stands c (errand_of s asks) (from_of s at) (outcome_by why ts) None h.seen (omega (arith, le, within)) (outcome_shows c asks s at why repeats h ends.0) (none_answered c.boot.entries why ts) in
+    ((λ none. absurd (cc)), subst (λ (y : Ended). EndStands c.boot.start (events_of c) (errand_of s asks) y) (sym ends.1) end)

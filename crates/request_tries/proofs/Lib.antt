@@ -4,3 +4,4 @@ mod Committing
 mod Serving
 mod Answering
 mod Once
+mod Early

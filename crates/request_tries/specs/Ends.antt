@@ -1,5 +1,5 @@
 -- What became of a request, and what the history of the container shows of it.
-use Rattle.std.specs.Prelude.{◌≡◌, ◌⊎◌, ℕ, ◌<◌, ◌≤◌, true, false, List, [], ◌∷◌, ◌++◌, length, take, slice_get, Option, Some, None, IfSome, option_map}
+use Rattle.std.specs.Prelude.{◌≡◌, ◌⊎◌, ℕ, ◌<◌, ◌≤◌, true, false, List, [], ◌∷◌, ◌++◌, length, take, slice_get, Option, Some, None, IfSome, option_and_then, option_map}
 use Rattle.crash_base.specs.declared.numbers.Place.{Place}
 use Rattle.crash_base.specs.declared.numbers.RequestNo.{RequestNo}
 use Rattle.deployment.specs.declared.parts.Parts.{Parts}
@@ -24,41 +24,43 @@ use Rattle.container_core.specs.declared.history.Event.TheVariants.{Added, Keepe
 use Rattle.call_attempts.specs.Attempt.{EntersGroup, EntersOnce}
 use Rattle.request_tries.specs.Tries.{AreTries}
 use Rattle.request_tries.specs.declared.outcome.Ended.{Ended}
-use Rattle.request_tries.specs.declared.outcome.Outcome.{Outcome}
-use Rattle.request_tries.specs.declared.outcome.Outcome.TheVariants.{Page, Sentinel, Revoked, Conflict, JournalFull, KeeperFailed}
+use Rattle.request_tries.specs.declared.outcome.RequestOutcome.{RequestOutcome}
+use Rattle.request_tries.specs.declared.outcome.RequestOutcome.TheVariants.{Page, Sentinel, Revoked, Conflict, JournalFull, KeeperFailed}
 use Rattle.request_tries.specs.declared.outcome.Try.{Try}
 use Rattle.request_tries.specs.declared.outcome.TryCause.{TryCause}
 use Rattle.request_tries.specs.declared.outcome.TryCause.TheVariants as cause
 use Rattle.request_tries.specs.declared.outcome.TheConstants.{MAX_TRIES}
 
 -- what is asked of a container: a program under a request's number, with the text of its action
-pub record Asked : Type 0 where
+pub record Errand : Type 0 where
   pub request : RequestNo
   pub text : List ℕ
   pub asks : List Answer → Next
 
 -- An entry is one that was asked for: it has the request's number and the text, and its call began at a place or later.
-pub record IsAskedFor (asked : Asked) (from : ℕ) (entry : CommitEntry) (done : DoneText) : Type 0 where
-  pub request : entry.request ≡ asked.request
-  pub action : entry.action ≡ Some (record { text = asked.text; done = done })
+pub record IsAskedFor (errand : Errand) (from : ℕ) (entry : CommitEntry) (done : DoneText) : Type 0 where
+  pub request : entry.request ≡ errand.request
+  pub action : entry.action ≡ Some (record { text = errand.text; done = done })
   pub since : from ≤ entry.at.0
 
--- The entry at a place is what was asked for, as if it had been done all at once there: the program makes it over the
--- rows before it.
-pub record IsServed (start : Start) (es : List Entry) (asked : Asked) (from : ℕ) (place : ℕ) : Type 0 where
+-- The last event of a history is the entry at a place, and is what was asked for, as if it had been done all at once
+-- there: the program makes it over the rows before it.
+pub record IsServed (start : Start) (seen : List Event) (errand : Errand) (from : ℕ) (place : ℕ) : Type 0 where
+  pub before : List Event
   pub entry : CommitEntry
   pub done : DoneText
-  pub is_there : slice_get es place ≡ Some (Commit entry)
-  pub asked_for : IsAskedFor asked from entry done
-  pub made : Makes start.deployment asked.asks (rows_after start.base (take place es)) entry done
+  pub last : seen ≡ before ++ Added (Commit entry) ∷ []
+  pub place_is : place ≡ length (entries_in before)
+  pub asked_for : IsAskedFor errand from entry done
+  pub made : Makes start.deployment errand.asks (rows_after start.base (entries_in before)) entry done
 
 -- A journal has no room for an entry that was asked for, and that the program makes over the rows at its begin.
-pub record HasNoRoom (start : Start) (es : List Entry) (asked : Asked) (from : ℕ) : Type 0 where
+pub record HasNoRoom (start : Start) (es : List Entry) (errand : Errand) (from : ℕ) : Type 0 where
   pub entry : CommitEntry
   pub done : DoneText
-  pub asked_for : IsAskedFor asked from entry done
+  pub asked_for : IsAskedFor errand from entry done
   pub within : entry.at.0 ≤ length es
-  pub made : Makes start.deployment asked.asks (snapshot start.base es entry.at.0) entry done
+  pub made : Makes start.deployment errand.asks (snapshot start.base es entry.at.0) entry done
 
 -- a try was revoked
 abbrev pub WasRevoked : TryCause → Type 0
@@ -84,24 +86,24 @@ AreAll parts asks tries =
     (length tries ≡ MAX_TRIES) ⊎ ((length tries < MAX_TRIES) × EntersOnce parts asks)
 
 -- What became of a request, by the history at the end of its last step:
--- its entry, or the one that was there already; a group of one of its components is down; its tries; a journal without
--- room; or, as the last event, the mark of the keeper that failed.
-abbrev pub OutcomeStands : Start → List Event → Asked → ℕ → Outcome → Type 0
-OutcomeStands start seen asked from (Page place true) = commit_of (entries_in seen) asked.request ≡ Some place
-OutcomeStands start seen asked from (Page place false) = IsServed start (entries_in seen) asked from place.0
-OutcomeStands start seen asked from (Sentinel group down) =
-    (down_of (entries_in seen) group.0 ≡ Some down) × EntersGroup start.deployment asked.asks group
-OutcomeStands start seen asked from (Revoked tries) =
-    AreTries start.deployment asked.asks (entries_in seen) from tries
-    × EndsSo WasRevoked tries × AreAll start.deployment asked.asks tries
-OutcomeStands start seen asked from (Conflict tries) =
-    AreTries start.deployment asked.asks (entries_in seen) from tries
+-- its entry, as the last event, or the one that was there already; a group of one of its components is down; its tries;
+-- a journal without room; or, as the last event, the mark of the keeper that failed.
+abbrev pub OutcomeStands : Start → List Event → Errand → ℕ → RequestOutcome → Type 0
+OutcomeStands start seen errand from (Page place true) = commit_of (entries_in seen) errand.request ≡ Some place
+OutcomeStands start seen errand from (Page place false) = IsServed start seen errand from place.0
+OutcomeStands start seen errand from (Sentinel group down) =
+    (down_of (entries_in seen) group.0 ≡ Some down) × EntersGroup start.deployment errand.asks group
+OutcomeStands start seen errand from (Revoked tries) =
+    AreTries start.deployment errand.asks (entries_in seen) from tries
+    × EndsSo WasRevoked tries × AreAll start.deployment errand.asks tries
+OutcomeStands start seen errand from (Conflict tries) =
+    AreTries start.deployment errand.asks (entries_in seen) from tries
     × EndsSo WasInConflict tries × (length tries ≡ MAX_TRIES)
-OutcomeStands start seen asked from (JournalFull full) =
-    (none : HasNoRoom start (entries_in seen) asked from)
+OutcomeStands start seen errand from (JournalFull full) =
+    (none : HasNoRoom start (entries_in seen) errand from)
     × (full_for start.limits (entries_in seen) 1 (entry_bytes (Commit none.entry)) ≡ Some full)
-OutcomeStands start seen asked from KeeperFailed =
-    (before : List Event) × (seen ≡ before ++ FailedMark asked.request ∷ [])
+OutcomeStands start seen errand from KeeperFailed =
+    (before : List Event) × (seen ≡ before ++ FailedMark errand.request ∷ [])
 
 -- what an entry answers: a commit of an action what that one does
 abbrev pub done_by : Entry → Option DoneText
@@ -118,26 +120,40 @@ done_if (Some e) = done_by e
 abbrev pub done_at : List Entry → Place → Option DoneText
 done_at es place = done_if (slice_get es place.0)
 
--- what the end of a request answers: a page what its entry does
-abbrev pub done_in : List Entry → Outcome → Option DoneText
-done_in es (Page place again) = done_at es place
-done_in es (Sentinel group down) = None
-done_in es (Revoked tries) = None
-done_in es (Conflict tries) = None
-done_in es (JournalFull full) = None
-done_in es KeeperFailed = None
+-- what is copied for the end of a request: of a page that was there already what its entry answers
+abbrev pub copied_for : List Entry → RequestOutcome → Option DoneText
+copied_for es (Page place true) = done_at es place
+copied_for es (Page place false) = None
+copied_for es (Sentinel group down) = None
+copied_for es (Revoked tries) = None
+copied_for es (Conflict tries) = None
+copied_for es (JournalFull full) = None
+copied_for es KeeperFailed = None
+
+-- the place of the entry that the end of a request shows, if it shows one
+abbrev pub page_of : RequestOutcome → Option Place
+page_of (Page place again) = Some place
+page_of (Sentinel group down) = None
+page_of (Revoked tries) = None
+page_of (Conflict tries) = None
+page_of (JournalFull full) = None
+page_of KeeperFailed = None
+
+-- What the end of a request answers, by the history at the end of its last step: a page what its entry does.
+abbrev pub done_of : List Event → Ended → Option DoneText
+done_of events e = option_and_then (done_at (entries_in (take e.held events))) (page_of e.outcome)
 
 -- An end stands in a history: its first `held` events, which have `front` entries, show what became of the request, and
--- what it answers. So it stands in each history that begins with this one.
-pub record EndStands (start : Start) (events : List Event) (asked : Asked) (e : Ended) : Type 0 where
+-- what is copied for it. So it stands in each history that begins with this one.
+pub record EndStands (start : Start) (events : List Event) (errand : Errand) (e : Ended) : Type 0 where
   pub held : e.held ≤ length events
   pub front : length (entries_in (take e.held events)) ≡ e.front.0
   pub from : e.from.0 ≤ e.front.0
-  pub outcome : OutcomeStands start (take e.held events) asked e.from.0 e.outcome
-  pub done : e.done ≡ done_in (entries_in (take e.held events)) e.outcome
+  pub outcome : OutcomeStands start (take e.held events) errand e.from.0 e.outcome
+  pub done : e.done ≡ copied_for (entries_in (take e.held events)) e.outcome
 
 -- what the end of a request adds to the history: the entry at its place, or the mark of the keeper that failed
-abbrev pub Adds : RequestNo → Outcome → ContainerValue → ContainerValue → Type 0
+abbrev pub Adds : RequestNo → RequestOutcome → ContainerValue → ContainerValue → Type 0
 Adds request (Page place true) old new = new.since ≡ old.since
 Adds request (Page place false) old new =
     (e : CommitEntry) × (new.since ≡ old.since ++ Added (Commit e) ∷ []) × (place.0 ≡ length old.boot.entries)
@@ -153,5 +169,5 @@ StepAdds request None old new = new.since ≡ old.since
 StepAdds request (Some e) old new = Adds request e.outcome old new
 
 -- what a step brings, if the request has ended: an end that stands
-abbrev pub MayEnd : Start → List Event → Asked → Option Ended → Type 0
-MayEnd start events asked end = IfSome end (λ e. EndStands start events asked e)
+abbrev pub MayEnd : Start → List Event → Errand → Option Ended → Type 0
+MayEnd start events errand end = IfSome end (λ e. EndStands start events errand e)

@@ -1,13 +1,13 @@
 -- A request that is being served: its tries that ended, and the attempt that is open.
-use Rattle.std.specs.Prelude.{◌≡◌, ◌<◌, ◌≤◌, ℕ, List, [], ◌∷◌, ◌++◌, length, Option, Some, None, IfSome}
+use Rattle.std.specs.Prelude.{◌≡◌, ◌<◌, ◌≤◌, ℕ, List, [], ◌∷◌, ◌++◌, length, Option, Some, None, IfSome, option_map, unwrap_or}
 use Rattle.crash_base.specs.declared.numbers.RequestNo.{RequestNo}
 use Rattle.crash_base.specs.declared.numbers.WorkerNo.{WorkerNo}
 use Rattle.call_ticket.specs.declared.next.Answer.{Answer}
 use Rattle.call_ticket.specs.declared.next.Next.{Next}
 use Rattle.boot_core.specs.Boot.{BootValue}
-use Rattle.call_attempts.specs.Attempt.{AttemptValue, IsUnderWay, attempt_begun}
-use Rattle.request_tries.specs.Ends.{Asked}
-use Rattle.request_tries.specs.Tries.{AreTries, last_front}
+use Rattle.call_attempts.specs.Attempt.{AttemptValue, IsUnderWay, attempt_begun, wanted}
+use Rattle.request_tries.specs.Ends.{Errand}
+use Rattle.request_tries.specs.Tries.{AreTries, first_begin, last_front}
 use Rattle.request_tries.specs.declared.outcome.Try.{Try}
 use Rattle.request_tries.specs.declared.outcome.TheConstants.{MAX_TRIES}
 
@@ -25,8 +25,8 @@ unbegun request worker text =
     record { request = request; worker = worker; text = text; tries = []; attempt = None }
 
 -- what it asks of a container by a program
-abbrev pub asked : TriesValue → (List Answer → Next) → Asked
-asked s asks = record { request = s.request; text = s.text; asks = asks }
+abbrev pub errand_of : TriesValue → (List Answer → Next) → Errand
+errand_of s asks = record { request = s.request; text = s.text; asks = asks }
 
 -- An open attempt is under way for the request, and began where the try before ended, or later.
 pub record IsOpen (boot : BootValue) (asks : List Answer → Next) (s : TriesValue) (a : AttemptValue) : Type 0 where
@@ -40,6 +40,14 @@ pub record IsServing (boot : BootValue) (asks : List Answer → Next) (s : Tries
   pub few : length s.tries < MAX_TRIES
   pub tries : AreTries boot.start.deployment asks boot.entries 0 s.tries
   pub attempt : IfSome s.attempt (λ a. IsOpen boot asks s a)
+
+-- the step that the open attempt asks for, if one is open
+abbrev pub wanted_by : (List Answer → Next) → TriesValue → Option Next
+wanted_by asks s = option_map (λ (a : AttemptValue). wanted asks a) s.attempt
+
+-- where its first try began, or else a place
+abbrev pub begun_at : TriesValue → ℕ → ℕ
+begun_at s at = first_begin s.tries (unwrap_or (option_map (λ (a : AttemptValue). a.ticket.call.at.0) s.attempt) at)
 
 -- a request whose next attempt has begun
 abbrev pub has_begun : BootValue → TriesValue → TriesValue

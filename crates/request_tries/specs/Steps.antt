@@ -13,18 +13,21 @@ use Rattle.boot_core.specs.declared.refusals.CommitRefusal.{CommitRefusal}
 use Rattle.boot_core.specs.declared.refusals.CommitRefusal.TheVariants as commits
 use Rattle.boot_core.specs.declared.refusals.Refused.{Refused}
 use Rattle.container_core.specs.Container.{ContainerValue, CommitLeaves, event_count, events_of}
+use Rattle.container_core.specs.declared.history.Event.{Event}
 use Rattle.call_attempts.specs.Attempt.{AttemptValue, HasStepped, IsUnderWay, stepped, wanted}
 use Rattle.call_attempts.specs.declared.attempt.Stepped.{Stepped}
 use Rattle.call_attempts.specs.declared.attempt.Stepped.TheVariants as coming
 use Rattle.call_attempts.specs.declared.stop.Stop.{Stop}
 use Rattle.call_attempts.specs.declared.stop.Stop.TheVariants as stops
-use Rattle.request_tries.specs.Ends.{MayEnd, StepAdds, done_at}
-use Rattle.request_tries.specs.Serving.{IsServing, TriesValue, asked, closed, has_begun, with_try}
+use Rattle.request_tries.specs.Ends.{MayEnd, StepAdds, done_at, done_of}
+use Rattle.request_tries.specs.Serving.{IsServing, TriesValue, closed, errand_of, has_begun, with_try}
 use Rattle.request_tries.specs.Tries.{first_begin}
 use Rattle.request_tries.specs.declared.outcome.Ended.{Ended}
 use Rattle.request_tries.specs.declared.outcome.HistoryFront.{HistoryFront}
-use Rattle.request_tries.specs.declared.outcome.Outcome.{Outcome}
-use Rattle.request_tries.specs.declared.outcome.Outcome.TheVariants.{Page, Sentinel, Revoked, Conflict, JournalFull, KeeperFailed}
+use Rattle.request_tries.specs.declared.outcome.Progress.{Progress}
+use Rattle.request_tries.specs.declared.outcome.Progress.TheVariants as progress
+use Rattle.request_tries.specs.declared.outcome.RequestOutcome.{RequestOutcome}
+use Rattle.request_tries.specs.declared.outcome.RequestOutcome.TheVariants.{Page, Sentinel, Revoked, Conflict, JournalFull, KeeperFailed}
 use Rattle.request_tries.specs.declared.outcome.Try.{Try}
 use Rattle.request_tries.specs.declared.outcome.TryCause.{TryCause}
 use Rattle.request_tries.specs.declared.outcome.TryCause.TheVariants as cause
@@ -35,7 +38,7 @@ abbrev pub front_at : ContainerValue → HistoryFront
 front_at c = record { front = record { 0 = length c.boot.entries }; held = event_count c }
 
 -- an end, when the history has come so far
-abbrev pub ended_at : HistoryFront → Place → Outcome → Option DoneText → Ended
+abbrev pub ended_at : HistoryFront → Place → RequestOutcome → Option DoneText → Ended
 ended_at now from outcome done =
     record { outcome = outcome; from = from; front = now.front; held = now.held; done = done }
 
@@ -44,7 +47,7 @@ abbrev pub from_of : TriesValue → Place → Place
 from_of s at = record { 0 = first_begin s.tries at.0 }
 
 -- the outcome of a request whose last try ended so
-abbrev pub outcome_by : TryCause → List Try → Outcome
+abbrev pub outcome_by : TryCause → List Try → RequestOutcome
 outcome_by (cause.Revoked shown) tries = Revoked tries
 outcome_by (cause.Conflict mark newest) tries = Conflict tries
 
@@ -75,12 +78,12 @@ IsRefused now es old at commits.KeeperFailed repeats end new =
     end ≡ Some (ended_at now (from_of old at) KeeperFailed None)
 IsRefused now es old at commits.OutOfMemory repeats end new = ⊥
 
--- A request hears the answer to the commit of a try that began at a place and answers this: it has ended by its entry;
--- or the try, or the request, has ended by the cause.
-abbrev pub HearsCommit : HistoryFront → List Entry → TriesValue → Place → DoneText → Bool → Result Place Refused → Option Ended → TriesValue → Type 0
-HearsCommit now es old at done repeats (Ok place) end new =
-    end ≡ Some (ended_at now (from_of old at) (Page place false) (Some done))
-HearsCommit now es old at done repeats (Err refused) end new = IsRefused now es old at refused.cause repeats end new
+-- A request hears the answer to the commit of a try that began at a place: it has ended by its entry; or the try, or the
+-- request, has ended by the cause.
+abbrev pub HearsCommit : HistoryFront → List Entry → TriesValue → Place → Bool → Result Place Refused → Option Ended → TriesValue → Type 0
+HearsCommit now es old at repeats (Ok place) end new =
+    end ≡ Some (ended_at now (from_of old at) (Page place false) None)
+HearsCommit now es old at repeats (Err refused) end new = IsRefused now es old at refused.cause repeats end new
 
 -- A reboot stopped a try that began at a place: it met a group that is down, and the request has ended; or it was
 -- revoked.
@@ -98,13 +101,13 @@ abbrev pub refusal_of : ContainerValue → TriesValue → AttemptValue → DoneT
 refusal_of c s a done =
     commit_refusal c.boot.start.limits c.boot.entries a.ticket.call (action_of s done)
 
--- An attempt that is done was committed, or was not, and the request heard the answer.
+-- An open attempt was committed, or was not, and the request heard the answer.
 pub record CommitsTry (old : ContainerValue) (s : TriesValue) (a : AttemptValue) (done : DoneText) (end : Option Ended) (new : ContainerValue) (after : TriesValue) : Type 0 where
   pub answer : Result Place Refused
   pub is_answer : CommitAnswer (refusal_of old s a done) answer
   pub leaves : CommitLeaves a.ticket.call (action_of s done) answer old new
   pub failed : IfErr answer (λ refused. refused.cause ≡ commits.KeeperFailed → Rose old.faults new.faults)
-  pub hears : HearsCommit (front_at new) new.boot.entries (closed s) a.ticket.call.at done a.repeats answer end after
+  pub hears : HearsCommit (front_at new) new.boot.entries (closed s) a.ticket.call.at a.repeats answer end after
 
 -- The open attempt has made a step, and is under way still.
 pub record HasAdvanced (boot : BootValue) (asks : List Answer → Next) (old : TriesValue) (came : Stepped) (new : TriesValue) : Type 0 where
@@ -120,26 +123,55 @@ abbrev pub Advances : BootValue → (List Answer → Next) → TriesValue → Op
 Advances boot asks old None new = (old.attempt ≡ None) × (new ≡ old)
 Advances boot asks old (Some came) new = HasAdvanced boot asks old came new
 
--- what the step of an open attempt comes to in a container: it goes on; its commit is made; or it is given up
-abbrev pub ComesTo : ContainerValue → (List Answer → Next) → TriesValue → AttemptValue → Stepped → Option Ended → ContainerValue → TriesValue → Type 0
-ComesTo c asks s a coming.Went end new after =
-    (end ≡ None) × (new ≡ c) × (after ≡ record s { attempt = Some (stepped c.boot a (wanted asks a)) })
-ComesTo c asks s a (coming.Done done) end new after = CommitsTry c s a done end new after
-ComesTo c asks s a (coming.Stopped stop) end new after =
-    (new ≡ c) × IsStopped (front_at c) (closed s) a.ticket.call.at a.repeats stop end after
+-- the end that a step came to, if it came to one
+abbrev pub end_of : Progress → Option Ended
+end_of progress.Went = None
+end_of (progress.Done done) = None
+end_of (progress.Ended e) = Some e
+
+-- Where a step found the program done, this is so of what it answers.
+abbrev pub IfDone : Progress → (DoneText → Type 0) → Type 0
+IfDone progress.Went So = Unit {0}
+IfDone (progress.Done done) So = So done
+IfDone (progress.Ended e) So = Unit {0}
+
+-- what a step comes to that has ended the request, or else a try alone
+abbrev pub progress_of : Option Ended → Progress
+progress_of None = progress.Went
+progress_of (Some e) = progress.Ended e
+
+-- What the step of an open attempt comes to: it goes on; its program is done, and it stays open for its commit; or it is
+-- given up.
+abbrev pub ComesTo : ContainerValue → (List Answer → Next) → TriesValue → AttemptValue → Stepped → Progress → TriesValue → Type 0
+ComesTo c asks s a coming.Went to after =
+    (to ≡ progress.Went) × (after ≡ record s { attempt = Some (stepped c.boot a (wanted asks a)) })
+ComesTo c asks s a (coming.Done done) to after = (to ≡ progress.Done done) × (after ≡ s)
+ComesTo c asks s a (coming.Stopped stop) to after =
+    (end : Option Ended) × (to ≡ progress_of end)
+    × IsStopped (front_at c) (closed s) a.ticket.call.at a.repeats stop end after
 
 -- The one step that a request makes in a container: an attempt begins where none is open; and else the open one makes
--- the step that its program asks for. So the step is fixed but for memory and the keeper.
-abbrev pub StepsAs : ContainerValue → (List Answer → Next) → TriesValue → Option AttemptValue → Option Ended → ContainerValue → TriesValue → Type 0
-StepsAs c asks s None end new after = (end ≡ None) × (new ≡ c) × (after ≡ has_begun c.boot s)
-StepsAs c asks s (Some a) end new after =
-    (came : Stepped) × (next : AttemptValue) × HasStepped c.boot asks a came next × ComesTo c asks s a came end new after
+-- the step that its program asks for. So the step is fixed but for memory.
+abbrev pub StepsAs : ContainerValue → (List Answer → Next) → TriesValue → Option AttemptValue → Progress → TriesValue → Type 0
+StepsAs c asks s None to after = (to ≡ progress.Went) × (after ≡ has_begun c.boot s)
+StepsAs c asks s (Some a) to after =
+    (came : Stepped) × (next : AttemptValue) × HasStepped c.boot asks a came next × ComesTo c asks s a came to after
 
--- What a step of a request brings: the request is served still, in the container as it is then; or it has ended, by an
--- end that stands in the history; and the history has just what that adds.
+-- The one commit that a request makes in a container: of the attempt that is open. So it is fixed but for memory and the
+-- keeper.
+abbrev pub CommitsAs : ContainerValue → TriesValue → Option AttemptValue → DoneText → Option Ended → ContainerValue → TriesValue → Type 0
+CommitsAs old s None done end new after = ⊥
+CommitsAs old s (Some a) done end new after = CommitsTry old s a done end new after
+
+-- The page of an entry of its own answers what was committed.
+abbrev pub AnswersOwn : List Event → DoneText → Ended → Type 0
+AnswersOwn events done e = (place : Place) → e.outcome ≡ Page place false → done_of events e ≡ Some done
+
+-- What a step or a commit of a request brings: the request is served still, in the container as it is then; or it has
+-- ended, by an end that stands in the history; and the history has just what that adds.
 pub record Brings (old new : ContainerValue) (asks : List Answer → Next) (s after : TriesValue) (end : Option Ended) : Type 0 where
   pub serving : end ≡ None → IsServing new.boot asks after
-  pub ended : MayEnd new.boot.start (events_of new) (asked s asks) end
+  pub ended : MayEnd new.boot.start (events_of new) (errand_of s asks) end
   pub adds : StepAdds s.request end old new
   pub failed : IfSome end (λ e. e.outcome ≡ KeeperFailed → Rose old.faults new.faults)
 

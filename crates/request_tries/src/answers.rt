@@ -21,7 +21,7 @@ fn copied_session(alloc: Global, change: &SessionChange) -> Result<SessionChange
 }
 
 /// A copy of what an action answers.
-pub(crate) fn copied_done(alloc: Global, done: &DoneText) -> Result<DoneText, OutOfMemory>
+fn copied_done(alloc: Global, done: &DoneText) -> Result<DoneText, OutOfMemory>
     ensures { IfOk result (λ copy. copy ≡ done.now) }
 {
     let page = PageText::copied(alloc, done.page.as_slice())?;

@@ -15,11 +15,13 @@ pub enum TryCause {
     Conflict { mark: ReadMark, newest: Place },
 }
 
-/// A try that did not commit: the journal's lengths at its begin and at its end, and its cause.
+/// A try that did not commit.
 #[derive(Clone, Copy)]
 pub struct Try {
+    /// The journal's length at its begin.
     pub at: Place,
     pub cause: TryCause,
+    /// The journal's length at its end.
     pub front: Place,
 }
 
@@ -28,7 +30,7 @@ pub type TryList = Items<Try>;
 
 /// What became of a request. A component that failed would be another outcome; none is told now.
 #[derive(Drop)]
-pub enum Outcome {
+pub enum RequestOutcome {
     /// It is committed, by the entry at this place of the journal: by an earlier call of it where `again` is true.
     Page { place: Place, again: bool },
     /// The group of a component that it enters is down, by the Down at this place.
@@ -43,10 +45,12 @@ pub enum Outcome {
     KeeperFailed,
 }
 
-/// How far the history of a container has come: the journal's length, and the number of events.
+/// How far the history of a container has come.
 #[derive(Clone, Copy)]
 pub struct HistoryFront {
+    /// The journal's length.
     pub front: Place,
+    /// The number of events.
     pub held: u64,
 }
 
@@ -54,13 +58,25 @@ pub struct HistoryFront {
 #[derive(Drop)]
 pub struct Ended {
     /// What became of it.
-    pub outcome: Outcome,
+    pub outcome: RequestOutcome,
     /// The journal's length at the begin of its first try.
     pub from: Place,
     /// The journal's length after its last step.
     pub front: Place,
     /// The number of events of the history after its last step.
     pub held: u64,
-    /// What the entry of a page answers, copied; None where that one has no action, and for any other outcome.
+    /// What an entry answers that was there already, copied; None where it has no action, and for any other outcome. A
+    /// page of its own answers what was committed.
     pub done: Option<DoneText>,
+}
+
+/// What a step of a request comes to.
+#[derive(Drop)]
+pub enum Progress {
+    /// The request goes on.
+    Went,
+    /// The program is done, and answers this where it commits. The attempt stays open for its commit.
+    Done(DoneText),
+    /// The request has ended.
+    Ended(Ended),
 }

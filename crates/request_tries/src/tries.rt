@@ -2,14 +2,17 @@
 
 ghost use Rattle.std.specs.Prelude.{◌≡◌, ◌≢◌, ◌≤◌, List, None, Some, IfOk, IfSome, IsErr, OnOk, OnErr};
 ghost use Rattle.boot_core.specs.Fits.{FitsIn};
-ghost use Rattle.container_core.specs.Container.{HasGrownBy};
+ghost use Rattle.call_ticket.specs.declared.next.Next.TheVariants as next;
+ghost use Rattle.container_core.specs.Container.{HasGrownBy, events_of};
 ghost use Rattle.container_core.specs.History.{entries_in};
-ghost use Rattle.call_attempts.specs.Attempt.{AttemptValue, IsUnderWay, attempt_of};
-ghost use Rattle.request_tries.specs.Serving.{IsServing, closed, has_begun, unbegun};
-ghost use Rattle.request_tries.specs.Steps.{AddsNothing, Advances, Brings, CommitsTry, EndsTry, HearsCommit, IsRefused, IsStopped, KeepsHistory, CauseAddsNothing, StepsAs, ended_at, from_of, front_at, outcome_by};
+ghost use Rattle.call_attempts.specs.Attempt.{IsUnderWay, attempt_of};
+ghost use Rattle.request_tries.specs.Serving.{IsServing, closed, has_begun, unbegun, wanted_by};
+ghost use Rattle.request_tries.specs.Steps.{AddsNothing, Advances, AnswersOwn, Brings, CommitsAs, EndsTry, HearsCommit, IfDone, IsRefused, IsStopped, KeepsHistory, CauseAddsNothing, StepsAs, end_of, ended_at, from_of, front_at, outcome_by, progress_of};
 
-use crate::answers::{copied_done, copied_done_at};
-use crate::outcome::{Ended, HistoryFront, MAX_TRIES, Outcome, Try, TryCause, TryList};
+use crate::answers::copied_done_at;
+use crate::outcome::{
+    Ended, HistoryFront, MAX_TRIES, Progress, RequestOutcome, Try, TryCause, TryList,
+};
 use call_attempts::{Attempt, Stepped, Stop};
 use call_ticket::{Program, calls_follow};
 use container_core::{
@@ -62,8 +65,23 @@ fn front_at<K: Keeper + Drop>(container: &Container<K>) -> HistoryFront
     }
 }
 
+/// What a step comes to that has ended the request, or else a try alone.
+fn progress_of(end: Option<Ended>) -> Progress
+    ensures { result ≡ progress_of end }
+{
+    match end {
+        None => Progress::Went,
+        Some(ended) => Progress::Ended(ended),
+    }
+}
+
 /// The end of a request, when the history has come so far.
-fn ended_at(now: HistoryFront, from: Place, outcome: Outcome, done: Option<DoneText>) -> Ended
+fn ended_at(
+    now: HistoryFront,
+    from: Place,
+    outcome: RequestOutcome,
+    done: Option<DoneText>,
+) -> Ended
     ensures { result ≡ ended_at now from outcome done }
 {
     Ended {
@@ -157,15 +175,15 @@ impl RequestTries {
     }
 
     /// The outcome of this request, whose last try ended so.
-    fn outcome_by(&mut self, alloc: Global, cause: TryCause) -> Outcome
+    fn outcome_by(&mut self, alloc: Global, cause: TryCause) -> RequestOutcome
         requires { self.old.attempt ≡ None }
         ensures outcome { result ≡ outcome_by cause self.old.tries }
         ensures closed { self.new.attempt ≡ None }
     {
         let tries = mem::replace(&mut self.tries, TryList::new(alloc));
         match cause {
-            TryCause::Revoked(_) => Outcome::Revoked(tries),
-            TryCause::Conflict { .. } => Outcome::Conflict(tries),
+            TryCause::Revoked(_) => RequestOutcome::Revoked(tries),
+            TryCause::Conflict { .. } => RequestOutcome::Conflict(tries),
         }
     }
 
@@ -224,41 +242,40 @@ impl RequestTries {
             }
             CommitRefusal::Already { place } => {
                 let done = copied_done_at(alloc, journal, place)?;
-                let outcome = Outcome::Page { place, again: true };
+                let outcome = RequestOutcome::Page { place, again: true };
                 return Ok(Some(ended_at(now, from, outcome, done)));
             }
-            CommitRefusal::JournalFull(full) => Outcome::JournalFull(full),
-            CommitRefusal::KeeperFailed => Outcome::KeeperFailed,
+            CommitRefusal::JournalFull(full) => RequestOutcome::JournalFull(full),
+            CommitRefusal::KeeperFailed => RequestOutcome::KeeperFailed,
             CommitRefusal::OutOfMemory => return Err(OutOfMemory),
         };
         Ok(Some(ended_at(now, from, outcome, None)))
     }
 
-    /// Hears the answer to the commit of a try that began at this place, and that answers this.
+    /// Hears the answer to the commit of a try that began at this place.
     fn hear_commit(
         &mut self,
         alloc: Global,
         journal: &Journal,
         now: HistoryFront,
         at: Place,
-        done: DoneText,
         repeats: bool,
         answer: Result<Place, Refused>,
     ) -> Result<Option<Ended>, OutOfMemory>
         requires { self.old.attempt ≡ None }
         ensures hears { IfOk result (λ e.
-            HearsCommit now journal.now.entries self.old at done repeats answer e self.new) }
+            HearsCommit now journal.now.entries self.old at repeats answer e self.new) }
         ensures nothing { OnErr result (AddsNothing answer) }
         ensures closed { self.new.attempt ≡ None }
     {
         match answer {
             Ok(place) => {
                 let from = self.from_of(at);
-                let outcome = Outcome::Page {
+                let outcome = RequestOutcome::Page {
                     place,
                     again: false,
                 };
-                Ok(Some(ended_at(now, from, outcome, Some(done))))
+                Ok(Some(ended_at(now, from, outcome, None)))
             }
             Err(refused) => self.refused(alloc, journal, now, at, refused.cause, repeats),
         }
@@ -280,7 +297,7 @@ impl RequestTries {
         match stop {
             Stop::Sentinel { group, down } => {
                 let from = self.from_of(at);
-                let outcome = Outcome::Sentinel { group, down };
+                let outcome = RequestOutcome::Sentinel { group, down };
                 Ok(Some(ended_at(now, from, outcome, None)))
             }
             Stop::Revoked(stale) => {
@@ -297,9 +314,8 @@ impl RequestTries {
         stop: Stop,
     ) -> Result<Option<Ended>, OutOfMemory>
         requires { self.old.attempt ≢ None }
-        ensures stops { (a : AttemptValue) → self.old.attempt ≡ Some a →
-            IfOk result (λ e. IsStopped (front_at container.old) (closed self.old) a.ticket.call.at a.repeats
-            stop e self.new) }
+        ensures stops { IfOk result (λ e. IfSome self.old.attempt (λ a. IsStopped (front_at container.old)
+            (closed self.old) a.ticket.call.at a.repeats stop e self.new)) }
         ensures closed { self.new.attempt ≡ None }
         ensures same { container.new ≡ container.old }
     {
@@ -314,8 +330,9 @@ impl RequestTries {
         self.hear_stop(alloc, now, at, repeats, stop)
     }
 
-    /// Commits the open attempt, which is done and answers this. What it answers is copied before.
-    fn commit<K: Keeper + Drop>(
+    /// Makes the commit of the open attempt, which is done and answers this. The text of the action is copied before, for
+    /// another try.
+    fn make_commit<K: Keeper + Drop>(
         &mut self,
         alloc: Global,
         container: &mut Container<K>,
@@ -323,17 +340,16 @@ impl RequestTries {
     ) -> Result<Option<Ended>, OutOfMemory>
         requires open { self.old.attempt ≢ None }
         requires fits { IfSome self.old.attempt (λ a. FitsIn container.old.boot a.ticket.call) }
-        ensures commits { (a : AttemptValue) → self.old.attempt ≡ Some a →
-            IfOk result (λ e. CommitsTry container.old self.old a done e container.new self.new) }
+        ensures commits { IfOk result (λ e.
+            CommitsAs container.old self.old self.old.attempt done e container.new self.new) }
         ensures nothing { OnErr result (KeepsHistory container.old container.new) }
         ensures held { IfSome self.new.attempt (λ a. FitsIn container.new.boot a.ticket.call) }
-        ensures ended { IfOk result (λ e. e ≢ None → self.new.attempt ≡ None) }
+        ensures closed { OnOk result (self.new.attempt ≡ None) }
         ensures count { container.old.faults ≤ container.new.faults }
         ensures grown { HasGrownBy container.old container.new }
     {
         histories_grow();
         let text = self.copied_text(alloc)?;
-        let page = copied_done(alloc, &done)?;
         let Some(attempt) = self.close() else {
             unreachable!()
         };
@@ -342,7 +358,7 @@ impl RequestTries {
         let at = ticket.at();
         let answer = container.commit(alloc, ticket, Some(ActionEntry { text, done }));
         let now = front_at(container);
-        self.hear_commit(alloc, container.journal(), now, at, page, repeats, answer)
+        self.hear_commit(alloc, container.journal(), now, at, repeats, answer)
     }
 
     /// Makes the step that the open attempt asks for, if one is open.
@@ -369,44 +385,82 @@ impl RequestTries {
     }
 
     /// Makes one step of the request: the begin of an attempt, where none is open; or the step that its program asks
-    /// for; or its commit, where the program is done. Some is answered where the request has ended, and then nothing is
-    /// held. The history has grown by just what `Brings` says. No call of the container comes after a commit that was
-    /// answered.
+    /// for. Where the program is done there is none to make: `Done` is answered, as often as it is asked, until the
+    /// attempt is committed by `commit`. Where the request has ended nothing is held. A step adds nothing to the history.
     ///
     /// # Errors
-    /// Out of memory: then nothing was added to the history, and the request can only be given up, by `abandon`.
+    /// Out of memory: the request can only be given up, by `abandon`.
     pub fn step<K: Keeper + Drop, P: Program>(
         &mut self,
         alloc: Global,
         container: &mut Container<K>,
         program: &P,
-    ) -> Result<Option<Ended>, OutOfMemory>
+    ) -> Result<Progress, OutOfMemory>
         requires accepts { P.accepts program.now container.old.boot.start.deployment }
         requires serving { IsServing container.old.boot (P.asks program.now) self.old }
-        ensures steps { IfOk result (λ e.
-            StepsAs container.old (P.asks program.now) self.old self.old.attempt e container.new self.new) }
-        ensures brings { IfOk result (λ e.
-            Brings container.old container.new (P.asks program.now) self.old self.new e) }
-        ensures nothing { OnErr result (KeepsHistory container.old container.new) }
+        ensures steps { IfOk result (λ to.
+            StepsAs container.old (P.asks program.now) self.old self.old.attempt to self.new) }
+        ensures brings { IfOk result (λ to.
+            Brings container.old container.new (P.asks program.now) self.old self.new (end_of to)) }
+        ensures done { IfOk result (λ to. IfDone to (λ done. (self.new ≡ self.old)
+            × (wanted_by (P.asks program.now) self.new ≡ Some (next.Done done)))) }
+        ensures same { container.new ≡ container.old }
         ensures held { IfSome self.new.attempt (λ a. FitsIn container.new.boot a.ticket.call) }
-        ensures ended { IfOk result (λ e. e ≢ None → self.new.attempt ≡ None) }
-        ensures count { container.old.faults ≤ container.new.faults }
+        ensures ended { IfOk result (λ to. end_of to ≢ None → self.new.attempt ≡ None) }
         ensures grown { HasGrownBy container.old container.new }
     {
-        calls_follow();
         histories_grow();
         history_is(container);
         match self.advance(alloc, container, program)? {
             None => {
                 self.begin(alloc, container)?;
-                Ok(None)
+                Ok(Progress::Went)
             }
             Some(came) => match came {
-                Stepped::Went => Ok(None),
-                Stepped::Done(done) => self.commit(alloc, container, done),
-                Stepped::Stopped(stop) => self.stop(alloc, container, stop),
+                Stepped::Went => Ok(Progress::Went),
+                Stepped::Done(done) => Ok(Progress::Done(done)),
+                Stepped::Stopped(stop) => {
+                    let end = self.stop(alloc, container, stop)?;
+                    Ok(progress_of(end))
+                }
             },
         }
+    }
+
+    /// Commits the open attempt, whose program is done and answers this, by one call of the container. The program is
+    /// asked nothing: it tells whose answer this is. Then no attempt is open. Some is answered where the request has
+    /// ended; else another try is to be made, by `step`. The history has grown by just what `Brings` says.
+    ///
+    /// What the caller wants memory for to show a page of its own, it can take before, of `done`: once the entry was
+    /// added, Ok is answered, and the entry answers just `done`. The copy of what an earlier entry answers is made after
+    /// the commit was refused, so that it has added nothing.
+    ///
+    /// # Errors
+    /// Out of memory: then nothing was added to the history, and the request can only be given up, by `abandon`.
+    pub fn commit<K: Keeper + Drop, P: Program>(
+        &mut self,
+        alloc: Global,
+        container: &mut Container<K>,
+        program: &P,
+        done: DoneText,
+    ) -> Result<Option<Ended>, OutOfMemory>
+        requires accepts { P.accepts program.now container.old.boot.start.deployment }
+        requires serving { IsServing container.old.boot (P.asks program.now) self.old }
+        requires done { wanted_by (P.asks program.now) self.old ≡ Some (next.Done done) }
+        ensures commits { IfOk result (λ e.
+            CommitsAs container.old self.old self.old.attempt done e container.new self.new) }
+        ensures brings { IfOk result (λ e.
+            Brings container.old container.new (P.asks program.now) self.old self.new e) }
+        ensures answers { IfOk result (λ e. IfSome e (AnswersOwn (events_of container.new) done)) }
+        ensures nothing { OnErr result (KeepsHistory container.old container.new) }
+        ensures held { IfSome self.new.attempt (λ a. FitsIn container.new.boot a.ticket.call) }
+        ensures closed { OnOk result (self.new.attempt ≡ None) }
+        ensures count { container.old.faults ≤ container.new.faults }
+        ensures grown { HasGrownBy container.old container.new }
+    {
+        calls_follow();
+        history_is(container);
+        self.make_commit(alloc, container, done)
     }
 
     /// Gives up what it holds: the call of the open attempt, if one is open. Nothing else changes. It takes no memory.

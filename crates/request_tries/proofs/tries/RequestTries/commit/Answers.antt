@@ -1,33 +1,12 @@
-use Rattle.std.specs.Prelude.{IfSome}
-use Rattle.std.proofs.Common.{Option, Some, sym, subst, ◌∙◌}
-use Rattle.journal_model.specs.declared.entry.ActionEntry.{ActionEntry}
-use Rattle.boot_core.specs.Fits.{FitsIn}
-use Rattle.call_attempts.specs.Attempt.{AttemptValue}
-use Rattle.request_tries.proofs.Answering.{ended_if, may_hear, may_keep}
+use Rattle.request_tries.proofs.Serving.{may_commit}
 use Rattle.request_tries.proofs.tries.RequestTries.commit.Goals as goal
 
-pub returns-clause-commits : goal.returns-clause-commits
-returns-clause-commits g c = λ a was.
-    may_hear c.args.container.now c.commit-answer.new.self c.args.self.now c.close.new.self c.hear_commit.new.self a c.into_ticket-ticket.result c.in_ok-text.text c.at-at.result c.repeats-repeats.result c.in_ok-page.page c.args.done c.commit-answer.result c.front_at-now.result c.journal.result.now.entries c.hear_commit.result
-    (record {
-      was_open = was;
-      taken = (c.in-Some.attempt, sym c.close.ensures.value ∙ c.in-Some.is, c.into_ticket-ticket.ensures, c.repeats-repeats.ensures);
-      text_is = c.in_ok-text.ensures;
-      at_is = c.at-at.ensures;
-      page_is = c.in_ok-page.ensures;
-      is_answer = c.commit-answer.ensures.answer;
-      leaves = c.commit-answer.ensures.leaves;
-      failed = c.commit-answer.ensures.failed;
-    }) c.close.ensures.closed c.front_at-now.ensures c.journal.ensures.entries c.hear_commit.ensures.hears
+pub returns-clause-brings : goal.returns-clause-brings
+returns-clause-brings g c =
+    (may_commit c.calls_follow.ensures.done c.args.container.now c.make_commit.new.container (g.P.Program.asks c.args.program.now) c.args.self.now c.make_commit.new.self c.args.done c.make_commit.result
+    c.history_is.ensures c.requires.serving (λ rows. g.met.P.Program.is_done c.args.program.now c.args.container.now.boot.start.deployment rows c.requires.accepts) c.requires.done c.make_commit.ensures.commits).0
 
-pub returns-clause-nothing : goal.returns-clause-nothing
-returns-clause-nothing g c =
-    let action : ActionEntry = record { text = c.in_ok-text.text; done = c.args.done } in
-    may_keep c.into_ticket-ticket.result.call (Some action) c.commit-answer.result c.args.container.now c.commit-answer.new.self c.hear_commit.result c.hear_commit.ensures.nothing c.commit-answer.ensures.leaves
-
-pub returns-clause-held : goal.returns-clause-held
-returns-clause-held g c =
-    subst (λ (o : Option AttemptValue). IfSome o (λ a. FitsIn c.commit-answer.new.self.boot a.ticket.call)) (sym c.hear_commit.ensures.closed) tt
-
-pub returns-clause-ended : goal.returns-clause-ended
-returns-clause-ended g c = ended_if c.hear_commit.result c.hear_commit.new.self c.hear_commit.ensures.closed
+pub returns-clause-answers : goal.returns-clause-answers
+returns-clause-answers g c =
+    (may_commit c.calls_follow.ensures.done c.args.container.now c.make_commit.new.container (g.P.Program.asks c.args.program.now) c.args.self.now c.make_commit.new.self c.args.done c.make_commit.result
+    c.history_is.ensures c.requires.serving (λ rows. g.met.P.Program.is_done c.args.program.now c.args.container.now.boot.start.deployment rows c.requires.accepts) c.requires.done c.make_commit.ensures.commits).1

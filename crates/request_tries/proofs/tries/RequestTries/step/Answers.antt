@@ -1,4 +1,3 @@
-use Rattle.request_tries.proofs.Answering.{ended_if}
 use Rattle.request_tries.proofs.Serving.{begun, done, was_stopped, went}
 use Rattle.request_tries.proofs.tries.RequestTries.step.Goals as goal
 
@@ -27,26 +26,27 @@ returns-in-Went-clause-brings g c =
 pub returns-in-Done-clause-steps : goal.returns-in-Done-clause-steps
 returns-in-Done-clause-steps g c =
     let k = rw c.in-Done.is at (rw c.in-Some.is at c.in_ok-advance.ensures.advances) in
-    (done c.calls_follow.ensures.done c.args.container.now c.advance.new.container c.commit.new.container (g.P.Program.asks c.args.program.now) c.args.self.now c.advance.new.self c.commit.new.self c.in-Done.done c.commit.result
-    c.in_ok-advance.ensures.same c.history_is.ensures c.requires.serving (λ rows. g.met.P.Program.is_done c.args.program.now c.args.container.now.boot.start.deployment rows c.requires.accepts) k c.commit.ensures.commits).0
+    (done c.args.container.now c.advance.new.container (g.P.Program.asks c.args.program.now) c.args.self.now c.advance.new.self c.in-Done.done c.in_ok-advance.ensures.same c.requires.serving k).0.0
 
 pub returns-in-Done-clause-brings : goal.returns-in-Done-clause-brings
 returns-in-Done-clause-brings g c =
     let k = rw c.in-Done.is at (rw c.in-Some.is at c.in_ok-advance.ensures.advances) in
-    (done c.calls_follow.ensures.done c.args.container.now c.advance.new.container c.commit.new.container (g.P.Program.asks c.args.program.now) c.args.self.now c.advance.new.self c.commit.new.self c.in-Done.done c.commit.result
-    c.in_ok-advance.ensures.same c.history_is.ensures c.requires.serving (λ rows. g.met.P.Program.is_done c.args.program.now c.args.container.now.boot.start.deployment rows c.requires.accepts) k c.commit.ensures.commits).1
+    (done c.args.container.now c.advance.new.container (g.P.Program.asks c.args.program.now) c.args.self.now c.advance.new.self c.in-Done.done c.in_ok-advance.ensures.same c.requires.serving k).0.1
 
-pub returns-in-Stopped-clause-steps : goal.returns-in-Stopped-clause-steps
-returns-in-Stopped-clause-steps g c =
+pub returns-in-Done-clause-done : goal.returns-in-Done-clause-done
+returns-in-Done-clause-done g c =
+    let k = rw c.in-Done.is at (rw c.in-Some.is at c.in_ok-advance.ensures.advances) in
+    let h = done c.args.container.now c.advance.new.container (g.P.Program.asks c.args.program.now) c.args.self.now c.advance.new.self c.in-Done.done c.in_ok-advance.ensures.same c.requires.serving k in
+    (h.1, h.2)
+
+pub returns-in_ok-end-in-Stopped-clause-steps : goal.returns-in_ok-end-in-Stopped-clause-steps
+returns-in_ok-end-in-Stopped-clause-steps g c =
     let k = rw c.in-Stopped.is at (rw c.in-Some.is at c.in_ok-advance.ensures.advances) in
-    (was_stopped c.args.container.now c.advance.new.container c.stop.new.container (g.P.Program.asks c.args.program.now) c.args.self.now c.advance.new.self c.stop.new.self c.in-Stopped.stop c.stop.result
-    c.in_ok-advance.ensures.same c.stop.ensures.same c.history_is.ensures c.requires.serving k c.stop.ensures.stops).0
+    (was_stopped c.args.container.now c.advance.new.container c.stop.new.container (g.P.Program.asks c.args.program.now) c.args.self.now c.advance.new.self c.stop.new.self c.in-Stopped.stop c.in_ok-end-in-Stopped.end c.progress_of.result
+    c.in_ok-advance.ensures.same c.in_ok-end-in-Stopped.ensures.same c.history_is.ensures c.requires.serving k c.in_ok-end-in-Stopped.ensures.stops c.progress_of.ensures).0
 
-pub returns-in-Stopped-clause-brings : goal.returns-in-Stopped-clause-brings
-returns-in-Stopped-clause-brings g c =
+pub returns-in_ok-end-in-Stopped-clause-brings : goal.returns-in_ok-end-in-Stopped-clause-brings
+returns-in_ok-end-in-Stopped-clause-brings g c =
     let k = rw c.in-Stopped.is at (rw c.in-Some.is at c.in_ok-advance.ensures.advances) in
-    (was_stopped c.args.container.now c.advance.new.container c.stop.new.container (g.P.Program.asks c.args.program.now) c.args.self.now c.advance.new.self c.stop.new.self c.in-Stopped.stop c.stop.result
-    c.in_ok-advance.ensures.same c.stop.ensures.same c.history_is.ensures c.requires.serving k c.stop.ensures.stops).1
-
-pub returns-in-Stopped-clause-ended : goal.returns-in-Stopped-clause-ended
-returns-in-Stopped-clause-ended g c = ended_if c.stop.result c.stop.new.self c.stop.ensures.closed
+    (was_stopped c.args.container.now c.advance.new.container c.stop.new.container (g.P.Program.asks c.args.program.now) c.args.self.now c.advance.new.self c.stop.new.self c.in-Stopped.stop c.in_ok-end-in-Stopped.end c.progress_of.result
+    c.in_ok-advance.ensures.same c.in_ok-end-in-Stopped.ensures.same c.history_is.ensures c.requires.serving k c.in_ok-end-in-Stopped.ensures.stops c.progress_of.ensures).1

@@ -5,6 +5,6 @@ use Rattle.request_tries.proofs.Answering.{may_stop}
 use Rattle.request_tries.proofs.tries.RequestTries.stop.Goals as goal
 
 pub returns-clause-stops : goal.returns-clause-stops
-returns-clause-stops g c = λ a was.
-    may_stop c.args.container.now c.args.self.now c.close.new.self c.hear_stop.new.self a c.in-Some.attempt c.into_ticket-ticket.result c.at-at.result c.repeats-repeats.result c.front_at-now.result c.args.stop c.hear_stop.result
-    was (sym c.close.ensures.value ∙ c.in-Some.is) c.into_ticket-ticket.ensures c.at-at.ensures c.repeats-repeats.ensures c.close.ensures.closed (c.front_at-now.ensures ∙ ap (λ (k : ContainerValue). front_at k) c.abandon.ensures.same) c.hear_stop.ensures.stopped
+returns-clause-stops g c =
+    may_stop c.args.container.now c.args.self.now c.close.new.self c.hear_stop.new.self c.in-Some.attempt c.into_ticket-ticket.result c.at-at.result c.repeats-repeats.result c.front_at-now.result c.args.stop c.hear_stop.result
+    (sym c.close.ensures.value ∙ c.in-Some.is) c.into_ticket-ticket.ensures c.at-at.ensures c.repeats-repeats.ensures c.close.ensures.closed (c.front_at-now.ensures ∙ ap (λ (k : ContainerValue). front_at k) c.abandon.ensures.same) c.hear_stop.ensures.stopped
