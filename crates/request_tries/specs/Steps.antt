@@ -78,8 +78,8 @@ IsRefused now es old at commits.KeeperFailed repeats end new =
     end ≡ Some (ended_at now (from_of old at) KeeperFailed None)
 IsRefused now es old at commits.OutOfMemory repeats end new = ⊥
 
--- A request hears the answer to the commit of a try that began at a place: it has ended by its entry; or the try, or the
--- request, has ended by the cause.
+-- A request hears the answer to the commit of a try that began at a place: it has ended by its entry; or the try, or
+-- the request, has ended by the cause.
 abbrev pub HearsCommit : HistoryFront → List Entry → TriesValue → Place → Bool → Result Place Refused → Option Ended → TriesValue → Type 0
 HearsCommit now es old at repeats (Ok place) end new =
     end ≡ Some (ended_at now (from_of old at) (Page place false) None)
@@ -140,8 +140,8 @@ abbrev pub progress_of : Option Ended → Progress
 progress_of None = progress.Went
 progress_of (Some e) = progress.Ended e
 
--- What the step of an open attempt comes to: it goes on; its program is done, and it stays open for its commit; or it is
--- given up.
+-- What the step of an open attempt comes to: it goes on; its program is done, and it stays open for its commit; or it
+-- is given up.
 abbrev pub ComesTo : ContainerValue → (List Answer → Next) → TriesValue → AttemptValue → Stepped → Progress → TriesValue → Type 0
 ComesTo c asks s a coming.Went to after =
     (to ≡ progress.Went) × (after ≡ record s { attempt = Some (stepped c.boot a (wanted asks a)) })
@@ -157,8 +157,8 @@ StepsAs c asks s None to after = (to ≡ progress.Went) × (after ≡ has_begun 
 StepsAs c asks s (Some a) to after =
     (came : Stepped) × (next : AttemptValue) × HasStepped c.boot asks a came next × ComesTo c asks s a came to after
 
--- The one commit that a request makes in a container: of the attempt that is open. So it is fixed but for memory and the
--- keeper.
+-- The one commit that a request makes in a container: of the attempt that is open. So it is fixed but for memory and
+-- the keeper.
 abbrev pub CommitsAs : ContainerValue → TriesValue → Option AttemptValue → DoneText → Option Ended → ContainerValue → TriesValue → Type 0
 CommitsAs old s None done end new after = ⊥
 CommitsAs old s (Some a) done end new after = CommitsTry old s a done end new after

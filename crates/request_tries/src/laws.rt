@@ -66,8 +66,8 @@ pub fn requests_have_three_tries()
         CommitsAs old s s.attempt done None new after → (after.request ≡ s.request) × (after.attempt ≡ None) }
 {}
 
-/// A request that ended by a revoke before its third try called what may not be called again: its program enters by such
-/// a method, and the try that was revoked did.
+/// A request that ended by a revoke before its third try called what may not be called again: its program enters by
+/// such a method, and the try that was revoked did.
 pub fn single_calls_alone_end_early()
     ensures ended { (start : Start) (events : List Event) (a : Errand) (e : Ended) (tries : List Try) →
         EndStands start events a e → e.outcome ≡ Revoked tries → length tries < 3 →

@@ -18,9 +18,9 @@
 //!
 //! Each step is one event of the container: the begin of an attempt, or the step that the program asks for; and so is a
 //! commit. Who steps lets go of the container after each, and others may use it in between: what was said of a request
-//! stays so (`ends_stay_true`). A step is fixed but for memory, and a commit but for memory and the keeper (`StepsAs` and
-//! `CommitsAs` in `specs/Steps`). What they add to the history is told by `Brings`: a commit one entry, or the mark of a
-//! keeper that failed, and all else nothing.
+//! stays so (`ends_stay_true`). A step is fixed but for memory, and a commit but for memory and the keeper (`StepsAs`
+//! and `CommitsAs` in `specs/Steps`). What they add to the history is told by `Brings`: a commit one entry, or the mark
+//! of a keeper that failed, and all else nothing.
 //!
 //! A try that was in conflict is made again, and so is one that was revoked, where each method that it entered may be
 //! called again; three tries at most. The end of a request says what became of it, and stands in the history at the end

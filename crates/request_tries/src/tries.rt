@@ -330,8 +330,8 @@ impl RequestTries {
         self.hear_stop(alloc, now, at, repeats, stop)
     }
 
-    /// Makes the commit of the open attempt, which is done and answers this. The text of the action is copied before, for
-    /// another try.
+    /// Makes the commit of the open attempt, which is done and answers this. The text of the action is copied before,
+    /// for another try.
     fn make_commit<K: Keeper + Drop>(
         &mut self,
         alloc: Global,
@@ -386,7 +386,8 @@ impl RequestTries {
 
     /// Makes one step of the request: the begin of an attempt, where none is open; or the step that its program asks
     /// for. Where the program is done there is none to make: `Done` is answered, as often as it is asked, until the
-    /// attempt is committed by `commit`. Where the request has ended nothing is held. A step adds nothing to the history.
+    /// attempt is committed by `commit`. Where the request has ended nothing is held. A step adds nothing to the
+    /// history.
     ///
     /// # Errors
     /// Out of memory: the request can only be given up, by `abandon`.
@@ -432,8 +433,8 @@ impl RequestTries {
     /// ended; else another try is to be made, by `step`. The history has grown by just what `Brings` says.
     ///
     /// What the caller wants memory for to show a page of its own, it can take before, of `done`: once the entry was
-    /// added, Ok is answered, and the entry answers just `done`. The copy of what an earlier entry answers is made after
-    /// the commit was refused, so that it has added nothing.
+    /// added, Ok is answered, and the entry answers just `done`. What an earlier entry answers is copied after the
+    /// commit was refused, and so has added nothing.
     ///
     /// # Errors
     /// Out of memory: then nothing was added to the history, and the request can only be given up, by `abandon`.
