@@ -1,5 +1,5 @@
 //! Tests of deployments, of their descriptors and names, of rows, of requests, of tickets, of programs and plans, of
-//! boots and their journals, and of containers over their keepers, through public calls.
+//! boots and their journals, of containers over their keepers, and of the tries of requests, through public calls.
 //!
 //! Most tests go through a table of rows. What a row's calls answer is put into words, each with a
 //! space before it, and these are compared with the words that the row wants. A row that fails is
@@ -34,6 +34,7 @@ mod keepers;
 mod kept_words;
 #[cfg(test)]
 mod names;
+mod notes;
 #[cfg(test)]
 mod parts;
 #[cfg(test)]
@@ -52,6 +53,9 @@ mod starts;
 #[cfg(test)]
 mod tickets;
 #[cfg(test)]
+mod tries;
+#[cfg(test)]
 mod words;
 
+pub use notes::Note;
 pub use stamps::Stamp;

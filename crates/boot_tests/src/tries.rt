@@ -1,0 +1,460 @@
+//! Requests in a container: reboots and commits of others between any two of their steps.
+//!
+//! A row has the method by which the request enters the stock, what others do, and after a mark how the request ends.
+//! The stock may be entered by method 0 again, and by method 1 only once. `reboot@2` reboots the stock after step 2 of
+//! the request, `down@1` takes it down after step 1, `write@5` has another request write the same row after step 5, and
+//! `ask@6` asks the program again. Where the program is done, its commit comes after what others do after that step. An
+//! end tells how many steps came before the last one, what became of the request, `from` and `front`, and the number of
+//! events; and of a page that was there already its status.
+
+ghost use Rattle.std.specs.Prelude.{◌≡◌, List, None, Some};
+ghost use Rattle.call_ticket.specs.declared.next.Answer.{Answer};
+ghost use Rattle.call_ticket.specs.declared.next.Next.{Next};
+ghost use Rattle.call_ticket.specs.declared.next.Next.TheVariants as next;
+ghost use Rattle.boot_core.specs.Boot.{BootValue, HasGrown};
+ghost use Rattle.boot_tests.specs.Notes.{CanNote, note};
+ghost use Rattle.request_tries.specs.Serving.{IsServing, wanted_by};
+ghost use Rattle.request_tries.specs.Steps.{IfDone, end_of};
+
+use crate::Note;
+use crate::boot_fixtures::{LIMITS, add_table, name, request};
+use crate::keepers::failing_keeper;
+use crate::words::{add_named, add_number, add_pair, add_word, cut, expect_words, number};
+use container_core::{Container, DoneText, JournalLimits};
+use crash_base::{ActionText, GroupNo, RequestNo, RowList, Scope, WorkerNo};
+use deployment::{ComponentPart, Deployment, MethodList, MethodPart, Parts};
+use outside::{Keeper, MapKeeper};
+use request_tries::{Ended, Progress, RequestOutcome, RequestTries, ends_stay_true};
+use std::alloc::Global;
+use std::process::Abort;
+
+/// Adds a component with two methods, the second of which may not be called again.
+fn add_part(rt: &impl Abort, alloc: Global, parts: &mut Parts, word: &str) {
+    let mut methods = MethodList::new(alloc);
+    for (letter, idempotent) in [("m", true), ("n", false)] {
+        let name = name(rt, alloc, letter.as_bytes());
+        methods
+            .push(MethodPart { name, idempotent })
+            .expect(rt, "a method");
+    }
+    let name = name(rt, alloc, word.as_bytes());
+    parts
+        .components
+        .push(ComponentPart { name, methods })
+        .expect(rt, word);
+}
+
+/// A container of a cart and a stock, over a keeper that holds no rows and of whose calls the one of this number fails.
+fn container(
+    rt: &impl Abort,
+    alloc: Global,
+    limits: JournalLimits,
+    failing: u64,
+) -> Container<MapKeeper> {
+    let mut parts = Parts::new(alloc);
+    add_part(rt, alloc, &mut parts, "cart");
+    add_part(rt, alloc, &mut parts, "stock");
+    add_table(rt, &mut parts, 3);
+    let deployment = match Deployment::check(parts) {
+        Ok(deployment) => deployment,
+        Err(_) => panic!(rt; "the shop is refused"),
+    };
+    let keeper = failing_keeper(rt, alloc, RowList::new(alloc), failing);
+    match Container::start(alloc, deployment, keeper, limits) {
+        Ok(container) => container,
+        Err(_) => panic!(rt; "the start is refused"),
+    }
+}
+
+/// Asserts that the program may run here.
+fn expect_stock<K: Keeper + Drop>(rt: &impl Abort, container: &Container<K>)
+    ensures { CanNote container.now.boot.start.deployment }
+{
+    assert!(rt; container.deployment().count() > 1);
+    match container.deployment().owner_of(3) {
+        Some(owner) => assert!(rt; owner.0 == 1),
+        None => panic!(rt; "nobody owns the table"),
+    }
+}
+
+/// Makes a step of a request.
+fn step<K: Keeper + Drop>(
+    rt: &impl Abort,
+    alloc: Global,
+    container: &mut Container<K>,
+    tries: &mut RequestTries,
+    program: Note,
+) -> Progress
+    requires { IsServing container.old.boot (note program.method) tries.old }
+    ensures serving { end_of result ≡ None → IsServing container.new.boot (note program.method) tries.new }
+    ensures done { IfDone result (λ done. wanted_by (note program.method) tries.new ≡ Some (next.Done done)) }
+    ensures grown { HasGrown container.old.boot container.new.boot }
+{
+    expect_stock(rt, container);
+    tries.step(alloc, container, &program).expect(rt, "a step")
+}
+
+/// Makes the commit of a request whose program is done.
+fn commit<K: Keeper + Drop>(
+    rt: &impl Abort,
+    alloc: Global,
+    container: &mut Container<K>,
+    tries: &mut RequestTries,
+    program: Note,
+    done: DoneText,
+) -> Option<Ended>
+    requires serving { IsServing container.old.boot (note program.method) tries.old }
+    requires done { wanted_by (note program.method) tries.old ≡ Some (next.Done done) }
+    ensures serving { result ≡ None → IsServing container.new.boot (note program.method) tries.new }
+    ensures grown { HasGrown container.old.boot container.new.boot }
+{
+    expect_stock(rt, container);
+    tries
+        .commit(alloc, container, &program, done)
+        .expect(rt, "a commit")
+}
+
+/// A request that was not begun.
+fn begin(alloc: Global, request: RequestNo) -> RequestTries
+    ensures { (boot : BootValue) (asks : List Answer → Next) → IsServing boot asks result }
+{
+    ends_stay_true();
+    let text = ActionText::new(alloc);
+    RequestTries::new(alloc, request, WorkerNo(4), text)
+}
+
+/// Makes the commit of another request, which ends.
+fn commit_beside<K: Keeper + Drop>(
+    rt: &impl Abort,
+    alloc: Global,
+    container: &mut Container<K>,
+    other: &mut RequestTries,
+    program: Note,
+    done: DoneText,
+)
+    requires serving { IsServing container.old.boot (note program.method) other.old }
+    requires done { wanted_by (note program.method) other.old ≡ Some (next.Done done) }
+    ensures { HasGrown container.old.boot container.new.boot }
+{
+    let end = commit(rt, alloc, container, other, program, done);
+    assert!(rt; end.is_some());
+}
+
+fn add_outcome(rt: &impl Abort, words: &mut String, outcome: &RequestOutcome) {
+    match outcome {
+        RequestOutcome::Page { place, again } => {
+            add_named(rt, words, if *again { "again" } else { "page" }, place.0)
+        }
+        RequestOutcome::Sentinel { group, down } => {
+            add_pair(rt, words, u64::from(group.0), "down", down.0)
+        }
+        RequestOutcome::Revoked(tries) => add_named(rt, words, "revoked", tries.len() as u64),
+        RequestOutcome::Conflict(tries) => add_named(rt, words, "conflict", tries.len() as u64),
+        RequestOutcome::JournalFull(full) => add_pair(rt, words, full.entries, "/", full.bytes),
+        RequestOutcome::KeeperFailed => add_word(rt, words, "keeper_failed"),
+    }
+}
+
+fn add_end(rt: &impl Abort, words: &mut String, ended: &Ended) {
+    add_outcome(rt, words, &ended.outcome);
+    add_pair(rt, words, ended.from.0, "-", ended.front.0);
+    add_number(rt, words, ended.held);
+    if let Some(done) = &ended.done {
+        add_number(rt, words, u64::from(done.status));
+    }
+}
+
+/// Takes the stock down.
+fn take_down<K: Keeper + Drop>(
+    rt: &impl Abort,
+    container: &mut Container<K>,
+    tries: &RequestTries,
+    program: Note,
+)
+    requires { IsServing container.old.boot (note program.method) tries.now }
+    ensures { IsServing container.new.boot (note program.method) tries.now }
+{
+    ends_stay_true();
+    match container.begin_reboot(Scope::Group(GroupNo(1))) {
+        Ok(_) => {}
+        Err(_) => panic!(rt; "the down is refused"),
+    }
+}
+
+/// Reboots the stock.
+fn reboot<K: Keeper + Drop>(
+    rt: &impl Abort,
+    container: &mut Container<K>,
+    tries: &RequestTries,
+    program: Note,
+)
+    requires { IsServing container.old.boot (note program.method) tries.now }
+    ensures { IsServing container.new.boot (note program.method) tries.now }
+{
+    ends_stay_true();
+    match container.begin_reboot(Scope::Group(GroupNo(1))) {
+        Ok(down) => {
+            assert!(rt; container.is_undone(down));
+            container.end_reboot(down);
+        }
+        Err(_) => panic!(rt; "the reboot is refused"),
+    }
+}
+
+/// Another request writes the row.
+fn write_beside<K: Keeper + Drop>(
+    rt: &impl Abort,
+    alloc: Global,
+    container: &mut Container<K>,
+    tries: &RequestTries,
+    program: Note,
+    serial: u64,
+)
+    requires { IsServing container.old.boot (note program.method) tries.now }
+    ensures { IsServing container.new.boot (note program.method) tries.now }
+{
+    ends_stay_true();
+    let quick = Note { method: 0 };
+    let mut other = begin(alloc, request(serial));
+    for turn in 0..6u64 {
+        match step(rt, alloc, container, &mut other, quick) {
+            Progress::Went => assert!(rt; turn < 5),
+            Progress::Done(done) => {
+                commit_beside(rt, alloc, container, &mut other, quick, done);
+                return;
+            }
+            Progress::Ended(_) => panic!(rt; "the other request was stopped"),
+        }
+    }
+}
+
+/// Does what an event says, where it comes after this step.
+fn do_event<K: Keeper + Drop>(
+    rt: &impl Abort,
+    alloc: Global,
+    container: &mut Container<K>,
+    tries: &RequestTries,
+    program: Note,
+    event: &str,
+    step: u64,
+)
+    requires { IsServing container.old.boot (note program.method) tries.now }
+    ensures { IsServing container.new.boot (note program.method) tries.now }
+{
+    let (_, after) = cut(rt, event, '@');
+    if number(rt, after) != step {
+        return;
+    }
+    if event.starts_with("reboot") {
+        reboot(rt, container, tries, program);
+    } else if event.starts_with("down") {
+        take_down(rt, container, tries, program);
+    } else if event.starts_with("write") {
+        write_beside(
+            rt,
+            alloc,
+            container,
+            tries,
+            program,
+            step.saturating_add(50),
+        );
+    }
+}
+
+/// Does the events that come after this step.
+fn do_events<K: Keeper + Drop>(
+    rt: &impl Abort,
+    alloc: Global,
+    container: &mut Container<K>,
+    tries: &RequestTries,
+    program: Note,
+    events: &str,
+    step: u64,
+)
+    requires { IsServing container.old.boot (note program.method) tries.now }
+    ensures { IsServing container.new.boot (note program.method) tries.now }
+{
+    for event in events.split(' ') {
+        do_event(rt, alloc, container, tries, program, event, step);
+    }
+}
+
+/// Does the events that come after the last step of a request, asks its program again where they say so, and makes the
+/// commit.
+fn commit_later<K: Keeper + Drop>(
+    rt: &impl Abort,
+    alloc: Global,
+    container: &mut Container<K>,
+    tries: &mut RequestTries,
+    program: Note,
+    events: &str,
+    made: u64,
+    done: DoneText,
+) -> Option<Ended>
+    requires serving { IsServing container.old.boot (note program.method) tries.old }
+    requires done { wanted_by (note program.method) tries.old ≡ Some (next.Done done) }
+    ensures { result ≡ None → IsServing container.new.boot (note program.method) tries.new }
+{
+    do_events(rt, alloc, container, tries, program, events, made);
+    if !events.ends_with("ask@6") {
+        return commit(rt, alloc, container, tries, program, done);
+    }
+    match step(rt, alloc, container, tries, program) {
+        Progress::Done(again) => commit(rt, alloc, container, tries, program, again),
+        Progress::Went | Progress::Ended(_) => panic!(rt; "the program is not done again"),
+    }
+}
+
+/// Makes the step of a request that has this number, with its commit where its program is done, and does the events
+/// that come after the step.
+fn turn<K: Keeper + Drop>(
+    rt: &impl Abort,
+    alloc: Global,
+    container: &mut Container<K>,
+    tries: &mut RequestTries,
+    program: Note,
+    events: &str,
+    made: u64,
+) -> Option<Ended>
+    requires { IsServing container.old.boot (note program.method) tries.old }
+    ensures { result ≡ None → IsServing container.new.boot (note program.method) tries.new }
+{
+    match step(rt, alloc, container, tries, program) {
+        Progress::Ended(ended) => Some(ended),
+        Progress::Went => {
+            do_events(rt, alloc, container, tries, program, events, made);
+            None
+        }
+        Progress::Done(done) => {
+            commit_later(rt, alloc, container, tries, program, events, made, done)
+        }
+    }
+}
+
+/// Serves a request to its end, and tells how it ends.
+fn serve<K: Keeper + Drop>(
+    rt: &impl Abort,
+    alloc: Global,
+    container: &mut Container<K>,
+    serial: u64,
+    program: Note,
+    events: &str,
+) -> String {
+    let mut words = String::new(alloc);
+    let mut tries = begin(alloc, request(serial));
+    for before in 0..30u64 {
+        let made = before.saturating_add(1);
+        let end = turn(rt, alloc, container, &mut tries, program, events, made);
+        if let Some(ended) = end {
+            add_number(rt, &mut words, before);
+            add_end(rt, &mut words, &ended);
+            return words;
+        }
+    }
+    words
+}
+
+/// Serves a request in a container of its own.
+fn expect_end(rt: &impl Abort, alloc: Global, method: u8, row: &str) {
+    let (events, want) = cut(rt, row, '>');
+    let mut container = container(rt, alloc, LIMITS, 0);
+    let found = serve(
+        rt,
+        alloc,
+        &mut container,
+        1,
+        Note { method },
+        events.trim_end(),
+    );
+    expect_words(rt, &found, want.trim_start(), row);
+}
+
+/// What may be called again is, after a reboot that the request met; and each conflict is tried again.
+const AGAIN: &str = "ask@0 > 5 page0 0-1 2
+ask@6 > 5 page0 0-1 2
+reboot@1 > 5 page2 0-3 4
+reboot@2 > 8 page2 0-3 4
+reboot@3 > 9 page2 0-3 4
+reboot@4 > 10 page2 0-3 4
+reboot@5 > 11 page2 0-3 4
+reboot@6 > 11 page2 0-3 4
+reboot@6 ask@6 > 11 page2 0-3 4
+reboot@2 reboot@5 > 11 page4 0-5 6
+reboot@2 reboot@5 reboot@8 > 8 revoked3 0-6 7
+reboot@6 reboot@12 reboot@18 > 17 revoked3 0-6 7
+down@1 > 1 1down0 0-1 2
+down@2 > 4 1down0 0-1 2
+down@6 > 7 1down0 0-1 2
+write@1 > 11 page1 0-2 3
+write@4 > 11 page1 0-2 3
+write@6 > 11 page1 0-2 3
+write@6 ask@6 > 11 page1 0-2 3
+write@1 write@7 > 17 page2 0-3 4
+write@1 write@7 write@13 > 17 conflict3 0-3 4
+write@6 write@12 write@18 > 17 conflict3 0-3 4
+write@1 reboot@8 > 14 page3 0-4 5
+write@6 reboot@6 > 11 page3 0-4 5
+reboot@2 write@4 reboot@11 > 11 revoked3 0-5 6
+";
+
+/// What may be called only once is not tried again after a reboot of what was entered; a conflict is.
+const ONCE: &str = "ask@0 > 5 page0 0-1 2
+reboot@1 > 5 page2 0-3 4
+reboot@2 > 2 revoked1 0-2 3
+reboot@3 > 3 revoked1 0-2 3
+reboot@4 > 4 revoked1 0-2 3
+reboot@5 > 5 revoked1 0-2 3
+reboot@6 > 5 revoked1 0-2 3
+reboot@6 ask@6 > 5 revoked1 0-2 3
+down@1 > 1 1down0 0-1 2
+down@6 > 5 revoked1 0-1 2
+write@1 > 11 page1 0-2 3
+write@6 > 11 page1 0-2 3
+write@6 reboot@6 > 5 revoked1 0-3 4
+write@1 reboot@8 > 8 revoked2 0-3 4
+write@1 write@7 write@13 > 17 conflict3 0-3 4
+";
+
+#[test]
+fn requests_are_tried_again(rt: HostRuntime) {
+    let alloc = rt.alloc();
+    for row in AGAIN.lines() {
+        expect_end(&rt, alloc, 0, row);
+    }
+    for row in ONCE.lines() {
+        expect_end(&rt, alloc, 1, row);
+    }
+}
+
+/// A request that is sent again is shown its page, and no reboot between changes that.
+#[test]
+fn pages_are_shown_again(rt: HostRuntime) {
+    let alloc = rt.alloc();
+    let mut container = container(&rt, alloc, LIMITS, 0);
+    let look = Note { method: 0 };
+    let first = serve(&rt, alloc, &mut container, 1, look, "ask@0");
+    expect_words(&rt, &first, "5 page0 0-1 2", "the first");
+    let again = serve(&rt, alloc, &mut container, 1, look, "reboot@2");
+    expect_words(&rt, &again, "8 again0 1-3 4 200", "the same again");
+    let other = serve(&rt, alloc, &mut container, 2, look, "ask@0");
+    expect_words(&rt, &other, "5 page3 3-4 5", "another one");
+}
+
+/// A journal without room and a keeper that failed end a request.
+#[test]
+fn what_is_full_or_fails_ends_a_request(rt: HostRuntime) {
+    let alloc = rt.alloc();
+    let look = Note { method: 0 };
+    let none = JournalLimits {
+        entries: 0,
+        bytes: 0,
+    };
+    let mut full = container(&rt, alloc, none, 0);
+    let found = serve(&rt, alloc, &mut full, 1, look, "ask@0");
+    expect_words(&rt, &found, "5 0/0 0-0 1", "full");
+    let mut failing = container(&rt, alloc, LIMITS, 3);
+    let found = serve(&rt, alloc, &mut failing, 1, look, "ask@0");
+    expect_words(&rt, &found, "5 keeper_failed 0-0 2", "failed");
+    let found = serve(&rt, alloc, &mut failing, 1, look, "ask@0");
+    expect_words(&rt, &found, "5 page0 0-1 3", "and kept then");
+}
