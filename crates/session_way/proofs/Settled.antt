@@ -26,7 +26,7 @@ use Rattle.session_way.specs.Way.{outside_or}
 use Rattle.session_way.specs.Writing.{write_begun}
 
 -- a settled write wants nothing of the link
-wants_nothing : (next : StubNext) → outside_or Windows next ≡ Windows → next ≡ Ended
+pub wants_nothing : (next : StubNext) → outside_or Windows next ≡ Windows → next ≡ Ended
 wants_nothing (Send brick) h = absurd cc
 wants_nothing (Receive brick) h = absurd cc
 wants_nothing Ended h = refl

@@ -19,8 +19,8 @@ wants_write (Some value) now lease = true
 wants_write None now None = false
 wants_write None now (Some lease) = is_due now lease.expiry
 
--- The value that is written after an action at a moment, if one is: the value that the action sets, and else the one that
--- was read.
+-- The value that is written after an action at a moment, if one is: the value that the action sets, and else the one
+-- that was read.
 abbrev pub value_to_write : Option (List ℕ) → Moment → Option SessionLease → Option (List ℕ)
 value_to_write (Some value) now lease = Some value
 value_to_write None now None = None

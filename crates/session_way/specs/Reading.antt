@@ -6,7 +6,7 @@ use Rattle.session_way.specs.declared.session_read.ReadOutcome.{ReadOutcome}
 use Rattle.session_way.specs.declared.session_read.ReadOutcome.TheVariants.{Found, Expired, Lost}
 
 -- what a read came to, as the answer of its call
-abbrev pub answer_of : ReadOutcome → Result (List ℕ) ReadRefusal
-answer_of (Found lease) = Ok lease.value
-answer_of (Expired now expiry) = Err (refusal.Expired now expiry)
-answer_of (Lost causes) = Err (refusal.Lost causes)
+abbrev pub answer_of_read : ReadOutcome → Result (List ℕ) ReadRefusal
+answer_of_read (Found lease) = Ok lease.value
+answer_of_read (Expired now expiry) = Err (refusal.Expired now expiry)
+answer_of_read (Lost causes) = Err (refusal.Lost causes)

@@ -1,36 +1,43 @@
 //! Laws of the way of a session. Each is the contract of a function that does nothing: a caller that needs the law
 //! calls the function.
 
-ghost use Rattle.std.specs.Prelude.{◌≡◌, ℕ, ◌+◌, ◌<◌, ◌≤◌, List, map, true, false, Option, None, Some, Ok, Err, Result};
+ghost use Rattle.std.specs.Prelude.{◌≡◌, ◌≢◌, ℕ, ◌+◌, ◌<◌, ◌≤◌, List, [], ◌∷◌, ◌++◌, length, map, true, false, Option, None, Some, Ok, Err, Result};
 ghost use Rattle.std.specs.Option.{option_map};
 ghost use Rattle.crash_base.specs.declared.numbers.Moment.{Moment};
 ghost use Rattle.crash_base.specs.declared.numbers.Version.{Version};
 ghost use Rattle.session_cookie.specs.declared.cookie.Cookie.{Cookie};
 ghost use Rattle.session_cookie.specs.declared.cookie.TheConstants.{MAX_HOLDERS};
 ghost use Rattle.session_cookie.specs.Cookie.{AreHolders};
+ghost use Rattle.send_windows.specs.declared.history.WindowMark.TheVariants.{Spent};
 ghost use Rattle.send_windows.specs.declared.pass.Pass.{Pass};
+ghost use Rattle.send_windows.specs.declared.windows.TakeRefusal.{TakeRefusal};
 ghost use Rattle.send_windows.specs.Passes.{AreHeard, HaveDistinctBricks};
-ghost use Rattle.send_windows.specs.Windows.{WindowsValue, after_spend};
+ghost use Rattle.send_windows.specs.Windows.{WindowsValue, after_spend, chosen};
+ghost use Rattle.ssm_frames.specs.declared.frame.Frame.TheVariants.{Put};
 ghost use Rattle.ssm_frames.specs.Spelling.{encode_of};
 ghost use Rattle.ssm_stub.specs.declared.cause.BrickCause.{BrickCause};
 ghost use Rattle.ssm_stub.specs.declared.read_call.ReadRefusal.{ReadRefusal};
 ghost use Rattle.ssm_stub.specs.declared.read_call.ReadRefusal.TheVariants.{Expired, Lost};
+ghost use Rattle.ssm_stub.specs.declared.read_call.ReadRefusal.TheVariants as read_refusal;
 ghost use Rattle.ssm_stub.specs.declared.write_call.WriteRefusal.{WriteRefusal};
 ghost use Rattle.ssm_stub.specs.declared.write_call.WriteRefusal.TheVariants.{Missed};
+ghost use Rattle.ssm_stub.specs.declared.write_call.WriteRefusal.TheVariants as write_refusal;
 ghost use Rattle.ssm_stub.specs.Counted.{AreCounted};
 ghost use Rattle.ssm_stub.specs.Ends.{ReadEnds, WriteEnds, bricks_of};
 ghost use Rattle.ssm_stub.specs.Outcomes.{IsLost, IsMissed, IsRead, IsWritten};
 ghost use Rattle.ssm_stub.specs.Reads.{ReadState, read_answer, read_ask, read_machine, read_start};
 ghost use Rattle.ssm_stub.specs.Runs.{Steps};
-ghost use Rattle.ssm_stub.specs.Writes.{WriteState, heard_passes, pass_of, write_answer, write_machine, write_next, write_until};
+ghost use Rattle.ssm_stub.specs.Writes.{WriteState, heard_passes, pass_of, write_answer, write_machine};
 ghost use Rattle.session_way.specs.declared.lease.SessionLease.{SessionLease};
 ghost use Rattle.session_way.specs.declared.session_write.WriteOrder.{WriteOrder};
 ghost use Rattle.session_way.specs.declared.way.SessionWay.{SessionWay};
+ghost use Rattle.session_way.specs.declared.way.SessionWay.TheVariants.{Holding, Reading, Resting, Settling, Writing};
 ghost use Rattle.session_way.specs.declared.way.Wants.TheVariants as wanted;
 ghost use Rattle.session_way.specs.Lease.{expiry_at, value_to_write, wants_write};
+ghost use Rattle.session_way.specs.Marks.{marks_by, owed, refusal_marks, spends, takes};
 ghost use Rattle.session_way.specs.Runs.{HasRead, HasSettled, HasWritten};
-ghost use Rattle.session_way.specs.Way.{IsHolding, IsTaken, OnHeld, StepsOutside, after_give_back, held, outside_or, passes_for, settled};
-ghost use Rattle.session_way.specs.Writing.{passes_spent, write_begun};
+ghost use Rattle.session_way.specs.Way.{IsHolding, IsRefused, IsTaken, OnHeld, StepsOutside, StepsWindows, after_give_back, answer_held, held, passes_for, settled, wants};
+ghost use Rattle.session_way.specs.Writing.{WritingState, passes_spent, write_begun};
 
 use outside::Link;
 use ssm_stub::{
@@ -61,8 +68,9 @@ pub fn runs_go_on<L: Link>(link: &L)
         → Steps read_machine L.makes (encode_of (read_ask here)) here mid after new
         → HasRead L.makes start old after new }
     ensures write_begins { (start : WriteState) (l : L) → HasWritten L.makes start l start l }
-    ensures write { (start here after : WriteState) (old mid new : L) → HasWritten L.makes start old here mid
-        → outside_or wanted.Nothing (write_until.next here) ≡ wanted.Outside
+    ensures write { (passes : List Pass) (start here after : WriteState) (old mid new : L)
+        → HasWritten L.makes start old here mid
+        → wants (Writing (record { write = here; passes = passes })) ≡ wanted.Outside
         → Steps write_machine L.makes (encode_of here.ask) here mid after new
         → HasWritten L.makes start old after new }
     ensures settle_begins { (start here : WriteState) (old new : L) → HasWritten L.makes start old here new
@@ -78,8 +86,9 @@ pub fn runs_go_on<L: Link>(link: &L)
 /// call of `ssm_stub::write`; so the laws of these say what it means. A value that was read came in a lawful Found of a
 /// brick that the cookie names. A read has expired exactly where its moment is past the expiry of its cookie, and then
 /// the link was not touched. Where it is lost, each brick of the cookie has its cause. A cookie names the first bricks
-/// that gave a lawful Stored, as many as are to store the value, so it may be read. Where a write is missed, fewer did,
-/// and each other brick has its cause. The link has counted what causes say.
+/// that gave a lawful Stored, as many as are to store the value, so it may be read; and these are as many as the
+/// windows give at least. Where a write is missed, fewer did, and each other brick has its cause. The link has counted
+/// what causes say.
 pub fn ways_end_as_calls_do<L: Link>(link: &L)
     ensures read { (now : Moment) (nonce : Version) (cookie : Cookie) (here : ReadState) (old new : L)
         (answer : Result (List ℕ) ReadRefusal)
@@ -117,6 +126,11 @@ pub fn ways_end_as_calls_do<L: Link>(link: &L)
         → HasWritten L.makes (write_begun order least passes).write old here new
         → write_answer here ≡ Some (Ok cookie)
         → AreHolders cookie.bricks }
+    ensures many { (order : WriteOrder) (windows taken : WindowsValue) (w : WritingState) (here : WriteState)
+        (old new : L) (cookie : Cookie)
+        → IsTaken order windows (Writing w) taken → HasWritten L.makes w.write old here new
+        → write_answer here ≡ Some (Ok cookie)
+        → length cookie.bricks ≡ windows.wq }
     ensures missed { (order : WriteOrder) (least : ℕ) (passes : List Pass) (here : WriteState) (old new : L)
         (causes : List BrickCause)
         → HaveDistinctBricks passes → HasWritten L.makes (write_begun order least passes).write old here new
@@ -131,9 +145,36 @@ pub fn ways_end_as_calls_do<L: Link>(link: &L)
     causes_are_counted(link);
 }
 
+/// Where nothing is wanted for a read or a write, it has its answer; so has a write whose passes are to be spent, since
+/// all its bricks were heard. What is handed on where passes are spent is the answer of their write. No answer is that
+/// memory was wanted.
+pub fn ways_have_answers()
+    ensures read { (here : ReadState) → wants (Reading here) ≡ wanted.Nothing → read_answer here ≢ None }
+    ensures write { (w : WritingState) → wants (Writing w) ≡ wanted.Nothing → write_answer w.write ≢ None }
+    ensures settled { (w : WritingState) → wants (Settling w) ≡ wanted.Windows → write_answer w.write ≢ None }
+    ensures handed { (w : WritingState)
+        → (answer_held (Writing w) ≡ write_answer w.write) × (answer_held (Settling w) ≡ write_answer w.write) }
+    ensures read_memory { (here : ReadState) → read_answer here ≢ Some (Err read_refusal.OutOfMemory) }
+    ensures write_memory { (here : WriteState) → write_answer here ≢ Some (Err write_refusal.OutOfMemory) }
+{}
+
+/// What a write sends to each brick is the value of its order, under its key, as the version that its nonce names,
+/// until its expiry; and its passes are chosen from the serial of its nonce on. It refuses a write that sends something
+/// else, or that asks the first bricks each time.
+pub fn writes_follow_their_orders()
+    ensures sent { (order : WriteOrder) (old new : WindowsValue) (w : WritingState)
+        → IsTaken order old (Writing w) new
+        → w.write.ask ≡ Put order.nonce order.key order.nonce order.expiry order.value }
+    ensures passes { (order : WriteOrder) (old new : WindowsValue) (w : WritingState)
+        → IsTaken order old (Writing w) new → w.passes ≡ chosen old order.nonce.serial }
+    ensures bricks { (order : WriteOrder) (old new : WindowsValue) (w : WritingState)
+        → IsTaken order old (Writing w) new → map (λ ask. ask.who) w.write.asks ≡ bricks_of w.passes }
+{}
+
 /// No pass is lost on the way: those that were taken are held, each brick once and in their order, whatever steps are
-/// made outside, and while the response leaves; and none of those that are given back is unheard. It refuses a step
-/// that loses a pass, or adds one.
+/// made outside, and while the response leaves, and where the write is taken apart; a step of the windows spends just
+/// those that are held, and holds none after; and none of those that are given back is unheard. It refuses a step that
+/// loses a pass, or adds one.
 pub fn no_pass_is_lost<L: Link>(_link: &L)
     ensures taken { (order : WriteOrder) (old new : WindowsValue) (way : SessionWay)
         → IsTaken order old way new → option_map bricks_of (held way) ≡ Some (bricks_of (passes_for order old)) }
@@ -142,10 +183,33 @@ pub fn no_pass_is_lost<L: Link>(_link: &L)
     ensures step { (old new : L) (way after : SessionWay) → StepsOutside L.makes way old after new
         → option_map bricks_of (held after) ≡ option_map bricks_of (held way) }
     ensures settle { (way : SessionWay) → held (settled way) ≡ held way }
+    ensures apart { (w : WritingState) → held (Holding (passes_spent w)) ≡ held (Writing w) }
+    ensures spent { (old new : WindowsValue) (way after : SessionWay) (passes : List Pass)
+        → StepsWindows way old after new → held way ≡ Some passes
+        → (new ≡ after_spend old passes) × (held after ≡ None) }
     ensures back { (windows : WindowsValue) (passes : List Pass)
         → after_give_back windows (Some passes) ≡ after_spend windows passes }
     ensures nothing { (windows : WindowsValue) → after_give_back windows None ≡ windows }
     ensures heard { (way : SessionWay) → OnHeld AreHeard (held way) }
+{}
+
+/// Passes are held between the mark that they were taken and the mark that they were spent, and in each step the
+/// history grows by just these marks. So a way that holds passes owes one Spent, and no other way owes any: takes and
+/// what was owed are as many as spends and what is owed. It refuses a step that leaves a mark out, or puts one twice.
+pub fn takes_are_spent_once<L: Link>(_link: &L)
+    ensures step { (old new : WindowsValue) (way after : SessionWay) → StepsWindows way old after new
+        → new.history ≡ old.history ++ marks_by way after }
+    ensures refused { (old new : WindowsValue) (way after : SessionWay) (refusal : TakeRefusal)
+        → IsRefused way old after new refusal → new.history ≡ old.history ++ refusal_marks refusal way after }
+    ensures back { (windows : WindowsValue) (way : SessionWay)
+        → (after_give_back windows (held way)).history ≡ windows.history ++ marks_by way Resting }
+    ensures outside { (old new : L) (way after : SessionWay) → StepsOutside L.makes way old after new
+        → marks_by way after ≡ [] }
+    ensures settle { (way : SessionWay) → marks_by way (settled way) ≡ [] }
+    ensures once { (way : SessionWay) (passes : List Pass) → held way ≡ Some passes
+        → marks_by way Resting ≡ Spent ∷ [] }
+    ensures balance { (way after : SessionWay)
+        → takes (marks_by way after) + owed (held way) ≡ spends (marks_by way after) + owed (held after) }
 {}
 
 /// A write whose bricks were all heard gives each of its passes back by what was heard of the pass's own brick: none is
@@ -153,6 +217,6 @@ pub fn no_pass_is_lost<L: Link>(_link: &L)
 pub fn settled_passes_are_heard<L: Link>(_link: &L)
     ensures { (order : WriteOrder) (least : ℕ) (passes : List Pass) (here : WriteState) (old new : L)
         → HasSettled L.makes (write_begun order least passes).write old here new
-        → outside_or wanted.Windows (write_next here) ≡ wanted.Windows
+        → wants (Settling (record { write = here; passes = passes })) ≡ wanted.Windows
         → passes_spent (record { write = here; passes = passes }) ≡ heard_passes here passes }
 {}

@@ -4,7 +4,7 @@ ghost use Rattle.std.specs.Prelude.{◌≡◌, ◌<◌, ◌^◌, IfOk};
 ghost use Rattle.std.specs.Option.{option_map};
 ghost use Rattle.session_way.specs.Lease.{expiry_at, is_due, value_to_write};
 
-use crash_base::{Moment, OutOfMemory, SessionBytes};
+use crash_base::{Moment, OutOfMemory, SessionBytes, SessionKey};
 use std::alloc::{AllocFailed, Global};
 
 /// How long a cookie may be used after its value was written, in milliseconds.
@@ -13,9 +13,10 @@ pub const LEASE: u64 = 1_800_000;
 /// A session that an action keeps is written again where less than this is left of its lease, in milliseconds.
 pub const RENEWAL: u64 = 900_000;
 
-/// A session as it was read: its value, and the expiry of the cookie by which it was read.
+/// A session as it was read: its value, and the key and the expiry of the cookie by which it was read.
 #[derive(Drop)]
 pub struct SessionLease {
+    pub key: SessionKey,
     pub value: SessionBytes,
     pub expiry: Moment,
 }

@@ -6,10 +6,10 @@ ghost use Rattle.ssm_frames.specs.Spelling.{encode_of};
 ghost use Rattle.ssm_stub.specs.declared.event.StubNext.TheVariants.{Ended};
 ghost use Rattle.ssm_stub.specs.Reads.{read_answer, read_ask, read_machine, read_next, read_start};
 ghost use Rattle.ssm_stub.specs.Runs.{BreaksOff, Steps};
-ghost use Rattle.session_way.specs.Reading.{answer_of};
+ghost use Rattle.session_way.specs.Reading.{answer_of_read};
 
 use crate::lease::SessionLease;
-use crash_base::{FrameBytes, Moment, OutOfMemory, SessionBytes, Version};
+use crash_base::{FrameBytes, Moment, OutOfMemory, SessionBytes, SessionKey, Version};
 use outside::Link;
 use session_cookie::Cookie;
 use ssm_stub::{CauseList, ReadCall, ReadRefusal, StubNext, read_step};
@@ -31,6 +31,7 @@ pub enum ReadOutcome {
 #[derive(Drop)]
 pub struct SessionRead {
     call: ReadCall,
+    key: SessionKey,
     expiry: Moment,
     ask: FrameBytes,
 }
@@ -44,7 +45,7 @@ impl Model for SessionRead {
 
     ghost view = { λ r. r.call };
 
-    ghost invariant = { λ r. IsAskOf r.ask (read_ask r.call) × (r.expiry ≡ r.call.expiry) };
+    ghost invariant = { λ r. IsAskOf r.ask (read_ask r.call) × (r.key ≡ r.call.key) × (r.expiry ≡ r.call.expiry) };
 }
 
 impl SessionRead {
@@ -61,10 +62,16 @@ impl SessionRead {
     ) -> Result<SessionRead, OutOfMemory>
         ensures { IfOk result (λ read. read ≡ read_start now nonce cookie) }
     {
+        let key = cookie.key;
         let expiry = cookie.expiry;
         let call = ReadCall::new(alloc, now, nonce, cookie)?;
         let ask = call.frame(alloc)?;
-        Ok(SessionRead { call, expiry, ask })
+        Ok(SessionRead {
+            call,
+            key,
+            expiry,
+            ask,
+        })
     }
 
     /// What it wants next; nothing once it has its answer. It takes no memory.
@@ -95,15 +102,18 @@ impl SessionRead {
         read_step(alloc, link, &mut self.call, self.ask.as_slice(), &mut into)
     }
 
-    /// What a read came to that wants nothing more. It takes no memory.
+    /// What a read came to that wants nothing more. A session that was found has the key by which it is written again.
+    /// It takes no memory.
     pub fn into_outcome(self) -> ReadOutcome
         requires { read_next self ≡ Ended }
-        ensures answer { read_answer self ≡ Some (answer_of result) }
-        ensures lease { (lease : SessionLease) → result ≡ ReadOutcome.Found lease → lease.expiry ≡ self.expiry }
+        ensures answer { read_answer self ≡ Some (answer_of_read result) }
+        ensures key { (lease : SessionLease) → result ≡ ReadOutcome.Found lease → lease.key ≡ self.key }
+        ensures expiry { (lease : SessionLease) → result ≡ ReadOutcome.Found lease → lease.expiry ≡ self.expiry }
     {
+        let key = self.key;
         let expiry = self.expiry;
         match self.call.into_answer() {
-            Some(Ok(value)) => ReadOutcome::Found(SessionLease { value, expiry }),
+            Some(Ok(value)) => ReadOutcome::Found(SessionLease { key, value, expiry }),
             Some(Err(ReadRefusal::Expired { now, expiry })) => ReadOutcome::Expired { now, expiry },
             Some(Err(ReadRefusal::Lost(causes))) => ReadOutcome::Lost(causes),
             Some(Err(ReadRefusal::OutOfMemory)) => unreachable!(),

@@ -8,13 +8,13 @@ ghost use Rattle.ssm_stub.specs.declared.event.StubNext.TheVariants.{Ended};
 ghost use Rattle.ssm_stub.specs.Runs.{BreaksOff, Steps};
 ghost use Rattle.ssm_stub.specs.Writes.{write_answer, write_machine, write_next, write_until};
 ghost use Rattle.session_way.specs.Asks.{IsAskOf};
-ghost use Rattle.session_way.specs.Writing.{passes_spent, write_begun};
+ghost use Rattle.session_way.specs.Writing.{answer_of_write, passes_spent, write_begun};
 
 use crash_base::{FrameBytes, Moment, OutOfMemory, SessionBytes, SessionKey, Version};
 use outside::Link;
 use send_windows::PassList;
 use session_cookie::Cookie;
-use ssm_stub::{StubNext, WriteCall, WriteRefusal, bricks_of, mark_passes, write_step};
+use ssm_stub::{CauseList, StubNext, WriteCall, WriteRefusal, bricks_of, mark_passes, write_step};
 use std::alloc::Global;
 use std::marker::Model;
 
@@ -26,6 +26,24 @@ pub struct WriteOrder {
     pub key: SessionKey,
     pub value: SessionBytes,
     pub expiry: Moment,
+}
+
+/// What a write came to.
+#[derive(Drop)]
+pub enum WriteOutcome {
+    /// As many bricks as are to store the value did: the cookie names them.
+    Written(Cookie),
+    /// All bricks were heard, and fewer did: why each other one did not.
+    Missed(CauseList),
+}
+
+/// What is left of a write that goes no further.
+#[derive(Drop)]
+pub struct WriteParts {
+    /// What it came to; None where it has no answer.
+    pub outcome: Option<WriteOutcome>,
+    /// Its passes, each heard: by what was heard of its brick, and Silent where nothing was.
+    pub passes: PassList,
 }
 
 /// A write, the bytes of its ask, and the passes by which it asks.
@@ -77,6 +95,18 @@ fn make_begun(
     Ok(Begun { call, ask })
 }
 
+/// What a write came to, if it has its answer.
+fn outcome_of(call: WriteCall) -> Option<WriteOutcome>
+    ensures { option_map answer_of_write result ≡ write_answer call }
+{
+    match call.into_answer() {
+        Some(Ok(cookie)) => Some(WriteOutcome::Written(cookie)),
+        Some(Err(WriteRefusal::Missed(causes))) => Some(WriteOutcome::Missed(causes)),
+        Some(Err(WriteRefusal::OutOfMemory)) => unreachable!(),
+        None => None,
+    }
+}
+
 impl SessionWrite {
     /// A write of which nothing was sent yet, to the bricks of these passes, of which so many are to store its value.
     /// It visits each pass a few times, and copies the value once.
@@ -112,7 +142,10 @@ impl SessionWrite {
         self.call.next()
     }
 
-    /// The answer; None while there is none. It takes no memory.
+    /// The answer; None while there is none, and never that memory was wanted (`ways_have_answers`). The response's
+    /// text of a cookie is made from this reference, by `session_cookie::encode_cookie` under the service's key; what
+    /// that requires of its bricks is `ways_end_as_calls_do`'s `holders`. The cookie itself comes once the passes are
+    /// spent. It takes no memory.
     pub fn answer(&self) -> Option<&Result<Cookie, WriteRefusal>>
         ensures { option_map (λ a. a.now) result ≡ write_answer self.now.write }
     {
@@ -134,11 +167,13 @@ impl SessionWrite {
         write_step(alloc, link, &mut self.call, self.ask.as_slice(), &mut into)
     }
 
-    /// The passes as they are spent: each by what was heard of its brick, and Silent where nothing was. It visits each
-    /// brick for each pass, and takes no memory.
-    pub fn into_passes(self) -> PassList
-        ensures spent { result ≡ passes_spent self }
-        ensures heard { AreHeard result }
+    /// What it came to, if it has its answer, and the passes as they are spent. The passes of a write that was missed
+    /// may go into `SessionWay::Holding`, which spends them as the write would. It visits each brick for each pass, and
+    /// takes no memory.
+    pub fn into_parts(self) -> WriteParts
+        ensures outcome { option_map answer_of_write result.outcome ≡ write_answer self.write }
+        ensures spent { result.passes ≡ passes_spent self }
+        ensures heard { AreHeard result.passes }
     {
         let SessionWrite {
             call,
@@ -148,6 +183,7 @@ impl SessionWrite {
         let mut passes = passes;
         mark_passes(&mut passes, &call);
         passes.hush();
-        passes
+        let outcome = outcome_of(call);
+        WriteParts { outcome, passes }
     }
 }

@@ -1,14 +1,16 @@
 //! The way of a request with its session, stage by stage.
 
-ghost use Rattle.std.specs.Prelude.{◌≡◌, map, IfOk, IfErr, OnOk, OnErr};
-ghost use mathlib.Core.List.{IsPrefix};
+ghost use Rattle.std.specs.Prelude.{◌≡◌, ◌++◌, map, IfOk, IfErr, OnOk, OnErr};
+ghost use Rattle.std.specs.Option.{option_map};
 ghost use Rattle.send_windows.specs.Passes.{hushed};
 ghost use Rattle.send_windows.specs.Windows.{AreTaken, RefusedAs, after_spend, taken};
-ghost use Rattle.session_way.specs.Way.{BreaksOffOutside, IsRefused, StepsOutside, StepsWindows, after_give_back, held, outside_or, passes_for, settled, wants};
-ghost use Rattle.session_way.specs.Writing.{write_begun};
+ghost use Rattle.ssm_stub.specs.Writes.{write_answer};
+ghost use Rattle.session_way.specs.Marks.{marks_by, refusal_marks};
+ghost use Rattle.session_way.specs.Way.{BreaksOffOutside, IsRefused, StepsOutside, StepsWindows, after_give_back, answer_held, held, outside_or, passes_for, settled, wants};
+ghost use Rattle.session_way.specs.Writing.{answer_of_write, passes_spent, write_begun};
 
 use crate::session_read::SessionRead;
-use crate::session_write::{SessionWrite, WriteOrder};
+use crate::session_write::{SessionWrite, WriteOrder, WriteOutcome, WriteParts};
 use crash_base::OutOfMemory;
 use outside::Link;
 use send_windows::{PassList, TakeRefusal, Windows};
@@ -24,12 +26,13 @@ pub enum SessionWay {
     /// It is read by its cookie, until the read has its answer.
     Reading(SessionRead),
     /// It is to be written, and passes are to be taken for that.
-    Asking(WriteOrder),
+    Ordered(WriteOrder),
     /// It is written, until the write has its answer.
     Writing(SessionWrite),
     /// The response has left: the bricks that are left are heard, and then the passes are spent.
     Settling(SessionWrite),
-    /// Passes were taken, and there was no memory for the write to begin.
+    /// Passes are held, and nothing more is asked by them: there was no memory for their write to begin, or it was
+    /// taken apart. They are to be spent.
     Holding(PassList),
 }
 
@@ -57,12 +60,21 @@ fn outside_or(wants: Wants, next: StubNext) -> Wants
 
 /// Spends passes of which nothing more is known, each unheard one as Silent.
 fn spend_hushed(windows: &mut Windows, passes: PassList)
-    ensures after { windows.new ≡ after_spend windows.old (map hushed passes) }
-    ensures grown { IsPrefix windows.old.history windows.new.history }
+    ensures { windows.new ≡ after_spend windows.old (map hushed passes) }
 {
     let mut passes = passes;
     passes.hush();
     windows.spend(passes);
+}
+
+/// Spends the passes of a write, and gives what the write came to.
+fn spend_write(windows: &mut Windows, write: SessionWrite) -> Option<WriteOutcome>
+    ensures after { windows.new ≡ after_spend windows.old (passes_spent write) }
+    ensures answer { option_map answer_of_write result ≡ write_answer write.write }
+{
+    let WriteParts { outcome, passes } = write.into_parts();
+    windows.spend(passes);
+    outcome
 }
 
 /// Takes passes for a write of this order, and begins it. Err hands the passes back, where there was no memory for
@@ -77,7 +89,6 @@ fn begin(
     ensures after { OnOk result (windows.new ≡ taken windows.old (passes_for order windows.old)) }
     ensures lawful { OnOk result (AreTaken windows.old.wq windows.old.w (passes_for order windows.old)) }
     ensures refused { IfErr result (RefusedAs windows.old windows.new) }
-    ensures grown { IsPrefix windows.old.history windows.new.history }
 {
     let least = windows.wq();
     let passes = windows.take(alloc, order.nonce.serial)?;
@@ -92,7 +103,7 @@ impl SessionWay {
         match self {
             SessionWay::Resting => Wants::Nothing,
             SessionWay::Reading(read) => outside_or(Wants::Nothing, read.next()),
-            SessionWay::Asking(_) => Wants::Windows,
+            SessionWay::Ordered(_) => Wants::Windows,
             SessionWay::Writing(write) => outside_or(Wants::Nothing, write.next_until_answer()),
             SessionWay::Settling(write) => outside_or(Wants::Windows, write.next()),
             SessionWay::Holding(_) => Wants::Windows,
@@ -112,34 +123,33 @@ impl SessionWay {
         match self {
             SessionWay::Resting => unreachable!(),
             SessionWay::Reading(read) => read.step(alloc, link),
-            SessionWay::Asking(_) => unreachable!(),
+            SessionWay::Ordered(_) => unreachable!(),
             SessionWay::Writing(write) => write.step(alloc, link),
             SessionWay::Settling(write) => write.step(alloc, link),
             SessionWay::Holding(_) => unreachable!(),
         }
     }
 
-    /// One call of the windows. Where a write is to begin, passes are taken for it, from the serial of its nonce on,
-    /// and the write begins to their bricks. Where passes are held, they are spent, as `give_back` does.
-    ///
-    /// # Errors
-    /// None where passes are held. Else as of `Windows::take`, after which nothing is held. `OutOfMemory` also where
-    /// passes were taken and there was no memory for the write to begin: they are held then.
-    pub fn step_windows(&mut self, alloc: Global, windows: &mut Windows) -> Result<(), TakeRefusal>
+    /// The call of the windows that is wanted.
+    fn call_windows(
+        &mut self,
+        alloc: Global,
+        windows: &mut Windows,
+    ) -> Result<Option<WriteOutcome>, TakeRefusal>
         requires { wants self.old ≡ Wants.Windows }
         ensures step { OnOk result (StepsWindows self.old windows.old self.new windows.new) }
+        ensures answer { IfOk result (λ outcome. option_map answer_of_write outcome ≡ answer_held self.old) }
         ensures refused { IfErr result (IsRefused self.old windows.old self.new windows.new) }
-        ensures grown { IsPrefix windows.old.history windows.new.history }
     {
         match mem::replace(self, SessionWay::Resting) {
             SessionWay::Resting => unreachable!(),
             SessionWay::Reading(_) => unreachable!(),
-            SessionWay::Asking(order) => {
+            SessionWay::Ordered(order) => {
                 let begun = begin(alloc, order, windows)?;
                 match begun {
                     Ok(write) => {
                         *self = SessionWay::Writing(write);
-                        Ok(())
+                        Ok(None)
                     }
                     Err(passes) => {
                         *self = SessionWay::Holding(passes);
@@ -148,15 +158,35 @@ impl SessionWay {
                 }
             }
             SessionWay::Writing(_) => unreachable!(),
-            SessionWay::Settling(write) => {
-                windows.spend(write.into_passes());
-                Ok(())
-            }
+            SessionWay::Settling(write) => Ok(spend_write(windows, write)),
             SessionWay::Holding(passes) => {
                 spend_hushed(windows, passes);
-                Ok(())
+                Ok(None)
             }
         }
+    }
+
+    /// One call of the windows. Where a write is to begin, passes are taken for it, from the serial of its nonce on,
+    /// and the write begins to their bricks. Where passes are held, they are spent, as `give_back` does, and what their
+    /// write came to is given, if there was one.
+    ///
+    /// # Errors
+    /// None where passes are held. Else as of `Windows::take`, after which nothing is held. `OutOfMemory` also where
+    /// passes were taken and there was no memory for the write to begin: they are held then.
+    pub fn step_windows(
+        &mut self,
+        alloc: Global,
+        windows: &mut Windows,
+    ) -> Result<Option<WriteOutcome>, TakeRefusal>
+        requires { wants self.old ≡ Wants.Windows }
+        ensures step { OnOk result (StepsWindows self.old windows.old self.new windows.new) }
+        ensures answer { IfOk result (λ outcome. option_map answer_of_write outcome ≡ answer_held self.old) }
+        ensures marks { OnOk result (windows.new.history ≡ windows.old.history ++ marks_by self.old self.new) }
+        ensures refused { IfErr result (IsRefused self.old windows.old self.new windows.new) }
+        ensures refusal { IfErr result (λ refusal. windows.new.history
+            ≡ windows.old.history ++ refusal_marks refusal self.old self.new) }
+    {
+        self.call_windows(alloc, windows)
     }
 
     /// The response has left: a write is settled from now on. It changes no other stage.
@@ -170,19 +200,24 @@ impl SessionWay {
     }
 
     /// Gives back what is held, at any stage: the passes are spent by what was heard of their bricks, an unheard one as
-    /// Silent. One call of the windows where passes are held, and none else. It takes no memory.
-    pub fn give_back(&mut self, windows: &mut Windows)
+    /// Silent; and what their write came to, if it has its answer. One call of the windows where passes are held, and
+    /// none else. It takes no memory.
+    pub fn give_back(&mut self, windows: &mut Windows) -> Option<WriteOutcome>
         ensures windows { windows.new ≡ after_give_back windows.old (held self.old) }
+        ensures answer { option_map answer_of_write result ≡ answer_held self.old }
         ensures rests { self.new ≡ SessionWay.Resting }
-        ensures grown { IsPrefix windows.old.history windows.new.history }
+        ensures marks { windows.new.history ≡ windows.old.history ++ marks_by self.old self.new }
     {
         match mem::replace(self, SessionWay::Resting) {
-            SessionWay::Writing(write) => windows.spend(write.into_passes()),
-            SessionWay::Settling(write) => windows.spend(write.into_passes()),
-            SessionWay::Holding(passes) => spend_hushed(windows, passes),
-            SessionWay::Resting => {}
-            SessionWay::Reading(_) => {}
-            SessionWay::Asking(_) => {}
+            SessionWay::Writing(write) => spend_write(windows, write),
+            SessionWay::Settling(write) => spend_write(windows, write),
+            SessionWay::Holding(passes) => {
+                spend_hushed(windows, passes);
+                None
+            }
+            SessionWay::Resting => None,
+            SessionWay::Reading(_) => None,
+            SessionWay::Ordered(_) => None,
         }
     }
 }

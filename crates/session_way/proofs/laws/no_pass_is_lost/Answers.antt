@@ -1,11 +1,12 @@
 use Rattle.std.proofs.Common.{◌∙◌, ap, refl, Some}
 use Rattle.std.specs.Option.{option_map}
 use Rattle.ssm_stub.specs.Ends.{bricks_of}
+use Rattle.ssm_stub.specs.Writes.{heard_passes}
 use Rattle.session_way.specs.declared.way.SessionWay.{SessionWay}
-use Rattle.session_way.specs.declared.way.SessionWay.TheVariants.{Resting, Reading, Asking, Writing, Settling, Holding}
+use Rattle.session_way.specs.declared.way.SessionWay.TheVariants.{Resting, Reading, Ordered, Writing, Settling, Holding}
 use Rattle.session_way.specs.Way.{held, passes_for}
 use Rattle.session_way.specs.Writing.{write_begun}
-use Rattle.session_way.proofs.PassesKept.{held_heard, hushed_bricks, spent_bricks, step_bricks}
+use Rattle.session_way.proofs.PassesKept.{held_heard, hushed_again, hushed_bricks, spent_bricks, spent_by_step, step_bricks}
 use Rattle.session_way.proofs.laws.no_pass_is_lost.Goals as goal
 
 pub returns-clause-taken : goal.returns-clause-taken
@@ -23,7 +24,7 @@ pub returns-clause-settle : goal.returns-clause-settle
 returns-clause-settle g c = elim [
   | Resting ↦ refl
   | Reading r ↦ refl
-  | Asking order ↦ refl
+  | Ordered order ↦ refl
   | Writing w ↦ refl
   | Settling w ↦ refl
   | Holding passes ↦ refl
@@ -31,3 +32,9 @@ returns-clause-settle g c = elim [
 
 pub returns-clause-heard : goal.returns-clause-heard
 returns-clause-heard g c = held_heard
+
+pub returns-clause-spent : goal.returns-clause-spent
+returns-clause-spent g c = spent_by_step
+
+pub returns-clause-apart : goal.returns-clause-apart
+returns-clause-apart g c = λ w. ap Some (hushed_again (heard_passes w.write w.passes))

@@ -23,7 +23,7 @@ pub returns-clause-write_begins : goal.returns-clause-write_begins
 returns-clause-write_begins g c = λ start l. record { events = []; ran = record { fitting = tt; made = refl; ends = refl }; same = refl }
 
 pub returns-clause-write : goal.returns-clause-write
-returns-clause-write g c = λ start here after old mid new h wants step.
+returns-clause-write g c = λ passes start here after old mid new h wants step.
     let laws = c.runs_join.ensures in
     let ask = encode_of start.ask in
     let own = write_step_of g.L.Link.makes start here mid after new h.same step in

@@ -1,12 +1,16 @@
-use Rattle.std.proofs.Common.{◌∙◌, ap, sym, refl, map, Ok, Err}
+use Rattle.std.proofs.Common.{◌∙◌, ap, sym, refl, subst, List, map, Ok, Err}
+use Rattle.send_windows.specs.declared.pass.Pass.{Pass}
 use Rattle.ssm_stub.specs.declared.read_call.ReadRefusal.TheVariants.{Expired, Lost}
 use Rattle.ssm_stub.specs.declared.write_call.WriteRefusal.TheVariants.{Missed}
 use Rattle.ssm_stub.specs.Ends.{ReadEnds, WriteEnds}
 use Rattle.ssm_stub.specs.Reads.{read_answer, read_start}
 use Rattle.ssm_stub.specs.Writes.{pass_of}
-use Rattle.session_way.specs.Writing.{write_begun}
+use Rattle.session_way.specs.Runs.{HasWritten}
+use Rattle.session_way.specs.Way.{passes_for}
+use Rattle.session_way.specs.Writing.{WritingState, write_begun}
 use Rattle.session_way.proofs.Ending.{answered_expired, expired_answer, untouched}
 use Rattle.session_way.proofs.Holders.{written_holders}
+use Rattle.session_way.proofs.PassesKept.{begun_of}
 use Rattle.session_way.proofs.laws.ways_end_as_calls_do.Goals as goal
 
 pub returns-clause-read : goal.returns-clause-read
@@ -49,6 +53,15 @@ pub returns-clause-holders : goal.returns-clause-holders
 returns-clause-holders g c = λ order least passes here old new cookie distinct some few h answers.
     let ends : WriteEnds g.L.Link.makes (write_begun order least passes).write old new (map pass_of here.asks) (Ok cookie) = record { events = h.events; end = here; ran = h.ran; answers = answers; marks = refl } in
     written_holders g.L.Link.makes passes least order.nonce order.key order.expiry old new cookie distinct some few (c.written_cookies_name_who_stored.ensures old new passes (map pass_of here.asks) least order.nonce order.key order.value order.expiry cookie distinct ends)
+
+pub returns-clause-many : goal.returns-clause-many
+returns-clause-many g c = λ order windows taken w here old new cookie is h answers.
+    let passes : List Pass = passes_for order windows in
+    let begun : WritingState = write_begun order windows.wq passes in
+    let Run : WritingState → Type 0 = λ v. HasWritten g.L.Link.makes v.write old here new in
+    let ran : HasWritten g.L.Link.makes begun.write old here new = subst Run (begun_of order windows taken w is) h in
+    let ends : WriteEnds g.L.Link.makes begun.write old new (map pass_of here.asks) (Ok cookie) = record { events = ran.events; end = here; ran = ran.ran; answers = answers; marks = refl } in
+    (c.written_cookies_name_who_stored.ensures old new passes (map pass_of here.asks) windows.wq order.nonce order.key order.value order.expiry cookie is.lawful.distinct ends).enough
 
 pub returns-clause-missed : goal.returns-clause-missed
 returns-clause-missed g c = λ order least passes here old new causes distinct h answers.
