@@ -9,7 +9,7 @@ use Rattle.auction_calls.specs.declared.action.Action.TheVariants as action
 use Rattle.site_routes.specs.declared.path_actions.SiteAction.{SiteAction}
 use Rattle.site_routes.specs.declared.path_actions.SiteAction.TheVariants as route
 use Rattle.action_fields.specs.Asked.{asked_action, bid_in, browse_in, buy_in, category_in, close_in, feedback_in, register_in, sell_in, sign_in_in, with_field}
-use Rattle.action_fields.specs.Names.{field_text}
+use Rattle.action_fields.specs.Names.{field_name}
 use Rattle.action_fields.specs.Reading.{good_in, id_in, name_of, number_in, or_0, or_named, page_in, text_in, truth_of, user_name_in}
 use Rattle.action_fields.specs.Table.{FieldRead, IsRead, fields_of, first_bad, read_as}
 use Rattle.action_fields.specs.declared.form_field.FormField.{FormField}
@@ -26,11 +26,11 @@ own_named which (Err why) = refl
 
 text_own : (which : FormField) (least most : ℕ) (form : List ℕ) → Own which (text_in which least most form)
 unfolding text_in
-text_own which least most form = own_named which (text_field form (field_text which) least most)
+text_own which least most form = own_named which (text_field form (field_name which) least most)
 
 number_own : (which : FormField) (least most : ℕ) (form : List ℕ) → Own which (number_in which least most form)
 unfolding number_in
-number_own which least most form = own_named which (number_field form (field_text which) least most)
+number_own which least most form = own_named which (number_field form (field_name which) least most)
 
 id_own : (which : FormField) (form : List ℕ) → Own which (id_in which form)
 unfolding id_in
@@ -50,7 +50,7 @@ name_own form = by (text_in field.Name 1 24 form) (text_own field.Name 1 24 form
 
 page_own : (query : List ℕ) → Own field.Page (page_in query)
 unfolding page_in
-page_own query = by (number_field query (field_text field.Page) 0 9999)
+page_own query = by (number_field query (field_name field.Page) 0 9999)
   where
     by : (read : Result ℕ FieldRefusal) → Own field.Page (or_0 field.Page read)
     by (Ok number) = tt

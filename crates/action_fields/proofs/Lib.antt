@@ -1,2 +1,5 @@
+pub mod Fields
 pub mod FirstBad
+pub mod ReadExactly
+pub mod Utf8
 pub mod Within

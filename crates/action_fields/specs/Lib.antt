@@ -1,4 +1,5 @@
 pub mod Asked
 pub mod Names
 pub mod Reading
+pub mod Said
 pub mod Table

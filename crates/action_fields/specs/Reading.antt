@@ -4,7 +4,7 @@ use Rattle.crash_base.specs.Names.{is_name}
 use Rattle.form_values.specs.Values.{number_field, text_field}
 use Rattle.form_values.specs.declared.refusal.FieldRefusal.{FieldRefusal}
 use Rattle.form_values.specs.declared.refusal.FieldRefusal.TheVariants as refusal
-use Rattle.action_fields.specs.Names.{field_text}
+use Rattle.action_fields.specs.Names.{field_name}
 use Rattle.action_fields.specs.declared.error.FieldError.{FieldError}
 use Rattle.action_fields.specs.declared.error.FieldError.TheVariants.{Bad, OutOfMemory}
 use Rattle.action_fields.specs.declared.form_field.FormField.{FormField}
@@ -17,11 +17,11 @@ or_named which (Err why) = Err which
 
 -- a text of so many bytes
 unfoldable pub text_in : FormField → ℕ → ℕ → List ℕ → Result (List ℕ) FormField
-text_in which least most form = or_named which (text_field form (field_text which) least most)
+text_in which least most form = or_named which (text_field form (field_name which) least most)
 
 -- a number of this range
 unfoldable pub number_in : FormField → ℕ → ℕ → List ℕ → Result ℕ FormField
-number_in which least most form = or_named which (number_field form (field_text which) least most)
+number_in which least most form = or_named which (number_field form (field_name which) least most)
 
 -- a text that is a name of letters of ASCII, digits and `_` alone
 abbrev pub name_of : Result (List ℕ) FormField → Result (List ℕ) FormField
@@ -47,7 +47,7 @@ or_0 which (Err refusal.OutOfMemory) = Err which
 
 -- the page of a category
 unfoldable pub page_in : List ℕ → Result ℕ FormField
-page_in query = or_0 field.Page (number_field query (field_text field.Page) 0 9999)
+page_in query = or_0 field.Page (number_field query (field_name field.Page) 0 9999)
 
 -- a number as a truth: 1 is true
 abbrev pub truth_of : Result ℕ FormField → Result Bool FormField

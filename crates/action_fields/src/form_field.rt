@@ -1,7 +1,7 @@
 //! The fields of forms.
 
 ghost use Rattle.std.specs.Prelude.{◌≡◌};
-ghost use Rattle.action_fields.specs.Names.{field_text};
+ghost use Rattle.action_fields.specs.Names.{field_name};
 
 /// A field of a form, or of a query.
 #[derive(Clone, Copy)]
@@ -32,9 +32,9 @@ pub enum FormField {
 
 impl FormField {
     /// The name of the field, as forms have it.
-    #[tactic(auto, unfolding(crate::specs::Names::field_text))]
+    #[tactic(auto, unfolding(crate::specs::Names::field_name))]
     pub fn word(self) -> &'static str
-        ensures { result.now ≡ field_text self }
+        ensures { result.now ≡ field_name self }
     {
         match self {
             FormField::Name => "name",

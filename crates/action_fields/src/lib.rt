@@ -20,13 +20,19 @@
 //! | feedback | `item`; `good` 0 or 1; `text` 0 to 200 bytes |
 //! | each other | none |
 //!
-//! Each form has besides a `token` of 56 bytes (`token_in`), which is looked at behind the fields.
+//! Each POST has besides a `token` of 56 bytes (`token_in`), which is looked at behind the fields.
 //!
-//! `category` and `item` are 1 to 4,294,967,295. How a form spells a text and a number is said by `form_values`.
+//! `category` and `item` are 1 to 4,294,967,295. How a form spells a text and a number is said by `form_values`. Bytes
+//! are counted once the text is decoded, where U+FFFD, which stands for what is no UTF-8, has 3.
 //!
 //! `specs/Asked.antt` has this table as the function `asked_action`, and the code answers exactly what it says, unless
 //! memory runs out. The law `bad_fields_are_first` says it by `specs/Table.antt`, where each field stands with whether
-//! the form says it well: the field that is named is the first that is not, and none is named where each is.
+//! the form says it well: the field that is named is the first that is not, and none is named where each is. The law
+//! `actions_are_read_exactly` says which action is read: the one whose values stand in the fields of their names
+//! (`specs/Said.antt`) and are in the ranges of `auction_calls`.
+//!
+//! `auction_calls` tests the fields that a call has, and this crate those that a form says: a number that is none and a
+//! text that is missing are bad here alone, and an id of a path, which a call has as a field, is the router's to test.
 #![tactic(auto)]
 
 mod asked;
@@ -38,5 +44,5 @@ mod reading;
 pub use asked::asked_action;
 pub use error::FieldError;
 pub use form_field::FormField;
-pub use laws::bad_fields_are_first;
+pub use laws::{actions_are_read_exactly, bad_fields_are_first};
 pub use reading::token_in;

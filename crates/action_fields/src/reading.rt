@@ -9,15 +9,13 @@ use crate::form_field::FormField;
 use auction_calls::{MAX_PAGE, MAX_USER_NAME_BYTES};
 use crash_base::{FieldText, is_name};
 use form_values::{FieldRefusal, number_field, text_field};
+use site_routes::MAX_ID;
 use std::alloc::Global;
 
-/// The greatest number of a category, an item or a user.
-const MAX_ID: u32 = 4_294_967_295;
-
-/// How many bytes the token of a form has.
+/// How many bytes the token of a form has, as `auction_calls` has it in a call.
 const TOKEN_BYTES: u64 = 56;
 
-/// The text of a field, which has `least` to `most` bytes.
+/// The text of a field, which has `least` to `most` bytes once it is decoded; U+FFFD counts as 3.
 #[tactic(auto, unfolding(crate::specs::Reading::text_in))]
 pub fn text_in(
     alloc: Global,
@@ -92,7 +90,8 @@ pub fn small_in(
 pub fn id_in(alloc: Global, field: FormField, form: &[u8]) -> Result<u32, FieldError>
     ensures { Answers result (id_in field form.now) }
 {
-    small_in(alloc, field, 1, MAX_ID, form)
+    let number = number_in(alloc, field, 1, MAX_ID, form)?;
+    Ok(number as u32)
 }
 
 /// The page of a category, which is 0 where it is missing.
@@ -120,7 +119,7 @@ pub fn good_in(alloc: Global, form: &[u8]) -> Result<bool, FieldError>
     Ok(number == 1)
 }
 
-/// The text of a form's token, which has as many bytes as a token has. It takes memory for the text.
+/// The text of a form's token, which has as many bytes as a token has once it is decoded. It takes memory for the text.
 ///
 /// # Errors
 /// `Bad` with `Token` where it is missing or of another length, and `OutOfMemory` where memory ran out.

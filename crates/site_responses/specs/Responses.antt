@@ -5,7 +5,7 @@ use Rattle.http_wire.specs.declared.response.CookieField.{CookieField}
 use Rattle.http_wire.specs.declared.response.CookieField.TheVariants as cookie
 use Rattle.http_wire.specs.declared.response.ExtraFields.{ExtraFields}
 use Rattle.page_text.specs.Pages.{page_bytes}
-use Rattle.action_fields.specs.Names.{field_text}
+use Rattle.action_fields.specs.Names.{field_name}
 use Rattle.site_responses.specs.declared.answer.SiteAnswer.{SiteAnswer}
 use Rattle.site_responses.specs.declared.answer.SiteAnswer.TheVariants.{Page, NotThere, NotAllowed, Multipart, BadForm, StaleForm, Expired, Lost, TryAgain, Failed}
 use Rattle.site_responses.specs.declared.answer.Untaken.{Untaken}
@@ -70,7 +70,7 @@ said (Page status page written) = page_said status page written
 said NotThere = refused 404 (codes "Not there")
 said (NotAllowed allow) = allowed allow
 said Multipart = refused 415 (codes "Form not understood")
-said (BadForm field) = refused 400 (bad_field (field_text field))
+said (BadForm field) = refused 400 (bad_field (field_name field))
 said StaleForm = refused 409 (codes "Form is old")
 said Expired = gone (codes "Session expired")
 said Lost = gone (codes "Session lost")
