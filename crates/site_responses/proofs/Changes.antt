@@ -1,15 +1,16 @@
--- When a response changes the cookie, and when it says to try again.
-use Rattle.std.proofs.Common.{◌≡◌, ◌↔◌, ℕ, Bool, true, false, List, ◌++◌, Some, None, refl, ap}
+-- When a response changes the cookie, when it says to try again, and which fields come with which answer.
+use Rattle.std.proofs.Common.{◌≡◌, ◌↔◌, ℕ, ◌<◌, Bool, true, false, List, ◌++◌, Some, None, refl, ap, arith}
 use Rattle.http_wire.specs.Response.{response_bytes}
-use Rattle.http_wire.specs.declared.response.CookieField.TheVariants as cookie
+use Rattle.http_wire.specs.declared.response.CookieField.TheVariants as change
 use Rattle.http_wire.specs.declared.response.ExtraFields.{ExtraFields}
-use Rattle.site_responses.specs.Responses.{IsSessionGone, IsWritten, bytes_of, extra_of, response, said}
+use Rattle.site_responses.specs.Responses.{IsNoPage, IsSessionGone, IsWritten, bytes_of, extra_of, last_response, response, said, said_untaken}
 use Rattle.site_responses.specs.declared.answer.SiteAnswer.{SiteAnswer}
 use Rattle.site_responses.specs.declared.answer.SiteAnswer.TheVariants.{Page, NotThere, NotAllowed, Multipart, BadForm, StaleForm, Expired, Lost, TryAgain, Failed}
+use Rattle.site_responses.specs.declared.answer.Untaken.{Untaken}
 
 -- an answer that sets no cookie is no page behind which the session was written
 abbrev SetsNone : SiteAnswer → Type 0
-SetsNone answer = (text : List ℕ) → ((said answer).cookie ≡ cookie.Set text) ↔ IsWritten answer text
+SetsNone answer = (text : List ℕ) → ((said answer).cookie ≡ change.Set text) ↔ IsWritten answer text
 
 pub when_set : (answer : SiteAnswer) → SetsNone answer
 when_set (Page status page None) text = (λ e. absurd (cc), λ e. let same = e.2 in absurd (cc))
@@ -27,7 +28,7 @@ when_set Lost text = (λ e. absurd (cc), λ e. let same = e.2 in absurd (cc))
 when_set TryAgain text = (λ e. absurd (cc), λ e. let same = e.2 in absurd (cc))
 when_set Failed text = (λ e. absurd (cc), λ e. let same = e.2 in absurd (cc))
 
-pub when_cleared : (answer : SiteAnswer) → ((said answer).cookie ≡ cookie.Clear) ↔ IsSessionGone answer
+pub when_cleared : (answer : SiteAnswer) → ((said answer).cookie ≡ change.Clear) ↔ IsSessionGone answer
 when_cleared (Page status page None) = (λ e. absurd (cc), λ e. absurd e)
 when_cleared (Page status page (Some t)) = (λ e. absurd (cc), λ e. absurd e)
 when_cleared NotThere = (λ e. absurd (cc), λ e. absurd e)
@@ -58,3 +59,36 @@ pub page_behind : ((status : ℕ) (extra : ExtraFields) (page : List ℕ)
     → (answer : SiteAnswer) (close : Bool) → response answer close false ≡ response answer close true ++ (said answer).page
 unfolding bytes_of
 page_behind law answer close = law (said answer).status (extra_of (said answer) close) (said answer).page
+
+-- no methods are named
+none_named : (allow : ℕ) → 0 < allow → 0 ≡ allow → ⊥
+none_named allow some e = absurd (omega arith)
+
+pub when_allowed : (answer : SiteAnswer) (allow : ℕ) → 0 < allow → ((said answer).allow ≡ allow) ↔ (answer ≡ NotAllowed allow)
+when_allowed (Page status page cookie) allow some = (λ e. absurd (none_named allow some e), λ e. absurd (cc))
+when_allowed NotThere allow some = (λ e. absurd (none_named allow some e), λ e. absurd (cc))
+when_allowed (NotAllowed other) allow some = (λ e. ap (λ (n : ℕ). NotAllowed n) e, λ e. cc)
+when_allowed Multipart allow some = (λ e. absurd (none_named allow some e), λ e. absurd (cc))
+when_allowed (BadForm field) allow some = (λ e. absurd (none_named allow some e), λ e. absurd (cc))
+when_allowed StaleForm allow some = (λ e. absurd (none_named allow some e), λ e. absurd (cc))
+when_allowed Expired allow some = (λ e. absurd (none_named allow some e), λ e. absurd (cc))
+when_allowed Lost allow some = (λ e. absurd (none_named allow some e), λ e. absurd (cc))
+when_allowed TryAgain allow some = (λ e. absurd (none_named allow some e), λ e. absurd (cc))
+when_allowed Failed allow some = (λ e. absurd (none_named allow some e), λ e. absurd (cc))
+
+pub when_forbidden : (answer : SiteAnswer) → IsNoPage answer → ((said answer).status ≡ 403) ↔ IsSessionGone answer
+when_forbidden (Page status page cookie) other = absurd (other status page cookie refl)
+when_forbidden NotThere other = (λ e. absurd (omega (arith, e)), λ e. absurd e)
+when_forbidden (NotAllowed allow) other = (λ e. absurd (omega (arith, e)), λ e. absurd e)
+when_forbidden Multipart other = (λ e. absurd (omega (arith, e)), λ e. absurd e)
+when_forbidden (BadForm field) other = (λ e. absurd (omega (arith, e)), λ e. absurd e)
+when_forbidden StaleForm other = (λ e. absurd (omega (arith, e)), λ e. absurd e)
+when_forbidden Expired other = (λ e. tt, λ e. refl)
+when_forbidden Lost other = (λ e. tt, λ e. refl)
+when_forbidden TryAgain other = (λ e. absurd (omega (arith, e)), λ e. absurd e)
+when_forbidden Failed other = (λ e. absurd (omega (arith, e)), λ e. absurd e)
+
+pub last_closes : (why : Untaken) → last_response why
+    ≡ response_bytes (said_untaken why).status (extra_of (said_untaken why) true) (said_untaken why).page false
+unfolding bytes_of
+last_closes why = refl

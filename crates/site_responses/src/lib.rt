@@ -27,8 +27,13 @@
 //!
 //! `specs/Responses.antt` has this table as `said` and `said_untaken`, and the bytes over it as `response`. Each page
 //! but the first is its heading and no lines. The law `cookies_change_with_sessions` says when a response sets the
-//! cookie or clears it, `retries_keep_cookies` that the one that tells the client to try again does neither, and
+//! cookie or clears it, `retries_keep_cookies` that the one that tells the client to try again does neither,
+//! `fields_come_with_their_answers` when `Allow`, 403 and the end of the connection are told, and
 //! `heads_are_answered_as_gets` that HEAD leaves out the page and nothing else.
+//!
+//! An entry of the journal may have no action, where its request was committed by another client than a shepherd. Who
+//! is told that such an entry stands answers `Page` with status 500 and `failed_page`, and not `Failed`: its session
+//! may be renewed, and its cookie is set then. `failed_pages_say_what_failed_says` says that nothing else differs.
 //!
 //! A response is written once, and a cookie's text is copied before.
 #![tactic(auto)]
@@ -38,5 +43,8 @@ mod laws;
 mod responses;
 
 pub use answer::{SiteAnswer, Untaken};
-pub use laws::{cookies_change_with_sessions, heads_are_answered_as_gets, retries_keep_cookies};
-pub use responses::{page_response, response_of, untaken_response};
+pub use laws::{
+    cookies_change_with_sessions, failed_pages_say_what_failed_says,
+    fields_come_with_their_answers, heads_are_answered_as_gets, retries_keep_cookies,
+};
+pub use responses::{failed_page, page_response, response_of, untaken_response};

@@ -4,7 +4,7 @@ ghost use Rattle.std.specs.Prelude.{◌≡◌, false, [], IfOk};
 ghost use Rattle.std.specs.Option.{option_copied};
 ghost use Rattle.http_wire.specs.Response.{response_bytes};
 ghost use Rattle.page_text.specs.Pages.{page_bytes};
-ghost use Rattle.site_responses.specs.Responses.{again, allowed, bad_field, bytes_of, gone, kept, last_response, page_said, refused, response, set_where};
+ghost use Rattle.site_responses.specs.Responses.{allowed, bad_field, bytes_of, failed_page, gone, heading_alone, last_response, left_alone, page_said, response, set_where, try_again};
 
 use crate::answer::{SiteAnswer, Untaken};
 use crash_base::{CookieText, OutOfMemory, PageText, ResponseBytes};
@@ -13,13 +13,23 @@ use page_text::{PageLineList, page};
 use std::alloc::Global;
 
 /// The cookie of a session, copied, where it was written.
-fn set_where(alloc: Global, written: Option<&CookieText>) -> Result<CookieField, OutOfMemory>
-    ensures { IfOk result (λ field. field ≡ set_where (option_copied written.entry)) }
+fn set_where(alloc: Global, cookie: Option<&CookieText>) -> Result<CookieField, OutOfMemory>
+    ensures { IfOk result (λ field. field ≡ set_where (option_copied cookie.entry)) }
 {
-    match written {
+    match cookie {
         None => Ok(CookieField::None),
         Some(text) => Ok(CookieField::Set(CookieText::copied(alloc, text.as_slice())?)),
     }
+}
+
+/// The page of an entry of the journal that has no action, as another client of the boot may commit one under the
+/// number of a request: its answer is a page of status 500, and its session may be renewed as behind each page.
+///
+/// It fails only where memory ran out.
+pub fn failed_page(alloc: Global) -> Result<PageText, OutOfMemory>
+    ensures { IfOk result (λ page. page ≡ failed_page) }
+{
+    page(alloc, b"Failed", &PageLineList::new(alloc))
 }
 
 /// The response of a page, as to `SiteAnswer::Page`: its status, and the cookie of the session where that was written.
@@ -31,15 +41,15 @@ pub fn page_response(
     alloc: Global,
     status: u16,
     page: &PageText,
-    written: Option<&CookieText>,
+    cookie: Option<&CookieText>,
     close: bool,
     head_only: bool,
 ) -> Result<ResponseBytes, OutOfMemory>
     ensures { IfOk result (λ bytes. bytes
-        ≡ bytes_of (page_said status page.now (option_copied written.entry)) close head_only) }
+        ≡ bytes_of (page_said status page.now (option_copied cookie.entry)) close head_only) }
 {
     let extra = ExtraFields {
-        cookie: set_where(alloc, written)?,
+        cookie: set_where(alloc, cookie)?,
         retry: false,
         allow: 0,
         close,
@@ -64,7 +74,7 @@ fn refusal(
 
 /// No field but whether the connection ends.
 fn plain(close: bool) -> ExtraFields
-    ensures { result ≡ record { cookie = kept; retry = false; allow = 0; close = close } }
+    ensures { result ≡ record { cookie = left_alone; retry = false; allow = 0; close = close } }
 {
     ExtraFields {
         cookie: CookieField::None,
@@ -93,7 +103,7 @@ fn bad_form(
     close: bool,
     head_only: bool,
 ) -> Result<ResponseBytes, OutOfMemory>
-    ensures { IfOk result (λ bytes. bytes ≡ bytes_of (refused 400 (bad_field name.now)) close head_only) }
+    ensures { IfOk result (λ bytes. bytes ≡ bytes_of (heading_alone 400 (bad_field name.now)) close head_only) }
 {
     let heading = bad_field(alloc, name)?;
     refusal(alloc, 400, heading.as_slice(), &plain(close), head_only)
@@ -140,7 +150,7 @@ fn not_allowed(
 /// The response that says to try again.
 #[tactic(auto, unfolding(crate::specs::Responses::bytes_of))]
 fn try_again(alloc: Global, close: bool, head_only: bool) -> Result<ResponseBytes, OutOfMemory>
-    ensures { IfOk result (λ bytes. bytes ≡ bytes_of again close head_only) }
+    ensures { IfOk result (λ bytes. bytes ≡ bytes_of try_again close head_only) }
 {
     let extra = ExtraFields {
         cookie: CookieField::None,
@@ -160,7 +170,7 @@ fn plain_refusal(
     close: bool,
     head_only: bool,
 ) -> Result<ResponseBytes, OutOfMemory>
-    ensures { IfOk result (λ bytes. bytes ≡ bytes_of (refused status heading.now) close head_only) }
+    ensures { IfOk result (λ bytes. bytes ≡ bytes_of (heading_alone status heading.now) close head_only) }
 {
     refusal(alloc, status, heading, &plain(close), head_only)
 }
