@@ -1,3 +1,5 @@
-pub mod Causes
+pub mod Counts
+pub mod Forms
 pub mod One
-pub mod Posted
+pub mod Orders
+pub mod Refusals

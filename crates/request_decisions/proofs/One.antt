@@ -18,7 +18,7 @@ use Rattle.site_routes.specs.declared.routed.Routed.TheVariants as lead
 use Rattle.action_fields.specs.Asked.{asked_action}
 use Rattle.action_fields.specs.Reading.{token_in}
 use Rattle.action_fields.specs.declared.form_field.FormField.{FormField}
-use Rattle.request_decisions.specs.Decisions.{IsAccepted, IsAsked, IsByFields, IsByForm, IsByMethod, IsByRoute, IsDecided, IsTokenOf, IsTokenText, by_token, path_of, query_of}
+use Rattle.request_decisions.specs.Decisions.{IsAccepted, IsAsked, IsByFields, IsByForm, IsByMethod, IsByRoute, IsDecided, IsTokenOf, IsTokenText, by_token, target_path, target_query}
 use Rattle.request_decisions.specs.declared.decision.Decision.{Decision}
 
 -- a text that is a cookie is decoded to it
@@ -76,7 +76,7 @@ module _ (back : CookiesDecodeBack) (alone : TokensAreOfOneRequest) (key : List 
 
   one_by_form : (head : Head) (asked : SiteAction) (parts : Bool) (d e : Decision) → IsByForm key boot head asked parts d → IsByForm key boot head asked parts e → d ≡ e
   one_by_form head asked true d e x y = x ∙ sym y
-  one_by_form head asked false d e x y = one_by_fields head (asked_action asked (query_of head.target) head.body) d e x y
+  one_by_form head asked false d e x y = one_by_fields head (asked_action asked (target_query head.target) head.body) d e x y
 
   one_by_route : (head : Head) (leads : Routed) (d e : Decision) → IsByRoute key boot head leads d → IsByRoute key boot head leads e → d ≡ e
   one_by_route head lead.NotThere d e x y = x ∙ sym y
@@ -87,4 +87,4 @@ pub one_decision : CookiesDecodeBack → TokensAreOfOneRequest → (key : List �
     → IsDecided key boot head d → IsDecided key boot head e → d ≡ e
 unfolding IsDecided
 one_decision back alone key boot head d e x y =
-    one_by_route back alone key boot head (routed (path_of head.target) head.method) d e x y
+    one_by_route back alone key boot head (routed (target_path head.target) head.method) d e x y

@@ -7,7 +7,7 @@ use Rattle.http_wire.specs.declared.taken.Head.{Head}
 use Rattle.http_wire.specs.declared.taken.MethodKind.{MethodKind}
 use Rattle.http_wire.specs.declared.taken.MethodKind.TheVariants.{Get, HeadOnly, Post, Other}
 use Rattle.session_cookie.specs.Text.{IsTextOf}
-use Rattle.session_cookie.specs.Token.{IsReadAs, token_of}
+use Rattle.session_cookie.specs.Token.{IsReadAs, IsRequest, token_of}
 use Rattle.session_cookie.specs.declared.cookie.Cookie.{Cookie}
 use Rattle.site_routes.specs.PathActions.{routed}
 use Rattle.site_routes.specs.declared.path_actions.SiteAction.{SiteAction}
@@ -23,12 +23,12 @@ use Rattle.request_decisions.specs.declared.decision.Order.{Order}
 use Rattle.request_decisions.specs.declared.decision.Refusal.TheVariants as refusal
 
 -- the path of a target: what stands before its first `?`
-unfoldable pub path_of : List ℕ → List ℕ
-path_of target = before_first (λ byte. byte == 63) target
+unfoldable pub target_path : List ℕ → List ℕ
+target_path target = before_first (λ byte. byte == 63) target
 
 -- its query: what stands behind that
-unfoldable pub query_of : List ℕ → List ℕ
-query_of target = after_first (λ byte. byte == 63) target
+unfoldable pub target_query : List ℕ → List ℕ
+target_query target = after_first (λ byte. byte == 63) target
 
 -- The cookie that is accepted: the one whose text under the key this is, and none where it is the text of none.
 abbrev pub IsAccepted : List ℕ → Option (List ℕ) → Option Cookie → Type 0
@@ -84,7 +84,7 @@ IsByFields key boot head (Ok asked) decision = IsAsked key boot head asked decis
 abbrev pub IsByForm : List ℕ → ℕ → Head → SiteAction → Bool → Decision → Type 0
 IsByForm key boot head asked true decision = decision ≡ Refused refusal.Multipart
 IsByForm key boot head asked false decision =
-    IsByFields key boot head (asked_action asked (query_of head.target) head.body) decision
+    IsByFields key boot head (asked_action asked (target_query head.target) head.body) decision
 
 -- a request is decided by where it leads
 abbrev pub IsByRoute : List ℕ → ℕ → Head → Routed → Decision → Type 0
@@ -94,7 +94,7 @@ IsByRoute key boot head (lead.Action asked) decision = IsByForm key boot head as
 
 -- A request is decided so: under the service's key, in this boot.
 unfoldable pub IsDecided : List ℕ → ℕ → Head → Decision → Type 0
-IsDecided key boot head decision = IsByRoute key boot head (routed (path_of head.target) head.method) decision
+IsDecided key boot head decision = IsByRoute key boot head (routed (target_path head.target) head.method) decision
 
 -- An order has the number of its form's token, which was written for the session of its cookie, in this boot.
 pub record HasTokenOfSession (key : List ℕ) (boot : ℕ) (form : List ℕ) (o : Order) : Type 0 where
@@ -102,5 +102,27 @@ pub record HasTokenOfSession (key : List ℕ) (boot : ℕ) (form : List ℕ) (o 
   pub request : RequestNo
   pub cookie_is : o.cookie ≡ Some cookie
   pub number_is : o.number ≡ Some request
+  pub in_range : IsRequest request
   pub in_boot : request.boot ≡ boot
   pub token : token_in form ≡ Ok (token_of key cookie.key request)
+
+-- the number of an order is that of its token where it is a POST, and else it has none
+abbrev pub IsNumbered : List ℕ → ℕ → MethodKind → List ℕ → Order → Type 0
+IsNumbered key boot Get form o = o.number ≡ None
+IsNumbered key boot HeadOnly form o = o.number ≡ None
+IsNumbered key boot Other form o = o.number ≡ None
+IsNumbered key boot Post form o = HasTokenOfSession key boot form o
+
+-- A request asks for an action with a cookie: it leads there, its form is not in parts, each field is good, and this is
+-- the cookie that is accepted.
+pub record AsksFor (key : List ℕ) (head : Head) (action : Action) (cookie : Option Cookie) : Type 0 where
+  pub asked : SiteAction
+  pub leads : routed (target_path head.target) head.method ≡ lead.Action asked
+  pub whole : head.multipart ≡ false
+  pub read : asked_action asked (target_query head.target) head.body ≡ Ok action
+  pub accepted : IsAccepted key head.cookie cookie
+
+-- A request is to be served by an order: it asks for its action with its cookie, and has its number.
+pub record IsOrdered (key : List ℕ) (boot : ℕ) (head : Head) (o : Order) : Type 0 where
+  pub asks : AsksFor key head o.action o.cookie
+  pub numbered : IsNumbered key boot head.method head.body o

@@ -1,10 +1,11 @@
 -- What is drawn for an order, and in which order.
-use Rattle.std.specs.Prelude.{◌&&◌, Bool, true, false, if◌then◌else◌, is_none, is_some, List, [], ◌∷◌, ◌++◌}
+use Rattle.std.specs.Prelude.{◌≡◌, ◌&&◌, Bool, true, false, if◌then◌else◌, is_none, is_some, List, [], ◌∷◌, ◌++◌, map}
 use Rattle.auction_calls.specs.declared.action.Action.{Action}
 use Rattle.auction_calls.specs.declared.action.Action.TheVariants as action
 use Rattle.request_decisions.specs.declared.decision.Decision.{Decision}
 use Rattle.request_decisions.specs.declared.decision.Decision.TheVariants.{Refused, Ordered}
 use Rattle.request_decisions.specs.declared.decision.Order.{Order}
+use Rattle.request_decisions.specs.declared.draws.Draw.{Draw}
 use Rattle.request_decisions.specs.declared.draws.DrawKind.{DrawKind}
 use Rattle.request_decisions.specs.declared.draws.DrawKind.TheVariants.{Request, Token, KeyWord, Fresh, Read, Write}
 
@@ -50,3 +51,27 @@ drawn_for o =
 abbrev pub drawn_by : Decision → List DrawKind
 drawn_by (Refused why) = []
 drawn_by (Ordered o) = drawn_for o
+
+-- whether a serial number is drawn for this, which may be spent, and else a random word, which never is
+abbrev pub is_serial : DrawKind → Bool
+is_serial Request = true
+is_serial Token = true
+is_serial KeyWord = false
+is_serial Fresh = false
+is_serial Read = true
+is_serial Write = true
+
+-- what these numbers were drawn for
+abbrev pub kinds_of : List Draw → List DrawKind
+kinds_of drawn = map (λ (d : Draw). d.kind) drawn
+
+-- All that an order draws was drawn, in its order.
+abbrev pub AreDrawn : Order → List Draw → Type 0
+AreDrawn o drawn = kinds_of drawn ≡ drawn_for o
+
+-- What was drawn for an order until a serial number was spent: what comes before that one, and nothing behind it.
+pub record AreCutShort (o : Order) (drawn : List Draw) : Type 0 where
+  pub spent : DrawKind
+  pub behind : List DrawKind
+  pub drawn_are : drawn_for o ≡ kinds_of drawn ++ spent ∷ behind
+  pub of_serials : is_serial spent ≡ true

@@ -1,3 +1,4 @@
-pub mod Causes
+pub mod Calls
+pub mod Counts
 pub mod Decisions
 pub mod Draws

@@ -2,7 +2,7 @@
 
 ghost use Rattle.std.specs.Prelude.{◌≡◌, ◌==◌, IfOk};
 ghost use Rattle.std.specs.Option.{option_copied};
-ghost use Rattle.request_decisions.specs.Decisions.{IsAccepted, IsAsked, IsByFields, IsByForm, IsByMethod, IsByRoute, IsDecided, IsTokenOf, by_token, ordered, path_of, query_of};
+ghost use Rattle.request_decisions.specs.Decisions.{IsAccepted, IsAsked, IsByFields, IsByForm, IsByMethod, IsByRoute, IsDecided, IsTokenOf, by_token, ordered, target_path, target_query};
 ghost use Rattle.action_fields.specs.Asked.{asked_action};
 
 use crate::decision::{Decision, Order, Refusal};
@@ -156,7 +156,7 @@ fn by_form(
     asked: SiteAction,
     query: &[u8],
 ) -> Result<Decision, OutOfMemory>
-    requires { query.now ≡ query_of head.now.target }
+    requires { query.now ≡ target_query head.now.target }
     ensures { IfOk result (λ decision.
         IsByForm key.now boot head.now asked head.now.multipart decision) }
 {
@@ -167,10 +167,10 @@ fn by_form(
 }
 
 /// The path of a target, and its query.
-#[tactic(auto, unfolding(crate::specs::Decisions::path_of, crate::specs::Decisions::query_of))]
+#[tactic(auto, unfolding(crate::specs::Decisions::target_path, crate::specs::Decisions::target_query))]
 fn parts_of(target: &[u8]) -> (&[u8], &[u8])
-    ensures path { result.0.now ≡ path_of target.now }
-    ensures query { result.1.now ≡ query_of target.now }
+    ensures path { result.0.now ≡ target_path target.now }
+    ensures query { result.1.now ≡ target_query target.now }
 {
     path_and_query(target)
 }

@@ -1,7 +1,8 @@
 //! What is drawn for a request.
 
 ghost use Rattle.std.specs.Prelude.{◌≡◌, [], ◌∷◌, ◌++◌, IfOk, OnOk};
-ghost use Rattle.request_decisions.specs.Draws.{begins_session, drawn_for, shows_form, where_so};
+ghost use Rattle.request_decisions.specs.Counts.{is_kind, kind_number};
+ghost use Rattle.request_decisions.specs.Draws.{begins_session, drawn_for, is_serial, shows_form, where_so};
 ghost use Rattle.request_decisions.specs.declared.draws.DrawKind.TheVariants.{KeyWord};
 
 use crate::decision::Order;
@@ -29,8 +30,51 @@ pub enum DrawKind {
 /// What is drawn for a request, in order.
 pub type DrawList = Items<DrawKind>;
 
+/// A number that was drawn, and for what.
+#[derive(Clone, Copy)]
+pub struct Draw {
+    pub kind: DrawKind,
+    pub number: u64,
+}
+
+/// What was drawn for a request, in order.
+pub type DrawnList = Items<Draw>;
+
+/// The number of a kind of draw.
+fn kind_number(kind: DrawKind) -> u8
+    ensures { result ≡ kind_number kind }
+{
+    match kind {
+        DrawKind::Request => 0,
+        DrawKind::Token => 1,
+        DrawKind::KeyWord => 2,
+        DrawKind::Fresh => 3,
+        DrawKind::Read => 4,
+        DrawKind::Write => 5,
+    }
+}
+
+impl DrawKind {
+    /// Whether a serial number is drawn, which may be spent, and not a random word.
+    pub fn is_serial(self) -> bool
+        ensures { result ≡ is_serial self }
+    {
+        match self {
+            DrawKind::Request | DrawKind::Token | DrawKind::Read | DrawKind::Write => true,
+            DrawKind::KeyWord | DrawKind::Fresh => false,
+        }
+    }
+
+    /// Whether two kinds are one.
+    pub(crate) fn is(self, other: DrawKind) -> bool
+        ensures { result ≡ is_kind self other }
+    {
+        kind_number(self) == kind_number(other)
+    }
+}
+
 /// Whether an action shows a form.
-fn shows_form(action: &Action) -> bool
+pub(crate) fn shows_form(action: &Action) -> bool
     ensures { result ≡ shows_form action.now }
 {
     match action {

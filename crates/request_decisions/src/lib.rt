@@ -5,8 +5,12 @@
 //! ```text
 //! match decide(alloc, &router, key, boot, &head)? {
 //!     Decision::Refused(refusal) => {}   // answer it; nothing is drawn
-//!     Decision::Ordered(order) => {      // read its session, where `order.cookie` is there, and do its action
-//!         let draws = draws_for(alloc, &order)?;
+//!     Decision::Ordered(order) => {
+//!         let draws = draws_for(alloc, &order)?;           // draw these, in their order, into `drawn`
+//!         let number = request_of(boot, order.number, drawn.as_slice());
+//!         let (call, cookie) = ordered_call(key, boot, order, now, drawn.as_slice());
+//!         let value = None;                                // where there is a cookie: what its session was read as
+//!         let call = call_by(call, value);                 // this is what the action is asked with
 //!     }
 //! }
 //! ```
@@ -23,19 +27,33 @@
 //! | of a POST: whether its token is one of the session that its cookie names | `BadForm` with `token` | 400 |
 //! | of a POST: whether its token is of this boot | `StaleForm` | 409 |
 //!
-//! `specs/Decisions.antt` says so as `IsDecided`. The law `decisions_are_one` says that a request has one decision, and
-//! `posts_have_tokens_of_their_session` that a POST which is ordered has the number of its token, and that this token
-//! was written for the session of its cookie, in this boot.
+//! `specs/Decisions.antt` says so as `IsDecided`. The law `decisions_are_one` says that a request has one decision,
+//! `refusals_come_in_order` which refusal each request is told that calls for one, and `orders_are_exact` which request
+//! is ordered: with which cookie, and with which number. So the token of a POST was written for the session of its
+//! cookie, in this boot (`posts_have_tokens_of_their_session`).
 //!
-//! `specs/Draws.antt` has what is drawn for an order, in its order. The law `each_draw_has_its_cause` says when.
+//! `specs/Draws.antt` has what is drawn for an order, in its order. The law `each_draw_has_its_cause` says when. Where
+//! a serial number is spent, nothing is drawn behind it, and what was drawn by then is a front of that list
+//! (`AreCutShort`); the request is not served.
+//!
+//! `specs/Calls.antt` has the call of an order as `call_of`: its user is that of the session's value, and 0 without
+//! one; its key that of the cookie, or of the two words of a new session, or 16 zero bytes; and its form the token of
+//! that key and of the number that was drawn for it, or 56 zero bytes, which are no token. The law
+//! `orders_are_in_range` says that no field of it is refused.
 #![tactic(auto)]
 
+mod calls;
 mod deciding;
 mod decision;
 mod draws;
 mod laws;
 
+pub use calls::{call_by, number_for, ordered_call, request_of};
 pub use deciding::decide;
 pub use decision::{Decision, Order, Refusal};
-pub use draws::{DrawKind, DrawList, draws_for};
-pub use laws::{decisions_are_one, each_draw_has_its_cause, posts_have_tokens_of_their_session};
+pub use draws::{Draw, DrawKind, DrawList, DrawnList, draws_for};
+pub use laws::{
+    decisions_are_one, each_draw_has_its_cause, forms_have_tokens_of_their_session,
+    orders_are_exact, orders_are_in_range, posts_have_tokens_of_their_session,
+    refusals_come_in_order,
+};
