@@ -3,3 +3,4 @@ pub mod Forms
 pub mod One
 pub mod Orders
 pub mod Refusals
+pub mod Sessions

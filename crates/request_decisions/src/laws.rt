@@ -1,11 +1,13 @@
 //! Laws of what is decided of a request and drawn for it. Each is the contract of a function that does nothing: a
 //! caller that needs the law calls the function.
 
-ghost use Rattle.std.specs.Prelude.{◌≡◌, ◌≢◌, ◌↔◌, ℕ, ◌<◌, ◌^◌, List, is_none, is_some, if◌then◌else◌, length, map, true, false, Option, Some, None, Err};
+ghost use Rattle.std.specs.Prelude.{◌≡◌, ◌≢◌, ◌↔◌, ℕ, ◌<◌, ◌^◌, List, is_none, is_some, if◌then◌else◌, length, map, replicate, true, false, Option, Some, None, Err};
 ghost use Rattle.crash_base.specs.declared.numbers.Moment.{Moment};
 ghost use Rattle.crash_base.specs.declared.numbers.RequestNo.{RequestNo};
+ghost use Rattle.crash_base.specs.declared.numbers.SessionKey.{SessionKey};
 ghost use Rattle.auction_calls.specs.Calls.{is_action};
 ghost use Rattle.auction_calls.specs.declared.action.Action.{Action};
+ghost use Rattle.auction_rows.specs.Session.{session_bytes};
 ghost use Rattle.http_wire.specs.declared.taken.Head.{Head};
 ghost use Rattle.http_wire.specs.declared.taken.MethodKind.TheVariants.{Post};
 ghost use Rattle.session_cookie.specs.Token.{IsReadAs};
@@ -29,6 +31,7 @@ ghost use Rattle.request_decisions.specs.declared.draws.DrawKind.{DrawKind};
 ghost use Rattle.request_decisions.specs.declared.draws.DrawKind.TheVariants.{Request, Token, KeyWord, Fresh, Read, Write};
 
 use action_fields::actions_are_read_exactly;
+use auction_rows::sessions_read_back;
 use session_cookie::{cookies_decode_back, tokens_are_of_one_request};
 use site_routes::actions_are_at_their_paths;
 
@@ -107,9 +110,30 @@ pub fn each_draw_has_its_cause()
 {}
 
 /// The token that a form shows is read, in the session of its call, as the number that was drawn for it in this boot.
+/// What stands in its place where no form is shown is the token of no session.
 pub fn forms_have_tokens_of_their_session()
-    ensures { (key : List ℕ) (boot : ℕ) (o : Order) (moment : Moment) (drawn : List Draw) (value : Option (List ℕ))
-        → shows_form o.action ≡ true → boot < 2 ^ 32 → number_for Token drawn < 2 ^ 64
+    ensures shown { (key : List ℕ) (boot : ℕ) (o : Order) (moment : Moment) (drawn : List Draw)
+        (value : Option (List ℕ)) → shows_form o.action ≡ true → boot < 2 ^ 32 → number_for Token drawn < 2 ^ 64
         → IsReadAs key (call_of key boot o moment drawn value).key (call_of key boot o moment drawn value).form
         (Some (record { boot = boot; serial = number_for Token drawn })) }
+    ensures none { (key : List ℕ) (boot : ℕ) (o : Order) (moment : Moment) (drawn : List Draw)
+        (value : Option (List ℕ)) (session : SessionKey) → shows_form o.action ≡ false
+        → IsReadAs key session (call_of key boot o moment drawn value).form None }
 {}
+
+/// The call of an order is of the user whose session was read, and of nobody without one. Its key is that of the cookie
+/// that names the session, and 16 zero bytes where there is none and none begins.
+pub fn calls_are_of_their_session()
+    ensures user { (key : List ℕ) (boot : ℕ) (o : Order) (moment : Moment) (drawn : List Draw) (user began : ℕ)
+        → user < 2 ^ 32 → (call_of key boot o moment drawn (Some (session_bytes user began))).user ≡ user }
+    ensures nobody { (key : List ℕ) (boot : ℕ) (o : Order) (moment : Moment) (drawn : List Draw)
+        → (call_of key boot o moment drawn None).user ≡ 0 }
+    ensures key { (key : List ℕ) (boot : ℕ) (o : Order) (moment : Moment) (drawn : List Draw)
+        (value : Option (List ℕ)) (cookie : Cookie) → o.cookie ≡ Some cookie
+        → (call_of key boot o moment drawn value).key ≡ cookie.key }
+    ensures none { (key : List ℕ) (boot : ℕ) (o : Order) (moment : Moment) (drawn : List Draw)
+        (value : Option (List ℕ)) → AreDrawn o drawn → o.cookie ≡ None → shows_form o.action ≡ false
+        → (call_of key boot o moment drawn value).key ≡ record { 0 = replicate 16 0 } }
+{
+    sessions_read_back();
+}

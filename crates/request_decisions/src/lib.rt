@@ -38,8 +38,9 @@
 //!
 //! `specs/Calls.antt` has the call of an order as `call_of`: its user is that of the session's value, and 0 without
 //! one; its key that of the cookie, or of the two words of a new session, or 16 zero bytes; and its form the token of
-//! that key and of the number that was drawn for it, or 56 zero bytes, which are no token. The law
-//! `orders_are_in_range` says that no field of it is refused.
+//! that key and of the number that was drawn for it, or 56 zero bytes, which are the token of no session
+//! (`calls_are_of_their_session`, `forms_have_tokens_of_their_session`). The law `orders_are_in_range` says that no
+//! field of it is refused.
 #![tactic(auto)]
 
 mod calls;
@@ -53,7 +54,7 @@ pub use deciding::decide;
 pub use decision::{Decision, Order, Refusal};
 pub use draws::{Draw, DrawKind, DrawList, DrawnList, draws_for};
 pub use laws::{
-    decisions_are_one, each_draw_has_its_cause, forms_have_tokens_of_their_session,
-    orders_are_exact, orders_are_in_range, posts_have_tokens_of_their_session,
-    refusals_come_in_order,
+    calls_are_of_their_session, decisions_are_one, each_draw_has_its_cause,
+    forms_have_tokens_of_their_session, orders_are_exact, orders_are_in_range,
+    posts_have_tokens_of_their_session, refusals_come_in_order,
 };

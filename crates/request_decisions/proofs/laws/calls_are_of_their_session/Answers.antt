@@ -1,0 +1,11 @@
+use Rattle.request_decisions.proofs.Sessions.{of_cookie, of_none, of_user}
+use Rattle.request_decisions.proofs.laws.calls_are_of_their_session.Goals as goal
+
+pub returns-clause-user : goal.returns-clause-user
+returns-clause-user c = of_user c.sessions_read_back.ensures
+
+pub returns-clause-key : goal.returns-clause-key
+returns-clause-key c = of_cookie
+
+pub returns-clause-none : goal.returns-clause-none
+returns-clause-none c = of_none
