@@ -1,4 +1,5 @@
 pub mod Counts
+pub mod Drawn
 pub mod Forms
 pub mod One
 pub mod Orders

@@ -69,9 +69,9 @@ kinds_of drawn = map (λ (d : Draw). d.kind) drawn
 abbrev pub AreDrawn : Order → List Draw → Type 0
 AreDrawn o drawn = kinds_of drawn ≡ drawn_for o
 
--- What was drawn for an order until a serial number was spent: what comes before that one, and nothing behind it.
-pub record AreCutShort (o : Order) (drawn : List Draw) : Type 0 where
+-- What was drawn of these until a serial number was spent: what comes before that one, and nothing behind it.
+pub record AreCutShort (kinds : List DrawKind) (drawn : List Draw) : Type 0 where
   pub spent : DrawKind
   pub behind : List DrawKind
-  pub drawn_are : drawn_for o ≡ kinds_of drawn ++ spent ∷ behind
+  pub kinds_are : kinds ≡ kinds_of drawn ++ spent ∷ behind
   pub of_serials : is_serial spent ≡ true

@@ -1,4 +1,5 @@
 pub mod Calls
 pub mod Counts
 pub mod Decisions
+pub mod Drawing
 pub mod Draws

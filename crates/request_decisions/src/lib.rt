@@ -6,7 +6,7 @@
 //! match decide(alloc, &router, key, boot, &head)? {
 //!     Decision::Refused(refusal) => {}   // answer it; nothing is drawn
 //!     Decision::Ordered(order) => {
-//!         let draws = draws_for(alloc, &order)?;           // draw these, in their order, into `drawn`
+//!         let drawn = draw_for(alloc, &order, &mut serials, &mut random)?;
 //!         let number = request_of(boot, order.number, drawn.as_slice());
 //!         let (call, cookie) = ordered_call(key, boot, order, now, drawn.as_slice());
 //!         let value = None;                                // where there is a cookie: what its session was read as
@@ -34,7 +34,8 @@
 //!
 //! `specs/Draws.antt` has what is drawn for an order, in its order. The law `each_draw_has_its_cause` says when. Where
 //! a serial number is spent, nothing is drawn behind it, and what was drawn by then is a front of that list
-//! (`AreCutShort`); the request is not served.
+//! (`AreCutShort`); the request is not served. `draw_for` draws so from any source of numbers, which others may draw
+//! from too: what came of it is said by `specs/Drawing.antt` over the states of the source.
 //!
 //! `specs/Calls.antt` has the call of an order as `call_of`: its user is that of the session's value, and 0 without
 //! one; its key that of the cookie, or of the two words of a new session, or 16 zero bytes; and its form the token of
@@ -46,12 +47,14 @@
 mod calls;
 mod deciding;
 mod decision;
+mod drawing;
 mod draws;
 mod laws;
 
 pub use calls::{call_by, number_for, ordered_call, request_of};
 pub use deciding::decide;
 pub use decision::{Decision, Order, Refusal};
+pub use drawing::{DrawRefusal, draw_for};
 pub use draws::{Draw, DrawKind, DrawList, DrawnList, draws_for};
 pub use laws::{
     calls_are_of_their_session, decisions_are_one, each_draw_has_its_cause,
