@@ -1,5 +1,5 @@
 -- What comes of the draws of an order. Others may draw between them.
-use Rattle.std.specs.Prelude.{◌≡◌, ℕ, ◌≤◌, Bool, true, false, List, [], ◌∷◌, Option, Some, None, Result, Ok, Err}
+use Rattle.std.specs.Prelude.{◌≡◌, ℕ, ◌<◌, ◌≤◌, Bool, true, false, List, [], ◌∷◌, Option, Some, None, Result, Ok, Err}
 use Rattle.outside.specs.declared.serials.TheConstants.{SERIALS_END}
 use Rattle.request_decisions.specs.Draws.{AreCutShort, AreDrawn, drawn_for, is_serial}
 use Rattle.request_decisions.specs.declared.decision.Order.{Order}
@@ -11,7 +11,7 @@ use Rattle.request_decisions.specs.declared.draws.DrawKind.{DrawKind}
 module _ {S R : Type 0} (looks : S → ℕ → Option ℕ → S → Type 0) (gives : R → ℕ → R → Type 0) where
   -- a serial number is drawn, or else a random word: this number, from the first states to the second
   abbrev pub DrawsOne : Bool → S → R → ℕ → S → R → Type 0
-  DrawsOne true s r number t q = (seen : ℕ) × looks s seen (Some number) t × (q ≡ r)
+  DrawsOne true s r number t q = (seen : ℕ) × (seen < SERIALS_END) × looks s seen (Some number) t × (q ≡ r)
   DrawsOne false s r number t q = gives r number q × (t ≡ s)
 
   -- numbers are drawn one after another
