@@ -7,6 +7,8 @@ use Rattle.auction_calls.specs.declared.action.Action.{Action}
 use Rattle.http_wire.specs.declared.taken.Head.{Head}
 use Rattle.http_wire.specs.declared.taken.MethodKind.{MethodKind}
 use Rattle.http_wire.specs.declared.taken.MethodKind.TheVariants.{Get, HeadOnly, Post, Other}
+use Rattle.session_cookie.specs.Text.{IsTextOf}
+use Rattle.session_cookie.specs.declared.codec.CookieRefusal.{CookieRefusal}
 use Rattle.session_cookie.specs.declared.cookie.Cookie.{Cookie}
 use Rattle.site_routes.specs.PathActions.{routed}
 use Rattle.site_routes.specs.Paths.{HasId, asks, path_of}
@@ -22,6 +24,7 @@ use Rattle.request_decisions.specs.declared.decision.Decision.{Decision}
 use Rattle.request_decisions.specs.declared.decision.Decision.TheVariants.{Refused, Ordered}
 use Rattle.request_decisions.specs.declared.decision.Order.{Order}
 use Rattle.request_decisions.specs.declared.decision.Refusal.TheVariants as refusal
+use Rattle.request_decisions.proofs.One.{CookiesDecodeBack}
 
 same_order : (o p : Order) → Ordered o ≡ Ordered p → o ≡ p
 same_order o p e = cc
@@ -179,3 +182,34 @@ in_range at_paths exactly key boot head o h =
     let is = ((orders_exact key boot head o).0 h).asks in
     let at = (at_paths (target_path head.target) head.method is.asked).0 is.leads in
     ((exactly is.asked (target_query head.target) head.body o.action at.2).0 is.read).2
+
+-- the cookie that is accepted is the one whose text is there
+module _ (key : List ℕ) (cookie : Cookie) where
+  text_there : (text : Option (List ℕ)) (c : Option Cookie) → IsAccepted key text c → c ≡ Some cookie
+      → (t : List ℕ) × (text ≡ Some t) × IsTextOf key cookie t
+  text_there None c accepted e = absurd (cc)
+  text_there (Some t) None accepted e = absurd (cc)
+  text_there (Some t) (Some d) accepted e =
+      let same : d ≡ cookie = cc in
+      (t, refl, subst (λ (x : Cookie). IsTextOf key x t) same accepted)
+
+  text_taken : CookiesDecodeBack → (text : Option (List ℕ)) (c : Option Cookie) (t : List ℕ) → IsAccepted key text c → text ≡ Some t
+      → IsTextOf key cookie t → c ≡ Some cookie
+  text_taken back None c t accepted e is = absurd (cc)
+  text_taken back (Some u) None t accepted e is =
+      let same : t ≡ u = cc in absurd (accepted cookie (subst (λ (x : List ℕ). IsTextOf key cookie x) same is))
+  text_taken back (Some u) (Some d) t accepted e is =
+      let same : t ≡ u = cc in
+      let here : IsTextOf key cookie u = subst (λ (x : List ℕ). IsTextOf key cookie x) same is in
+      let one : ◌≡◌ {A = Result Cookie CookieRefusal} (Ok d) (Ok cookie) = back key u cookie (Ok d) here accepted (λ no_memory. cc) in
+      cc
+
+pub text_of_cookie : (key : List ℕ) (boot : ℕ) (head : Head) (o : Order) (cookie : Cookie)
+    → IsDecided key boot head (Ordered o) → o.cookie ≡ Some cookie → (text : List ℕ) × (head.cookie ≡ Some text) × IsTextOf key cookie text
+text_of_cookie key boot head o cookie h e =
+    text_there key cookie head.cookie o.cookie ((orders_exact key boot head o).0 h).asks.accepted e
+
+pub cookie_of_text : CookiesDecodeBack → (key : List ℕ) (boot : ℕ) (head : Head) (o : Order) (cookie : Cookie) (text : List ℕ)
+    → IsDecided key boot head (Ordered o) → head.cookie ≡ Some text → IsTextOf key cookie text → o.cookie ≡ Some cookie
+cookie_of_text back key boot head o cookie text h e is =
+    text_taken key cookie back head.cookie o.cookie text ((orders_exact key boot head o).0 h).asks.accepted e is

@@ -1,7 +1,8 @@
 //! Laws of what is decided of a request and drawn for it. Each is the contract of a function that does nothing: a
 //! caller that needs the law calls the function.
 
-ghost use Rattle.std.specs.Prelude.{◌≡◌, ◌≢◌, ◌↔◌, ℕ, ◌<◌, ◌^◌, List, is_none, is_some, if◌then◌else◌, length, map, replicate, true, false, Option, Some, None, Err};
+ghost use Rattle.std.specs.Prelude.{◌≡◌, ◌≢◌, ◌↔◌, ℕ, ◌<◌, ◌^◌, List, [], ◌∷◌, ◌++◌, is_none, is_some, if◌then◌else◌, length, map, replicate, true, false, Option, Some, None, Err};
+ghost use Rattle.std.specs.Int.{to_be_bytes, w64};
 ghost use Rattle.crash_base.specs.declared.numbers.Moment.{Moment};
 ghost use Rattle.crash_base.specs.declared.numbers.RequestNo.{RequestNo};
 ghost use Rattle.crash_base.specs.declared.numbers.SessionKey.{SessionKey};
@@ -10,6 +11,7 @@ ghost use Rattle.auction_calls.specs.declared.action.Action.{Action};
 ghost use Rattle.auction_rows.specs.Session.{session_bytes};
 ghost use Rattle.http_wire.specs.declared.taken.Head.{Head};
 ghost use Rattle.http_wire.specs.declared.taken.MethodKind.TheVariants.{Post};
+ghost use Rattle.session_cookie.specs.Text.{IsTextOf};
 ghost use Rattle.session_cookie.specs.Token.{IsReadAs};
 ghost use Rattle.session_cookie.specs.declared.cookie.Cookie.{Cookie};
 ghost use Rattle.site_routes.specs.PathActions.{routed};
@@ -21,7 +23,7 @@ ghost use Rattle.action_fields.specs.declared.form_field.FormField.TheVariants a
 ghost use Rattle.request_decisions.specs.Calls.{call_of, number_for, numbers_for};
 ghost use Rattle.request_decisions.specs.Counts.{ascends, count_of, kind_number};
 ghost use Rattle.request_decisions.specs.Decisions.{AsksFor, HasTokenOfSession, IsDecided, IsOrdered, IsTokenOf, target_path, target_query};
-ghost use Rattle.request_decisions.specs.Draws.{AreDrawn, begins_session, drawn_for, shows_form};
+ghost use Rattle.request_decisions.specs.Draws.{AreDrawn, begins_session, drawn_for, is_serial, shows_form};
 ghost use Rattle.request_decisions.specs.declared.decision.Decision.{Decision};
 ghost use Rattle.request_decisions.specs.declared.decision.Decision.TheVariants.{Refused, Ordered};
 ghost use Rattle.request_decisions.specs.declared.decision.Order.{Order};
@@ -78,6 +80,19 @@ pub fn orders_are_exact()
         → IsDecided key boot head (Ordered o) ↔ IsOrdered key boot head o }
 {}
 
+/// The cookie of an order is the one whose text under the service's key the request bears: none is accepted that
+/// another key has tagged, and none that the service has tagged is passed over.
+pub fn cookies_are_of_the_key()
+    ensures accepted { (key : List ℕ) (boot : ℕ) (head : Head) (o : Order) (cookie : Cookie)
+        → IsDecided key boot head (Ordered o) → o.cookie ≡ Some cookie
+        → (text : List ℕ) × (head.cookie ≡ Some text) × IsTextOf key cookie text }
+    ensures taken { (key : List ℕ) (boot : ℕ) (head : Head) (o : Order) (cookie : Cookie) (text : List ℕ)
+        → IsDecided key boot head (Ordered o) → head.cookie ≡ Some text → IsTextOf key cookie text
+        → o.cookie ≡ Some cookie }
+{
+    cookies_decode_back();
+}
+
 /// The action of an order is in its ranges. So its call is one that the auction takes, where its moment is.
 pub fn orders_are_in_range()
     ensures { (key : List ℕ) (boot : ℕ) (head : Head) (o : Order)
@@ -96,8 +111,8 @@ pub fn posts_have_tokens_of_their_session()
 
 /// Each draw comes as often as there is cause for it: the number of a request where its token has none, that of a token
 /// where a form is shown, two words of a key where a session begins, and the nonce of a read where there is a cookie.
-/// They come in this order: request, token, key, fresh word, read, write. Where all are drawn, there are as many
-/// numbers of each kind.
+/// They come in this order: request, token, key, fresh word, read, write. Those of a key and the fresh one are random
+/// words, and each other one is a serial number. Where all are drawn, there are as many numbers of each kind.
 pub fn each_draw_has_its_cause()
     ensures request { (o : Order) → count_of Request (drawn_for o) ≡ (if is_none o.number then 1 else 0) }
     ensures token { (o : Order) → count_of Token (drawn_for o) ≡ (if shows_form o.action then 1 else 0) }
@@ -105,6 +120,9 @@ pub fn each_draw_has_its_cause()
     ensures read { (o : Order) → count_of Read (drawn_for o) ≡ (if is_some o.cookie then 1 else 0) }
     ensures others { (o : Order) → (count_of Fresh (drawn_for o) ≡ 1) × (count_of Write (drawn_for o) ≡ 1) }
     ensures order { (o : Order) → ascends (map kind_number (drawn_for o)) ≡ true }
+    ensures serials { (is_serial Request ≡ true) × (is_serial Token ≡ true) × (is_serial Read ≡ true)
+        × (is_serial Write ≡ true) }
+    ensures words { (is_serial KeyWord ≡ false) × (is_serial Fresh ≡ false) }
     ensures drawn { (o : Order) (drawn : List Draw) (kind : DrawKind) → AreDrawn o drawn
         → length (numbers_for kind drawn) ≡ count_of kind (drawn_for o) }
 {}
@@ -122,7 +140,8 @@ pub fn forms_have_tokens_of_their_session()
 {}
 
 /// The call of an order is of the user whose session was read, and of nobody without one. Its key is that of the cookie
-/// that names the session, and 16 zero bytes where there is none and none begins.
+/// that names the session; the two words that were drawn, where a form begins one; and else 16 zero bytes. Its action
+/// is that of the order, its moment that of the request, and its fresh word the one that was drawn.
 pub fn calls_are_of_their_session()
     ensures user { (key : List ℕ) (boot : ℕ) (o : Order) (moment : Moment) (drawn : List Draw) (user began : ℕ)
         → user < 2 ^ 32 → (call_of key boot o moment drawn (Some (session_bytes user began))).user ≡ user }
@@ -134,6 +153,15 @@ pub fn calls_are_of_their_session()
     ensures none { (key : List ℕ) (boot : ℕ) (o : Order) (moment : Moment) (drawn : List Draw)
         (value : Option (List ℕ)) → AreDrawn o drawn → o.cookie ≡ None → shows_form o.action ≡ false
         → (call_of key boot o moment drawn value).key ≡ record { 0 = replicate 16 0 } }
+    ensures new { (key : List ℕ) (boot : ℕ) (o : Order) (moment : Moment) (drawn : List Draw)
+        (value : Option (List ℕ)) → AreDrawn o drawn → o.cookie ≡ None → shows_form o.action ≡ true
+        → (a b : ℕ) × (numbers_for KeyWord drawn ≡ a ∷ b ∷ [])
+        × ((call_of key boot o moment drawn value).key ≡ record { 0 = to_be_bytes w64 a ++ to_be_bytes w64 b }) }
+    ensures asked { (key : List ℕ) (boot : ℕ) (o : Order) (moment : Moment) (drawn : List Draw)
+        (value : Option (List ℕ)) → AreDrawn o drawn
+        → ((call_of key boot o moment drawn value).action ≡ o.action)
+        × ((call_of key boot o moment drawn value).now ≡ moment)
+        × (numbers_for Fresh drawn ≡ (call_of key boot o moment drawn value).fresh ∷ []) }
 {
     sessions_read_back();
 }

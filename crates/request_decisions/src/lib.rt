@@ -29,8 +29,8 @@
 //!
 //! `specs/Decisions.antt` says so as `IsDecided`. The law `decisions_are_one` says that a request has one decision,
 //! `refusals_come_in_order` which refusal each request is told that calls for one, and `orders_are_exact` which request
-//! is ordered: with which cookie, and with which number. So the token of a POST was written for the session of its
-//! cookie, in this boot (`posts_have_tokens_of_their_session`).
+//! is ordered: with which cookie (`cookies_are_of_the_key`), and with which number. So the token of a POST was written
+//! for the session of its cookie, in this boot (`posts_have_tokens_of_their_session`).
 //!
 //! `specs/Draws.antt` has what is drawn for an order, in its order. The law `each_draw_has_its_cause` says when. Where
 //! a serial number is spent, nothing is drawn behind it, and what was drawn by then is a front of that list
@@ -57,7 +57,7 @@ pub use decision::{Decision, Order, Refusal};
 pub use drawing::{DrawRefusal, draw_for};
 pub use draws::{Draw, DrawKind, DrawList, DrawnList, draws_for};
 pub use laws::{
-    calls_are_of_their_session, decisions_are_one, each_draw_has_its_cause,
+    calls_are_of_their_session, cookies_are_of_the_key, decisions_are_one, each_draw_has_its_cause,
     forms_have_tokens_of_their_session, orders_are_exact, orders_are_in_range,
     posts_have_tokens_of_their_session, refusals_come_in_order,
 };
