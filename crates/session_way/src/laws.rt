@@ -146,9 +146,10 @@ pub fn ways_end_as_calls_do<L: Link>(link: &L)
 }
 
 /// Where nothing is wanted for a read or a write, it has its answer; so has a write whose passes are to be spent, since
-/// all its bricks were heard. What is handed on where passes are spent is the answer of their write. No answer is that
-/// memory was wanted.
+/// all its bricks were heard. What is handed on where passes are spent is the answer of their write, and it stays while
+/// the response leaves. No answer is that memory was wanted.
 pub fn ways_have_answers()
+    ensures settle { (way : SessionWay) → answer_held (settled way) ≡ answer_held way }
     ensures read { (here : ReadState) → wants (Reading here) ≡ wanted.Nothing → read_answer here ≢ None }
     ensures write { (w : WritingState) → wants (Writing w) ≡ wanted.Nothing → write_answer w.write ≢ None }
     ensures settled { (w : WritingState) → wants (Settling w) ≡ wanted.Windows → write_answer w.write ≢ None }
@@ -213,10 +214,15 @@ pub fn takes_are_spent_once<L: Link>(_link: &L)
 {}
 
 /// A write whose bricks were all heard gives each of its passes back by what was heard of the pass's own brick: none is
-/// counted as Silent because it was not heard. It refuses a way that spends passes before its write is settled.
+/// counted as Silent because it was not heard. So does one whose response has left, once its passes are to be spent. It
+/// refuses a way that spends passes before its write is settled.
 pub fn settled_passes_are_heard<L: Link>(_link: &L)
-    ensures { (order : WriteOrder) (least : ℕ) (passes : List Pass) (here : WriteState) (old new : L)
+    ensures settling { (order : WriteOrder) (least : ℕ) (passes : List Pass) (here : WriteState) (old new : L)
         → HasSettled L.makes (write_begun order least passes).write old here new
         → wants (Settling (record { write = here; passes = passes })) ≡ wanted.Windows
         → passes_spent (record { write = here; passes = passes }) ≡ heard_passes here passes }
+    ensures left { (order : WriteOrder) (least : ℕ) (passes : List Pass) (here : WriteState) (old new : L)
+        → HasSettled L.makes (write_begun order least passes).write old here new
+        → wants (settled (Writing (record { write = here; passes = passes }))) ≡ wanted.Windows
+        → held (settled (Writing (record { write = here; passes = passes }))) ≡ Some (heard_passes here passes) }
 {}
