@@ -1,0 +1,4 @@
+pub mod Adding
+pub mod Hearing
+pub mod Tables
+pub mod Writing
