@@ -11,7 +11,7 @@ use Rattle.request_decisions.specs.declared.decision.Refusal.{Refusal}
 use Rattle.request_decisions.specs.declared.decision.Refusal.TheVariants as refusal
 use Rattle.request_tries.specs.declared.outcome.RequestOutcome.{RequestOutcome}
 use Rattle.request_tries.specs.declared.outcome.RequestOutcome.TheVariants.{Page, Sentinel, Revoked, Conflict, JournalFull, KeeperFailed}
-use Rattle.site_responses.specs.Responses.{kept, said, response}
+use Rattle.site_responses.specs.Responses.{left_alone, said, response}
 use Rattle.outcome_items.specs.Answers.{HasNoSession, IsPage, IsPageEnd, IsResponse, IsTextWhere, answer_of, answer_of_end, answer_of_page, answer_of_refusal, shown_by_entry, is_head_only}
 use Rattle.outcome_items.specs.declared.item.Item.{Item}
 use Rattle.outcome_items.specs.declared.outcome.ItemOutcome.{ItemOutcome}
@@ -47,7 +47,7 @@ fails what cookie (Overload place again full) e = absurd (omega arith)
 fails what cookie (Missed place again causes) e = absurd (omega arith)
 
 -- no refusal changes the client's cookie
-refusal_keeps : (why : Refusal) → (said (answer_of_refusal why)).cookie ≡ kept
+refusal_keeps : (why : Refusal) → (said (answer_of_refusal why)).cookie ≡ left_alone
 refusal_keeps refusal.NotThere = refl
 refusal_keeps (refusal.NotAllowed allow) = refl
 refusal_keeps refusal.Multipart = refl
@@ -102,7 +102,7 @@ clears what cookie (Missed place again causes) = (λ e. absurd (cc), λ e. absur
 
 -- a status of 503, and the cookie as it is
 abbrev KeepsAt : Option DoneText → Option (List ℕ) → ItemOutcome → Type 0
-KeepsAt what cookie outcome = ((said (answer_of what cookie outcome)).status ≡ 503) × ((said (answer_of what cookie outcome)).cookie ≡ kept)
+KeepsAt what cookie outcome = ((said (answer_of what cookie outcome)).status ≡ 503) × ((said (answer_of what cookie outcome)).cookie ≡ left_alone)
 
 refusal_retries : (why : Refusal) → (said (answer_of_refusal why)).retry ≡ true → ⊥
 refusal_retries refusal.NotThere e = cc

@@ -1,6 +1,5 @@
 -- What is answered for each outcome: `answer_of` is the table of answers.
-use Rattle.std.specs.Prelude.{◌≡◌, ℕ, Bool, true, false, List, [], Option, Some, None, codes}
-use Rattle.page_text.specs.Pages.{page_bytes}
+use Rattle.std.specs.Prelude.{◌≡◌, ℕ, Bool, true, false, List, Option, Some, None}
 use Rattle.journal_model.specs.declared.entry.DoneText.{DoneText}
 use Rattle.journal_model.specs.declared.entry.Entry.{Entry}
 use Rattle.http_wire.specs.declared.taken.Head.{Head}
@@ -12,7 +11,7 @@ use Rattle.request_decisions.specs.declared.decision.Refusal.{Refusal}
 use Rattle.request_decisions.specs.declared.decision.Refusal.TheVariants as refusal
 use Rattle.site_responses.specs.declared.answer.SiteAnswer.{SiteAnswer}
 use Rattle.site_responses.specs.declared.answer.SiteAnswer.TheVariants as answer
-use Rattle.site_responses.specs.Responses.{response}
+use Rattle.site_responses.specs.Responses.{failed_page, response}
 use Rattle.request_tries.specs.Ends.{done_at}
 use Rattle.request_tries.specs.declared.outcome.RequestOutcome.{RequestOutcome}
 use Rattle.request_tries.specs.declared.outcome.RequestOutcome.TheVariants.{Page, Sentinel, Revoked, Conflict, JournalFull, KeeperFailed}
@@ -32,7 +31,7 @@ answer_of_refusal (refusal.StaleForm token_boot boot) = answer.StaleForm
 -- written. An entry without an action counts as one that answers that it failed.
 abbrev pub answer_of_page : Option DoneText → Option (List ℕ) → SiteAnswer
 answer_of_page (Some d) cookie = answer.Page d.status d.page cookie
-answer_of_page None cookie = answer.Page 500 (page_bytes (codes "Failed") []) cookie
+answer_of_page None cookie = answer.Page 500 failed_page cookie
 
 -- the answer to a request that came to an end in the container
 abbrev pub answer_of_end : Option DoneText → Option (List ℕ) → RequestOutcome → SiteAnswer

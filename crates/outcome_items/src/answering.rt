@@ -8,10 +8,9 @@ ghost use Rattle.outcome_items.specs.Answers.{answer_of, answer_of_end, answer_o
 use crate::outcome::ItemOutcome;
 use container_core::DoneText;
 use crash_base::{CookieText, OutOfMemory, ResponseBytes};
-use page_text::{PageLineList, page};
 use request_decisions::Refusal;
 use request_tries::RequestOutcome;
-use site_responses::{SiteAnswer, page_response, response_of};
+use site_responses::{SiteAnswer, failed_page, page_response, response_of};
 use std::alloc::Global;
 
 /// The answer to a request that is refused. It takes no memory.
@@ -49,7 +48,7 @@ pub fn entry_response(
     match done {
         Some(done) => page_response(alloc, done.status, &done.page, cookie, close, head_only),
         None => {
-            let text = page(alloc, b"Failed", &PageLineList::new(alloc))?;
+            let text = failed_page(alloc)?;
             page_response(alloc, 500, &text, cookie, close, head_only)
         }
     }

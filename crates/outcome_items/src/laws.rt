@@ -15,7 +15,7 @@ ghost use Rattle.request_tries.specs.Steps.{HearsCommit};
 ghost use Rattle.request_tries.specs.declared.outcome.Ended.{Ended};
 ghost use Rattle.request_tries.specs.declared.outcome.HistoryFront.{HistoryFront};
 ghost use Rattle.request_tries.specs.declared.outcome.RequestOutcome.TheVariants.{KeeperFailed};
-ghost use Rattle.site_responses.specs.Responses.{kept, response, said};
+ghost use Rattle.site_responses.specs.Responses.{left_alone, response, said};
 ghost use Rattle.outcome_items.specs.Answers.{HasNoSession, IsPage, IsResponse, answer_of};
 ghost use Rattle.outcome_items.specs.Traces.{IsAlready, again_in, again_in_end, event_trace, is_outside, is_spent, is_taken, window_trace, window_traces};
 ghost use Rattle.outcome_items.specs.declared.item.Item.{Item};
@@ -47,7 +47,7 @@ pub fn tries_again_keep_cookies()
     ensures kept { (what : Option DoneText) (cookie : Option (List ℕ)) (outcome : ItemOutcome)
         → (said (answer_of what cookie outcome)).retry ≡ true
         → ((said (answer_of what cookie outcome)).status ≡ 503)
-        × ((said (answer_of what cookie outcome)).cookie ≡ kept) }
+        × ((said (answer_of what cookie outcome)).cookie ≡ left_alone) }
     ensures else_told { (what : Option DoneText) (cookie : Option (List ℕ)) (outcome : ItemOutcome)
         → (said (answer_of what cookie outcome)).retry ≡ false
         → ((why : Refusal) × (outcome ≡ item.Refused why)) ⊎ (HasNoSession outcome ⊎ IsPage outcome) }
