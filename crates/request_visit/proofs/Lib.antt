@@ -1,0 +1,5 @@
+pub mod Accounting
+pub mod Kept
+pub mod Marking
+pub mod Telling
+pub mod Turning

@@ -1,0 +1,7 @@
+pub mod Accounts
+pub mod Advancing
+pub mod Marks
+pub mod Ready
+pub mod Serving
+pub mod Stepping
+pub mod Visits

@@ -1,0 +1,55 @@
+//! One request from its decision to its item, a step at a time, over any program, container, windows and link.
+//!
+//! ```text
+//! let mut visit = Visit::with_session(alloc, facts, link.counts(), nonce, cookie)?;
+//! loop {
+//!     match visit.turn() {
+//!         Turn::Outside => visit.step_outside(alloc, &mut link)?,          // one send or one receive
+//!         Turn::Windows => visit.step_windows(alloc, &mut windows)?,       // one take or one spend
+//!         Turn::Inside => visit.step_inside(alloc, &mut container)?,       // one begin, one step or one commit
+//!         Turn::Program => visit.open(tries, program),                     // by the session: `visit.lease`
+//!         Turn::Own => visit.advance(alloc, key)?,                         // nobody else is asked
+//!         Turn::Output => write_all(&mut sink, visit.leave()),
+//!         Turn::Over => return visit.into_item(),
+//!     }
+//! }
+//! ```
+//!
+//! | Stage | Turn | Then |
+//! |---|---|---|
+//! | `Reading` | `Outside`, and `Own` once the read has its answer | `Opening`, or `Decided` where the session is gone |
+//! | `Opening` | `Program` | `Serving` |
+//! | `Serving` | `Inside` | a page: `Answered`, or `Committed` where its session is written; else `Decided` |
+//! | `Committed` | `Windows`, `Outside`, and `Own` once the write has its answer | `Answered`; `Decided` where passes were refused |
+//! | `Decided` | `Own` | `Answered` |
+//! | `Answered` | `Output` | `Left` |
+//! | `Left` | `Outside` and `Windows`, until the write is settled and its passes are spent | `Over` |
+//!
+//! Each function makes one step, or none, and its contract says what that leaves: `specs/Stepping.antt` for the steps
+//! of the link, the windows and the container, `specs/Serving.antt` and `Ready.antt` for what follows a commit, and
+//! `specs/Advancing.antt` for what a request becomes by itself. So anything may happen between two steps. A turn has
+//! no stage of its own where it waits: whoever drives many requests asks each for its turn.
+//!
+//! What follows a page of its own is made before its commit (`ready_of`): the response, or the order of the write
+//! with a copy of the page. So no want of memory comes between an entry and its response, but where a session is
+//! written.
+//!
+//! `drop_call` and `drop_passes` give up, at any turn, what a request holds.
+#![tactic(auto)]
+
+mod advancing;
+mod beginning;
+mod facts;
+mod laws;
+mod opening;
+mod ready;
+mod serving;
+mod stepping;
+mod visit;
+mod work;
+
+pub use facts::VisitFacts;
+pub use laws::{requests_account_for_their_events, requests_account_for_their_marks};
+pub use ready::{Ready, Shown, ready_of};
+pub use serving::{Closed, Closing, serve};
+pub use visit::{Fate, Turn, Visit, Work};
