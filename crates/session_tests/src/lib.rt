@@ -1,5 +1,6 @@
 //! Tests of sessions through public calls, a module for each library or topic: of frames, bricks, cookies and tokens;
-//! of windows, of writes and reads of sessions, and of the link in memory; and of worlds.
+//! of windows, of writes and reads of sessions, of the way of a request with its session, and of the link in memory;
+//! and of worlds.
 //!
 //! Most tests go through a table of rows. What a row's calls answer is put into words, each with a
 //! space before it, and these are compared with the words that the row wants. A row that fails is
@@ -25,6 +26,8 @@ mod hmac;
 mod link;
 #[cfg(test)]
 mod over_link;
+#[cfg(test)]
+mod session_ways;
 #[cfg(test)]
 mod stub_calls;
 #[cfg(test)]

@@ -153,7 +153,7 @@ fn add_brick_number(rt: &impl Abort, words: &mut String, link: &ScriptLink, line
 }
 
 /// A line that makes something happen to a brick of the link.
-fn strike(rt: &impl Abort, link: &mut ScriptLink, line: &str, name: &str) {
+pub fn strike(rt: &impl Abort, link: &mut ScriptLink, line: &str, name: &str) {
     let brick = brick(rt, word(rt, line, 1));
     assert!(rt; 1 <= brick.0 && brick.0 as usize <= link.bricks());
     match name {

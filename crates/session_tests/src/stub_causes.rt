@@ -1,7 +1,7 @@
 //! Words for what a write or a read answers.
 
 use crate::words::{add_number, add_value, add_word};
-use crash_base::{BrickNo, SessionBytes};
+use crash_base::{BrickNo, Moment, SessionBytes};
 use send_windows::{WindowFact, WindowList};
 use session_cookie::{Cookie, HolderList};
 use ssm_stub::{BrickCause, Cause, CauseList, ReadRefusal, WriteRefusal};
@@ -70,7 +70,7 @@ pub fn add_missed(rt: &impl Abort, words: &mut String, causes: &CauseList) {
 }
 
 /// Adds the serial of a cookie's version and its bricks.
-fn add_cookie(rt: &impl Abort, words: &mut String, cookie: &Cookie) {
+pub fn add_cookie(rt: &impl Abort, words: &mut String, cookie: &Cookie) {
     add_word(rt, words, "version");
     add_number(rt, words, cookie.version.serial);
     add_word(rt, words, "bricks");
@@ -80,7 +80,7 @@ fn add_cookie(rt: &impl Abort, words: &mut String, cookie: &Cookie) {
 }
 
 /// A copy of a cookie.
-fn copied(rt: &impl Abort, alloc: Global, cookie: &Cookie) -> Cookie {
+pub fn copied(rt: &impl Abort, alloc: Global, cookie: &Cookie) -> Cookie {
     let bricks = Vec::from_slice(alloc, cookie.bricks.as_slice()).expect(rt, "a cookie");
     Cookie {
         key: cookie.key,
@@ -110,6 +110,19 @@ pub fn add_written(
     }
 }
 
+/// Adds that a cookie had expired, and when.
+pub fn add_expired(rt: &impl Abort, words: &mut String, now: Moment, expiry: Moment) {
+    add_word(rt, words, "expired");
+    add_number(rt, words, now.0);
+    add_number(rt, words, expiry.0);
+}
+
+/// Adds that a read was lost, and why.
+pub fn add_lost(rt: &impl Abort, words: &mut String, causes: &CauseList) {
+    add_word(rt, words, "lost");
+    add_causes(rt, words, causes.as_slice());
+}
+
 /// Adds what a read answered.
 pub fn add_read(rt: &impl Abort, words: &mut String, answer: &Result<SessionBytes, ReadRefusal>) {
     match answer {
@@ -117,15 +130,8 @@ pub fn add_read(rt: &impl Abort, words: &mut String, answer: &Result<SessionByte
             add_word(rt, words, "found");
             add_value(rt, words, value.as_slice());
         }
-        Err(ReadRefusal::Expired { now, expiry }) => {
-            add_word(rt, words, "expired");
-            add_number(rt, words, now.0);
-            add_number(rt, words, expiry.0);
-        }
-        Err(ReadRefusal::Lost(causes)) => {
-            add_word(rt, words, "lost");
-            add_causes(rt, words, causes.as_slice());
-        }
+        Err(ReadRefusal::Expired { now, expiry }) => add_expired(rt, words, *now, *expiry),
+        Err(ReadRefusal::Lost(causes)) => add_lost(rt, words, causes),
         Err(ReadRefusal::OutOfMemory) => panic!(rt; "a read"),
     }
 }
