@@ -1,2 +1,4 @@
 pub mod UnderWay
 pub mod Stopping
+pub mod Lasting
+pub mod Remembering

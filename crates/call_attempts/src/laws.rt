@@ -1,6 +1,6 @@
 //! Laws of attempts, as contracts of functions that do nothing.
 
-ghost use Rattle.std.specs.Prelude.{◌≡◌, ◌↔◌, ℕ, List, length, None, Some};
+ghost use Rattle.std.specs.Prelude.{◌≡◌, ◌↔◌, ◌⊎◌, ◌+◌, ◌<◌, ◌≤◌, ℕ, false, List, length, take, None, Some, IsSome};
 ghost use Rattle.crash_base.specs.declared.numbers.ComponentNo.{ComponentNo};
 ghost use Rattle.crash_base.specs.declared.numbers.GroupNo.{GroupNo};
 ghost use Rattle.crash_base.specs.declared.numbers.Place.{Place};
@@ -8,6 +8,8 @@ ghost use Rattle.crash_base.specs.declared.numbers.RequestNo.{RequestNo};
 ghost use Rattle.crash_base.specs.declared.numbers.WorkerNo.{WorkerNo};
 ghost use Rattle.deployment.specs.declared.parts.Parts.{Parts};
 ghost use Rattle.deployment.specs.Groups.{group_of, group_no};
+ghost use Rattle.deployment.specs.Parts.{idempotent};
+ghost use Rattle.journal_model.specs.declared.entry.DoneText.{DoneText};
 ghost use Rattle.journal_model.specs.declared.entry.Entry.{Entry};
 ghost use Rattle.journal_model.specs.declared.stale.Stale.{Stale};
 ghost use Rattle.journal_model.specs.Calls.{Call};
@@ -16,11 +18,15 @@ ghost use Rattle.journal_model.specs.Stale.{stale_in};
 ghost use Rattle.call_ticket.specs.declared.next.Answer.{Answer};
 ghost use Rattle.call_ticket.specs.declared.next.Next.{Next};
 ghost use Rattle.call_ticket.specs.declared.next.Next.TheVariants as next;
+ghost use Rattle.call_ticket.specs.Runs.{run_of};
 ghost use Rattle.boot_core.specs.Boot.{BootValue, HasGrown};
-ghost use Rattle.call_attempts.specs.Attempt.{AttemptValue, HasStepped, IsUnderWay, attempt_begun};
+ghost use Rattle.call_attempts.specs.Attempt.{AttemptValue, HasStepped, IsUnderWay, attempt_begun, rows_at_begin, wanted};
 ghost use Rattle.call_attempts.specs.Stops.{stop_of};
 ghost use Rattle.call_attempts.specs.declared.attempt.Stepped.{Stepped};
+ghost use Rattle.call_attempts.specs.declared.attempt.Stepped.TheVariants.{Went, Done};
 ghost use Rattle.call_attempts.specs.declared.stop.Stop.TheVariants.{Revoked, Sentinel};
+
+use call_ticket::calls_follow;
 
 /// An attempt is under way from its begin on, and stays so whatever others do: in each boot that has grown from this
 /// one.
@@ -52,3 +58,28 @@ pub fn reboots_alone_stop()
         × ((c : ComponentNo) × (m : ℕ) × (x ≡ next.Enter c m) × (group ≡ group_no (group_of parts c.0))
         × (down_of es (group_of parts c.0) ≡ Some down))) }
 {}
+
+/// An attempt remembers what may not be made again: it may not exactly where one of its steps that were answered, at
+/// whatever place among them, entered a component by a method that may not be called again.
+pub fn single_calls_are_remembered()
+    ensures { (boot : BootValue) (asks : List Answer → Next) (a : AttemptValue) → IsUnderWay boot asks a →
+        (a.repeats ≡ false) ↔ ((before : ℕ) × (component : ComponentNo) × (method : ℕ)
+        × (before < length a.answers) × (asks (take before a.answers) ≡ next.Enter component method)
+        × (idempotent boot.start.deployment component.0 method ≡ false)) }
+{}
+
+/// An attempt of a program that keeps the rules of calls comes to its end, where no reboot stops it: while no group that
+/// it entered was rebooted since, and none that it enters is down, each of its steps is answered, until its program is
+/// done; and after 128 answers the program is done.
+pub fn attempts_come_to_their_end()
+    ensures goes_on { (boot : BootValue) (asks : List Answer → Next) (a after : AttemptValue) (came : Stepped) →
+        stale_in boot.entries a.ticket.call.touched ≡ None → ((c : ComponentNo) (m : ℕ) →
+        wanted asks a ≡ next.Enter c m → down_of boot.entries (group_of boot.start.deployment c.0) ≡ None) →
+        HasStepped boot asks a came after →
+        ((came ≡ Went) × (length after.answers ≡ length a.answers + 1)) ⊎ ((done : DoneText) × (came ≡ Done done)) }
+    ensures done { (boot : BootValue) (asks : List Answer → Next) (a : AttemptValue) →
+        IsSome (run_of boot.start.deployment asks (rows_at_begin boot a.ticket.call)) → IsUnderWay boot asks a →
+        128 ≤ length a.answers → (done : DoneText) × (wanted asks a ≡ next.Done done) }
+{
+    calls_follow();
+}

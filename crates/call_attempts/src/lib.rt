@@ -14,7 +14,8 @@
 //! program asked for, over the rows at its begin. Others may use the container between any two of its steps, and it
 //! stays under way (`attempts_stay_under_way`). Each step comes to one thing alone (`steps_are_fixed`): it is answered,
 //! or the program is done, or a reboot stops it (`reboots_alone_stop`). No limit of a call can stop it, since a program
-//! keeps them.
+//! keeps them: where no reboot stops it, its program is done after at most 128 answers (`attempts_come_to_their_end`).
+//! An attempt remembers each step that may not be made again (`single_calls_are_remembered`).
 //!
 //! A step costs one call of the container. The answers are kept until the attempt ends, and the program sees all of
 //! them at each step.
@@ -26,5 +27,8 @@ mod steps;
 mod stop;
 
 pub use attempt::{Attempt, Stepped};
-pub use laws::{attempts_stay_under_way, reboots_alone_stop, steps_are_fixed};
+pub use laws::{
+    attempts_come_to_their_end, attempts_stay_under_way, reboots_alone_stop,
+    single_calls_are_remembered, steps_are_fixed,
+};
 pub use stop::Stop;
