@@ -66,11 +66,11 @@ use Rattle.request_tries.proofs.Ending.{TryMayEnd, all_middle, revoked_shows, se
 use Rattle.request_tries.proofs.Trying.{first_before}
 
 -- which of the causes a refusal is
-record FirstCause (a : Option Place) (s : Option Stale) (c : Option Conflict) (f : Option FullAt) (why : CommitRefusal) : Type 0 where
-  already : (p : Place) → why ≡ commits.Already p → a ≡ Some p
-  stale : (x : Stale) → why ≡ commits.Revoked x → s ≡ Some x
-  conflict : (x : Conflict) → why ≡ commits.Conflict x → c ≡ Some x
-  full : (x : FullAt) → why ≡ commits.JournalFull x → f ≡ Some x
+pub record FirstCause (a : Option Place) (s : Option Stale) (c : Option Conflict) (f : Option FullAt) (why : CommitRefusal) : Type 0 where
+  pub already : (p : Place) → why ≡ commits.Already p → a ≡ Some p
+  pub stale : (x : Stale) → why ≡ commits.Revoked x → s ≡ Some x
+  pub conflict : (x : Conflict) → why ≡ commits.Conflict x → c ≡ Some x
+  pub full : (x : FullAt) → why ≡ commits.JournalFull x → f ≡ Some x
 
 first_cause : (a : Option Place) (s : Option Stale) (c : Option Conflict) (f : Option FullAt) (why : CommitRefusal)
     → first_of (option_map (λ (place : Place). commits.Already place) a ∷ option_map (λ (x : Stale). commits.Revoked x) s ∷ option_map (λ (x : Conflict). commits.Conflict x) c ∷ option_map (λ (x : FullAt). commits.JournalFull x) f ∷ []) ≡ Some why
@@ -80,6 +80,12 @@ first_cause None (Some y) c f why e = record { already = λ q is. absurd (cc); s
 first_cause None None (Some y) f why e = record { already = λ q is. absurd (cc); stale = λ x is. absurd (cc); conflict = λ x is. cc; full = λ x is. absurd (cc) }
 first_cause None None None (Some y) why e = record { already = λ q is. absurd (cc); stale = λ x is. absurd (cc); conflict = λ x is. absurd (cc); full = λ x is. cc }
 first_cause None None None None why e = absurd (cc)
+
+-- which of the causes refuses the commit of an attempt
+pub cause_of : (c : ContainerValue) (s : TriesValue) (a : AttemptValue) (done : DoneText) (why : CommitRefusal) → refusal_of c s a done ≡ Some why
+    → FirstCause (commit_of c.boot.entries a.ticket.call.request) (stale_in c.boot.entries a.ticket.call.touched) (conflict_of c.boot.entries a.ticket.call) (full_for c.boot.start.limits c.boot.entries 1 (entry_bytes (Commit (entry_of a.ticket.call (action_of s done))))) why
+cause_of c s a done why e =
+    first_cause (commit_of c.boot.entries a.ticket.call.request) (stale_in c.boot.entries a.ticket.call.touched) (conflict_of c.boot.entries a.ticket.call) (full_for c.boot.start.limits c.boot.entries 1 (entry_bytes (Commit (entry_of a.ticket.call (action_of s done))))) why e
 
 -- the last of a list
 get_last : {A : Type 0} (xs : List A) (y : A) → slice_get (xs ++ y ∷ []) (length xs) ≡ Some y
@@ -163,7 +169,7 @@ committed law old new asks s after a done place end seen some serving opened is 
     let longer : length new.boot.entries ≡ length old.boot.entries + 1 = ap (λ (es : List Entry). length es) entries ∙ length-append old.boot.entries (Commit e ∷ []) in
     let stood : EndStands new.boot.start (events_of new) (errand_of s asks) (ended_at (front_at new) from page None) = stands new (errand_of s asks) from page None now (omega (arith, before, longer)) shows refl in
     let P : Option Ended → Type 0 = λ o. Brings old new asks s after o in
-    subst P (sym hears) (record { serving = λ never. absurd (cc); ended = stood; adds = (e, since, left.0); failed = λ never. absurd (cc) })
+    subst P (sym hears) (record { serving = λ never. absurd (cc); ended = stood; counted = refl; adds = (e, since, left.0); failed = λ never. absurd (cc) })
 
 -- what the end of a try adds to the history, where the container has stayed as it was
 adds_nothing : (c : ContainerValue) (request : RequestNo) (s : TriesValue) (at : Place) (why : TryCause) (repeats : Bool) (end : Option Ended) (after : TriesValue)
@@ -171,6 +177,12 @@ adds_nothing : (c : ContainerValue) (request : RequestNo) (s : TriesValue) (at :
 adds_nothing c request s at why repeats None after ends = refl
 adds_nothing c request s at (cause.Revoked shown) repeats (Some e) after ends = subst (λ (x : Ended). Adds request x.outcome c c) (sym ends.1) refl
 adds_nothing c request s at (cause.Conflict mark newest) repeats (Some e) after ends = subst (λ (x : Ended). Adds request x.outcome c c) (sym ends.1) refl
+
+-- and it tells the number of its events
+all_counted : (c : ContainerValue) (s : TriesValue) (at : Place) (why : TryCause) (repeats : Bool) (end : Option Ended) (after : TriesValue)
+    → EndsTry (front_at c) s at why repeats end after → IfSome end (λ e. e.held ≡ event_count c)
+all_counted c s at why repeats None after ends = tt
+all_counted c s at why repeats (Some e) after ends = ap (λ (x : Ended). x.held) ends.1
 
 -- and no keeper failed
 never_failed : (why : TryCause) (ts : List Try) → outcome_by why ts ≢ KeeperFailed
@@ -190,7 +202,7 @@ try_brings : (c : ContainerValue) (asks : List Answer → Next) (s : TriesValue)
 try_brings c asks s a why repeats end after seen serving opened shows once ends =
     let may : TryMayEnd c asks (closed s) a.ticket.call.at why repeats = record { seen = seen; few = serving.few; tries = serving.tries; after = opened.after; within = opened.way.fits.journal.at; shows = shows; once = once } in
     let both = try_ends c asks (closed s) a.ticket.call.at why repeats end after may ends in
-    record { serving = both.0; ended = both.1; adds = adds_nothing c s.request (closed s) a.ticket.call.at why repeats end after ends; failed = none_failed c (closed s) a.ticket.call.at why repeats end after ends }
+    record { serving = both.0; ended = both.1; counted = all_counted c (closed s) a.ticket.call.at why repeats end after ends; adds = adds_nothing c s.request (closed s) a.ticket.call.at why repeats end after ends; failed = none_failed c (closed s) a.ticket.call.at why repeats end after ends }
 
 -- a program entered once where its attempt tells it
 entered_once : (boot : BootValue) (asks : List Answer → Next) (a : AttemptValue) (shown : Stale) → IsUnderWay boot asks a → a.repeats ≡ false → EntersOnce boot.start.deployment asks × WasRevoked (cause.Revoked shown)
@@ -203,7 +215,7 @@ end_brings : (c : ContainerValue) (asks : List Answer → Next) (s after : Tries
     → end ≡ Some (ended_at (front_at c) (from_of s a.ticket.call.at) o done) → Brings c c asks s after end
 end_brings c asks s after a o done end seen serving opened shows answers adds other is =
     let stood : EndStands c.boot.start (events_of c) (errand_of s asks) (ended_at (front_at c) (from_of s a.ticket.call.at) o done) = stands c (errand_of s asks) (from_of s a.ticket.call.at) o done seen (began c.boot asks s a serving opened) shows answers in
-    subst (λ (x : Option Ended). Brings c c asks s after x) (sym is) (record { serving = λ none. absurd (cc); ended = stood; adds = adds; failed = λ failed. absurd (other failed) })
+    subst (λ (x : Option Ended). Brings c c asks s after x) (sym is) (record { serving = λ none. absurd (cc); ended = stood; counted = refl; adds = adds; failed = λ failed. absurd (other failed) })
 
 -- The stop of an attempt brings its end, and adds nothing.
 pub stopped : (c : ContainerValue) (asks : List Answer → Next) (s after : TriesValue) (a : AttemptValue) (stop : Stop) (end : Option Ended)
@@ -239,9 +251,6 @@ uncommitted law old new asks s after a done end why seen some serving opened is 
     from : Place
     from = from_of s call.at
 
-    first : (w : CommitRefusal) → refusal_of old s a done ≡ Some w → FirstCause (commit_of old.boot.entries call.request) (stale_in old.boot.entries call.touched) (conflict_of old.boot.entries call) (full_for old.boot.start.limits old.boot.entries 1 (entry_bytes (Commit (entry_of call (action_of s done))))) w
-    first w e = first_cause (commit_of old.boot.entries call.request) (stale_in old.boot.entries call.touched) (conflict_of old.boot.entries call) (full_for old.boot.start.limits old.boot.entries 1 (entry_bytes (Commit (entry_of call (action_of s done))))) w e
-
     -- where the container is as it was
     as_it_was : (w : CommitRefusal) → new ≡ old → IsRefused (front_at new) new.boot.entries (closed s) call.at w a.repeats end after
         → (IsRefused (front_at old) old.boot.entries (closed s) call.at w a.repeats end after → Brings old old asks s after end) → Brings old new asks s after end
@@ -250,14 +259,14 @@ uncommitted law old new asks s after a done end why seen some serving opened is 
 
     go : (w : CommitRefusal) → IsCause (refusal_of old s a done) w → RefusalLeaves w call old new → (w ≡ commits.KeeperFailed → Rose old.faults new.faults) → IsRefused (front_at new) new.boot.entries (closed s) call.at w a.repeats end after → Brings old new asks s after end
     go (commits.Already place) why left failed h =
-        let there : commit_of old.boot.entries s.request ≡ Some place = rw (sym opened.request) ((first (commits.Already place) why).already place refl) in
+        let there : commit_of old.boot.entries s.request ≡ Some place = rw (sym opened.request) ((cause_of old s a done (commits.Already place) why).already place refl) in
         let shows : OutcomeStands old.boot.start (events_of old) (errand_of s asks) from.0 (Page place true) = subst (λ (es : List Entry). commit_of es s.request ≡ Some place) (sym seen) there in
         as_it_was (commits.Already place) left h (λ now. end_brings old asks s after a (Page place true) (done_at old.boot.entries place) end seen serving opened shows refl refl (λ never. absurd (cc)) now)
     go (commits.Revoked shown) why left failed h =
-        let stale = (first (commits.Revoked shown) why).stale shown refl in
+        let stale = (cause_of old s a done (commits.Revoked shown) why).stale shown refl in
         as_it_was (commits.Revoked shown) left h (λ now. try_brings old asks s a (cause.Revoked shown) a.repeats end after seen serving opened (revoked_shows old.boot asks a shown opened.way stale) (entered_once old.boot asks a shown opened.way) now)
     go (commits.Conflict conflict) why left failed h =
-        let newer : IsFirstNewer old.boot.entries call.at.0 (rests_on call) conflict = first_newer old.boot.entries call.at.0 (rests_on call) conflict ((first (commits.Conflict conflict) why).conflict conflict refl) in
+        let newer : IsFirstNewer old.boot.entries call.at.0 (rests_on call) conflict = first_newer old.boot.entries call.at.0 (rests_on call) conflict ((cause_of old s a done (commits.Conflict conflict) why).conflict conflict refl) in
         let accessed : Accesses asks (table_in newer.read) = all_middle (λ (r : ReadMark). Accesses asks (table_in r)) newer.before newer.read newer.after
         (subst (λ (rs : List ReadMark). All (λ (r : ReadMark). Accesses asks (table_in r)) rs) newer.parts (all_accessed asks call opened.way.marks opened.way.writes)) in
         let shows : CauseStands old.boot.start.deployment asks old.boot.entries call.at.0 (cause.Conflict conflict.mark conflict.newest) =
@@ -273,7 +282,7 @@ uncommitted law old new asks s after a done end why seen some serving opened is 
         } in
         let shows : OutcomeStands old.boot.start (events_of old) (errand_of s asks) from.0 (JournalFull full) =
         subst (λ (es : List Entry). (n : HasNoRoom old.boot.start es (errand_of s asks) from.0) × (full_for old.boot.start.limits es 1 (entry_bytes (Commit n.entry)) ≡ Some full)) (sym seen)
-        (none, (first (commits.JournalFull full) why).full full refl) in
+        (none, (cause_of old s a done (commits.JournalFull full) why).full full refl) in
         as_it_was (commits.JournalFull full) left h (λ now. end_brings old asks s after a (JournalFull full) None end seen serving opened shows refl refl (λ never. absurd (cc)) now)
     go commits.KeeperFailed why left failed h =
         let since : new.since ≡ old.since ++ FailedMark s.request ∷ [] = rw (sym opened.request) left.1 in
@@ -283,7 +292,7 @@ uncommitted law old new asks s after a done end why seen some serving opened is 
         let before = began old.boot asks s a serving opened in
         let same : length new.boot.entries ≡ length old.boot.entries = ap (λ (es : List Entry). length es) entries in
         let stood : EndStands new.boot.start (events_of new) (errand_of s asks) (ended_at (front_at new) from KeeperFailed None) = stands new (errand_of s asks) from KeeperFailed None now (omega (arith, before, same)) shows refl in
-        subst (λ (x : Option Ended). Brings old new asks s after x) (sym h) (record { serving = λ never. absurd (cc); ended = stood; adds = since; failed = λ is. failed refl })
+        subst (λ (x : Option Ended). Brings old new asks s after x) (sym h) (record { serving = λ never. absurd (cc); ended = stood; counted = refl; adds = since; failed = λ is. failed refl })
     go commits.OutOfMemory why left failed h = absurd h
 
 -- A commit brings its end.

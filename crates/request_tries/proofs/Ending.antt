@@ -39,6 +39,7 @@ use Rattle.request_tries.proofs.Trying.{first_before, from_first, stands_now, tr
 -- An end stands in each longer history.
 pub end_longer : (start : Start) (events more : List Event) (a : Errand) (e : Ended) → EndStands start events a e → EndStands start (events ++ more) a e
 end_longer start events more a e s = record {
+  begun = s.begun;
   held = omega (arith, s.held, length-append events more);
   front = rw (take-append-le e.held events more s.held) s.front;
   from = s.from;
@@ -56,6 +57,7 @@ pub stands : (c : ContainerValue) (a : Errand) (from : Place) (o : RequestOutcom
 stands c a from o done seen le shows is =
     let whole : take (length (events_of c)) (events_of c) ≡ events_of c = take_all (length (events_of c)) (events_of c) (omega arith) in
     record {
+      begun = omega arith;
       held = omega arith;
       front = subst (λ (es : List Event). length (entries_in es) ≡ length c.boot.entries) (sym whole) (ap (λ (es : List Entry). length es) seen);
       from = le;

@@ -5,3 +5,4 @@ mod Serving
 mod Answering
 mod Once
 mod Early
+pub mod Unhindered

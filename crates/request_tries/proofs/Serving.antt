@@ -29,7 +29,7 @@ Makes old asks s to new after = StepsAs old asks s s.attempt to after × Brings 
 
 -- a request that goes on in the container as it was
 goes_on : (c : ContainerValue) (asks : List Answer → Next) (s after : TriesValue) → IsServing c.boot asks after → Brings c c asks s after None
-goes_on c asks s after serving = record { serving = λ none. serving; ended = tt; adds = refl; failed = tt }
+goes_on c asks s after serving = record { serving = λ none. serving; ended = tt; counted = tt; adds = refl; failed = tt }
 
 -- The begin of an attempt.
 pub begun : (old now new : ContainerValue) (asks : List Answer → Next) (s mid after : TriesValue) → now ≡ old → new ≡ now → s.attempt ≡ None → mid ≡ s → after ≡ has_begun now.boot mid → IsServing old.boot asks s

@@ -143,9 +143,10 @@ page_of KeeperFailed = None
 abbrev pub done_of : List Event → Ended → Option DoneText
 done_of events e = option_and_then (done_at (entries_in (take e.held events))) (page_of e.outcome)
 
--- An end stands in a history: its first `held` events, which have `front` entries, show what became of the request, and
--- what is copied for it. So it stands in each history that begins with this one.
+-- An end stands in a history: its first `held` events, of which the start is one, and which have `front` entries, show
+-- what became of the request, and what is copied for it. So it stands in each history that begins with this one.
 pub record EndStands (start : Start) (events : List Event) (errand : Errand) (e : Ended) : Type 0 where
+  pub begun : 1 ≤ e.held
   pub held : e.held ≤ length events
   pub front : length (entries_in (take e.held events)) ≡ e.front.0
   pub from : e.from.0 ≤ e.front.0

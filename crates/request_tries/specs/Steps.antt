@@ -168,10 +168,12 @@ abbrev pub AnswersOwn : List Event → DoneText → Ended → Type 0
 AnswersOwn events done e = (place : Place) → e.outcome ≡ Page place false → done_of events e ≡ Some done
 
 -- What a step or a commit of a request brings: the request is served still, in the container as it is then; or it has
--- ended, by an end that stands in the history; and the history has just what that adds.
+-- ended, by an end that stands in the history, and that tells the number of its events; and the history has just what
+-- that adds.
 pub record Brings (old new : ContainerValue) (asks : List Answer → Next) (s after : TriesValue) (end : Option Ended) : Type 0 where
   pub serving : end ≡ None → IsServing new.boot asks after
   pub ended : MayEnd new.boot.start (events_of new) (errand_of s asks) end
+  pub counted : IfSome end (λ e. e.held ≡ event_count new)
   pub adds : StepAdds s.request end old new
   pub failed : IfSome end (λ e. e.outcome ≡ KeeperFailed → Rose old.faults new.faults)
 

@@ -1,29 +1,36 @@
 //! Laws of requests in a container, as contracts of functions that do nothing.
 
-ghost use Rattle.std.specs.Prelude.{◌≡◌, ◌≢◌, ◌<◌, ◌≤◌, ℕ, Bool, List, ◌++◌, length, None, Some, Option, IfSome};
+ghost use Rattle.std.specs.Prelude.{◌≡◌, ◌≢◌, ◌⊎◌, ◌+◌, ◌<◌, ◌≤◌, ℕ, Bool, List, ◌++◌, length, None, Some, Option, IfSome};
+ghost use Rattle.crash_base.specs.declared.numbers.ComponentNo.{ComponentNo};
 ghost use Rattle.crash_base.specs.declared.numbers.Place.{Place};
 ghost use Rattle.crash_base.specs.declared.numbers.RequestNo.{RequestNo};
 ghost use Rattle.crash_base.specs.declared.numbers.WorkerNo.{WorkerNo};
+ghost use Rattle.deployment.specs.Groups.{group_of};
 ghost use Rattle.journal_model.specs.declared.entry.DoneText.{DoneText};
 ghost use Rattle.journal_model.specs.declared.stale.Stale.{Stale};
+ghost use Rattle.journal_model.specs.Conflicts.{conflict_of};
 ghost use Rattle.journal_model.specs.Legal.{IsLegal};
+ghost use Rattle.journal_model.specs.Reboots.{down_of};
 ghost use Rattle.journal_model.specs.Stale.{stale_in};
+ghost use Rattle.outside.specs.Faults.{Rose};
 ghost use Rattle.call_ticket.specs.declared.next.Answer.{Answer};
 ghost use Rattle.call_ticket.specs.declared.next.Next.{Next};
+ghost use Rattle.call_ticket.specs.declared.next.Next.TheVariants as next;
 ghost use Rattle.boot_core.specs.Boot.{BootValue, HasGrown};
+ghost use Rattle.boot_core.specs.Refusals.{HasRoomFor};
 ghost use Rattle.boot_core.specs.declared.boot.Start.{Start};
 ghost use Rattle.container_core.specs.Container.{ContainerValue};
 ghost use Rattle.container_core.specs.History.{entries_in};
 ghost use Rattle.container_core.specs.declared.history.Event.{Event};
-ghost use Rattle.call_attempts.specs.Attempt.{AttemptValue, EntersOnce, HasEnteredOnce, IsUnderWay};
+ghost use Rattle.call_attempts.specs.Attempt.{AttemptValue, EntersOnce, HasEnteredOnce, IsUnderWay, wanted};
 ghost use Rattle.request_tries.specs.declared.outcome.Ended.{Ended};
 ghost use Rattle.request_tries.specs.declared.outcome.Progress.{Progress};
 ghost use Rattle.request_tries.specs.declared.outcome.Progress.TheVariants as progress;
-ghost use Rattle.request_tries.specs.declared.outcome.RequestOutcome.TheVariants.{Page, Revoked, Conflict};
+ghost use Rattle.request_tries.specs.declared.outcome.RequestOutcome.TheVariants.{Page, Revoked, Conflict, KeeperFailed};
 ghost use Rattle.request_tries.specs.declared.outcome.Try.{Try};
 ghost use Rattle.request_tries.specs.Ends.{Errand, EndStands, done_of};
 ghost use Rattle.request_tries.specs.Serving.{TriesValue, IsServing, begun_at, unbegun};
-ghost use Rattle.request_tries.specs.Steps.{CommitsAs, StepsAs, end_of};
+ghost use Rattle.request_tries.specs.Steps.{CommitsAs, StepsAs, action_of, end_of};
 
 /// What was said of a request stays so, whatever others do: an end that stands in a history stands in each that begins
 /// with it, with what it answers, and a request that is served in a boot is served in each that has grown from it. One
@@ -110,4 +117,25 @@ pub fn single_calls_are_made_once()
         HasEnteredOnce old.boot.start.deployment asks a.answers →
         stale_in old.boot.entries a.ticket.call.touched ≡ Some shown →
         CommitsAs old s (Some a) done end new after → end ≢ None }
+{}
+
+/// Where nothing hinders it a request ends as a page. While no group that the open attempt entered was rebooted since,
+/// and none that it enters is down, its step is answered, or finds the program done: so it is after at most 128 answers
+/// (`call_attempts::attempts_come_to_their_end`). Where it is done then, nothing that it read or writes was written
+/// since it began, and the journal has room, its commit ends as a page: of its own entry, or of the one that was there
+/// already. Else the keeper failed, whose count has then risen.
+pub fn unhindered_requests_are_served()
+    ensures step { (c : ContainerValue) (asks : List Answer → Next) (s after : TriesValue) (a : AttemptValue)
+        (to : Progress) → stale_in c.boot.entries a.ticket.call.touched ≡ None →
+        ((x : ComponentNo) (m : ℕ) → wanted asks a ≡ next.Enter x m →
+        down_of c.boot.entries (group_of c.boot.start.deployment x.0) ≡ None) → StepsAs c asks s (Some a) to after →
+        ((done : DoneText) × (to ≡ progress.Done done)) ⊎ ((to ≡ progress.Went) × (later : AttemptValue)
+        × (after.attempt ≡ Some later) × (length later.answers ≡ length a.answers + 1)) }
+    ensures commit { (old new : ContainerValue) (s after : TriesValue) (a : AttemptValue) (done : DoneText)
+        (end : Option Ended) → stale_in old.boot.entries a.ticket.call.touched ≡ None →
+        conflict_of old.boot.entries a.ticket.call ≡ None →
+        HasRoomFor old.boot.start.limits old.boot.entries a.ticket.call (action_of s done) →
+        CommitsAs old s (Some a) done end new after → (e : Ended) × (end ≡ Some e)
+        × (((place : Place) × (again : Bool) × (e.outcome ≡ Page place again))
+        ⊎ ((e.outcome ≡ KeeperFailed) × Rose old.faults new.faults)) }
 {}

@@ -25,7 +25,8 @@
 //! A try that was in conflict is made again, and so is one that was revoked, where each method that it entered may be
 //! called again; three tries at most. The end of a request says what became of it, and stands in the history at the end
 //! of its last step (`EndStands` in `specs/Ends`): its own entry is the last event then, and is what the program makes
-//! over the rows just before it, and each refusal has its cause there. A request commits once (`requests_commit_once`).
+//! over the rows just before it, and each refusal has its cause there. A request commits once (`requests_commit_once`),
+//! and where nothing hinders it, it does (`unhindered_requests_are_served`).
 //!
 //! A step never commits: where the program is done it answers `Done`, so that whoever serves the request can take all
 //! the memory that its response wants before the commit. Once the entry was added no memory is wanted any more.
@@ -40,7 +41,7 @@ mod tries;
 
 pub use laws::{
     ends_begin_with_the_first_try, ends_stay_true, requests_commit_once, requests_have_three_tries,
-    single_calls_alone_end_early, single_calls_are_made_once,
+    single_calls_alone_end_early, single_calls_are_made_once, unhindered_requests_are_served,
 };
 pub use outcome::{
     Ended, HistoryFront, MAX_TRIES, Progress, RequestOutcome, Try, TryCause, TryList,
