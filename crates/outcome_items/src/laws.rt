@@ -9,7 +9,12 @@ ghost use Rattle.journal_model.specs.declared.entry.Entry.{Entry};
 ghost use Rattle.container_core.specs.declared.history.Event.TheVariants.{Added, KeeperFailed as FailedMark};
 ghost use Rattle.http_wire.specs.declared.response.CookieField.TheVariants.{Set, Clear};
 ghost use Rattle.http_wire.specs.declared.taken.Head.{Head};
+ghost use Rattle.action_fields.specs.declared.form_field.FormField.{FormField};
+ghost use Rattle.crash_base.specs.declared.numbers.Moment.{Moment};
 ghost use Rattle.request_decisions.specs.declared.decision.Refusal.{Refusal};
+ghost use Rattle.request_decisions.specs.declared.decision.Refusal.TheVariants as refusal;
+ghost use Rattle.site_responses.specs.declared.answer.SiteAnswer.TheVariants as answer;
+ghost use Rattle.ssm_stub.specs.declared.cause.BrickCause.{BrickCause};
 ghost use Rattle.request_tries.specs.Serving.{TriesValue};
 ghost use Rattle.request_tries.specs.Steps.{HearsCommit};
 ghost use Rattle.request_tries.specs.declared.outcome.Ended.{Ended};
@@ -30,6 +35,22 @@ pub fn failures_are_of_pages()
     ensures { (what : Option DoneText) (cookie : Option (List ℕ)) (outcome : ItemOutcome)
         → (said (answer_of what cookie outcome)).status ≡ 500
         → IsPage outcome × IfSome what (λ d. d.status ≡ 500) }
+{}
+
+/// Each refusal has its own status, and a session that is gone its own heading: 404 where nothing is at the path, 405
+/// where something is there by another method, 415 for a form in parts, 400 for a bad field, 409 for an old form.
+pub fn refusals_are_told_apart()
+    ensures refused { (what : Option DoneText) (cookie : Option (List ℕ)) (allow : ℕ) (field : FormField)
+        (token_boot boot : ℕ)
+        → ((said (answer_of what cookie (item.Refused refusal.NotThere))).status ≡ 404)
+        × ((said (answer_of what cookie (item.Refused (refusal.NotAllowed allow)))).status ≡ 405)
+        × ((said (answer_of what cookie (item.Refused refusal.Multipart))).status ≡ 415)
+        × ((said (answer_of what cookie (item.Refused (refusal.BadForm field)))).status ≡ 400)
+        × ((said (answer_of what cookie (item.Refused (refusal.StaleForm token_boot boot)))).status ≡ 409) }
+    ensures expired { (what : Option DoneText) (cookie : Option (List ℕ)) (now expiry : Moment)
+        → answer_of what cookie (item.Expired now expiry) ≡ answer.Expired }
+    ensures lost { (what : Option DoneText) (cookie : Option (List ℕ)) (causes : List BrickCause)
+        → answer_of what cookie (item.Lost causes) ≡ answer.Lost }
 {}
 
 /// A response sets a cookie exactly where it is the page of a request whose session was written, and that one; and it
@@ -88,11 +109,11 @@ pub fn requests_add_one_event()
 /// the commit was answered with its place. It refuses that a form which is sent twice is told as two commits.
 pub fn again_is_already()
     ensures again { (now : HistoryFront) (es : List Entry) (s after : TriesValue) (at : Place) (repeats : Bool)
-        (answer : Result Place Refused) (e : Ended) → HearsCommit now es s at repeats answer (Some e) after
-        → (again_in_end e.outcome ≡ Some true) ↔ IsAlready answer }
+        (told : Result Place Refused) (e : Ended) → HearsCommit now es s at repeats told (Some e) after
+        → (again_in_end e.outcome ≡ Some true) ↔ IsAlready told }
     ensures own { (now : HistoryFront) (es : List Entry) (s after : TriesValue) (at : Place) (repeats : Bool)
-        (answer : Result Place Refused) (e : Ended) → HearsCommit now es s at repeats answer (Some e) after
-        → (again_in_end e.outcome ≡ Some false) ↔ ((place : Place) × (answer ≡ Ok place)) }
+        (told : Result Place Refused) (e : Ended) → HearsCommit now es s at repeats told (Some e) after
+        → (again_in_end e.outcome ≡ Some false) ↔ ((place : Place) × (told ≡ Ok place)) }
 {}
 
 /// Passes are spent as often as they are taken. A request that is not committed, and that sets no cookie, left the

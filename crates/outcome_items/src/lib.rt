@@ -4,7 +4,7 @@
 //! answered, and what was done for it elsewhere, are functions of it:
 //!
 //! ```text
-//! let item = Item { outcome: ItemOutcome::Ended(RequestRequestOutcome::Page { place, again: false }), .. };
+//! let item = Item { outcome: ItemOutcome::Ended(RequestOutcome::Page { place, again: false }), .. };
 //! let bytes = response_to(alloc, &item.outcome, Some(&done), None, head.close, false)?;
 //! ```
 //!
@@ -23,11 +23,11 @@
 //! A component that failed or hung would be another end in the container, which is answered 500. None is told now.
 //!
 //! `specs/Answers.antt` has the answers as one table, and `specs/Traces.antt` the two columns behind it. The laws say
-//! what the tables must be: `failures_are_of_pages`, `cookies_are_of_pages`, `tries_again_keep_cookies`,
-//! `requests_add_one_event`, `again_is_already`, `no_pass_stays_out`, `heads_are_answered_as_gets_are` and
-//! `responses_are_one`.
+//! what the tables must be: `failures_are_of_pages`, `refusals_are_told_apart`, `cookies_are_of_pages`,
+//! `tries_again_keep_cookies`, `requests_add_one_event`, `again_is_already`, `no_pass_stays_out`,
+//! `heads_are_answered_as_gets_are` and `responses_are_one`.
 //!
-//! An answer is made without memory, and a page's text is copied once, into the response.
+//! The table of answers takes no memory. A page's text is copied once, into the response.
 #![tactic(auto)]
 
 mod answering;
@@ -39,6 +39,7 @@ pub use answering::{entry_response, response_to};
 pub use item::{Holds, Item, ItemList};
 pub use laws::{
     again_is_already, cookies_are_of_pages, failures_are_of_pages, heads_are_answered_as_gets_are,
-    no_pass_stays_out, requests_add_one_event, responses_are_one, tries_again_keep_cookies,
+    no_pass_stays_out, refusals_are_told_apart, requests_add_one_event, responses_are_one,
+    tries_again_keep_cookies,
 };
 pub use outcome::ItemOutcome;
