@@ -129,7 +129,7 @@ served_errand asks tries program = errand_of tries (asks program)
 
 -- a request that goes on
 goes_on : {P : Type 0} (asks : P → List Answer → Next) (errand : Errand) (own : List Event) (container after : ContainerValue) (v : Visit P) (tries later : TriesValue) (program : P)
-    → IsServed errand (served_errand asks tries program) v.facts own → after.since ≡ container.since
+    → IsServed errand (served_errand asks tries program) v.facts v.holds own → after.since ≡ container.since
     → served_errand asks later program ≡ served_errand asks tries program
     → AddsOwn asks errand own container after (record v { work = Serving later program })
 goes_on asks errand own container after v tries later program served same kept = record {
@@ -138,13 +138,13 @@ goes_on asks errand own container after v tries later program served same kept =
   accounts = record {
     errand_is = served.errand_is ∙ sym kept;
     number_is = served.number_is;
-    own_is = append-nil own ∙ served.own_is;
+    unheld_is = record { holds_are = served.unheld_is.holds_are; own_is = append-nil own ∙ served.unheld_is.own_is };
   };
 }
 
 -- a request that has ended
 ends_so : {P : Type 0} (asks : P → List Answer → Next) (errand : Errand) (own : List Event) (container after : ContainerValue) (v : Visit P) (tries : TriesValue) (program : P) (ready : Bool → Ready) (e : Ended)
-    → IsServed errand (served_errand asks tries program) v.facts own → entries_in container.since ≡ container.boot.entries
+    → IsServed errand (served_errand asks tries program) v.facts v.holds own → entries_in container.since ≡ container.boot.entries
     → EndStands after.boot.start (events_of after) (served_errand asks tries program) e → Adds tries.request e.outcome container after
     → AddsOwn asks errand own container after (left_so (closed_with ready e.outcome) (record v { holds = holds_of e }))
 ends_so asks errand own container after v tries program ready e served is stands adds =
@@ -156,7 +156,7 @@ ends_so asks errand own container after v tries program ready e served is stands
       outcome_is = refl;
       holds_is = refl;
       number_is = served.number_is;
-      own_is = ap (λ (xs : List Event). xs ++ g.added) served.own_is ∙ g.tells
+      own_is = ap (λ (xs : List Event). xs ++ g.added) served.unheld_is.own_is ∙ g.tells
           ∙ ap (λ (r : Option RequestNo). events_of_end (entries_in (take e.held (events_of after))) r e.outcome) (sym number);
     } in
     record {
@@ -167,7 +167,7 @@ ends_so asks errand own container after v tries program ready e served is stands
 
 -- the visit after a step that came to this end
 by_end : {P : Type 0} (asks : P → List Answer → Next) (errand : Errand) (own : List Event) (container after : ContainerValue) (v : Visit P) (tries later : TriesValue) (program : P) (end : Option Ended)
-    → IsServed errand (served_errand asks tries program) v.facts own → entries_in container.since ≡ container.boot.entries
+    → IsServed errand (served_errand asks tries program) v.facts v.holds own → entries_in container.since ≡ container.boot.entries
     → Brings container after (asks program) tries later end
     → (end ≡ None → served_errand asks later program ≡ served_errand asks tries program)
     → AddsOwn asks errand own container after (after_closing_if (option_map (closing_of v.facts v.lease (events_of after)) end) (record v { work = Serving later program }))
@@ -179,7 +179,7 @@ by_end asks errand own container after v tries later program (Some e) served is 
 -- a step of a request that is served
 by_serving : {P : Type 0} (asks : P → List Answer → Next) (errand : Errand) (own : List Event) (old new : Visit P) (container after : ContainerValue) (tries : TriesValue) (program : P) (closing : Option Closing) (work : Work P)
     → ServesBy asks container old.facts old.lease tries program closing after work → new ≡ after_closing_if closing (record old { work = work })
-    → IsServed errand (served_errand asks tries program) old.facts own → entries_in container.since ≡ container.boot.entries
+    → IsServed errand (served_errand asks tries program) old.facts old.holds own → entries_in container.since ≡ container.boot.entries
     → AddsOwn asks errand own container after new
 by_serving {P} asks errand own old new container after tries program closing work by is_new served is =
     let s = by.serves in

@@ -1,4 +1,5 @@
 pub mod Accounting
+pub mod Following
 pub mod Kept
 pub mod Marking
 pub mod Telling

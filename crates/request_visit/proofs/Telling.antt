@@ -1,5 +1,5 @@
 -- What a request is told changes nothing of what it has added.
-use Rattle.std.proofs.Common.{◌≡◌, ℕ, List, [], Option, Some, None, refl, sym, subst, inl, inr, take}
+use Rattle.std.proofs.Common.{◌≡◌, ℕ, List, Option, Some, None, refl, sym, ap, ◌∙◌, subst, inl, inr, take}
 use Rattle.boot_core.specs.declared.boot.Start.{Start}
 use Rattle.call_ticket.specs.declared.next.Answer.{Answer}
 use Rattle.call_ticket.specs.declared.next.Next.{Next}
@@ -20,10 +20,13 @@ use Rattle.outcome_items.specs.declared.item.Holds.{Holds}
 use Rattle.outcome_items.specs.declared.item.Item.{Item}
 use Rattle.outcome_items.specs.declared.outcome.ItemOutcome.{ItemOutcome}
 use Rattle.outcome_items.specs.declared.outcome.ItemOutcome.TheVariants as item
-use Rattle.request_visit.specs.Accounts.{Accounts, AccountsOf, Became, FateStands}
+use Rattle.request_visit.specs.Accounts.{Accounts, AccountsOf, Became, FateStands, IsUnheld}
 use Rattle.request_visit.specs.Advancing.{Advances, HearsReadOf, IsItemOf, after_read, departed, outcome_in}
-use Rattle.request_visit.specs.Stepping.{VisitsWindows}
-use Rattle.request_visit.specs.Visits.{after_outcome, fate_missed, fate_written, overloaded, with_fate}
+use Rattle.request_tries.specs.Serving.{TriesValue, errand_of}
+use Rattle.session_way.specs.Way.{wants}
+use Rattle.request_visit.specs.declared.visit.Turn.TheVariants as turns
+use Rattle.request_visit.specs.Stepping.{IsGivenBack, VisitsWindows, dropped}
+use Rattle.request_visit.specs.Visits.{after_outcome, fate_missed, fate_written, or_over, overloaded, turn, turn_by, with_fate}
 use Rattle.request_visit.specs.declared.facts.VisitFacts.{VisitFacts}
 use Rattle.request_visit.specs.declared.visit.Fate.{Fate}
 use Rattle.request_visit.specs.declared.visit.Fate.TheVariants.{Known, Written}
@@ -81,13 +84,13 @@ by_windows {P} asks start history errand own old new windows after visits a =
     ]
 
 read_told : {P : Type 0} (asks : P → List Answer → Next) (start : Start) (history : List Event) (errand : Errand) (own : List Event) (told : ReadOutcome) (v : Visit P)
-    → own ≡ [] → Accounts asks start history errand own (after_read told v)
+    → IsUnheld v.facts v.holds own → Accounts asks start history errand own (after_read told v)
 read_told asks start history errand own (read.Found lease) v a = a
 read_told asks start history errand own (read.Expired now expiry) v a = a
 read_told asks start history errand own (read.Lost causes) v a = a
 
 by_read : {P : Type 0} (asks : P → List Answer → Next) (start : Start) (history : List Event) (errand : Errand) (own : List Event) (old new : Visit P) (w : SessionWay)
-    → HearsReadOf w old new → own ≡ [] → Accounts asks start history errand own new
+    → HearsReadOf w old new → IsUnheld old.facts old.holds own → Accounts asks start history errand own new
 by_read {P} asks start history errand own old new (way.Reading r) hears a =
     subst (λ (v : Visit P). Accounts asks start history errand own v) (sym hears.new_is) (read_told asks start history errand own hears.outcome old a)
 by_read {P} asks start history errand own old new way.Resting hears a = subst (λ (v : Visit P). Accounts asks start history errand own v) (sym hears) a
@@ -136,10 +139,10 @@ fate_became start history errand facts holds own (Written place again) f = f
 -- its trace is what it added
 traced : (start : Start) (history : List Event) (errand : Errand) (facts : VisitFacts) (holds : Holds) (own : List Event) (became : ItemOutcome)
     → Became start history errand facts holds own became → own ≡ events_of_outcome (entries_in (take holds.held history)) facts.request became
-traced start history errand facts holds own (item.Refused why) b = b
-traced start history errand facts holds own (item.SerialsSpent seen) b = b
-traced start history errand facts holds own (item.Expired now expiry) b = b
-traced start history errand facts holds own (item.Lost causes) b = b
+traced start history errand facts holds own (item.Refused why) b = b.own_is
+traced start history errand facts holds own (item.SerialsSpent seen) b = b.own_is
+traced start history errand facts holds own (item.Expired now expiry) b = b.own_is
+traced start history errand facts holds own (item.Lost causes) b = b.own_is
 traced start history errand facts holds own (item.Ended end) b = b.own_is
 traced start history errand facts holds own (item.Overload place again full) b = b.own_is
 traced start history errand facts holds own (item.Missed place again causes) b = b.own_is
@@ -161,3 +164,46 @@ by_item asks start history errand own v (Left fate) i is a =
     let became = fate_became start history errand v.facts v.holds own fate a in
     subst (λ (x : Item). ItemTells start history errand v.facts v.holds own x) (sym is)
     (became, traced start history errand v.facts v.holds own (outcome_in fate) became)
+
+-- passes that are given back change nothing of it
+pub by_giving_back : {P : Type 0} (asks : P → List Answer → Next) (start : Start) (history : List Event) (errand : Errand) (own : List Event) (old new : Visit P)
+    → IsGivenBack old new → Accounts asks start history errand own old → Accounts asks start history errand own new
+by_giving_back {P} asks start history errand own old new back a =
+    subst (λ (v : Visit P). Accounts asks start history errand own v) (sym back.new_is)
+    (outcome_told asks start history errand own back.outcome (record old { way = way.Resting }) a)
+
+-- a call that is given up neither
+pub by_dropping : {P : Type 0} (asks : P → List Answer → Next) (start : Start) (history : List Event) (errand : Errand) (facts : VisitFacts) (holds : Holds) (own : List Event) (work : Work P)
+    → AccountsOf asks start history errand facts holds own work → AccountsOf asks start history errand facts holds own (dropped work)
+by_dropping asks start history errand facts holds own Reading a = a
+by_dropping asks start history errand facts holds own Opening a = a
+by_dropping asks start history errand facts holds own (Serving tries program) a = a
+by_dropping asks start history errand facts holds own (Committed place again shown) a = a
+by_dropping asks start history errand facts holds own (Decided became) a = a
+by_dropping asks start history errand facts holds own (Answered fate bytes) a = a
+by_dropping asks start history errand facts holds own (Left fate) a = a
+
+-- a request that comes to the container asks for what its tries and its program say
+pub by_opening : {P : Type 0} (asks : P → List Answer → Next) (start : Start) (history : List Event) (errand : Errand) (own : List Event) (v : Visit P) (tries : TriesValue) (program : P)
+    → v.work ≡ Opening → v.facts.request ≡ Some tries.request → Accounts asks start history errand own v
+    → Accounts asks start history (errand_of tries (asks program)) own (record v { work = Serving tries program })
+by_opening {P} asks start history errand own v tries program is number a = record {
+  errand_is = refl;
+  number_is = number;
+  unheld_is = subst (λ (w : Work P). AccountsOf asks start history errand v.facts v.holds own w) is a;
+}
+
+-- nothing is left to be done for a request whose response has left, once its passes are given back
+told_turn : {P : Type 0} (told : Option WriteOutcome) (v : Visit P) (fate : Fate) → v.work ≡ Left fate → v.way ≡ way.Resting → turn (after_outcome told v) ≡ turns.Over
+told_turn {P} told v fate is rests = by_told told where
+  left : (w : Work P) (f : Fate) → w ≡ Left f → turn_by w (wants v.way) ≡ turns.Over
+  left w f same = ap (λ (x : Work P). turn_by x (wants v.way)) same ∙ ap (λ (x : SessionWay). or_over (wants x)) rests
+
+  by_told : (o : Option WriteOutcome) → turn (after_outcome o v) ≡ turns.Over
+  by_told None = left v.work fate is
+  by_told (Some (outcome.Written cookie)) = left (with_fate fate_written v.work) (fate_written fate) (ap (λ (x : Work P). with_fate fate_written x) is)
+  by_told (Some (outcome.Missed causes)) = left (with_fate (fate_missed causes) v.work) (fate_missed causes fate) (ap (λ (x : Work P). with_fate (fate_missed causes) x) is)
+
+pub over_then : {P : Type 0} (old new : Visit P) (fate : Fate) → IsGivenBack old new → old.work ≡ Left fate → turn new ≡ turns.Over
+over_then {P} old new fate back is =
+    ap (λ (v : Visit P). turn v) back.new_is ∙ told_turn back.outcome (record old { way = way.Resting }) fate is refl

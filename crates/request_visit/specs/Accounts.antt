@@ -16,6 +16,7 @@ use Rattle.outcome_items.specs.declared.item.Holds.{Holds}
 use Rattle.outcome_items.specs.declared.outcome.ItemOutcome.{ItemOutcome}
 use Rattle.outcome_items.specs.declared.outcome.ItemOutcome.TheVariants as item
 use Rattle.request_visit.specs.Serving.{holds_of}
+use Rattle.request_visit.specs.Visits.{unheld}
 use Rattle.request_visit.specs.declared.facts.VisitFacts.{VisitFacts}
 use Rattle.request_visit.specs.declared.visit.Fate.{Fate}
 use Rattle.request_visit.specs.declared.visit.Fate.TheVariants.{Known, Written}
@@ -32,13 +33,18 @@ pub record EndsWith (start : Start) (history : List Event) (errand : Errand) (fa
   pub number_is : facts.request ≡ Some errand.request
   pub own_is : own ≡ events_of_end (entries_in (take holds.held history)) facts.request end
 
+-- A request for which the container was not held has added nothing.
+pub record IsUnheld (facts : VisitFacts) (holds : Holds) (own : List Event) : Type 0 where
+  pub holds_are : holds ≡ unheld facts
+  pub own_is : own ≡ []
+
 -- This became of a request, as the history shows: one that never came to the container added nothing; one whose
 -- session could not be written was committed.
 abbrev pub Became : Start → List Event → Errand → VisitFacts → Holds → List Event → ItemOutcome → Type 0
-Became start history errand facts holds own (item.Refused why) = own ≡ []
-Became start history errand facts holds own (item.SerialsSpent seen) = own ≡ []
-Became start history errand facts holds own (item.Expired now expiry) = own ≡ []
-Became start history errand facts holds own (item.Lost causes) = own ≡ []
+Became start history errand facts holds own (item.Refused why) = IsUnheld facts holds own
+Became start history errand facts holds own (item.SerialsSpent seen) = IsUnheld facts holds own
+Became start history errand facts holds own (item.Expired now expiry) = IsUnheld facts holds own
+Became start history errand facts holds own (item.Lost causes) = IsUnheld facts holds own
 Became start history errand facts holds own (item.Ended end) = EndsWith start history errand facts holds end own
 Became start history errand facts holds own (item.Overload place again full) =
     EndsWith start history errand facts holds (Page place again) own
@@ -52,18 +58,18 @@ FateStands start history errand facts holds own (Written place again) =
     EndsWith start history errand facts holds (Page place again) own
 
 -- A request that is served by a program has added nothing yet, and asks for this.
-pub record IsServed (errand now : Errand) (facts : VisitFacts) (own : List Event) : Type 0 where
+pub record IsServed (errand now : Errand) (facts : VisitFacts) (holds : Holds) (own : List Event) : Type 0 where
   pub errand_is : errand ≡ now
   pub number_is : facts.request ≡ Some errand.request
-  pub own_is : own ≡ []
+  pub unheld_is : IsUnheld facts holds own
 
 -- What a request has added so far, by how far it has come: nothing before it has ended in the container, and from
 -- then on what its end tells.
 abbrev pub AccountsOf : {P : Type 0} → (P → List Answer → Next) → Start → List Event → Errand → VisitFacts → Holds → List Event → Work P → Type 0
-AccountsOf asks start history errand facts holds own Reading = own ≡ []
-AccountsOf asks start history errand facts holds own Opening = own ≡ []
+AccountsOf asks start history errand facts holds own Reading = IsUnheld facts holds own
+AccountsOf asks start history errand facts holds own Opening = IsUnheld facts holds own
 AccountsOf asks start history errand facts holds own (Serving tries program) =
-    IsServed errand (errand_of tries (asks program)) facts own
+    IsServed errand (errand_of tries (asks program)) facts holds own
 AccountsOf asks start history errand facts holds own (Committed place again shown) =
     EndsWith start history errand facts holds (Page place again) own
 AccountsOf asks start history errand facts holds own (Decided became) = Became start history errand facts holds own became

@@ -51,6 +51,12 @@ pub record IsOverloaded {P : Type 0} (old : Visit P) (windows : WindowsValue) (n
   pub marks : after.history ≡ windows.history ++ refusal_marks (refusal.Overload full) old.way new.way
   pub new_is : new ≡ record old { way = new.way; work = overloaded full old.work }
 
+-- A request gave back what it held, and was told what its write came to.
+pub record IsGivenBack {P : Type 0} (old new : Visit P) : Type 0 where
+  pub outcome : Option WriteOutcome
+  pub is_outcome : option_map answer_of_write outcome ≡ answer_held old.way
+  pub new_is : new ≡ after_outcome outcome (record old { way = way.Resting })
+
 -- A request made one call of the windows.
 abbrev pub VisitsWindows : {P : Type 0} → Visit P → WindowsValue → Visit P → WindowsValue → Type 0
 VisitsWindows old windows new after = IsGiven old windows new after ⊎ IsOverloaded old windows new after

@@ -1,15 +1,28 @@
 //! Laws of a request on its way. Each is the contract of a function that does nothing: a caller that needs the law
 //! calls the function.
 
-ghost use Rattle.std.specs.Prelude.{◌≡◌, ◌++◌, ℕ, List, take};
+ghost use Rattle.std.specs.Prelude.{◌≡◌, ◌+◌, ◌++◌, ℕ, List, [], Option, None, Some, take};
 ghost use Rattle.boot_core.specs.declared.boot.Start.{Start};
 ghost use Rattle.container_core.specs.Container.{ContainerValue, events_of};
+ghost use Rattle.journal_model.specs.declared.entry.DoneText.{DoneText};
+ghost use Rattle.journal_model.specs.declared.entry.SessionChange.TheVariants.{Keep, Set};
+ghost use Rattle.outcome_items.specs.Answers.{answer_of_page};
+ghost use Rattle.session_way.specs.Lease.{value_to_write};
+ghost use Rattle.session_way.specs.declared.lease.SessionLease.{SessionLease};
+ghost use Rattle.session_way.specs.declared.session_write.WriteOrder.{WriteOrder};
+ghost use Rattle.site_responses.specs.Responses.{response};
+ghost use Rattle.request_visit.specs.Ready.{ready_of, set_in, shown_response};
+ghost use Rattle.request_visit.specs.declared.ready.Ready.TheVariants.{Respond, Write};
+ghost use Rattle.request_visit.specs.declared.ready.Shown.{Shown};
 ghost use Rattle.container_core.specs.History.{entries_in};
 ghost use Rattle.container_core.specs.declared.history.Event.{Event};
 ghost use Rattle.outcome_items.specs.Traces.{event_trace, window_trace};
 ghost use Rattle.outside.specs.declared.link.LinkCounts.{LinkCounts};
 ghost use Rattle.outcome_items.specs.declared.item.Item.{Item};
+ghost use Rattle.outcome_items.specs.declared.outcome.ItemOutcome.TheVariants as item;
+ghost use Rattle.request_decisions.specs.declared.decision.Refusal.{Refusal};
 ghost use Rattle.request_tries.specs.Ends.{Errand};
+ghost use Rattle.request_tries.specs.Serving.{TriesValue, errand_of};
 ghost use Rattle.send_windows.specs.Windows.{WindowsValue};
 ghost use Rattle.send_windows.specs.declared.history.WindowMark.{WindowMark};
 ghost use Rattle.session_way.specs.Way.{StepsOutside};
@@ -17,8 +30,11 @@ ghost use Rattle.session_way.specs.declared.way.SessionWay.{SessionWay};
 ghost use Rattle.request_visit.specs.Accounts.{Accounts, AddsOwn, Became};
 ghost use Rattle.request_visit.specs.Advancing.{Advances, IsItemOf, after_leaving};
 ghost use Rattle.request_visit.specs.Marks.{AddsMarks, Marks};
-ghost use Rattle.request_visit.specs.Stepping.{VisitsInside, VisitsWindows};
-ghost use Rattle.request_visit.specs.Visits.{turn};
+ghost use Rattle.request_visit.specs.Stepping.{IsGivenBack, VisitsInside, VisitsWindows, dropped};
+ghost use Rattle.request_visit.specs.Visits.{begun, turn};
+ghost use Rattle.request_visit.specs.declared.facts.VisitFacts.{VisitFacts};
+ghost use Rattle.request_visit.specs.declared.visit.Fate.{Fate};
+ghost use Rattle.request_visit.specs.declared.visit.Work.TheVariants.{Reading, Opening, Serving, Decided, Left};
 ghost use Rattle.request_visit.specs.declared.visit.Visit.{Visit};
 
 use crate::visit::Turn;
@@ -46,6 +62,28 @@ pub fn requests_account_for_their_events<P: Program>(_program: &P)
         → Accounts P.asks start history errand own old → Accounts P.asks start history errand own new }
     ensures leave { (start : Start) (history : List Event) (errand : Errand) (own : List Event) (v : Visit P)
         → Accounts P.asks start history errand own v → Accounts P.asks start history errand own (after_leaving v) }
+    ensures begins { (start : Start) (history : List Event) (errand : Errand) (facts : VisitFacts) (counts : LinkCounts)
+        (way : SessionWay) (why : Refusal) (seen : ℕ)
+        → Accounts P.asks start history errand [] (begun facts counts way Reading)
+        × Accounts P.asks start history errand [] (begun facts counts way Opening)
+        × Accounts P.asks start history errand [] (begun facts counts way (Decided (item.Refused why)))
+        × Accounts P.asks start history errand [] (begun facts counts way (Decided (item.SerialsSpent seen))) }
+    ensures opens { (start : Start) (history : List Event) (errand : Errand) (own : List Event) (v : Visit P)
+        (tries : TriesValue) (program : P) → v.work ≡ Opening → v.facts.request ≡ Some tries.request
+        → Accounts P.asks start history errand own v
+        → Accounts P.asks start history (errand_of tries (P.asks program)) own
+        (record v { work = Serving tries program }) }
+    ensures outside { (start : Start) (history : List Event) (errand : Errand) (own : List Event) (v : Visit P)
+        (way : SessionWay) (counts : LinkCounts) → Accounts P.asks start history errand own v
+        → Accounts P.asks start history errand own (record v { way = way; counts = counts }) }
+    ensures back { (start : Start) (history : List Event) (errand : Errand) (own : List Event) (old new : Visit P)
+        → IsGivenBack old new → Accounts P.asks start history errand own old
+        → Accounts P.asks start history errand own new }
+    ensures over { (old new : Visit P) (fate : Fate) → IsGivenBack old new → old.work ≡ Left fate
+        → turn new ≡ Turn.Over }
+    ensures dropped { (start : Start) (history : List Event) (errand : Errand) (own : List Event) (v : Visit P)
+        → Accounts P.asks start history errand own v
+        → Accounts P.asks start history errand own (record v { work = dropped v.work }) }
     ensures item { (start : Start) (history : List Event) (errand : Errand) (own : List Event) (v : Visit P) (i : Item)
         → IsItemOf v v.work i → Accounts P.asks start history errand own v
         → Became start history errand v.facts v.holds own i.outcome
@@ -75,3 +113,25 @@ pub fn requests_account_for_their_marks<P: Program, L: Link>(_program: &P, _link
 {
     ways_have_answers();
 }
+
+/// What follows a commit is what its entry says. The session is written exactly where the action sets it, or keeps it
+/// and it was read and its lease is due; then the order of the write has that value, under the session's key, with
+/// the request's nonce, for half an hour; and the page that waits for it is the entry's. Else the response is the
+/// entry's page, without a cookie.
+pub fn pages_follow_their_entries()
+    ensures shown { (facts : VisitFacts) (lease : Option SessionLease) (what : Option DoneText) (bytes : List ℕ)
+        → ready_of facts lease what ≡ Respond bytes
+        → (value_to_write (set_in what) facts.now lease ≡ None)
+        × (bytes ≡ response (answer_of_page what None) facts.close facts.head_only) }
+    ensures written { (facts : VisitFacts) (lease : Option SessionLease) (what : Option DoneText) (order : WriteOrder)
+        (shown : Shown) → ready_of facts lease what ≡ Write order shown
+        → (value_to_write (set_in what) facts.now lease ≡ Some order.value) × (order.key ≡ facts.key)
+        × (order.nonce ≡ facts.write) × (order.expiry.0 ≡ facts.now.0 + 1800000) }
+    ensures page { (facts : VisitFacts) (lease : Option SessionLease) (what : Option DoneText) (order : WriteOrder)
+        (shown : Shown) (text : List ℕ) → ready_of facts lease what ≡ Write order shown
+        → shown_response facts shown text
+        ≡ response (answer_of_page what (Some text)) facts.close facts.head_only }
+    ensures sets { (d : DoneText) (value : List ℕ) → d.session ≡ Set value → set_in (Some d) ≡ Some value }
+    ensures keeps { (d : DoneText) → d.session ≡ Keep → set_in (Some d) ≡ None }
+    ensures nobody { set_in None ≡ None }
+{}

@@ -49,7 +49,9 @@ mod visit;
 mod work;
 
 pub use facts::VisitFacts;
-pub use laws::{requests_account_for_their_events, requests_account_for_their_marks};
+pub use laws::{
+    pages_follow_their_entries, requests_account_for_their_events, requests_account_for_their_marks,
+};
 pub use ready::{Ready, Shown, ready_of};
 pub use serving::{Closed, Closing, serve};
 pub use visit::{Fate, Turn, Visit, Work};

@@ -8,7 +8,7 @@ ghost use Rattle.send_windows.specs.declared.windows.TakeRefusal.TheVariants as 
 ghost use Rattle.session_way.specs.Marks.{marks_by};
 ghost use Rattle.session_way.specs.Way.{BreaksOffOutside, IsRefused, StepsOutside, after_give_back, answer_held, held};
 ghost use Rattle.session_way.specs.Writing.{answer_of_write};
-ghost use Rattle.request_visit.specs.Stepping.{OnServing, ServesWork, VisitsInside, VisitsWindows, after_closing, counted, dropped, shown_so};
+ghost use Rattle.request_visit.specs.Stepping.{IsGivenBack, OnServing, ServesWork, VisitsInside, VisitsWindows, after_closing, counted, dropped, shown_so};
 ghost use Rattle.request_visit.specs.Visits.{after_outcome, overloaded, turn};
 
 use crate::facts::VisitFacts;
@@ -99,7 +99,7 @@ impl<P: Drop> Visit<P> {
     pub fn drop_passes(&mut self, windows: &mut Windows)
         ensures windows { windows.new ≡ after_give_back windows.old (held self.old.way) }
         ensures marks { windows.new.history ≡ windows.old.history ++ marks_by self.old.way SessionWay.Resting }
-        ensures rests { self.new.way ≡ SessionWay.Resting }
+        ensures back { IsGivenBack self.old self.new }
     {
         let outcome = self.way.give_back(windows);
         self.hear_outcome(outcome);

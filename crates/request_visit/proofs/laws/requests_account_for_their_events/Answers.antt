@@ -1,5 +1,6 @@
 use Rattle.request_visit.proofs.Accounting.{inside, meanwhile}
-use Rattle.request_visit.proofs.Telling.{by_advance, by_item, by_leaving, by_windows}
+use Rattle.std.proofs.Common.{refl}
+use Rattle.request_visit.proofs.Telling.{by_advance, by_dropping, by_giving_back, by_item, by_leaving, by_opening, by_windows, over_then}
 use Rattle.request_visit.proofs.laws.requests_account_for_their_events.Goals as goal
 
 pub returns-clause-meanwhile : goal.returns-clause-meanwhile
@@ -25,3 +26,29 @@ returns-clause-leave g c = λ start history errand own v a.
 pub returns-clause-item : goal.returns-clause-item
 returns-clause-item g c = λ start history errand own v i is a.
     by_item g.P.Program.asks start history errand own v v.work i is a
+
+pub returns-clause-begins : goal.returns-clause-begins
+returns-clause-begins g c = λ start history errand facts counts way why seen. (
+  record { holds_are = refl; own_is = refl },
+  record { holds_are = refl; own_is = refl },
+  record { holds_are = refl; own_is = refl },
+  record { holds_are = refl; own_is = refl },
+)
+
+pub returns-clause-opens : goal.returns-clause-opens
+returns-clause-opens g c = λ start history errand own v tries program is number a.
+    by_opening g.P.Program.asks start history errand own v tries program is number a
+
+pub returns-clause-outside : goal.returns-clause-outside
+returns-clause-outside g c = λ start history errand own v way counts a. a
+
+pub returns-clause-back : goal.returns-clause-back
+returns-clause-back g c = λ start history errand own old new back a.
+    by_giving_back g.P.Program.asks start history errand own old new back a
+
+pub returns-clause-over : goal.returns-clause-over
+returns-clause-over g c = λ old new fate back is. over_then old new fate back is
+
+pub returns-clause-dropped : goal.returns-clause-dropped
+returns-clause-dropped g c = λ start history errand own v a.
+    by_dropping g.P.Program.asks start history errand v.facts v.holds own v.work a
