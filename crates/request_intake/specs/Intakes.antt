@@ -1,0 +1,78 @@
+-- A request that was taken in: what was decided of it, and what was drawn for it.
+use Rattle.std.specs.Prelude.{◌≡◌, ℕ, ◌==◌, if◌then◌else◌, List, [], ◌∷◌, length, Option, Some, None}
+use Rattle.crash_base.specs.declared.numbers.Moment.{Moment}
+use Rattle.crash_base.specs.declared.numbers.RequestNo.{RequestNo}
+use Rattle.crash_base.specs.declared.numbers.Version.{Version}
+use Rattle.http_wire.specs.declared.taken.Head.{Head}
+use Rattle.request_decisions.specs.Calls.{number_for, numbers_for, ordered_call, request_of}
+use Rattle.request_decisions.specs.Decisions.{IsDecided}
+use Rattle.request_decisions.specs.Draws.{AreDrawn, drawn_for}
+use Rattle.request_decisions.specs.declared.decision.Decision.{Decision}
+use Rattle.request_decisions.specs.declared.decision.Decision.TheVariants as decided
+use Rattle.request_decisions.specs.declared.decision.Order.{Order}
+use Rattle.request_decisions.specs.declared.draws.Draw.{Draw}
+use Rattle.request_decisions.specs.declared.draws.DrawKind.{DrawKind}
+use Rattle.request_decisions.specs.declared.draws.DrawKind.TheVariants.{Read, Request, Write}
+use Rattle.session_cookie.specs.declared.cookie.Cookie.{Cookie}
+use Rattle.request_intake.specs.Drawing.{DrawsShort, DrawsWhole, Gives, Looks}
+use Rattle.request_intake.specs.declared.intake.Admission.{Admission}
+use Rattle.request_intake.specs.declared.intake.Arrival.{Arrival}
+use Rattle.request_intake.specs.declared.intake.Arrival.TheVariants.{Refused, SerialsSpent, Admitted}
+use Rattle.request_intake.specs.declared.intake.HomeBoot.{HomeBoot}
+use Rattle.request_intake.specs.declared.intake.Intake.{Intake}
+
+-- the nonce whose serial was drawn for this
+abbrev pub nonce_of : HomeBoot → DrawKind → List Draw → Version
+nonce_of home kind drawn = record { node = home.node; boot = home.boot; serial = number_for kind drawn }
+
+-- The number of a request for which no more was drawn than this, where it is known: that of its token; or the one that
+-- was drawn, which is drawn first.
+abbrev pub known_request : ℕ → Option RequestNo → List Draw → Option RequestNo
+known_request boot (Some number) drawn = Some number
+known_request boot None drawn = if length drawn == 0 then None else Some (request_of boot None drawn)
+
+-- what a request is served with, by its order and what was drawn for it
+abbrev pub admission_of : List ℕ → HomeBoot → Order → Moment → List Draw → Admission
+admission_of key home o now drawn = record {
+  request = request_of home.boot o.number drawn;
+  call = ordered_call key home.boot o now drawn;
+  cookie = o.cookie;
+  read = nonce_of home Read drawn;
+  write = nonce_of home Write drawn;
+}
+
+-- All was drawn for an order, and it is served with that; or a serial number was spent.
+abbrev pub TakesInOrder : {R S : Type 0} → Gives R → Looks S → List ℕ → HomeBoot → Order → Moment → R → S → List Draw → Arrival → R → S → Type 0
+TakesInOrder gives looks key home o now random serials drawn (Refused why) random_after serials_after = ⊥
+TakesInOrder gives looks key home o now random serials drawn (SerialsSpent request seen) random_after serials_after =
+    DrawsShort gives looks (drawn_for o) random serials drawn seen random_after serials_after
+    × (request ≡ known_request home.boot o.number drawn)
+TakesInOrder gives looks key home o now random serials drawn (Admitted admission) random_after serials_after =
+    DrawsWhole gives looks (drawn_for o) random serials drawn random_after serials_after
+    × (admission ≡ admission_of key home o now drawn)
+
+-- What becomes of a request by its decision: one that is refused draws nothing.
+abbrev pub TakesInBy : {R S : Type 0} → Gives R → Looks S → List ℕ → HomeBoot → Decision → R → S → Intake → R → S → Type 0
+TakesInBy gives looks key home (decided.Refused why) random serials i random_after serials_after =
+    (i.arrival ≡ Refused why) × (i.drawn ≡ []) × (random_after ≡ random) × (serials_after ≡ serials)
+TakesInBy gives looks key home (decided.Ordered o) random serials i random_after serials_after =
+    TakesInOrder gives looks key home o i.now random serials i.drawn i.arrival random_after serials_after
+
+-- A request was taken in.
+pub record TakesIn {R S : Type 0} (gives : Gives R) (looks : Looks S) (key : List ℕ) (home : HomeBoot) (head : Head) (random : R) (serials : S) (i : Intake) (random_after : R) (serials_after : S) : Type 0 where
+  pub decision : Decision
+  pub decided : IsDecided key home.boot head decision
+  pub follows : TakesInBy gives looks key home decision random serials i random_after serials_after
+
+-- A request that is admitted has the number of its order, or one that was drawn for it in this boot; what it asks for is
+-- its order's at its moment; and each nonce is of this boot, with a serial that was drawn for it.
+pub record IsAdmittedBy (home : HomeBoot) (o : Order) (i : Intake) (a : Admission) : Type 0 where
+  pub drawn : AreDrawn o i.drawn
+  pub token : (number : RequestNo) → o.number ≡ Some number → a.request ≡ number
+  pub own : o.number ≡ None
+      → (serial : ℕ) × (numbers_for Request i.drawn ≡ serial ∷ []) × (a.request ≡ record { boot = home.boot; serial = serial })
+  pub asks : a.call.action ≡ o.action
+  pub moment : a.call.now ≡ i.now
+  pub cookie : a.cookie ≡ o.cookie
+  pub read : (cookie : Cookie) → o.cookie ≡ Some cookie → (serial : ℕ) × (numbers_for Read i.drawn ≡ serial ∷ []) × (a.read ≡ record { node = home.node; boot = home.boot; serial = serial })
+  pub write : (serial : ℕ) × (numbers_for Write i.drawn ≡ serial ∷ []) × (a.write ≡ record { node = home.node; boot = home.boot; serial = serial })
