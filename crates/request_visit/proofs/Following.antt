@@ -29,7 +29,7 @@ writes facts what (Some value) order shown e =
     let same : order_of facts value ≡ order = cc in
     (ap (λ (o : WriteOrder). Some o.value) same, sym (ap (λ (o : WriteOrder). o.key) same), sym (ap (λ (o : WriteOrder). o.nonce) same), sym (ap (λ (o : WriteOrder). o.expiry.0) same))
 
-shows_entry : (facts : VisitFacts) (what : Option DoneText) (text : List ℕ)
+pub shows_entry : (facts : VisitFacts) (what : Option DoneText) (text : List ℕ)
     → shown_response facts (shown_by what) text ≡ response (answer_of_page what (Some text)) facts.close facts.head_only
 shows_entry facts (Some d) text = refl
 shows_entry facts None text = refl

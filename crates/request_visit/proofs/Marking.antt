@@ -56,7 +56,7 @@ no_windows (stub.Send brick) e = cc
 no_windows (stub.Receive brick) e = cc
 no_windows stub.Ended e = cc
 
-read_wants : (w : SessionWay) → MayBeRead w → wants w ≡ wanted.Windows → ⊥
+pub read_wants : (w : SessionWay) → MayBeRead w → wants w ≡ wanted.Windows → ⊥
 read_wants way.Resting m e = cc
 read_wants (way.Reading r) m e = no_windows _ e
 read_wants (way.Ordered order) m e = m
@@ -64,17 +64,17 @@ read_wants (way.Writing v) m e = m
 read_wants (way.Settling v) m e = m
 read_wants (way.Holding passes) m e = m
 
-over_nothing : (w : Wants) → or_over w ≡ turns.Over → w ≡ wanted.Nothing
+pub over_nothing : (w : Wants) → or_over w ≡ turns.Over → w ≡ wanted.Nothing
 over_nothing wanted.Nothing e = refl
 over_nothing wanted.Outside e = absurd (cc)
 over_nothing wanted.Windows e = absurd (cc)
 
 -- a session that rests wants nothing of the windows
-rests_wants : (w : SessionWay) → w ≡ way.Resting → wants w ≡ wanted.Windows → ⊥
+pub rests_wants : (w : SessionWay) → w ≡ way.Resting → wants w ≡ wanted.Windows → ⊥
 rests_wants w rests e = let same : wants way.Resting ≡ wanted.Windows = ap wants (sym rests) ∙ e in cc
 
 -- a write that is settled wants something
-settling_wants : (w : SessionWay) → IsSettling w → wants w ≡ wanted.Nothing → ⊥
+pub settling_wants : (w : SessionWay) → IsSettling w → wants w ≡ wanted.Nothing → ⊥
 settling_wants way.Resting s e = s
 settling_wants (way.Reading r) s e = s
 settling_wants (way.Ordered order) s e = s
@@ -105,17 +105,17 @@ settles (way.Settling v) h = absurd h
 settles (way.Holding passes) h = absurd h
 
 -- the cookie, and the work, of a request that is told what its write came to
-abbrev cookie_told : Option WriteOutcome → Option Cookie → Option Cookie
+abbrev pub cookie_told : Option WriteOutcome → Option Cookie → Option Cookie
 cookie_told None cookie = cookie
 cookie_told (Some (outcome.Written given)) cookie = Some given
 cookie_told (Some (outcome.Missed causes)) cookie = cookie
 
-abbrev work_told : {P : Type 0} → Option WriteOutcome → Work P → Work P
+abbrev pub work_told : {P : Type 0} → Option WriteOutcome → Work P → Work P
 work_told None work = work
 work_told (Some (outcome.Written given)) work = with_fate fate_written work
 work_told (Some (outcome.Missed causes)) work = with_fate (fate_missed causes) work
 
-told_marks : {P : Type 0} (marks : List WindowMark) (told : Option WriteOutcome) (v : Visit P)
+pub told_marks : {P : Type 0} (marks : List WindowMark) (told : Option WriteOutcome) (v : Visit P)
     → MarksOf marks (cookie_told told v.cookie) v.way (work_told told v.work) → Marks marks (after_outcome told v)
 told_marks marks None v m = m
 told_marks marks (Some (outcome.Written given)) v m = m
@@ -145,7 +145,7 @@ spent_marks marks v after rests taken =
     ap (λ (a : SessionWay). marks ++ map uncounted (marks_by (way.Settling v) a)) rests ∙ ap (λ (m : List WindowMark). m ++ mark.Spent ∷ []) taken
 
 -- the write of a committed request begins
-committed_given : (marks : List WindowMark) (cookie : Option Cookie) (w after : SessionWay) (windows later : WindowsValue) (told : Option WriteOutcome)
+pub committed_given : (marks : List WindowMark) (cookie : Option Cookie) (w after : SessionWay) (windows later : WindowsValue) (told : Option WriteOutcome)
     → WritesWith marks w → wants w ≡ wanted.Windows → cookie ≡ None → StepsWindows w windows after later → option_map answer_of_write told ≡ answer_held w
     → (told ≡ None) × WritesWith (marks ++ map uncounted (marks_by w after)) after
 committed_given marks cookie way.Resting after windows later told k e none step is = absurd k
@@ -220,7 +220,7 @@ refused_write marks (way.Holding passes) after windows later full k r = absurd k
 refused_rest : (w after : SessionWay) (windows later : WindowsValue) (full : List WindowFact) → w ≡ way.Resting → IsRefused w windows after later (refusal.Overload full) → ⊥
 refused_rest w after windows later full rests r = subst (λ (x : SessionWay). IsRefused x windows after later (refusal.Overload full)) rests r
 
-refused_settling : (w after : SessionWay) (windows later : WindowsValue) (full : List WindowFact) → IsSettling w → IsRefused w windows after later (refusal.Overload full) → ⊥
+pub refused_settling : (w after : SessionWay) (windows later : WindowsValue) (full : List WindowFact) → IsSettling w → IsRefused w windows after later (refusal.Overload full) → ⊥
 refused_settling way.Resting after windows later full s r = s
 refused_settling (way.Reading x) after windows later full s r = s
 refused_settling (way.Ordered order) after windows later full s r = s

@@ -1,12 +1,13 @@
 //! Laws of a request on its way. Each is the contract of a function that does nothing: a caller that needs the law
 //! calls the function.
 
-ghost use Rattle.std.specs.Prelude.{◌≡◌, ◌+◌, ◌++◌, ℕ, List, [], Option, None, Some, take};
+ghost use Rattle.std.specs.Prelude.{◌≡◌, ◌⊎◌, ◌≤◌, ◌+◌, ◌++◌, ℕ, List, [], Option, None, Some, length, take};
 ghost use Rattle.boot_core.specs.declared.boot.Start.{Start};
 ghost use Rattle.container_core.specs.Container.{ContainerValue, events_of};
 ghost use Rattle.journal_model.specs.declared.entry.DoneText.{DoneText};
 ghost use Rattle.journal_model.specs.declared.entry.SessionChange.TheVariants.{Keep, Set};
-ghost use Rattle.outcome_items.specs.Answers.{answer_of_page};
+ghost use Rattle.outcome_items.specs.Answers.{IsResponse, answer_of_page, is_head_only};
+ghost use Rattle.http_wire.specs.declared.taken.Head.{Head};
 ghost use Rattle.session_way.specs.Lease.{value_to_write};
 ghost use Rattle.session_way.specs.declared.lease.SessionLease.{SessionLease};
 ghost use Rattle.session_way.specs.declared.session_write.WriteOrder.{WriteOrder};
@@ -25,10 +26,11 @@ ghost use Rattle.request_tries.specs.Ends.{Errand};
 ghost use Rattle.request_tries.specs.Serving.{TriesValue, errand_of};
 ghost use Rattle.send_windows.specs.Windows.{WindowsValue};
 ghost use Rattle.send_windows.specs.declared.history.WindowMark.{WindowMark};
-ghost use Rattle.session_way.specs.Way.{StepsOutside};
+ghost use Rattle.session_way.specs.Way.{StepsOutside, answer_held};
 ghost use Rattle.session_way.specs.declared.way.SessionWay.{SessionWay};
 ghost use Rattle.request_visit.specs.Accounts.{Accounts, AddsOwn, Became};
-ghost use Rattle.request_visit.specs.Advancing.{Advances, IsItemOf, after_leaving};
+ghost use Rattle.request_visit.specs.Advancing.{Advances, IsItemOf, after_leaving, cookie_in, response_in};
+ghost use Rattle.request_visit.specs.Says.{Says};
 ghost use Rattle.request_visit.specs.Marks.{AddsMarks, Marks};
 ghost use Rattle.request_visit.specs.Stepping.{IsGivenBack, VisitsInside, VisitsWindows, dropped};
 ghost use Rattle.request_visit.specs.Visits.{begun, turn};
@@ -135,3 +137,44 @@ pub fn pages_follow_their_entries()
     ensures keeps { (d : DoneText) → d.session ≡ Keep → set_in (Some d) ≡ None }
     ensures nobody { set_in None ≡ None }
 {}
+
+/// The response of a request says what became of it, as the history shows, whatever others add meanwhile: what is
+/// made at once, what is made before a commit, and what is made once its session is written. So the bytes that leave
+/// are the response to its item. While its write is settled, the cookie of its answer has to stay, which is so of
+/// runs of a write (`ssm_stub::answers_stay`).
+pub fn responses_are_of_their_items<P: Program>(_program: &P)
+    ensures begins { (key : List ℕ) (history : List Event) (facts : VisitFacts) (counts : LinkCounts) (way : SessionWay)
+        (v : Visit P) → (v ≡ begun facts counts way Reading) ⊎ (v ≡ begun facts counts way Opening)
+        → Says key history [] v }
+    ensures refused { (key : List ℕ) (history : List Event) (facts : VisitFacts) (counts : LinkCounts) (way : SessionWay)
+        (why : Refusal) (v : Visit P) → v ≡ begun facts counts way (Decided (item.Refused why)) → Says key history [] v }
+    ensures spent { (key : List ℕ) (history : List Event) (facts : VisitFacts) (counts : LinkCounts) (way : SessionWay)
+        (seen : ℕ) (v : Visit P) → v ≡ begun facts counts way (Decided (item.SerialsSpent seen))
+        → Says key history [] v }
+    ensures opens { (key : List ℕ) (history : List Event) (out : List ℕ) (v : Visit P) (tries : TriesValue) (program : P)
+        → v.work ≡ Opening → Says key history out v
+        → Says key history out (record v { work = Serving tries program }) }
+    ensures meanwhile { (key : List ℕ) (history more : List Event) (out : List ℕ) (v : Visit P)
+        → Says key history out v → Says key (history ++ more) out v }
+    ensures inside { (key : List ℕ) (out : List ℕ) (old new : Visit P) (container after : ContainerValue)
+        → VisitsInside P.asks old container new after → length (events_of container) ≤ length (events_of after)
+        → Says key (events_of container) out old → Says key (events_of after) out new }
+    ensures windows { (key : List ℕ) (history : List Event) (out : List ℕ) (marks : List WindowMark) (old new : Visit P)
+        (windows after : WindowsValue) → turn old ≡ Turn.Windows → VisitsWindows old windows new after
+        → Marks marks old → Says key history out old → Says key history out new }
+    ensures outside { (key : List ℕ) (history : List Event) (out : List ℕ) (v : Visit P) (way : SessionWay)
+        (counts : LinkCounts) → turn v ≡ Turn.Outside
+        → ((fate : Fate) → v.work ≡ Left fate → cookie_in (answer_held way) ≡ cookie_in (answer_held v.way))
+        → Says key history out v → Says key history out (record v { way = way; counts = counts }) }
+    ensures advance { (key : List ℕ) (history : List Event) (out : List ℕ) (old new : Visit P)
+        → Advances key old old.work new → Says key history out old → Says key history out new }
+    ensures leave { (key : List ℕ) (history : List Event) (out : List ℕ) (v : Visit P)
+        → turn v ≡ Turn.Output → Says key history out v
+        → Says key history (response_in v.work) (after_leaving v) }
+    ensures item { (key : List ℕ) (history : List Event) (out : List ℕ) (marks : List WindowMark) (v : Visit P) (i : Item)
+        (head : Head) → turn v ≡ Turn.Over → IsItemOf v v.work i → Marks marks v
+        → v.facts.close ≡ head.close → v.facts.head_only ≡ is_head_only head.method → Says key history out v
+        → IsResponse key (entries_in (take i.holds.held history)) i head out }
+{
+    ways_have_answers();
+}

@@ -27,14 +27,20 @@
 //!
 //! Each function makes one step, or none, and its contract says what that leaves: `specs/Stepping.antt` for the steps
 //! of the link, the windows and the container, `specs/Serving.antt` and `Ready.antt` for what follows a commit, and
-//! `specs/Advancing.antt` for what a request becomes by itself. So anything may happen between two steps. A turn has
-//! no stage of its own where it waits: whoever drives many requests asks each for its turn.
+//! `specs/Advancing.antt` for what a request becomes by itself. So anything may happen between
+//! two steps.
 //!
 //! What follows a page of its own is made before its commit (`ready_of`): the response, or the order of the write
 //! with a copy of the page. So no want of memory comes between an entry and its response, but where a session is
 //! written.
 //!
 //! `drop_call` and `drop_passes` give up, at any turn, what a request holds.
+//!
+//! Three laws follow a request over its steps, whatever others do between two of them:
+//! `requests_account_for_their_events` (`specs/Accounts.antt`: which events it added to the history of the container),
+//! `requests_account_for_their_marks` (`specs/Marks.antt`: which marks it left in that of the windows), and
+//! `responses_are_of_their_items` (`specs/Says.antt`: what its response says). Each ends at the item. The law
+//! `pages_follow_their_entries` says what is shown and what is written after a commit.
 #![tactic(auto)]
 
 mod advancing;
@@ -50,7 +56,8 @@ mod work;
 
 pub use facts::VisitFacts;
 pub use laws::{
-    pages_follow_their_entries, requests_account_for_their_events, requests_account_for_their_marks,
+    pages_follow_their_entries, requests_account_for_their_events,
+    requests_account_for_their_marks, responses_are_of_their_items,
 };
 pub use ready::{Ready, Shown, ready_of};
 pub use serving::{Closed, Closing, serve};
