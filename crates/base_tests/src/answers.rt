@@ -4,7 +4,7 @@ use crate::words::expect_bytes;
 use action_fields::FormField;
 use crash_base::{CookieText, FieldText, PageText};
 use page_text::{PageLine, PageLineList, page};
-use site_responses::{SiteAnswer, Untaken, response_of, untaken_response};
+use site_responses::{SiteAnswer, Untaken, failed_page, response_of, untaken_response};
 use std::alloc::Global;
 use std::process::Abort;
 
@@ -216,6 +216,20 @@ fn a_page_sets_the_cookie_of_a_session_that_was_written(rt: HostRuntime) {
     let set = "Set-Cookie: crash=AbC-_9; Path=/; Max-Age=1800; HttpOnly\r\n";
     let whole = head(&rt, alloc, "409 Conflict", 3, set);
     expect_page(&rt, alloc, &answer, whole.as_str(), "abc");
+    let answer = SiteAnswer::Page {
+        status: 500,
+        page: failed_page(alloc).expect(&rt, "a page"),
+        cookie: Some(CookieText::copied(alloc, b"AbC-_9").expect(&rt, "a cookie")),
+    };
+    expect_answer(
+        &rt,
+        alloc,
+        &answer,
+        "500 Internal Server Error",
+        54,
+        set,
+        "Failed",
+    );
 }
 
 #[test]

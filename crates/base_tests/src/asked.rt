@@ -1,6 +1,6 @@
 //! What a request asks for: the action with its fields, or the first field that is bad.
 
-use crate::words::{add_number, add_text, add_word, cut, expect_words};
+use crate::words::{add_number, add_text, add_word, cut, expect_words, number};
 use action_fields::{FieldError, asked_action};
 use auction_calls::{Action, FormKind};
 use site_routes::SiteAction;
@@ -115,6 +115,7 @@ fn an_action_has_the_fields_of_its_form(rt: HostRuntime) {
         "about|||about",
         "sell||title=Chair&category=3&start=100&buy_now=0&hours=24|sell Chair 3 100 0 24",
         "sell||hours=720&buy_now=4000000000&start=4000000000&category=4294967295&title=T|sell T 4294967295 4000000000 4000000000 720",
+        "sell||title=T&category=1&start=1&buy_now=4000000000&hours=1|sell T 1 1 4000000000 1",
         "bid||item=7&amount=500|bid 7 500",
         "bid||item=4294967295&amount=4000000000|bid 4294967295 4000000000",
         "buy||item=1|buy 1",
@@ -167,5 +168,47 @@ fn the_first_bad_field_is_named(rt: HostRuntime) {
     ];
     for row in rows {
         expect_asked(&rt, rt.alloc(), row);
+    }
+}
+
+/// Adds whether an action is read of a form, or the field that is bad.
+fn add_taken(rt: &impl Abort, alloc: Global, words: &mut String, word: &str, form: &str) {
+    match asked_action(alloc, asked(word), b"", form.as_bytes()) {
+        Ok(_) => add_word(rt, words, "taken"),
+        Err(FieldError::Bad(field)) => write!(words, " bad {}", field.word()).expect(rt, word),
+        Err(FieldError::OutOfMemory) => add_word(rt, words, "no memory"),
+    }
+}
+
+/// Asserts what a text of so many bytes comes to, and one of a byte more. A row has the action, what stands before the
+/// text in its form, how many bytes, and what is wanted.
+fn expect_most(rt: &impl Abort, alloc: Global, row: &str) {
+    let (word, rest) = cut(rt, row, '|');
+    let (front, rest) = cut(rt, rest, '|');
+    let (most, want) = cut(rt, rest, '|');
+    let mut form = String::new(alloc);
+    form.push_str(front).expect(rt, row);
+    for _ in 0..number(rt, most) {
+        form.push('a').expect(rt, row);
+    }
+    let mut words = String::new(alloc);
+    add_taken(rt, alloc, &mut words, word, form.as_str());
+    form.push('a').expect(rt, row);
+    add_taken(rt, alloc, &mut words, word, form.as_str());
+    expect_words(rt, words.as_str(), want, row);
+}
+
+#[test]
+fn a_text_has_so_many_bytes_at_most(rt: HostRuntime) {
+    let rows = [
+        "register|password=p&name=|24|taken bad name",
+        "register|name=a&password=|72|taken bad password",
+        "signin|name=a&password=|72|taken bad password",
+        "add|name=|40|taken bad name",
+        "sell|category=1&start=1&buy_now=0&hours=1&title=|80|taken bad title",
+        "feedback|item=1&good=0&text=|200|taken bad text",
+    ];
+    for row in rows {
+        expect_most(&rt, rt.alloc(), row);
     }
 }
