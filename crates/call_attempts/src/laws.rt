@@ -68,9 +68,9 @@ pub fn single_calls_are_remembered()
         × (idempotent boot.start.deployment component.0 method ≡ false)) }
 {}
 
-/// An attempt of a program that keeps the rules of calls comes to its end, where no reboot stops it: while no group that
-/// it entered was rebooted since, and none that it enters is down, each of its steps is answered, until its program is
-/// done; and after 128 answers the program is done.
+/// An attempt of a program that keeps the rules of calls comes to its end, where no reboot stops it: while no group
+/// that it entered was rebooted since, and none that it enters is down, each of its steps is answered, until its
+/// program is done; and after 128 answers it is.
 pub fn attempts_come_to_their_end()
     ensures goes_on { (boot : BootValue) (asks : List Answer → Next) (a after : AttemptValue) (came : Stepped) →
         stale_in boot.entries a.ticket.call.touched ≡ None → ((c : ComponentNo) (m : ℕ) →
