@@ -1,17 +1,16 @@
 //! A request that was taken in.
 
-ghost use Rattle.std.specs.Prelude.{◌≡◌, ◌≤◌, ◌<◌, ◌^◌, true, IfOk};
+ghost use Rattle.std.specs.Prelude.{◌≡◌, ◌≤◌, ◌<◌, ◌^◌, true, IfOk, OnErr};
 ghost use Rattle.auction_calls.specs.Calls.{is_action};
 ghost use Rattle.outside.specs.declared.clock.TheConstants.{MOMENTS_END};
 ghost use Rattle.request_intake.specs.Intakes.{TakesIn, TakesInOrder, admission_of, known_request, nonce_of};
 
-use crate::drawing::{Drawing, draw_all};
 use auction_calls::CheckedCall;
 use crash_base::{Moment, OutOfMemory, RequestNo, Version};
 use http_wire::Head;
 use outside::{Clock, Random, Serials, moments_add_up};
 use request_decisions::{
-    Decision, Draw, DrawKind, DrawnList, Order, Refusal, decide, draws_for, number_for,
+    Decision, Draw, DrawKind, DrawRefusal, DrawnList, Order, Refusal, decide, draw_for, number_for,
     ordered_call, orders_are_in_range, request_of,
 };
 use session_cookie::Cookie;
@@ -58,7 +57,7 @@ pub enum Arrival {
 /// A request that was taken in.
 #[derive(Drop)]
 pub struct Intake {
-    /// Its moment: the one reading of the clock that was made for it.
+    /// Its moment: what the clock told when it was read for it.
     pub now: Moment,
     /// What was drawn for it, in order.
     pub drawn: DrawnList,
@@ -127,10 +126,10 @@ fn take_in_order<R: Random, S: Serials>(
     ensures now { IfOk result (λ i. i.now ≡ now) }
     ensures order { IfOk result (λ i. TakesInOrder R.gives S.looks key.now home order now
         random.old serials.old i.drawn i.arrival random.new serials.new) }
+    ensures want { OnErr result ((random.new ≡ random.old) × (serials.new ≡ serials.old)) }
 {
-    let kinds = draws_for(alloc, &order)?;
-    match draw_all(alloc, kinds.as_slice(), random, serials)? {
-        Drawing::Whole(drawn) => {
+    match draw_for(alloc, &order, serials, random) {
+        Ok(drawn) => {
             let admission = admission_of(key, home, order, now, drawn.as_slice());
             Ok(Intake {
                 now,
@@ -138,7 +137,7 @@ fn take_in_order<R: Random, S: Serials>(
                 arrival: Arrival::Admitted(admission),
             })
         }
-        Drawing::CutShort { drawn, seen } => {
+        Err(DrawRefusal::Spent { seen, drawn }) => {
             let request = known_request(home.boot, order.number, drawn.as_slice());
             Ok(Intake {
                 now,
@@ -146,14 +145,16 @@ fn take_in_order<R: Random, S: Serials>(
                 arrival: Arrival::SerialsSpent { request, seen },
             })
         }
+        Err(DrawRefusal::OutOfMemory) => Err(OutOfMemory),
     }
 }
 
-/// Takes in a request: it is decided under the service's key in this boot, the clock is read once, and all that its
-/// order wants is drawn, in its order.
+/// Takes in a request: it is decided under the service's key in this boot, the clock is read, and all that its order
+/// wants is drawn, in its order. The moment of the request is the last that the clock told; a clock does not tell how
+/// often it was read.
 ///
 /// # Errors
-/// There is no memory. Some numbers may have been drawn.
+/// There is no memory, and nothing was drawn. The clock may have been read.
 pub fn take_in<C: Clock, R: Random, S: Serials>(
     alloc: Global,
     router: &SiteRouter,
@@ -169,6 +170,7 @@ pub fn take_in<C: Clock, R: Random, S: Serials>(
     ensures moment { IfOk result (λ i. (C.told clock.old ≤ i.now.0) × (C.told clock.new ≡ i.now.0)) }
     ensures small { IfOk result (λ i. i.now.0 < MOMENTS_END) }
     ensures rises { C.told clock.old ≤ C.told clock.new }
+    ensures want { OnErr result ((random.new ≡ random.old) × (serials.new ≡ serials.old)) }
 {
     orders_are_in_range();
     moments_add_up();

@@ -1,6 +1,10 @@
-use Rattle.request_intake.proofs.Drawn.{serial_draws}
+use Rattle.request_intake.proofs.Drawn.{serial_draws, serials_apart}
 use Rattle.request_intake.proofs.laws.drawn_serials_are_draws.Goals as goal
 
-pub returns : goal.returns
-returns g c = λ random random_after serials serials_after drawn draws.
-    serial_draws g.R.Random.gives g.S.Serials.looks random serials drawn random_after serials_after draws
+pub returns-clause-draws : goal.returns-clause-draws
+returns-clause-draws g c = λ random random_after before after drawn has.
+    serial_draws g.S.Serials.looks g.R.Random.gives random before drawn after random_after has
+
+pub returns-clause-differ : goal.returns-clause-differ
+returns-clause-differ g c = λ random random_after before after drawn has.
+    serials_apart g.S.Serials.looks g.R.Random.gives c.serials_differ.ensures.differ random before drawn after random_after has
