@@ -10,12 +10,13 @@ use Rattle.request_decisions.specs.Draws.{AreDrawn, drawn_for}
 use Rattle.request_decisions.specs.declared.decision.Decision.{Decision}
 use Rattle.request_decisions.specs.declared.decision.Decision.TheVariants as decided
 use Rattle.request_decisions.specs.declared.decision.Order.{Order}
+use Rattle.request_decisions.specs.declared.decision.Refusal.{Refusal}
 use Rattle.request_decisions.specs.declared.draws.Draw.{Draw}
 use Rattle.request_decisions.specs.declared.draws.DrawKind.{DrawKind}
 use Rattle.request_decisions.specs.declared.draws.DrawKind.TheVariants.{Request, Fresh, Read, Write}
 use Rattle.request_intake.specs.Intakes.{Gives, IsAdmittedBy, IsCutShortBy, Looks, TakesIn, TakesInBy, TakesInOrder, admission_of, known_request}
 use Rattle.request_intake.specs.declared.intake.Admission.{Admission}
-use Rattle.request_intake.specs.declared.intake.Arrival.TheVariants.{SerialsSpent, Admitted}
+use Rattle.request_intake.specs.declared.intake.Arrival.TheVariants.{Refused, SerialsSpent, Admitted}
 use Rattle.request_intake.specs.declared.intake.HomeBoot.{HomeBoot}
 use Rattle.request_intake.specs.declared.intake.Intake.{Intake}
 
@@ -38,13 +39,14 @@ pub admitted_by : (key : List ℕ) (home : HomeBoot) (o : Order) (i : Intake) (a
     → ((o : Order) → count_of Request (drawn_for o) ≡ (if is_none o.number then 1 else 0))
     → ((o : Order) → count_of Read (drawn_for o) ≡ (if is_some o.cookie then 1 else 0))
     → ((o : Order) → (count_of Fresh (drawn_for o) ≡ 1) × (count_of Write (drawn_for o) ≡ 1))
-    → Drawn → AreDrawn o i.drawn → a ≡ admission_of key home o i.now i.drawn → IsAdmittedBy home o i a
+    → Drawn → AreDrawn o i.drawn → a ≡ admission_of key home o i.now i.drawn → IsAdmittedBy key home o i a
 admitted_by key home o i a request read others drawn are is =
-    subst (λ x. IsAdmittedBy home o i x) (sym is) (record {
+    subst (λ x. IsAdmittedBy key home o i x) (sym is) (record {
       drawn = are;
       token = λ number e. cc;
       own = λ e. let one = one_number (numbers_for Request i.drawn) (drawn o i.drawn Request are ∙ request o ∙ ap (λ n. if is_none n then 1 else 0) e) in
           (slice_index (numbers_for Request i.drawn) 0, one, cc);
+      call = λ value. refl;
       asks = (call_clauses key home o i).0;
       moment = (call_clauses key home o i).1;
       cookie = refl;
@@ -57,10 +59,10 @@ pub admitted : {R S : Type 0} (gives : Gives R) (looks : Looks S) (key : List �
     → ((o : Order) → count_of Read (drawn_for o) ≡ (if is_some o.cookie then 1 else 0))
     → ((o : Order) → (count_of Fresh (drawn_for o) ≡ 1) × (count_of Write (drawn_for o) ≡ 1))
     → Drawn → TakesIn gives looks key home head random serials i r s → i.arrival ≡ Admitted a
-    → (o : Order) × IsDecided key home.boot head (decided.Ordered o) × IsAdmittedBy home o i a
+    → (o : Order) × IsDecided key home.boot head (decided.Ordered o) × IsAdmittedBy key home o i a
 admitted gives looks key home head random serials i r s a request read others drawn takes is = by takes.decision takes.decided takes.follows where
   by : (d : Decision) → IsDecided key home.boot head d → TakesInBy gives looks key home d random serials i r s
-      → (o : Order) × IsDecided key home.boot head (decided.Ordered o) × IsAdmittedBy home o i a
+      → (o : Order) × IsDecided key home.boot head (decided.Ordered o) × IsAdmittedBy key home o i a
   by (decided.Refused why) decision follows = absurd (cc)
   by (decided.Ordered o) decision follows =
       let whole = subst (λ x. TakesInOrder gives looks key home o i.now random serials i.drawn x r s) is follows in
@@ -103,3 +105,15 @@ cut_short gives looks key home head random serials i r s request seen takes is =
   by (decided.Ordered o) decision follows =
       let short = subst (λ x. TakesInOrder gives looks key home o i.now random serials i.drawn x r s) is follows in
       (o, decision, cut_short_by gives looks home o i random serials r s request seen short.0 short.1)
+
+pub told_refusal : {R S : Type 0} (gives : Gives R) (looks : Looks S) (key : List ℕ) (home : HomeBoot) (head : Head) (random : R) (serials : S) (i : Intake) (r : R) (s : S) (why : Refusal)
+    → TakesIn gives looks key home head random serials i r s → i.arrival ≡ Refused why → IsDecided key home.boot head (decided.Refused why)
+told_refusal gives looks key home head random serials i r s why takes is = by takes.decision takes.decided takes.follows where
+  by : (d : Decision) → IsDecided key home.boot head d → TakesInBy gives looks key home d random serials i r s
+      → IsDecided key home.boot head (decided.Refused why)
+  by (decided.Refused other) decision follows =
+      let told : i.arrival ≡ Refused other = follows.0 in
+      let same : other ≡ why = cc in
+      subst (λ (x : Refusal). IsDecided key home.boot head (decided.Refused x)) same decision
+  by (decided.Ordered o) decision follows =
+      absurd (subst (λ x. TakesInOrder gives looks key home o i.now random serials i.drawn x r s) is follows)

@@ -5,7 +5,7 @@ use Rattle.crash_base.specs.declared.numbers.RequestNo.{RequestNo}
 use Rattle.crash_base.specs.declared.numbers.Version.{Version}
 use Rattle.http_wire.specs.declared.taken.Head.{Head}
 use Rattle.outside.specs.declared.serials.TheConstants.{SERIALS_END}
-use Rattle.request_decisions.specs.Calls.{number_for, numbers_for, ordered_call, request_of}
+use Rattle.request_decisions.specs.Calls.{call_by, call_of, number_for, numbers_for, ordered_call, request_of}
 use Rattle.request_decisions.specs.Decisions.{IsDecided}
 use Rattle.request_decisions.specs.Drawing.{Draws}
 use Rattle.request_decisions.specs.Draws.{AreCutShort, AreDrawn, drawn_for, is_serial}
@@ -74,13 +74,15 @@ pub record TakesIn {R S : Type 0} (gives : Gives R) (looks : Looks S) (key : Lis
   pub decided : IsDecided key home.boot head decision
   pub follows : TakesInBy gives looks key home decision random serials i random_after serials_after
 
--- A request that is admitted has the number of its order, or one that was drawn for it in this boot; what it asks for is
--- its order's at its moment; and each nonce is of this boot, with a serial that was drawn for it.
-pub record IsAdmittedBy (home : HomeBoot) (o : Order) (i : Intake) (a : Admission) : Type 0 where
+-- A request that is admitted has the number of its order, or one that was drawn for it in this boot; its call is that of
+-- its order, under the service's key and in this boot, whoever the user of its session is; and each nonce is of this
+-- boot, with a serial that was drawn for it.
+pub record IsAdmittedBy (key : List ℕ) (home : HomeBoot) (o : Order) (i : Intake) (a : Admission) : Type 0 where
   pub drawn : AreDrawn o i.drawn
   pub token : (number : RequestNo) → o.number ≡ Some number → a.request ≡ number
   pub own : o.number ≡ None
       → (serial : ℕ) × (numbers_for Request i.drawn ≡ serial ∷ []) × (a.request ≡ record { boot = home.boot; serial = serial })
+  pub call : (value : Option (List ℕ)) → call_by a.call value ≡ call_of key home.boot o i.now i.drawn value
   pub asks : a.call.action ≡ o.action
   pub moment : a.call.now ≡ i.now
   pub cookie : a.cookie ≡ o.cookie

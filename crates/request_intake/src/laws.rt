@@ -1,5 +1,5 @@
-//! Laws of requests that are taken in. Each is the contract of a function that does nothing: a caller that needs the law
-//! calls the function.
+//! Laws of requests that are taken in. Each is the contract of a function that does nothing: a caller that needs the
+//! law calls the function.
 
 ghost use Rattle.std.specs.Prelude.{◌≡◌, ℕ, List, [], map, Option, Some};
 ghost use Rattle.crash_base.specs.declared.numbers.RequestNo.{RequestNo};
@@ -20,25 +20,28 @@ ghost use Rattle.request_intake.specs.declared.intake.Intake.{Intake};
 use outside::{Random, Serials, serials_differ};
 use request_decisions::{decisions_are_one, each_draw_has_its_cause};
 
-/// A request that is refused draws nothing, and is told its refusal.
+/// A request that is refused draws nothing, and is told its refusal; and no other request is told one.
 pub fn refused_requests_draw_nothing<R: Random, S: Serials>(_random: &R, _serials: &S)
-    ensures { (key : List ℕ) (home : HomeBoot) (head : Head) (random random_after : R) (serials serials_after : S)
+    ensures nothing { (key : List ℕ) (home : HomeBoot) (head : Head) (random random_after : R) (serials serials_after : S)
         (i : Intake) (why : Refusal) → TakesIn R.gives S.looks key home head random serials i random_after serials_after
         → IsDecided key home.boot head (decided.Refused why)
         → (i.arrival ≡ Refused why) × (i.drawn ≡ []) × (random_after ≡ random) × (serials_after ≡ serials) }
+    ensures told { (key : List ℕ) (home : HomeBoot) (head : Head) (random random_after : R) (serials serials_after : S)
+        (i : Intake) (why : Refusal) → TakesIn R.gives S.looks key home head random serials i random_after serials_after
+        → i.arrival ≡ Refused why → IsDecided key home.boot head (decided.Refused why) }
 {
     decisions_are_one();
 }
 
 /// A request that is admitted is one that is ordered, and all that its order wants was drawn for it: of a GET its
-/// number, which is of this boot; a POST has that of its token. Its moment is that of its call, and its nonces are of
-/// this node and boot. Where a serial number is spent, the request was ordered too, and what was drawn by then is a
+/// number, which is of this boot; a POST has that of its token. Its call is that of its order, at its moment, and its
+/// nonces are of this node and boot. Where a serial number is spent, the request was ordered too, and what was drawn by then is a
 /// front of that; its number is told where its token has one or it was drawn.
 pub fn ordered_requests_bear_what_was_drawn<R: Random, S: Serials>(_random: &R, _serials: &S)
     ensures admitted { (key : List ℕ) (home : HomeBoot) (head : Head) (random random_after : R)
         (serials serials_after : S) (i : Intake) (a : Admission)
         → TakesIn R.gives S.looks key home head random serials i random_after serials_after → i.arrival ≡ Admitted a
-        → (o : Order) × IsDecided key home.boot head (decided.Ordered o) × IsAdmittedBy home o i a }
+        → (o : Order) × IsDecided key home.boot head (decided.Ordered o) × IsAdmittedBy key home o i a }
     ensures short { (key : List ℕ) (home : HomeBoot) (head : Head) (random random_after : R)
         (serials serials_after : S) (i : Intake) (request : Option RequestNo) (seen : ℕ)
         → TakesIn R.gives S.looks key home head random serials i random_after serials_after
