@@ -1,0 +1,5 @@
+mod Ending
+mod Growing
+mod Keeping
+mod Requests
+mod Turning

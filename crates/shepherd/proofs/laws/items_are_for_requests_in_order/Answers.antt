@@ -1,0 +1,15 @@
+use Rattle.shepherd.proofs.Ending.{has_call, has_moment, serves_all, serves_first}
+use Rattle.shepherd.proofs.laws.items_are_for_requests_in_order.Goals as goal
+
+pub returns-clause-first : goal.returns-clause-first
+returns-clause-first g c = λ bytes more written items s h. serves_first bytes more written items s h
+
+pub returns-clause-all : goal.returns-clause-all
+returns-clause-all g c = λ bytes written items s end turned memory h.
+    serves_all bytes written items s end c.requests_compose.ensures.rest turned memory h
+
+pub returns-clause-asked : goal.returns-clause-asked
+returns-clause-asked g c = λ bytes written items s turned h. has_call bytes written items s turned h
+
+pub returns-clause-moment : goal.returns-clause-moment
+returns-clause-moment g c = λ bytes written items s turned h. has_moment bytes written items s turned h

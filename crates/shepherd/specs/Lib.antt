@@ -1,0 +1,3 @@
+pub mod Shepherds
+pub mod Standing
+pub mod Steps

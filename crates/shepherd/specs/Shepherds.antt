@@ -1,0 +1,43 @@
+-- Whose step is next for a connection.
+use Rattle.std.specs.Prelude.{ℕ, ◌==◌, Bool, false, if◌then◌else◌, List, [], length}
+use Rattle.http_wire.specs.Taking.{settles, taken_of}
+use Rattle.request_visit.specs.Visits.{turn as visit_turn}
+use Rattle.request_visit.specs.declared.visit.Turn.{Turn}
+use Rattle.request_visit.specs.declared.visit.Turn.TheVariants as visit
+use Rattle.shepherd.specs.declared.shepherd.EndKind.TheVariants.{Closed, Cut, OutOfMemory}
+use Rattle.shepherd.specs.declared.shepherd.Shepherd.{Shepherd}
+use Rattle.shepherd.specs.declared.shepherd.ShepherdTurn.{ShepherdTurn}
+use Rattle.shepherd.specs.declared.shepherd.ShepherdTurn.TheVariants as turns
+use Rattle.shepherd.specs.declared.shepherd.Stage.{Stage}
+use Rattle.shepherd.specs.declared.shepherd.Stage.TheVariants.{Resting, Serving, Refusing, Over}
+
+-- a connection of which nothing came yet
+abbrev pub fresh : {P : Type 0} → Shepherd P
+fresh = record { received = []; ended = false; front = record { 0 = 0 }; stage = Resting; wants_memory = false }
+
+-- Whose step is next where no request is open: one is taken as soon as the bytes settle what they begin with.
+abbrev pub resting_turn : List ℕ → Bool → ShepherdTurn
+resting_turn received ended =
+    if settles (taken_of received) then turns.Request
+    else (if ended then (if length received == 0 then turns.Ended Closed else turns.Ended Cut) else turns.Bytes)
+
+-- whose step is next, by whose is next for the request that is open
+abbrev pub turn_by : Turn → ShepherdTurn
+turn_by visit.Outside = turns.Outside
+turn_by visit.Windows = turns.Windows
+turn_by visit.Inside = turns.Inside
+turn_by visit.Program = turns.Program
+turn_by visit.Own = turns.Own
+turn_by visit.Output = turns.Output
+turn_by visit.Over = turns.Item
+
+-- whose step is next, by how far the connection has come
+abbrev pub stage_turn : {P : Type 0} → Stage P → List ℕ → Bool → ShepherdTurn
+stage_turn Resting received ended = resting_turn received ended
+stage_turn (Serving v call) received ended = turn_by (visit_turn v)
+stage_turn (Refusing why bytes) received ended = turns.Output
+stage_turn (Over end) received ended = turns.Ended end
+
+-- Whose step is next.
+abbrev pub turn : {P : Type 0} → Shepherd P → ShepherdTurn
+turn s = if s.wants_memory then turns.Ended OutOfMemory else stage_turn s.stage s.received s.ended

@@ -1,0 +1,97 @@
+//! Laws of connections. Each is the contract of a function that does nothing: a caller that needs the law calls the
+//! function.
+
+ghost use Rattle.std.specs.Prelude.{◌≡◌, ◌≢◌, ℕ, ◌<◌, ◌^◌, true, List, [], ◌∷◌, ◌++◌, None};
+ghost use Rattle.container_core.specs.Container.{ContainerValue};
+ghost use Rattle.crash_base.specs.declared.numbers.WorkerNo.{WorkerNo};
+ghost use Rattle.outcome_items.specs.declared.item.Item.{Item};
+ghost use Rattle.outside.specs.declared.link.LinkCounts.{LinkCounts};
+ghost use Rattle.request_intake.specs.declared.intake.HomeBoot.{HomeBoot};
+ghost use Rattle.request_visit.specs.Advancing.{Advances};
+ghost use Rattle.request_visit.specs.Stepping.{VisitsInside, VisitsWindows};
+ghost use Rattle.send_windows.specs.Windows.{WindowsValue};
+ghost use Rattle.shepherd.specs.Shepherds.{fresh, turn};
+ghost use Rattle.shepherd.specs.Standing.{HasServedAll, HasServedFirst, Standing};
+ghost use Rattle.shepherd.specs.Steps.{OnVisit, OpensStage, PutsOut, ShepherdSteps, TakesItem, TakesRequest, VisitsOutside, dropped_stage};
+ghost use Rattle.shepherd.specs.declared.shepherd.EndKind.{EndKind};
+ghost use Rattle.shepherd.specs.declared.shepherd.EndKind.TheVariants.{OutOfMemory};
+ghost use Rattle.shepherd.specs.declared.shepherd.Shepherd.{Shepherd};
+ghost use Rattle.shepherd.specs.declared.shepherd.Stage.{Stage};
+
+use crate::opening::ProgramMaker;
+use crate::shepherd::ShepherdTurn;
+use call_ticket::Program;
+use http_wire::requests_compose;
+use outside::{Clock, Link, Random, Serials};
+
+/// A connection stands from its begin on. It stands with the bytes that are fed to it, and where no more come; a request
+/// that is taken off is the next one of the bytes; what is put out joins what was; and an item is that of the request that
+/// was open.
+pub fn connections_stand<P, C: Clock, R: Random, S: Serials>(
+    _program: &P,
+    _clock: &C,
+    _random: &R,
+    _serials: &S,
+)
+    ensures begins { Standing {P = P} [] [] [] fresh }
+    ensures fed { (fed more written : List ℕ) (items : List Item) (s : Shepherd P) → Standing fed written items s
+        → Standing (fed ++ more) written items (record s { received = s.received ++ more }) }
+    ensures ended { (fed written : List ℕ) (items : List Item) (s : Shepherd P) → Standing fed written items s
+        → Standing fed written items (record s { ended = true }) }
+    ensures taken { (key : List ℕ) (home : HomeBoot) (counts : LinkCounts) (fed written : List ℕ) (items : List Item)
+        (s new : Shepherd P) (clock clock_after : C) (random random_after : R) (serials serials_after : S)
+        → turn s ≡ ShepherdTurn.Request → TakesRequest C.told R.gives S.looks key home counts
+        s clock random serials new clock_after random_after serials_after
+        → Standing fed written items s → Standing fed written items new }
+    ensures out { (fed written bytes : List ℕ) (items : List Item) (s : Shepherd P) (stage : Stage P)
+        → turn s ≡ ShepherdTurn.Output → PutsOut s.stage bytes stage → Standing fed written items s
+        → Standing fed (written ++ bytes) items (record s { stage = stage }) }
+    ensures item { (fed written : List ℕ) (items : List Item) (i : Item) (s : Shepherd P) (stage : Stage P)
+        → TakesItem s.stage i stage → Standing fed written items s
+        → Standing fed written (items ++ i ∷ []) (record s { front = i.holds.front; stage = stage }) }
+{
+    requests_compose();
+}
+
+/// A connection stands with each step of the request that is open, whatever others did before it.
+pub fn connections_stand_with_their_requests<P: Program, L: Link, M: ProgramMaker<P>>(
+    _program: &P,
+    _link: &L,
+    _maker: &M,
+)
+    ensures outside { (fed written : List ℕ) (items : List Item) (old new : Shepherd P) (link after : L)
+        → ShepherdSteps (λ v w. VisitsOutside L.makes L.tally v link w after) old new
+        → Standing fed written items old → Standing fed written items new }
+    ensures windows { (fed written : List ℕ) (items : List Item) (old new : Shepherd P) (windows after : WindowsValue)
+        → ShepherdSteps (λ v w. VisitsWindows v windows w after) old new
+        → Standing fed written items old → Standing fed written items new }
+    ensures inside { (fed written : List ℕ) (items : List Item) (old new : Shepherd P) (container after : ContainerValue)
+        → ShepherdSteps (λ v w. VisitsInside P.asks v container w after) old new
+        → Standing fed written items old → Standing fed written items new }
+    ensures advance { (fed written key : List ℕ) (items : List Item) (old new : Shepherd P)
+        → ShepherdSteps (λ v w. Advances key v v.work w) old new
+        → Standing fed written items old → Standing fed written items new }
+    ensures open { (fed written : List ℕ) (items : List Item) (s : Shepherd P) (stage : Stage P) (maker : M)
+        (worker : WorkerNo) → turn s ≡ ShepherdTurn.Program → OpensStage M.makes maker worker s.stage stage
+        → Standing fed written items s → Standing fed written items (record s { stage = stage }) }
+    ensures given_up { (fed written : List ℕ) (items : List Item) (s : Shepherd P) → Standing fed written items s
+        → Standing fed written items (record s { stage = dropped_stage s.stage }) }
+{}
+
+/// The items of a connection are for the first requests of its bytes, in order, each once, and what was put out are their
+/// responses in order, whatever bytes follow and however they were cut; and where it has ended, and memory was not
+/// wanted, they are for all, and the last response is that of what is refused. A request whose program is to be made has
+/// a call, and the moment of each is below the end of moments.
+pub fn items_are_for_requests_in_order<P>(_program: &P)
+    ensures first { (fed more written : List ℕ) (items : List Item) (s : Shepherd P) → Standing fed written items s
+        → HasServedFirst fed written items more }
+    ensures all { (fed written : List ℕ) (items : List Item) (s : Shepherd P) (end : EndKind)
+        → turn s ≡ ShepherdTurn.Ended end → end ≢ OutOfMemory → Standing fed written items s
+        → HasServedAll fed written items end }
+    ensures asked { (fed written : List ℕ) (items : List Item) (s : Shepherd P) → turn s ≡ ShepherdTurn.Program
+        → Standing fed written items s → OnVisit s.stage (λ v call. call ≢ None) }
+    ensures moment { (fed written : List ℕ) (items : List Item) (s : Shepherd P) → turn s ≡ ShepherdTurn.Inside
+        → Standing fed written items s → OnVisit s.stage (λ v call. v.facts.now.0 < 2 ^ 62) }
+{
+    requests_compose();
+}

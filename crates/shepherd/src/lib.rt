@@ -1,0 +1,45 @@
+//! One connection: its bytes are taken off as requests, each is served to its item, and its responses are put out in
+//! order.
+//!
+//! ```text
+//! let mut shepherd = Shepherd::new(alloc);
+//! loop {
+//!     match shepherd.turn() {
+//!         ShepherdTurn::Bytes => {}                // feed what comes, or `end` where nothing more comes
+//!         ShepherdTurn::Request => shepherd.take_request(alloc, &router, key, home, &link, &mut clock, ..)?,
+//!         ShepherdTurn::Outside => shepherd.step_outside(alloc, &mut link)?,
+//!         ShepherdTurn::Windows => shepherd.step_windows(alloc, &mut windows)?,
+//!         ShepherdTurn::Inside => shepherd.step_inside(alloc, &mut container)?,
+//!         ShepherdTurn::Program => shepherd.open(alloc, worker, &maker)?,
+//!         ShepherdTurn::Own => shepherd.advance(alloc, key)?,
+//!         ShepherdTurn::Output => write_all(&mut sink, shepherd.output().as_slice()),
+//!         ShepherdTurn::Item => items.push(shepherd.take_item())?,
+//!         ShepherdTurn::Ended(end) => return end,
+//!     }
+//! }
+//! ```
+//!
+//! Each call makes one step, which is one event at most, and its contract says what that leaves; so others may step
+//! between any two. After a call that wanted memory the connection has ended. `drop_call` and `drop_passes` give up, at
+//! any turn, what its request holds; where its response has left, its item can still be taken then.
+//!
+//! `specs/Standing.antt` has what is so of a connection at any time, as `Standing`: over the bytes that were fed, those
+//! that were put out, and the items that were taken. The law `connections_stand` says that each step keeps it, and
+//! `items_are_for_requests_in_order` what follows: however the bytes were cut, the requests of all bytes, by the
+//! definition of `http_wire`, are those of the items, each once and in order, then the one that is open, and then
+//! those of what is left and is still to come; and what was put out is the response of each, in order, and at last that
+//! of what is refused.
+#![tactic(auto)]
+
+mod laws;
+mod leaving;
+mod opening;
+mod shepherd;
+mod stepping;
+mod taking;
+
+pub use laws::{
+    connections_stand, connections_stand_with_their_requests, items_are_for_requests_in_order,
+};
+pub use opening::ProgramMaker;
+pub use shepherd::{AskedCall, EndKind, Shepherd, ShepherdTurn, Stage};
