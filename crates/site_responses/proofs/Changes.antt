@@ -3,10 +3,11 @@ use Rattle.std.proofs.Common.{◌≡◌, ◌↔◌, ℕ, ◌<◌, Bool, true, fa
 use Rattle.http_wire.specs.Response.{response_bytes}
 use Rattle.http_wire.specs.declared.response.CookieField.TheVariants as change
 use Rattle.http_wire.specs.declared.response.ExtraFields.{ExtraFields}
-use Rattle.site_responses.specs.Responses.{IsNoPage, IsSessionGone, IsWritten, bytes_of, extra_of, last_response, response, said, said_untaken}
+use Rattle.site_responses.specs.Responses.{IsNoPage, IsSessionGone, IsWritten, bytes_of, extra_of, last_response, left_alone, response, said, said_untaken}
 use Rattle.site_responses.specs.declared.answer.SiteAnswer.{SiteAnswer}
 use Rattle.site_responses.specs.declared.answer.SiteAnswer.TheVariants.{Page, NotThere, NotAllowed, Multipart, BadForm, StaleForm, Expired, Lost, TryAgain, Failed}
 use Rattle.site_responses.specs.declared.answer.Untaken.{Untaken}
+use Rattle.site_responses.specs.declared.answer.Untaken.TheVariants.{Bad, TooLong, BodyTooLong, NoCoding}
 
 -- an answer that sets no cookie is no page behind which the session was written
 abbrev SetsNone : SiteAnswer → Type 0
@@ -88,7 +89,15 @@ when_forbidden Lost other = (λ e. tt, λ e. refl)
 when_forbidden TryAgain other = (λ e. absurd (omega (arith, e)), λ e. absurd e)
 when_forbidden Failed other = (λ e. absurd (omega (arith, e)), λ e. absurd e)
 
-pub last_closes : (why : Untaken) → last_response why
-    ≡ response_bytes (said_untaken why).status (extra_of (said_untaken why) true) (said_untaken why).page false
+pub bytes_say : (answer : SiteAnswer) (close head_only : Bool) → response answer close head_only
+    ≡ response_bytes (said answer).status (record { cookie = (said answer).cookie; retry = (said answer).retry; allow = (said answer).allow; close = close }) (said answer).page head_only
 unfolding bytes_of
-last_closes why = refl
+bytes_say answer close head_only = refl
+
+pub last_closes : (why : Untaken) → last_response why
+    ≡ response_bytes (said_untaken why).status (record { cookie = left_alone; retry = false; allow = 0; close = true }) (said_untaken why).page false
+unfolding bytes_of
+last_closes Bad = refl
+last_closes TooLong = refl
+last_closes BodyTooLong = refl
+last_closes NoCoding = refl

@@ -4,7 +4,7 @@
 ghost use Rattle.std.specs.Prelude.{◌≡◌, ◌↔◌, ℕ, ◌<◌, List, Bool, Option, true, false, ◌++◌};
 ghost use Rattle.http_wire.specs.Response.{response_bytes};
 ghost use Rattle.http_wire.specs.declared.response.CookieField.TheVariants.{Set, Clear};
-ghost use Rattle.site_responses.specs.Responses.{IsNoPage, IsSessionGone, IsWritten, extra_of, failed_page, last_response, left_alone, response, said, said_untaken, set_where};
+ghost use Rattle.site_responses.specs.Responses.{IsNoPage, IsSessionGone, IsWritten, failed_page, last_response, left_alone, response, said, said_untaken, set_where};
 ghost use Rattle.site_responses.specs.declared.answer.SiteAnswer.{SiteAnswer};
 ghost use Rattle.site_responses.specs.declared.answer.SiteAnswer.TheVariants.{Failed, NotAllowed, Page, TryAgain};
 ghost use Rattle.site_responses.specs.declared.answer.Untaken.{Untaken};
@@ -28,15 +28,27 @@ pub fn retries_keep_cookies()
 {}
 
 /// `Allow` is there exactly where something is at the path by other methods, and names these. Of all answers that are
-/// no pages of actions, 403 is that of a session that is gone. And the last response of a connection says that it ends,
-/// and has its page.
+/// no pages of actions, 403 is that of a session that is gone. The bytes have each field that is said, and say that the
+/// connection ends where it does; and the last response of a connection says so, and has its page.
 pub fn fields_come_with_their_answers()
     ensures allow { (answer : SiteAnswer) (allow : ℕ) → 0 < allow
         → ((said answer).allow ≡ allow) ↔ (answer ≡ NotAllowed allow) }
     ensures forbidden { (answer : SiteAnswer) → IsNoPage answer
         → ((said answer).status ≡ 403) ↔ IsSessionGone answer }
+    ensures bytes { (answer : SiteAnswer) (close head_only : Bool) → response answer close head_only
+        ≡ response_bytes (said answer).status (record {
+          cookie = (said answer).cookie;
+          retry = (said answer).retry;
+          allow = (said answer).allow;
+          close = close;
+        }) (said answer).page head_only }
     ensures last { (why : Untaken) → last_response why
-        ≡ response_bytes (said_untaken why).status (extra_of (said_untaken why) true) (said_untaken why).page false }
+        ≡ response_bytes (said_untaken why).status (record {
+          cookie = left_alone;
+          retry = false;
+          allow = 0;
+          close = true;
+        }) (said_untaken why).page false }
 {}
 
 /// The page of an entry without an action, with status 500, says what `Failed` says, but for the cookie of its session,

@@ -1,4 +1,4 @@
-use Rattle.site_responses.proofs.Changes.{last_closes, when_allowed, when_forbidden}
+use Rattle.site_responses.proofs.Changes.{bytes_say, last_closes, when_allowed, when_forbidden}
 use Rattle.site_responses.proofs.laws.fields_come_with_their_answers.Goals as goal
 
 pub returns-clause-allow : goal.returns-clause-allow
@@ -9,3 +9,6 @@ returns-clause-forbidden c = when_forbidden
 
 pub returns-clause-last : goal.returns-clause-last
 returns-clause-last c = last_closes
+
+pub returns-clause-bytes : goal.returns-clause-bytes
+returns-clause-bytes c = bytes_say
