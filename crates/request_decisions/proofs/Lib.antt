@@ -5,3 +5,4 @@ pub mod One
 pub mod Orders
 pub mod Refusals
 pub mod Sessions
+pub mod Shown

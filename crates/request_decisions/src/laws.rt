@@ -1,13 +1,15 @@
 //! Laws of what is decided of a request and drawn for it. Each is the contract of a function that does nothing: a
 //! caller that needs the law calls the function.
 
-ghost use Rattle.std.specs.Prelude.{◌≡◌, ◌≢◌, ◌↔◌, ℕ, ◌<◌, ◌^◌, List, [], ◌∷◌, ◌++◌, is_none, is_some, if◌then◌else◌, length, map, replicate, true, false, Option, Some, None, Err};
+ghost use Rattle.std.specs.Prelude.{◌≡◌, ◌≢◌, ◌↔◌, ◌&&◌, ℕ, ◌<◌, ◌^◌, List, [], ◌∷◌, ◌++◌, is_none, is_some, if◌then◌else◌, length, map, replicate, true, false, Option, Some, None, Err};
 ghost use Rattle.std.specs.Int.{to_be_bytes, w64};
 ghost use Rattle.crash_base.specs.declared.numbers.Moment.{Moment};
 ghost use Rattle.crash_base.specs.declared.numbers.RequestNo.{RequestNo};
 ghost use Rattle.crash_base.specs.declared.numbers.SessionKey.{SessionKey};
 ghost use Rattle.auction_calls.specs.Calls.{is_action};
 ghost use Rattle.auction_calls.specs.declared.action.Action.{Action};
+ghost use Rattle.auction_calls.specs.declared.action.Action.TheVariants.{Form};
+ghost use Rattle.auction_calls.specs.declared.action.FormKind.{FormKind};
 ghost use Rattle.auction_rows.specs.Session.{session_bytes};
 ghost use Rattle.http_wire.specs.declared.taken.Head.{Head};
 ghost use Rattle.http_wire.specs.declared.taken.MethodKind.TheVariants.{Post};
@@ -23,7 +25,7 @@ ghost use Rattle.action_fields.specs.declared.form_field.FormField.TheVariants a
 ghost use Rattle.request_decisions.specs.Calls.{call_of, number_for, numbers_for};
 ghost use Rattle.request_decisions.specs.Counts.{ascends, count_of, kind_number};
 ghost use Rattle.request_decisions.specs.Decisions.{AsksFor, HasTokenOfSession, IsDecided, IsOrdered, IsTokenOf, target_path, target_query};
-ghost use Rattle.request_decisions.specs.Draws.{AreDrawn, begins_session, drawn_for, is_serial, shows_form};
+ghost use Rattle.request_decisions.specs.Draws.{AreDrawn, drawn_for, is_serial, shows_form};
 ghost use Rattle.request_decisions.specs.declared.decision.Decision.{Decision};
 ghost use Rattle.request_decisions.specs.declared.decision.Decision.TheVariants.{Refused, Ordered};
 ghost use Rattle.request_decisions.specs.declared.decision.Order.{Order};
@@ -110,13 +112,16 @@ pub fn posts_have_tokens_of_their_session()
 {}
 
 /// Each draw comes as often as there is cause for it: the number of a request where its token has none, that of a token
-/// where a form is shown, two words of a key where a session begins, and the nonce of a read where there is a cookie.
-/// They come in this order: request, token, key, fresh word, read, write. Those of a key and the fresh one are random
-/// words, and each other one is a serial number. Where all are drawn, there are as many numbers of each kind.
+/// where a form is shown, two words of a key where a form is shown and there is no cookie, and the nonce of a read
+/// where there is one. The action `Form` alone shows a form. The draws come in this order: request, token, key, fresh
+/// word, read, write. Those of a key and the fresh one are random words, and each other one is a serial number. Where
+/// all are drawn, there are as many numbers of each kind.
 pub fn each_draw_has_its_cause()
     ensures request { (o : Order) → count_of Request (drawn_for o) ≡ (if is_none o.number then 1 else 0) }
     ensures token { (o : Order) → count_of Token (drawn_for o) ≡ (if shows_form o.action then 1 else 0) }
-    ensures key { (o : Order) → count_of KeyWord (drawn_for o) ≡ (if begins_session o then 2 else 0) }
+    ensures key { (o : Order) → count_of KeyWord (drawn_for o)
+        ≡ (if shows_form o.action && is_none o.cookie then 2 else 0) }
+    ensures forms { (action : Action) → (shows_form action ≡ true) ↔ ((kind : FormKind) × (action ≡ Form kind)) }
     ensures read { (o : Order) → count_of Read (drawn_for o) ≡ (if is_some o.cookie then 1 else 0) }
     ensures others { (o : Order) → (count_of Fresh (drawn_for o) ≡ 1) × (count_of Write (drawn_for o) ≡ 1) }
     ensures order { (o : Order) → ascends (map kind_number (drawn_for o)) ≡ true }

@@ -1,4 +1,5 @@
 use Rattle.request_decisions.proofs.Counts.{all_drawn, draws_ascend, key_cause, other_causes, read_cause, request_cause, token_cause}
+use Rattle.request_decisions.proofs.Shown.{forms_alone}
 use Rattle.request_decisions.proofs.laws.each_draw_has_its_cause.Goals as goal
 
 pub returns-clause-request : goal.returns-clause-request
@@ -21,3 +22,6 @@ returns-clause-order c = draws_ascend
 
 pub returns-clause-drawn : goal.returns-clause-drawn
 returns-clause-drawn c = all_drawn
+
+pub returns-clause-forms : goal.returns-clause-forms
+returns-clause-forms c = forms_alone
