@@ -14,7 +14,8 @@ use std::alloc::Global;
 use std::fmt::Write;
 use std::process::Abort;
 
-const KEY: &[u8] = b"a key of the service, 32 bytes..";
+/// The service's key.
+pub const KEY: &[u8] = b"a key of the service, 32 bytes..";
 
 /// The cookie of a session whose key is 16 times 07, under the key; it was computed elsewhere, as were the others.
 const GOOD: &str =
@@ -92,7 +93,7 @@ fn method(word: &str) -> MethodKind {
 }
 
 /// The request that a text spells: `METHOD TARGET COOKIE TOKEN PARTS FIELDS`.
-fn request(rt: &impl Abort, alloc: Global, text: &str) -> Head {
+pub fn request(rt: &impl Abort, alloc: Global, text: &str) -> Head {
     let (verb, rest) = cut(rt, text, ' ');
     let (target, rest) = cut(rt, rest, ' ');
     let (bears, rest) = cut(rt, rest, ' ');
@@ -109,7 +110,7 @@ fn request(rt: &impl Abort, alloc: Global, text: &str) -> Head {
     }
 }
 
-fn add_refusal(rt: &impl Abort, words: &mut String, refusal: Refusal) {
+pub fn add_refusal(rt: &impl Abort, words: &mut String, refusal: Refusal) {
     match refusal {
         Refusal::NotThere => add_word(rt, words, "404"),
         Refusal::NotAllowed { allow } => write!(words, " 405/{allow}").expect(rt, "405"),
@@ -121,7 +122,7 @@ fn add_refusal(rt: &impl Abort, words: &mut String, refusal: Refusal) {
     }
 }
 
-fn draw_word(kind: DrawKind) -> &'static str {
+pub fn draw_word(kind: DrawKind) -> &'static str {
     match kind {
         DrawKind::Request => "request",
         DrawKind::Token => "token",

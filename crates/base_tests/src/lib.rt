@@ -20,6 +20,8 @@ mod forms;
 #[cfg(test)]
 mod heads;
 #[cfg(test)]
+mod intakes;
+#[cfg(test)]
 mod keeper_opening;
 #[cfg(test)]
 mod keeper_rows;
