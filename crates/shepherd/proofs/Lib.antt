@@ -1,3 +1,5 @@
+mod Beginning
+mod Counting
 mod Ending
 mod Growing
 mod Keeping

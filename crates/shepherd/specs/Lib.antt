@@ -1,3 +1,4 @@
+pub mod Accounting
 pub mod Shepherds
 pub mod Standing
 pub mod Steps

@@ -27,10 +27,17 @@
 //! that were put out, and the items that were taken. The law `connections_stand` says that each step keeps it, and
 //! `items_are_for_requests_in_order` what follows: however the bytes were cut, the requests of all bytes, by the
 //! definition of `http_wire`, are those of the items, each once and in order, then the one that is open, and then
-//! those of what is left and is still to come; and what was put out is the response of each, in order, and at last that
-//! of what is refused.
+//! those of what is left and is still to come; and what was put out is what was put out for each, in order, and at last
+//! the response of what is refused. `Standing` does not say that what was put out for a request is the response to its
+//! item: `responses_are_of_their_items` of `request_visit` does, for each request.
+//!
+//! `specs/Accounting.antt` has what a connection added to the history of the container and left in that of the windows,
+//! as `Accounting`: each step keeps it, whatever others add meanwhile (`connections_account_for_what_they_add`,
+//! `taken_requests_add_nothing`). So its own events and marks are those that its items tell of, in order, and then those
+//! of the request that is open (`items_tell_what_was_added`).
 #![tactic(auto)]
 
+mod accounting;
 mod laws;
 mod leaving;
 mod opening;
@@ -38,6 +45,9 @@ mod shepherd;
 mod stepping;
 mod taking;
 
+pub use accounting::{
+    connections_account_for_what_they_add, items_tell_what_was_added, taken_requests_add_nothing,
+};
 pub use laws::{
     connections_stand, connections_stand_with_their_requests, items_are_for_requests_in_order,
 };
