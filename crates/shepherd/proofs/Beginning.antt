@@ -94,7 +94,7 @@ in_place asks start history own marks items s new rest tells h =
     with_stage asks start history own marks items s new h
     (subst (λ xs. StageTells asks start history xs h.open_marks new.stage) (sym none.0) (subst (λ xs. StageTells asks start history [] xs new.stage) (sym none.1) tells))
 
-pub taken : {P C R S : Type 0} (asks : P → List Answer → Next) → Begin asks → (told : C → ℕ) (gives : Rattle.request_intake.specs.Drawing.Gives R) (looks : Rattle.request_intake.specs.Drawing.Looks S)
+pub taken : {P C R S : Type 0} (asks : P → List Answer → Next) → Begin asks → (told : C → ℕ) (gives : Rattle.request_intake.specs.Intakes.Gives R) (looks : Rattle.request_intake.specs.Intakes.Looks S)
     (key : List ℕ) (home : HomeBoot) (counts : LinkCounts) (start : Start) (history own : List Event) (marks : List WindowMark) (items : List Item) (s new : Shepherd P)
     (clock clock_after : C) (random random_after : R) (serials serials_after : S) → turn s ≡ turns.Request
     → TakesRequest told gives looks key home counts s clock random serials new clock_after random_after serials_after

@@ -12,7 +12,7 @@ use Rattle.http_wire.specs.declared.taken.Taken.TheVariants as took
 use Rattle.outcome_items.specs.declared.item.Item.{Item}
 use Rattle.outside.specs.declared.clock.TheConstants.{MOMENTS_END}
 use Rattle.outside.specs.declared.link.LinkCounts.{LinkCounts}
-use Rattle.request_intake.specs.Drawing.{Gives, Looks}
+use Rattle.request_intake.specs.Intakes.{Gives, Looks}
 use Rattle.request_intake.specs.declared.intake.Admission.{Admission}
 use Rattle.request_intake.specs.declared.intake.Arrival.{Arrival}
 use Rattle.request_intake.specs.declared.intake.Arrival.TheVariants.{Refused, SerialsSpent, Admitted}

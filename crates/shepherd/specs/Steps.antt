@@ -15,7 +15,7 @@ use Rattle.outside.specs.Link.{Tally}
 use Rattle.outside.specs.declared.clock.TheConstants.{MOMENTS_END}
 use Rattle.outside.specs.declared.link.LinkCounts.{LinkCounts}
 use Rattle.outside.specs.declared.link.LinkEvent.{LinkEvent}
-use Rattle.request_intake.specs.Drawing.{Gives, Looks}
+use Rattle.request_intake.specs.Intakes.{Gives, Looks}
 use Rattle.request_intake.specs.Intakes.{TakesIn}
 use Rattle.request_intake.specs.declared.intake.Admission.{Admission}
 use Rattle.request_intake.specs.declared.intake.Arrival.{Arrival}
