@@ -35,7 +35,7 @@ use Rattle.request_visit.specs.declared.facts.VisitFacts.{VisitFacts}
 use Rattle.request_visit.specs.declared.ready.Ready.{Ready}
 use Rattle.request_visit.specs.declared.ready.Ready.TheVariants.{Respond, Write}
 use Rattle.request_visit.specs.declared.visit.Fate.{Fate}
-use Rattle.request_visit.specs.declared.visit.Fate.TheVariants.{Known, Written}
+use Rattle.request_visit.specs.declared.visit.Fate.TheVariants.{Known, Writing}
 use Rattle.request_visit.specs.declared.visit.Visit.{Visit}
 use Rattle.request_visit.specs.declared.visit.Work.{Work}
 use Rattle.request_visit.specs.declared.visit.Work.TheVariants.{Reading, Opening, Serving, Committed, Decided, Answered, Left}
@@ -243,7 +243,7 @@ became_stays law start history more errand facts holds own (item.Missed place ag
 fate_stays : (law : EndsStay) (start : Start) (history more : List Event) (errand : Errand) (facts : VisitFacts) (holds : Holds) (own : List Event) (fate : Fate)
     → FateStands start history errand facts holds own fate → FateStands start (history ++ more) errand facts holds own fate
 fate_stays law start history more errand facts holds own (Known became) b = became_stays law start history more errand facts holds own became b
-fate_stays law start history more errand facts holds own (Written place again) b = ends_stay law start history more errand facts holds (Page place again) own b
+fate_stays law start history more errand facts holds own (Writing place again) b = ends_stay law start history more errand facts holds (Page place again) own b
 
 pub meanwhile : {P : Type 0} (law : EndsStay) (asks : P → List Answer → Next) (start : Start) (history more : List Event) (errand : Errand) (facts : VisitFacts) (holds : Holds) (own : List Event) (work : Work P)
     → AccountsOf asks start history errand facts holds own work → AccountsOf asks start (history ++ more) errand facts holds own work

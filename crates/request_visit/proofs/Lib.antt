@@ -1,7 +1,9 @@
 pub mod Accounting
+pub mod Chaining
 pub mod Following
 pub mod Kept
 pub mod Marking
 pub mod Saying
+pub mod Standing
 pub mod Telling
 pub mod Turning

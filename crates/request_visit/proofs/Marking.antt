@@ -1,9 +1,10 @@
 -- What a request has left in the history of the windows, step by step.
 use Rattle.std.specs.Prelude.{map, option_map}
-use Rattle.std.proofs.Common.{◌≡◌, ◌≢◌, ℕ, Bool, List, [], ◌∷◌, ◌++◌, Option, Some, None, refl, sym, ap, ◌∙◌, subst, inl, inr}
+use Rattle.std.proofs.Common.{◌≡◌, ◌≢◌, ◌⊎◌, ℕ, Bool, List, [], ◌∷◌, ◌++◌, append-nil, Option, Some, None, refl, sym, ap, ◌∙◌, subst, inl, inr}
 use Rattle.call_ticket.specs.declared.next.Answer.{Answer}
 use Rattle.call_ticket.specs.declared.next.Next.{Next}
 use Rattle.container_core.specs.Container.{ContainerValue, events_of}
+use Rattle.outside.specs.declared.link.LinkCounts.{LinkCounts}
 use Rattle.outside.specs.declared.link.LinkEvent.{LinkEvent}
 use Rattle.send_windows.specs.declared.fact.WindowFact.{WindowFact}
 use Rattle.send_windows.specs.declared.history.WindowMark.{WindowMark}
@@ -11,6 +12,7 @@ use Rattle.send_windows.specs.declared.history.WindowMark.TheVariants as mark
 use Rattle.send_windows.specs.declared.windows.TakeRefusal.TheVariants as refusal
 use Rattle.send_windows.specs.Windows.{WindowsValue}
 use Rattle.session_cookie.specs.declared.cookie.Cookie.{Cookie}
+use Rattle.ssm_stub.specs.Reads.{ReadState}
 use Rattle.ssm_stub.specs.Writes.{write_answer, write_next}
 use Rattle.ssm_stub.specs.declared.event.StubNext.{StubNext}
 use Rattle.ssm_stub.specs.declared.event.StubNext.TheVariants as stub
@@ -28,6 +30,7 @@ use Rattle.session_way.specs.declared.way.SessionWay.TheVariants as way
 use Rattle.session_way.specs.declared.way.Wants.{Wants}
 use Rattle.session_way.specs.declared.way.Wants.TheVariants as wanted
 use Rattle.request_tries.specs.Ends.{done_of}
+use Rattle.request_tries.specs.Serving.{TriesValue}
 use Rattle.request_tries.specs.declared.outcome.Ended.{Ended}
 use Rattle.request_tries.specs.declared.outcome.RequestOutcome.{RequestOutcome}
 use Rattle.request_tries.specs.declared.outcome.RequestOutcome.TheVariants.{Page, Sentinel, Revoked, Conflict, JournalFull, KeeperFailed}
@@ -37,13 +40,15 @@ use Rattle.request_visit.specs.Advancing.{Advances, HearsReadOf, IsItemOf, after
 use Rattle.request_visit.specs.Marks.{AddsMarks, HasWrite, IsSettling, Marks, MarksOf, MayBeRead, Rests, WritesWith}
 use Rattle.request_visit.specs.Ready.{ready_of}
 use Rattle.request_visit.specs.Serving.{closed_with, closing_of, holds_of}
-use Rattle.request_visit.specs.Stepping.{ServesWork, VisitsInside, VisitsWindows, after_closing_if, left_so}
-use Rattle.request_visit.specs.Visits.{after_outcome, fate_missed, fate_written, or_over, or_own, overloaded, turn, turn_by, with_fate}
+use Rattle.request_visit.specs.Stepping.{IsGivenBack, ServesWork, VisitsInside, VisitsWindows, after_closing_if, dropped, left_so}
+use Rattle.request_visit.specs.Visits.{after_outcome, begun, fate_missed, fate_written, or_over, or_own, overloaded, turn, turn_by, with_fate}
 use Rattle.request_visit.specs.declared.ready.Ready.{Ready}
 use Rattle.request_visit.specs.declared.ready.Ready.TheVariants.{Respond, Write}
 use Rattle.request_visit.specs.declared.serving.Closed.TheVariants as closes
 use Rattle.request_visit.specs.declared.serving.Closing.{Closing}
-use Rattle.request_visit.specs.declared.visit.Fate.TheVariants.{Known, Written}
+use Rattle.request_visit.specs.declared.facts.VisitFacts.{VisitFacts}
+use Rattle.request_visit.specs.declared.visit.Fate.{Fate}
+use Rattle.request_visit.specs.declared.visit.Fate.TheVariants.{Known, Writing}
 use Rattle.request_visit.specs.declared.visit.Turn.TheVariants as turns
 use Rattle.request_visit.specs.declared.visit.Visit.{Visit}
 use Rattle.request_visit.specs.declared.visit.Work.{Work}
@@ -126,7 +131,7 @@ abbrev pub Answers : Type 0
 Answers = (w : WritingState) → wants (way.Settling w) ≡ wanted.Windows → write_answer w.write ≢ None
 
 -- nothing was told of a write without an answer
-none_told : (told : Option WriteOutcome) → option_map answer_of_write told ≡ None → told ≡ None
+pub none_told : (told : Option WriteOutcome) → option_map answer_of_write told ≡ None → told ≡ None
 none_told None e = refl
 none_told (Some o) e = absurd (cc)
 
@@ -159,7 +164,7 @@ committed_given marks cookie (way.Holding passes) after windows later told k e n
 -- what is so of a request whose response has left, once its passes are spent
 abbrev SpentSo : List WindowMark → Option Cookie → SessionWay → Option WriteOutcome → Place → Bool → Type 0
 SpentSo marks cookie after told place again =
-    MarksOf {P = Unit {0}} marks (cookie_told told cookie) after (work_told told (Left (Written place again)))
+    MarksOf {P = Unit {0}} marks (cookie_told told cookie) after (work_told told (Left (Writing place again)))
 
 left_given : (law : Answers) (marks : List WindowMark) (cookie : Option Cookie) (w after : SessionWay) (windows later : WindowsValue) (told : Option WriteOutcome) (place : Place) (again : Bool)
     → IsSettling w → wants w ≡ wanted.Windows → marks ≡ mark.Taken 0 ∷ [] → StepsWindows w windows after later → option_map answer_of_write told ≡ answer_held w
@@ -177,7 +182,7 @@ left_given law marks cookie (way.Holding passes) after windows later told place 
 
 -- the same fact, of any program
 of_any : (P : Type 0) (marks : List WindowMark) (cookie : Option Cookie) (after : SessionWay) (told : Option WriteOutcome) (place : Place) (again : Bool)
-    → SpentSo marks cookie after told place again → MarksOf {P = P} marks (cookie_told told cookie) after (work_told told (Left (Written place again)))
+    → SpentSo marks cookie after told place again → MarksOf {P = P} marks (cookie_told told cookie) after (work_told told (Left (Writing place again)))
 of_any P marks cookie after None place again h = h
 of_any P marks cookie after (Some (outcome.Written given)) place again h = h
 of_any P marks cookie after (Some (outcome.Missed causes)) place again h = h
@@ -195,7 +200,7 @@ given_by {P} law marks cookie w after windows later told (Committed place again 
 given_by law marks cookie w after windows later told (Decided became) turned m step is = absurd (cc)
 given_by law marks cookie w after windows later told (Answered fate bytes) turned m step is = absurd (cc)
 given_by law marks cookie w after windows later told (Left (Known became)) turned m step is = absurd (rests_wants w m.rests (over_windows (wants w) turned))
-given_by {P} law marks cookie w after windows later told (Left (Written place again)) turned m step is =
+given_by {P} law marks cookie w after windows later told (Left (Writing place again)) turned m step is =
     of_any P (marks ++ map uncounted (marks_by w after)) cookie after told place again
     (left_given law marks cookie w after windows later told place again m.held_so (over_windows (wants w) turned) m.marks_are step is)
 
@@ -240,7 +245,7 @@ refused_by marks cookie w after windows later full (Committed place again shown)
 refused_by marks cookie w after windows later full (Decided became) turned m r = absurd (cc)
 refused_by marks cookie w after windows later full (Answered fate bytes) turned m r = absurd (cc)
 refused_by marks cookie w after windows later full (Left (Known became)) turned m r = absurd (refused_rest w after windows later full m.rests r)
-refused_by marks cookie w after windows later full (Left (Written place again)) turned m r = absurd (refused_settling w after windows later full m.held_so r)
+refused_by marks cookie w after windows later full (Left (Writing place again)) turned m r = absurd (refused_settling w after windows later full m.held_so r)
 
 pub windows_mark : {P : Type 0} (law : Answers) (marks : List WindowMark) (old new : Visit P) (windows after : WindowsValue)
     → turn old ≡ turns.Windows → VisitsWindows old windows new after → Marks marks old → AddsMarks marks windows after new
@@ -346,10 +351,10 @@ outside_marks makes marks cookie w after link later (Serving tries program) s m 
 outside_marks makes marks cookie w after link later (Committed place again shown) s m = (m.0, outside_write makes marks w after link later s m.1)
 outside_marks makes marks cookie w after link later (Decided became) s m = absurd (outside_rests makes w after link later s m.1.rests)
 outside_marks makes marks cookie w after link later (Answered (Known became) bytes) s m = absurd (outside_rests makes w after link later s m.rests)
-outside_marks makes marks cookie w after link later (Answered (Written place again) bytes) s m =
+outside_marks makes marks cookie w after link later (Answered (Writing place again) bytes) s m =
     record { no_cookie = m.no_cookie; marks_are = m.marks_are; held_so = outside_has makes w after link later s m.held_so }
 outside_marks makes marks cookie w after link later (Left (Known became)) s m = absurd (outside_rests makes w after link later s m.rests)
-outside_marks makes marks cookie w after link later (Left (Written place again)) s m =
+outside_marks makes marks cookie w after link later (Left (Writing place again)) s m =
     record { no_cookie = m.no_cookie; marks_are = m.marks_are; held_so = outside_settles makes w after link later s m.held_so }
 
 read_marks : {P : Type 0} (marks : List WindowMark) (told : ReadOutcome) (v : Visit P) → v.cookie ≡ None → marks ≡ [] → Marks marks (after_read told v)
@@ -402,7 +407,7 @@ leave_marks marks cookie w (Committed place again shown) turned m = absurd (by_w
   by_wants wanted.Windows e = cc
 leave_marks marks cookie w (Decided became) turned m = absurd (cc)
 leave_marks marks cookie w (Answered (Known became) bytes) turned m = record { rests = ap settled m.rests; marks_are = m.marks_are }
-leave_marks marks cookie w (Answered (Written place again) bytes) turned m =
+leave_marks marks cookie w (Answered (Writing place again) bytes) turned m =
     record { no_cookie = m.no_cookie; marks_are = m.marks_are; held_so = settles w m.held_so }
 leave_marks marks cookie w (Left fate) turned m = absurd (by_wants (wants w) turned) where
   by_wants : (x : Wants) → or_over x ≡ turns.Output → ⊥
@@ -419,4 +424,68 @@ item_marks marks v (Committed place again shown) i turned is m = absurd is
 item_marks marks v (Decided became) i turned is m = absurd is
 item_marks marks v (Answered fate bytes) i turned is m = absurd is
 item_marks marks v (Left (Known became)) i turned is m = m.marks_are ∙ sym (ap window_trace is)
-item_marks marks v (Left (Written place again)) i turned is m = absurd (settling_wants v.way m.held_so (over_nothing (wants v.way) turned))
+item_marks marks v (Left (Writing place again)) i turned is m = absurd (settling_wants v.way m.held_so (over_nothing (wants v.way) turned))
+
+pub opened_marks : {P : Type 0} (marks : List WindowMark) (v : Visit P) (tries : TriesValue) (program : P)
+    → v.work ≡ Opening → Marks marks v → Marks marks (record v { work = Serving tries program })
+opened_marks {P} marks v tries program is m = subst (λ (w : Work P). MarksOf marks v.cookie v.way w) is m
+
+pub dropped_marks : {P : Type 0} (marks : List WindowMark) (cookie : Option Cookie) (w : SessionWay) (work : Work P)
+    → MarksOf marks cookie w work → MarksOf marks cookie w (dropped work)
+dropped_marks marks cookie w Reading m = m
+dropped_marks marks cookie w Opening m = m
+dropped_marks marks cookie w (Serving tries program) m = m
+dropped_marks marks cookie w (Committed place again shown) m = m
+dropped_marks marks cookie w (Decided became) m = m
+dropped_marks marks cookie w (Answered fate bytes) m = m
+dropped_marks marks cookie w (Left fate) m = m
+
+-- a write that waits for its passes has its answer
+abbrev pub HasOutcome : SessionWay → Fate → Type 0
+HasOutcome w fate = (place : Place) (again : Bool) → fate ≡ Writing place again → answer_held w ≢ None
+
+spent_back : (marks : List WindowMark) (cookie : Option Cookie) (w : SessionWay) (told : Option WriteOutcome) (place : Place) (again : Bool)
+    → IsSettling w → marks ≡ mark.Taken 0 ∷ [] → option_map answer_of_write told ≡ answer_held w → answer_held w ≢ None
+    → SpentSo (marks ++ map uncounted (marks_by w way.Resting)) cookie way.Resting told place again
+spent_back marks cookie way.Resting told place again s taken is some = absurd s
+spent_back marks cookie (way.Reading r) told place again s taken is some = absurd s
+spent_back marks cookie (way.Ordered order) told place again s taken is some = absurd s
+spent_back marks cookie (way.Writing v) told place again s taken is some = absurd s
+spent_back marks cookie (way.Settling v) None place again s taken is some = absurd (some (sym is))
+spent_back marks cookie (way.Settling v) (Some (outcome.Written given)) place again s taken is some =
+    record { rests = refl; marks_are = spent_marks marks v way.Resting refl taken }
+spent_back marks cookie (way.Settling v) (Some (outcome.Missed causes)) place again s taken is some =
+    record { rests = refl; marks_are = spent_marks marks v way.Resting refl taken }
+spent_back marks cookie (way.Holding passes) told place again s taken is some = absurd s
+
+-- passes are given back behind a response
+back_by : (P : Type 0) (marks : List WindowMark) (cookie : Option Cookie) (w : SessionWay) (told : Option WriteOutcome) (fate : Fate)
+    → option_map answer_of_write told ≡ answer_held w → HasOutcome w fate → MarksOf {P = P} marks cookie w (Left fate)
+    → MarksOf {P = P} (marks ++ map uncounted (marks_by w way.Resting)) (cookie_told told cookie) way.Resting (work_told told (Left fate))
+back_by P marks cookie w told (Known became) is some m =
+    let none : told ≡ None = none_told told (is ∙ ap answer_held m.rests) in
+    let kept : marks ++ map uncounted (marks_by w way.Resting) ≡ marks =
+    ap (λ (x : SessionWay). marks ++ map uncounted (marks_by x way.Resting)) m.rests ∙ append-nil marks in
+    let So : Option WriteOutcome → Type 0 = λ t. MarksOf {P = P} (marks ++ map uncounted (marks_by w way.Resting)) (cookie_told t cookie) way.Resting (work_told t (Left (Known became))) in
+    subst So (sym none) (record { rests = refl; marks_are = kept ∙ m.marks_are })
+back_by P marks cookie w told (Writing place again) is some m =
+    of_any P (marks ++ map uncounted (marks_by w way.Resting)) cookie way.Resting told place again
+    (spent_back marks cookie w told place again m.held_so m.marks_are is (some place again refl))
+
+pub back_marks : {P : Type 0} (marks : List WindowMark) (old new : Visit P) (fate : Fate)
+    → IsGivenBack old new → old.work ≡ Left fate → HasOutcome old.way fate → Marks marks old → Marks (marks ++ map uncounted (marks_by old.way way.Resting)) new
+back_marks {P} marks old new fate back is some m =
+    let later : List WindowMark = marks ++ map uncounted (marks_by old.way way.Resting) in
+    subst (λ (v : Visit P). Marks later v) (sym back.new_is)
+    (told_marks later back.outcome (record old { way = way.Resting })
+    (subst (λ (w : Work P). MarksOf later (cookie_told back.outcome old.cookie) way.Resting (work_told back.outcome w)) (sym is)
+    (back_by P marks old.cookie old.way back.outcome fate back.is_outcome some (subst (λ (w : Work P). MarksOf marks old.cookie old.way w) is m))))
+
+pub begun_marks : {P : Type 0} (v : Visit P) (facts : VisitFacts) (counts : LinkCounts) (w : SessionWay) (work : Work P)
+    → v ≡ begun facts counts w work → MarksOf [] None w work → Marks [] v
+begun_marks {P} v facts counts w work is m = subst (λ (x : Visit P). Marks [] x) (sym is) m
+
+pub either_marks : {P : Type 0} (v : Visit P) (facts : VisitFacts) (counts : LinkCounts) (r : ReadState)
+    → ((v ≡ begun facts counts (way.Reading r) Reading) ⊎ (v ≡ begun facts counts way.Resting Opening)) → Marks [] v
+either_marks v facts counts r (inl is) = begun_marks v facts counts (way.Reading r) Reading is (refl, refl, tt)
+either_marks v facts counts r (inr is) = begun_marks v facts counts way.Resting Opening is (refl, record { rests = refl; marks_are = refl })

@@ -46,14 +46,14 @@ use Rattle.request_visit.specs.declared.serving.Closed.{Closed}
 use Rattle.request_visit.specs.declared.serving.Closed.TheVariants as closes
 use Rattle.request_visit.specs.declared.serving.Closing.{Closing}
 use Rattle.request_visit.specs.declared.visit.Fate.{Fate}
-use Rattle.request_visit.specs.declared.visit.Fate.TheVariants.{Known, Written}
+use Rattle.request_visit.specs.declared.visit.Fate.TheVariants.{Known, Writing}
 use Rattle.request_visit.specs.declared.visit.Visit.{Visit}
 use Rattle.request_visit.specs.declared.visit.Work.{Work}
 use Rattle.request_visit.specs.declared.visit.Work.TheVariants.{Reading, Opening, Serving, Committed, Decided, Answered, Left}
 use Rattle.session_way.specs.Lease.{value_to_write}
 use Rattle.session_way.specs.declared.lease.SessionLease.{SessionLease}
 use Rattle.request_visit.proofs.Following.{responds, shows_entry}
-use Rattle.request_visit.proofs.Marking.{Answers, committed_given, cookie_told, over_nothing, read_wants, refused_settling, rests_wants, settling_wants, work_told}
+use Rattle.request_visit.proofs.Marking.{Answers, HasOutcome, committed_given, cookie_told, none_told, over_nothing, read_wants, refused_settling, rests_wants, settling_wants, work_told}
 use Rattle.request_visit.proofs.Turning.{own_windows, over_windows}
 use Rattle.outside.specs.declared.link.LinkCounts.{LinkCounts}
 use Rattle.send_windows.specs.declared.windows.TakeRefusal.TheVariants as refusal
@@ -61,7 +61,7 @@ use Rattle.session_way.specs.Way.{IsRefused, StepsWindows}
 use Rattle.session_way.specs.declared.way.Wants.{Wants}
 use Rattle.session_way.specs.declared.way.Wants.TheVariants as wanted
 use Rattle.request_visit.specs.Marks.{IsSettling, Marks, MarksOf}
-use Rattle.request_visit.specs.Stepping.{VisitsWindows}
+use Rattle.request_visit.specs.Stepping.{IsGivenBack, VisitsWindows, dropped}
 use Rattle.request_visit.specs.Advancing.{after_leaving, departed, response_in}
 use Rattle.request_visit.specs.Visits.{after_outcome, begun, or_over, overloaded, turn, turn_by}
 use Rattle.request_visit.specs.declared.visit.Turn.TheVariants as turns
@@ -230,7 +230,7 @@ advance_says key history out old new advances s = itself_says key history out ol
 -- what its write came to is what the response says
 spent_says : (P : Type 0) (key : List ℕ) (es : List Entry) (facts : VisitFacts) (cookie : Option Cookie) (w after : SessionWay) (out : List ℕ) (told : Option WriteOutcome) (place : Place) (again : Bool)
     → RespondsSoFar key es facts cookie w place again out → option_map answer_of_write told ≡ answer_held w → answer_held w ≢ None
-    → SaysOf {P = P} key es facts (cookie_told told cookie) after out (work_told told (Left (Written place again)))
+    → SaysOf {P = P} key es facts (cookie_told told cookie) after out (work_told told (Left (Writing place again)))
 spent_says P key es facts cookie w after out None place again s is some = absurd (some (sym is))
 spent_says P key es facts cookie w after out (Some (outcome.Written given)) place again s is some =
     let Shows : Option Cookie → Type 0 = λ c. IsShown key facts (shown_by (done_at es place)) c out in
@@ -263,7 +263,7 @@ given_says {P} law key es facts cookie w after windows later marks out told (Com
 given_says law key es facts cookie w after windows later marks out told (Decided became) turned m step is s = absurd (cc)
 given_says law key es facts cookie w after windows later marks out told (Answered fate bytes) turned m step is s = absurd (cc)
 given_says law key es facts cookie w after windows later marks out told (Left (Known became)) turned m step is s = absurd (rests_wants w m.rests (over_windows (wants w) turned))
-given_says {P} law key es facts cookie w after windows later marks out told (Left (Written place again)) turned m step is s =
+given_says {P} law key es facts cookie w after windows later marks out told (Left (Writing place again)) turned m step is s =
     spent_says P key es facts cookie w after out told place again s is (settled_answer law w m.held_so (over_windows (wants w) turned))
 
 told_says : {P : Type 0} (key : List ℕ) (history : List Event) (out : List ℕ) (told : Option WriteOutcome) (v : Visit P) → v.holds.held ≤ length history
@@ -282,7 +282,7 @@ full_says key es facts cookie w after windows later marks full out (Committed pl
 full_says key es facts cookie w after windows later marks full out (Decided became) turned m r s = s
 full_says key es facts cookie w after windows later marks full out (Answered fate bytes) turned m r s = absurd (cc)
 full_says key es facts cookie w after windows later marks full out (Left (Known became)) turned m r s = s
-full_says key es facts cookie w after windows later marks full out (Left (Written place again)) turned m r s = absurd (refused_settling w after windows later full m.held_so r)
+full_says key es facts cookie w after windows later marks full out (Left (Writing place again)) turned m r s = absurd (refused_settling w after windows later full m.held_so r)
 
 pub windows_says : {P : Type 0} (law : Answers) (key : List ℕ) (history : List Event) (out : List ℕ) (marks : List WindowMark) (old new : Visit P) (windows after : WindowsValue)
     → turn old ≡ turns.Windows → VisitsWindows old windows new after → Marks marks old → Says key history out old → Says key history out new
@@ -307,7 +307,7 @@ settled_keeps (way.Holding passes) = refl
 other_way : (key : List ℕ) (es : List Entry) (facts : VisitFacts) (cookie : Option Cookie) (w after : SessionWay) (out : List ℕ) (fate : Fate)
     → cookie_in (answer_held after) ≡ cookie_in (answer_held w) → FateSays key es facts cookie w out fate → FateSays key es facts cookie after out fate
 other_way key es facts cookie w after out (Known became) same s = s
-other_way key es facts cookie w after out (Written place again) same s =
+other_way key es facts cookie w after out (Writing place again) same s =
     record { no_cookie = s.no_cookie; is_shown = subst (λ (c : Option Cookie). IsShown key facts (shown_by (done_at es place)) c out) (sym same) s.is_shown }
 
 outside_of : {P : Type 0} (key : List ℕ) (es : List Entry) (facts : VisitFacts) (cookie : Option Cookie) (w after : SessionWay) (out : List ℕ) (work : Work P)
@@ -363,7 +363,7 @@ item_of_work key history out marks v (Left (Known became)) i head turned is m cl
       bytes_are = s.bytes_are ∙ ap (λ (b : Bool). response (answer_of (shown_by_entry es became) s.text became) b v.facts.head_only) close
           ∙ ap (λ (b : Bool). response (answer_of (shown_by_entry es became) s.text became) head.close b) only;
     })
-item_of_work key history out marks v (Left (Written place again)) i head turned is m close only s = absurd (settling_wants v.way m.held_so (over_nothing (wants v.way) turned))
+item_of_work key history out marks v (Left (Writing place again)) i head turned is m close only s = absurd (settling_wants v.way m.held_so (over_nothing (wants v.way) turned))
 
 pub item_says : {P : Type 0} (key : List ℕ) (history : List Event) (out : List ℕ) (marks : List WindowMark) (v : Visit P) (i : Item) (head : Head)
     → turn v ≡ turns.Over → IsItemOf v v.work i → Marks marks v → v.facts.close ≡ head.close → v.facts.head_only ≡ is_head_only head.method
@@ -388,3 +388,39 @@ pub opened_says : {P : Type 0} (key : List ℕ) (history : List Event) (out : Li
     → v.work ≡ Opening → Says key history out v → Says key history out (record v { work = Serving tries program })
 opened_says {P} key history out v tries program is s =
     record { within = s.within; says = subst (λ (w : Work P). SaysOf key (entries_in (take v.holds.held history)) v.facts v.cookie v.way out w) is s.says }
+
+-- passes are given back behind a response
+back_of : (P : Type 0) (key : List ℕ) (es : List Entry) (facts : VisitFacts) (cookie : Option Cookie) (w : SessionWay) (marks : List WindowMark) (out : List ℕ) (told : Option WriteOutcome) (fate : Fate)
+    → option_map answer_of_write told ≡ answer_held w → HasOutcome w fate → MarksOf {P = P} marks cookie w (Left fate)
+    → SaysOf {P = P} key es facts cookie w out (Left fate) → SaysOf {P = P} key es facts (cookie_told told cookie) way.Resting out (work_told told (Left fate))
+back_of P key es facts cookie w marks out told (Known became) is some m s =
+    let none : told ≡ None = none_told told (is ∙ ap answer_held m.rests) in
+    let So : Option WriteOutcome → Type 0 = λ t. SaysOf {P = P} key es facts (cookie_told t cookie) way.Resting out (work_told t (Left (Known became))) in
+    subst So (sym none) s
+back_of P key es facts cookie w marks out told (Writing place again) is some m s =
+    spent_says P key es facts cookie w way.Resting out told place again s is (some place again refl)
+
+pub back_says : {P : Type 0} (key : List ℕ) (history : List Event) (out : List ℕ) (marks : List WindowMark) (old new : Visit P) (fate : Fate)
+    → IsGivenBack old new → old.work ≡ Left fate → HasOutcome old.way fate → Marks marks old → Says key history out old → Says key history out new
+back_says {P} key history out marks old new fate back is some m s =
+    let es : List Entry = entries_in (take old.holds.held history) in
+    subst (λ (v : Visit P). Says key history out v) (sym back.new_is)
+    (told_says key history out back.outcome (record old { way = way.Resting }) s.within
+    (subst (λ (w : Work P). SaysOf key es old.facts (cookie_told back.outcome old.cookie) way.Resting out (work_told back.outcome w)) (sym is)
+    (back_of P key es old.facts old.cookie old.way marks out back.outcome fate back.is_outcome some
+    (subst (λ (w : Work P). MarksOf marks old.cookie old.way w) is m)
+    (subst (λ (w : Work P). SaysOf key es old.facts old.cookie old.way out w) is s.says))))
+
+dropped_of : {P : Type 0} (key : List ℕ) (es : List Entry) (facts : VisitFacts) (cookie : Option Cookie) (w : SessionWay) (out : List ℕ) (work : Work P)
+    → SaysOf key es facts cookie w out work → SaysOf key es facts cookie w out (dropped work)
+dropped_of key es facts cookie w out Reading s = s
+dropped_of key es facts cookie w out Opening s = s
+dropped_of key es facts cookie w out (Serving tries program) s = s
+dropped_of key es facts cookie w out (Committed place again shown) s = s
+dropped_of key es facts cookie w out (Decided became) s = s
+dropped_of key es facts cookie w out (Answered fate bytes) s = s
+dropped_of key es facts cookie w out (Left fate) s = s
+
+pub dropped_says : {P : Type 0} (key : List ℕ) (history : List Event) (out : List ℕ) (v : Visit P) → Says key history out v → Says key history out (record v { work = dropped v.work })
+dropped_says key history out v s =
+    record { within = s.within; says = dropped_of key (entries_in (take v.holds.held history)) v.facts v.cookie v.way out v.work s.says }

@@ -29,7 +29,7 @@ use Rattle.request_visit.specs.Stepping.{IsGivenBack, VisitsWindows, dropped}
 use Rattle.request_visit.specs.Visits.{after_outcome, fate_missed, fate_written, or_over, overloaded, turn, turn_by, with_fate}
 use Rattle.request_visit.specs.declared.facts.VisitFacts.{VisitFacts}
 use Rattle.request_visit.specs.declared.visit.Fate.{Fate}
-use Rattle.request_visit.specs.declared.visit.Fate.TheVariants.{Known, Written}
+use Rattle.request_visit.specs.declared.visit.Fate.TheVariants.{Known, Writing}
 use Rattle.request_visit.specs.declared.visit.Visit.{Visit}
 use Rattle.request_visit.specs.declared.visit.Work.{Work}
 use Rattle.request_visit.specs.declared.visit.Work.TheVariants.{Reading, Opening, Serving, Committed, Decided, Answered, Left}
@@ -41,11 +41,11 @@ Keeps change = (start : Start) (history : List Event) (errand : Errand) (facts :
 
 written_keeps : Keeps fate_written
 written_keeps start history errand facts holds own (Known became) f = f
-written_keeps start history errand facts holds own (Written place again) f = f
+written_keeps start history errand facts holds own (Writing place again) f = f
 
 missed_keeps : (causes : List BrickCause) → Keeps (fate_missed causes)
 missed_keeps causes start history errand facts holds own (Known became) f = f
-missed_keeps causes start history errand facts holds own (Written place again) f = f
+missed_keeps causes start history errand facts holds own (Writing place again) f = f
 
 fate_told : {P : Type 0} (change : Fate → Fate) (keeps : Keeps change) (asks : P → List Answer → Next) (start : Start) (history : List Event) (errand : Errand) (facts : VisitFacts) (holds : Holds) (own : List Event) (work : Work P)
     → AccountsOf asks start history errand facts holds own work → AccountsOf asks start history errand facts holds own (with_fate change work)
@@ -134,7 +134,7 @@ by_leaving asks start history errand facts holds own (Left fate) a = a
 fate_became : (start : Start) (history : List Event) (errand : Errand) (facts : VisitFacts) (holds : Holds) (own : List Event) (fate : Fate)
     → FateStands start history errand facts holds own fate → Became start history errand facts holds own (outcome_in fate)
 fate_became start history errand facts holds own (Known became) f = f
-fate_became start history errand facts holds own (Written place again) f = f
+fate_became start history errand facts holds own (Writing place again) f = f
 
 -- its trace is what it added
 traced : (start : Start) (history : List Event) (errand : Errand) (facts : VisitFacts) (holds : Holds) (own : List Event) (became : ItemOutcome)

@@ -15,11 +15,9 @@ use Rattle.outcome_items.specs.Traces.{events_of_end}
 use Rattle.outcome_items.specs.declared.item.Holds.{Holds}
 use Rattle.outcome_items.specs.declared.outcome.ItemOutcome.{ItemOutcome}
 use Rattle.outcome_items.specs.declared.outcome.ItemOutcome.TheVariants as item
-use Rattle.request_visit.specs.Serving.{holds_of}
-use Rattle.request_visit.specs.Visits.{unheld}
 use Rattle.request_visit.specs.declared.facts.VisitFacts.{VisitFacts}
 use Rattle.request_visit.specs.declared.visit.Fate.{Fate}
-use Rattle.request_visit.specs.declared.visit.Fate.TheVariants.{Known, Written}
+use Rattle.request_visit.specs.declared.visit.Fate.TheVariants.{Known, Writing}
 use Rattle.request_visit.specs.declared.visit.Visit.{Visit}
 use Rattle.request_visit.specs.declared.visit.Work.{Work}
 use Rattle.request_visit.specs.declared.visit.Work.TheVariants.{Reading, Opening, Serving, Committed, Decided, Answered, Left}
@@ -29,13 +27,13 @@ pub record EndsWith (start : Start) (history : List Event) (errand : Errand) (fa
   pub ended : Ended
   pub stands : EndStands start history errand ended
   pub outcome_is : ended.outcome ≡ end
-  pub holds_is : holds ≡ holds_of ended
+  pub holds_is : holds ≡ record { from = ended.from; front = ended.front; held = ended.held }
   pub number_is : facts.request ≡ Some errand.request
   pub own_is : own ≡ events_of_end (entries_in (take holds.held history)) facts.request end
 
 -- A request for which the container was not held has added nothing.
 pub record IsUnheld (facts : VisitFacts) (holds : Holds) (own : List Event) : Type 0 where
-  pub holds_are : holds ≡ unheld facts
+  pub holds_are : holds ≡ record { from = facts.front; front = facts.front; held = 0 }
   pub own_is : own ≡ []
 
 -- This became of a request, as the history shows: one that never came to the container added nothing; one whose
@@ -54,7 +52,7 @@ Became start history errand facts holds own (item.Missed place again causes) =
 -- the same, of what is told of it so far
 abbrev pub FateStands : Start → List Event → Errand → VisitFacts → Holds → List Event → Fate → Type 0
 FateStands start history errand facts holds own (Known became) = Became start history errand facts holds own became
-FateStands start history errand facts holds own (Written place again) =
+FateStands start history errand facts holds own (Writing place again) =
     EndsWith start history errand facts holds (Page place again) own
 
 -- A request that is served by a program has added nothing yet, and asks for this.

@@ -24,7 +24,7 @@ use Rattle.request_visit.specs.Ready.{shown_response}
 use Rattle.request_visit.specs.declared.facts.VisitFacts.{VisitFacts}
 use Rattle.request_visit.specs.declared.ready.Shown.{Shown}
 use Rattle.request_visit.specs.declared.visit.Fate.{Fate}
-use Rattle.request_visit.specs.declared.visit.Fate.TheVariants.{Known, Written}
+use Rattle.request_visit.specs.declared.visit.Fate.TheVariants.{Known, Writing}
 use Rattle.request_visit.specs.declared.visit.Visit.{Visit}
 use Rattle.request_visit.specs.declared.visit.Work.{Work}
 use Rattle.request_visit.specs.declared.visit.Work.TheVariants.{Reading, Opening, Serving, Committed, Decided, Answered, Left}
@@ -78,7 +78,7 @@ decided_response facts became = response (answer_of None None became) facts.clos
 pub record HearsWrite {P : Type 0} (key : List ℕ) (old : Visit P) (place : Place) (again : Bool) (shown : Shown) (new : Visit P) : Type 0 where
   pub bytes : List ℕ
   pub is_shown : IsShown key old.facts shown (cookie_in (answer_held old.way)) bytes
-  pub new_is : new ≡ record old { work = Answered (Written place again) bytes }
+  pub new_is : new ≡ record old { work = Answered (Writing place again) bytes }
 
 -- a request whose response was made, where it shows no page of an entry
 abbrev pub responded : {P : Type 0} → ItemOutcome → Visit P → Visit P
@@ -122,7 +122,7 @@ after_leaving v = record v { way = settled v.way; work = departed v.work }
 -- what became of a request, by its fate
 abbrev pub outcome_in : Fate → ItemOutcome
 outcome_in (Known became) = became
-outcome_in (Written place again) = item.Ended (Page place again)
+outcome_in (Writing place again) = item.Ended (Page place again)
 
 -- the value of a session
 abbrev pub value_of : SessionLease → List ℕ

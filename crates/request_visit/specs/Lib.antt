@@ -4,5 +4,6 @@ pub mod Marks
 pub mod Ready
 pub mod Says
 pub mod Serving
+pub mod Sessions
 pub mod Stepping
 pub mod Visits

@@ -8,7 +8,7 @@ use Rattle.session_way.specs.declared.way.SessionWay.{SessionWay}
 use Rattle.session_way.specs.declared.way.SessionWay.TheVariants as way
 use Rattle.outcome_items.specs.Traces.{marks_of_outcome, uncounted}
 use Rattle.request_visit.specs.declared.visit.Fate.{Fate}
-use Rattle.request_visit.specs.declared.visit.Fate.TheVariants.{Known, Written}
+use Rattle.request_visit.specs.declared.visit.Fate.TheVariants.{Known, Writing}
 use Rattle.request_visit.specs.declared.visit.Visit.{Visit}
 use Rattle.request_visit.specs.declared.visit.Work.{Work}
 use Rattle.request_visit.specs.declared.visit.Work.TheVariants.{Reading, Opening, Serving, Committed, Decided, Answered, Left}
@@ -63,7 +63,7 @@ pub record HoldsWrite (marks : List WindowMark) (cookie : Option Cookie) (HeldSo
 -- the marks of a request whose response is made, by what is told of it so far, and how it holds its write
 abbrev pub FateMarks : List WindowMark → Option Cookie → SessionWay → Type 0 → Fate → Type 0
 FateMarks marks cookie w HeldSo (Known became) = Rests marks w (marks_of_outcome cookie became)
-FateMarks marks cookie w HeldSo (Written place again) = HoldsWrite marks cookie HeldSo
+FateMarks marks cookie w HeldSo (Writing place again) = HoldsWrite marks cookie HeldSo
 
 -- The marks of a request, by how far it has come: none before its session is written, and then a take, a spend, or a
 -- refusal.

@@ -16,7 +16,7 @@ use Rattle.request_visit.specs.Advancing.{IsShown, cookie_in}
 use Rattle.request_visit.specs.Ready.{shown_by}
 use Rattle.request_visit.specs.declared.facts.VisitFacts.{VisitFacts}
 use Rattle.request_visit.specs.declared.visit.Fate.{Fate}
-use Rattle.request_visit.specs.declared.visit.Fate.TheVariants.{Known, Written}
+use Rattle.request_visit.specs.declared.visit.Fate.TheVariants.{Known, Writing}
 use Rattle.request_visit.specs.declared.visit.Visit.{Visit}
 use Rattle.request_visit.specs.declared.visit.Work.{Work}
 use Rattle.request_visit.specs.declared.visit.Work.TheVariants.{Reading, Opening, Serving, Committed, Decided, Answered, Left}
@@ -35,7 +35,7 @@ pub record RespondsSoFar (key : List ℕ) (es : List Entry) (facts : VisitFacts)
 -- the bytes are the response of a request, by what is told of it so far
 abbrev pub FateSays : List ℕ → List Entry → VisitFacts → Option Cookie → SessionWay → List ℕ → Fate → Type 0
 FateSays key es facts cookie w bytes (Known became) = RespondsTo key es facts cookie became bytes
-FateSays key es facts cookie w bytes (Written place again) = RespondsSoFar key es facts cookie w place again bytes
+FateSays key es facts cookie w bytes (Writing place again) = RespondsSoFar key es facts cookie w place again bytes
 
 -- What is so of the response of a request, by how far it has come, over the journal as it was when the container was
 -- last held for it; these bytes have left, if any have.

@@ -14,7 +14,7 @@ use Rattle.outcome_items.specs.declared.item.Holds.{Holds}
 use Rattle.outcome_items.specs.declared.outcome.ItemOutcome.TheVariants as item
 use Rattle.request_visit.specs.declared.facts.VisitFacts.{VisitFacts}
 use Rattle.request_visit.specs.declared.visit.Fate.{Fate}
-use Rattle.request_visit.specs.declared.visit.Fate.TheVariants.{Known, Written}
+use Rattle.request_visit.specs.declared.visit.Fate.TheVariants.{Known, Writing}
 use Rattle.request_visit.specs.declared.visit.Turn.{Turn}
 use Rattle.request_visit.specs.declared.visit.Turn.TheVariants as turns
 use Rattle.request_visit.specs.declared.visit.Visit.{Visit}
@@ -66,12 +66,12 @@ begun facts counts way work = record {
 -- what became of a request whose session was written
 abbrev pub fate_written : Fate → Fate
 fate_written (Known became) = Known became
-fate_written (Written place again) = Known (item.Ended (Page place again))
+fate_written (Writing place again) = Known (item.Ended (Page place again))
 
 -- what became of a request whose session was not written, for these causes
 abbrev pub fate_missed : List BrickCause → Fate → Fate
 fate_missed causes (Known became) = Known became
-fate_missed causes (Written place again) = Known (item.Missed place again causes)
+fate_missed causes (Writing place again) = Known (item.Missed place again causes)
 
 -- the work with another fate, where it has one
 abbrev pub with_fate : {P : Type 0} → (Fate → Fate) → Work P → Work P

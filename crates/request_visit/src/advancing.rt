@@ -93,7 +93,7 @@ impl Fate {
     {
         match self {
             Fate::Known(outcome) => outcome,
-            Fate::Written { place, again } => {
+            Fate::Writing { place, again } => {
                 ItemOutcome::Ended(RequestOutcome::Page { place, again })
             }
         }
@@ -156,7 +156,7 @@ impl<P: Drop> Visit<P> {
     {
         let cookie = cookie_in(answer_held(&self.way));
         let bytes = shown_with(alloc, key, self.facts, &shown, cookie)?;
-        self.set_work(Work::Answered(Fate::Written { place, again }, bytes));
+        self.set_work(Work::Answered(Fate::Writing { place, again }, bytes));
         Ok(())
     }
 

@@ -1,7 +1,7 @@
 //! Laws of a request on its way. Each is the contract of a function that does nothing: a caller that needs the law
 //! calls the function.
 
-ghost use Rattle.std.specs.Prelude.{◌≡◌, ◌⊎◌, ◌≤◌, ◌+◌, ◌++◌, ℕ, List, [], Option, None, Some, length, take};
+ghost use Rattle.std.specs.Prelude.{◌≡◌, ◌≢◌, ◌⊎◌, ◌≤◌, ◌+◌, ◌++◌, ℕ, Bool, List, [], Option, None, Some, Ok, Err, IfSome, length, map, take};
 ghost use Rattle.boot_core.specs.declared.boot.Start.{Start};
 ghost use Rattle.container_core.specs.Container.{ContainerValue, events_of};
 ghost use Rattle.journal_model.specs.declared.entry.DoneText.{DoneText};
@@ -17,7 +17,7 @@ ghost use Rattle.request_visit.specs.declared.ready.Ready.TheVariants.{Respond, 
 ghost use Rattle.request_visit.specs.declared.ready.Shown.{Shown};
 ghost use Rattle.container_core.specs.History.{entries_in};
 ghost use Rattle.container_core.specs.declared.history.Event.{Event};
-ghost use Rattle.outcome_items.specs.Traces.{event_trace, window_trace};
+ghost use Rattle.outcome_items.specs.Traces.{event_trace, uncounted, window_trace};
 ghost use Rattle.outside.specs.declared.link.LinkCounts.{LinkCounts};
 ghost use Rattle.outcome_items.specs.declared.item.Item.{Item};
 ghost use Rattle.outcome_items.specs.declared.outcome.ItemOutcome.TheVariants as item;
@@ -36,14 +36,34 @@ ghost use Rattle.request_visit.specs.Stepping.{IsGivenBack, VisitsInside, Visits
 ghost use Rattle.request_visit.specs.Visits.{begun, turn};
 ghost use Rattle.request_visit.specs.declared.facts.VisitFacts.{VisitFacts};
 ghost use Rattle.request_visit.specs.declared.visit.Fate.{Fate};
+ghost use Rattle.request_visit.specs.declared.visit.Fate.TheVariants.{Writing};
 ghost use Rattle.request_visit.specs.declared.visit.Work.TheVariants.{Reading, Opening, Serving, Decided, Left};
 ghost use Rattle.request_visit.specs.declared.visit.Visit.{Visit};
+
+ghost use Rattle.crash_base.specs.declared.numbers.Moment.{Moment};
+ghost use Rattle.crash_base.specs.declared.numbers.Place.{Place};
+ghost use Rattle.crash_base.specs.declared.numbers.Version.{Version};
+ghost use Rattle.journal_model.specs.declared.entry.Entry.{Entry};
+ghost use Rattle.session_cookie.specs.Cookie.{AreHolders};
+ghost use Rattle.session_cookie.specs.declared.cookie.Cookie.{Cookie};
+ghost use Rattle.session_cookie.specs.declared.cookie.TheConstants.{MAX_HOLDERS};
+ghost use Rattle.ssm_stub.specs.Ends.{bricks_of};
+ghost use Rattle.ssm_stub.specs.Outcomes.{IsLost, IsMissed, IsRead, IsWritten};
+ghost use Rattle.ssm_stub.specs.Reads.{ReadState, read_start};
+ghost use Rattle.ssm_stub.specs.declared.cause.BrickCause.{BrickCause};
+ghost use Rattle.ssm_stub.specs.declared.read_call.ReadRefusal.TheVariants as read_refusal;
+ghost use Rattle.ssm_stub.specs.declared.write_call.WriteRefusal.TheVariants as write_refusal;
+ghost use Rattle.session_way.specs.Marks.{marks_by};
+ghost use Rattle.session_way.specs.Way.{passes_for};
+ghost use Rattle.session_way.specs.declared.way.SessionWay.TheVariants as way_is;
+ghost use Rattle.request_visit.specs.Sessions.{MakesAmong, ReadsTo, SessionStands, TellsSession, WritesTo};
 
 use crate::visit::Turn;
 use call_ticket::Program;
 use outside::Link;
 use request_tries::ends_stay_true;
 use session_way::ways_have_answers;
+use ssm_stub::answers_stay;
 
 /// A request accounts for each event that it adds to the history of the container, at each step, whatever others add
 /// meanwhile: it adds nothing before it has ended there, and then just what its end tells, which stands in the
@@ -96,7 +116,8 @@ pub fn requests_account_for_their_events<P: Program>(_program: &P)
 
 /// A request tells each mark that it leaves in the history of the windows: no step of the link, of the container, or
 /// by itself leaves one; and a step of the windows just those that are told: a take, a spend, or that passes were
-/// refused. So what its item tells is what it left, and each pass that was taken was spent.
+/// refused; and where passes are given back behind its response, a spend. So what its item tells is what it left, and
+/// each pass that was taken was spent.
 pub fn requests_account_for_their_marks<P: Program, L: Link>(_program: &P, _link: &L)
     ensures windows { (marks : List WindowMark) (old new : Visit P) (windows after : WindowsValue)
         → turn old ≡ Turn.Windows → VisitsWindows old windows new after → Marks marks old
@@ -110,6 +131,21 @@ pub fn requests_account_for_their_marks<P: Program, L: Link>(_program: &P, _link
         → turn old ≡ Turn.Own → Advances key old old.work new → Marks marks old → Marks marks new }
     ensures leave { (marks : List WindowMark) (v : Visit P)
         → turn v ≡ Turn.Output → Marks marks v → Marks marks (after_leaving v) }
+    ensures begins { (facts : VisitFacts) (counts : LinkCounts) (read : ReadState) (v : Visit P)
+        → (v ≡ begun facts counts (way_is.Reading read) Reading) ⊎ (v ≡ begun facts counts way_is.Resting Opening)
+        → Marks [] v }
+    ensures refused { (facts : VisitFacts) (counts : LinkCounts) (why : Refusal) (v : Visit P)
+        → v ≡ begun facts counts way_is.Resting (Decided (item.Refused why)) → Marks [] v }
+    ensures spent { (facts : VisitFacts) (counts : LinkCounts) (seen : ℕ) (v : Visit P)
+        → v ≡ begun facts counts way_is.Resting (Decided (item.SerialsSpent seen)) → Marks [] v }
+    ensures opens { (marks : List WindowMark) (v : Visit P) (tries : TriesValue) (program : P)
+        → v.work ≡ Opening → Marks marks v → Marks marks (record v { work = Serving tries program }) }
+    ensures dropped { (marks : List WindowMark) (v : Visit P)
+        → Marks marks v → Marks marks (record v { work = dropped v.work }) }
+    ensures back { (marks : List WindowMark) (old new : Visit P) (fate : Fate)
+        → IsGivenBack old new → old.work ≡ Left fate
+        → ((place : Place) (again : Bool) → fate ≡ Writing place again → answer_held old.way ≢ None)
+        → Marks marks old → Marks (marks ++ map uncounted (marks_by old.way way_is.Resting)) new }
     ensures item { (marks : List WindowMark) (v : Visit P) (i : Item)
         → turn v ≡ Turn.Over → IsItemOf v v.work i → Marks marks v → marks ≡ window_trace i }
 {
@@ -140,8 +176,8 @@ pub fn pages_follow_their_entries()
 
 /// The response of a request says what became of it, as the history shows, whatever others add meanwhile: what is
 /// made at once, what is made before a commit, and what is made once its session is written. So the bytes that leave
-/// are the response to its item. While its write is settled, the cookie of its answer has to stay, which is so of
-/// runs of a write (`ssm_stub::answers_stay`).
+/// are the response to its item. While its write is settled, the cookie of its answer has to stay, and there is one
+/// answer where passes are given back: so `requests_account_for_their_sessions` says.
 pub fn responses_are_of_their_items<P: Program>(_program: &P)
     ensures begins { (key : List ℕ) (history : List Event) (facts : VisitFacts) (counts : LinkCounts) (way : SessionWay)
         (v : Visit P) → (v ≡ begun facts counts way Reading) ⊎ (v ≡ begun facts counts way Opening)
@@ -171,10 +207,96 @@ pub fn responses_are_of_their_items<P: Program>(_program: &P)
     ensures leave { (key : List ℕ) (history : List Event) (out : List ℕ) (v : Visit P)
         → turn v ≡ Turn.Output → Says key history out v
         → Says key history (response_in v.work) (after_leaving v) }
+    ensures dropped { (key : List ℕ) (history : List Event) (out : List ℕ) (v : Visit P)
+        → Says key history out v → Says key history out (record v { work = dropped v.work }) }
+    ensures back { (key : List ℕ) (history : List Event) (out : List ℕ) (marks : List WindowMark) (old new : Visit P)
+        (fate : Fate) → IsGivenBack old new → old.work ≡ Left fate
+        → ((place : Place) (again : Bool) → fate ≡ Writing place again → answer_held old.way ≢ None)
+        → Marks marks old → Says key history out old → Says key history out new }
     ensures item { (key : List ℕ) (history : List Event) (out : List ℕ) (marks : List WindowMark) (v : Visit P) (i : Item)
         (head : Head) → turn v ≡ Turn.Over → IsItemOf v v.work i → Marks marks v
         → v.facts.close ≡ head.close → v.facts.head_only ≡ is_head_only head.method → Says key history out v
         → IsResponse key (entries_in (take i.holds.held history)) i head out }
 {
     ways_have_answers();
+}
+
+/// A request accounts for its session at each step, whatever others do between two of them, with the link too: what it
+/// knows of it is what the read of its cookie answered; it is written exactly where the entry of its page sets it, or
+/// keeps it and it was read and its lease is due; by an order of the request's own key and nonce, with passes that were
+/// taken for that; and its cookie, or the causes for which there is none, are what that write came to. A cookie that is
+/// held while a response is made may be read, and stays until the passes are spent. So what its item says of its session
+/// is what came of it.
+pub fn requests_account_for_their_sessions<P: Program, L: Link>(_program: &P, _link: &L)
+    ensures begins { (history : List Event) (facts : VisitFacts) (counts : LinkCounts) (nonce : Version)
+        (cookie : Cookie) (v : Visit P)
+        → v ≡ begun facts counts (way_is.Reading (read_start facts.now nonce cookie)) Reading
+        → SessionStands L.makes (Some (read_start facts.now nonce cookie)) history v }
+    ensures unread { (history : List Event) (facts : VisitFacts) (counts : LinkCounts) (v : Visit P)
+        → v ≡ begun facts counts way_is.Resting Opening → SessionStands L.makes None history v }
+    ensures refused { (history : List Event) (facts : VisitFacts) (counts : LinkCounts) (why : Refusal) (v : Visit P)
+        → v ≡ begun facts counts way_is.Resting (Decided (item.Refused why)) → SessionStands L.makes None history v }
+    ensures spent { (history : List Event) (facts : VisitFacts) (counts : LinkCounts) (seen : ℕ) (v : Visit P)
+        → v ≡ begun facts counts way_is.Resting (Decided (item.SerialsSpent seen))
+        → SessionStands L.makes None history v }
+    ensures opens { (begin : Option ReadState) (history : List Event) (v : Visit P) (tries : TriesValue) (program : P)
+        → v.work ≡ Opening → SessionStands L.makes begin history v
+        → SessionStands L.makes begin history (record v { work = Serving tries program }) }
+    ensures dropped { (begin : Option ReadState) (history : List Event) (v : Visit P)
+        → SessionStands L.makes begin history v
+        → SessionStands L.makes begin history (record v { work = dropped v.work }) }
+    ensures meanwhile { (begin : Option ReadState) (history more : List Event) (v : Visit P)
+        → SessionStands L.makes begin history v → SessionStands L.makes begin (history ++ more) v }
+    ensures inside { (begin : Option ReadState) (old new : Visit P) (container after : ContainerValue)
+        → VisitsInside P.asks old container new after → length (events_of container) ≤ length (events_of after)
+        → SessionStands L.makes begin (events_of container) old
+        → SessionStands L.makes begin (events_of after) new }
+    ensures outside { (begin : Option ReadState) (history : List Event) (v : Visit P) (way : SessionWay)
+        (counts : LinkCounts) (link after : L)
+        → turn v ≡ Turn.Outside → StepsOutside L.makes v.way link way after → SessionStands L.makes begin history v
+        → SessionStands L.makes begin history (record v { way = way; counts = counts }) }
+    ensures stays { (begin : Option ReadState) (history : List Event) (v : Visit P) (way : SessionWay) (link after : L)
+        → StepsOutside L.makes v.way link way after → SessionStands L.makes begin history v
+        → (fate : Fate) → v.work ≡ Left fate → cookie_in (answer_held way) ≡ cookie_in (answer_held v.way) }
+    ensures answered { (begin : Option ReadState) (history : List Event) (v : Visit P) (place : Place) (again : Bool)
+        → SessionStands L.makes begin history v → v.work ≡ Left (Writing place again) → answer_held v.way ≢ None }
+    ensures windows { (begin : Option ReadState) (history : List Event) (old new : Visit P)
+        (windows after : WindowsValue) → 1 ≤ windows.wq → windows.wq ≤ MAX_HOLDERS
+        → VisitsWindows old windows new after → SessionStands L.makes begin history old
+        → SessionStands L.makes begin history new }
+    ensures holders { (begin : Option ReadState) (history : List Event) (v : Visit P)
+        → turn v ≡ Turn.Own → SessionStands L.makes begin history v
+        → IfSome (cookie_in (answer_held v.way)) (λ c. AreHolders c.bricks) }
+    ensures advance { (begin : Option ReadState) (key : List ℕ) (history : List Event) (old new : Visit P)
+        → turn old ≡ Turn.Own → Advances key old old.work new → SessionStands L.makes begin history old
+        → SessionStands L.makes begin history new }
+    ensures leave { (begin : Option ReadState) (history : List Event) (v : Visit P)
+        → turn v ≡ Turn.Output → SessionStands L.makes begin history v
+        → SessionStands L.makes begin history (after_leaving v) }
+    ensures back { (begin : Option ReadState) (history : List Event) (old new : Visit P) (fate : Fate)
+        → IsGivenBack old new → old.work ≡ Left fate → SessionStands L.makes begin history old
+        → SessionStands L.makes begin history new }
+    ensures item { (begin : Option ReadState) (history : List Event) (v : Visit P) (i : Item)
+        → turn v ≡ Turn.Over → IsItemOf v v.work i → SessionStands L.makes begin history v
+        → TellsSession L.makes begin v.facts (entries_in (take i.holds.held history)) i }
+    ensures cookie { (begin : Option ReadState) (facts : VisitFacts) (es : List Entry) (i : Item) (c : Cookie)
+        → TellsSession L.makes begin facts es i → i.cookie ≡ Some c
+        → (c.key ≡ facts.key) × (c.version ≡ facts.write) × (c.expiry.0 ≡ facts.now.0 + 1800000)
+        × AreHolders c.bricks }
+    ensures found { (now : Moment) (nonce : Version) (cookie : Cookie) (value : List ℕ) → AreHolders cookie.bricks
+        → ReadsTo L.makes (read_start now nonce cookie) (Ok value)
+        → IsRead (MakesAmong L.makes) nonce cookie tt tt value }
+    ensures lost { (now : Moment) (nonce : Version) (cookie : Cookie) (causes : List BrickCause)
+        → AreHolders cookie.bricks → ReadsTo L.makes (read_start now nonce cookie) (Err (read_refusal.Lost causes))
+        → IsLost (MakesAmong L.makes) nonce cookie tt tt causes }
+    ensures written { (order : WriteOrder) (cookie : Cookie) → WritesTo L.makes order (Ok cookie)
+        → (windows : WindowsValue) × IsWritten (MakesAmong L.makes) (bricks_of (passes_for order windows)) windows.wq
+        order.nonce order.key order.expiry tt tt cookie }
+    ensures missed { (order : WriteOrder) (causes : List BrickCause)
+        → WritesTo L.makes order (Err (write_refusal.Missed causes))
+        → (windows : WindowsValue) × IsMissed (MakesAmong L.makes) (bricks_of (passes_for order windows)) windows.wq
+        order.nonce order.key tt tt causes }
+{
+    ways_have_answers();
+    answers_stay();
 }

@@ -8,7 +8,7 @@ ghost use Rattle.send_windows.specs.declared.windows.TakeRefusal.TheVariants as 
 ghost use Rattle.session_way.specs.Marks.{marks_by};
 ghost use Rattle.session_way.specs.Way.{BreaksOffOutside, IsRefused, StepsOutside, after_give_back, answer_held, held};
 ghost use Rattle.session_way.specs.Writing.{answer_of_write};
-ghost use Rattle.request_visit.specs.Stepping.{IsGivenBack, OnServing, ServesWork, VisitsInside, VisitsWindows, after_closing, counted, dropped, shown_so};
+ghost use Rattle.request_visit.specs.Stepping.{IsGivenBack, OnServing, ServesWork, VisitsInside, VisitsWindows, after_closing, dropped, shown_so};
 ghost use Rattle.request_visit.specs.Visits.{after_outcome, overloaded, turn};
 
 use crate::facts::VisitFacts;
@@ -61,7 +61,8 @@ impl<P: Drop> Visit<P> {
         requires { turn self.old ≡ Turn.Outside }
         ensures step { OnOk result (StepsOutside L.makes self.old.way link.old self.new.way link.new) }
         ensures rest { OnOk result (self.new
-            ≡ record self.old { way = self.new.way; counts = counted (L.tally link.new) }) }
+            ≡ record self.old { way = self.new.way; counts = record {
+            hushed = (L.tally link.new).hushed; got = (L.tally link.new).got } }) }
         ensures same { OnErr result (self.new ≡ self.old) }
         ensures want { OnErr result (BreaksOffOutside L.makes self.old.way link.old link.new) }
     {

@@ -18,9 +18,9 @@ use std::mem;
 pub enum Fate {
     /// This became of it.
     Known(ItemOutcome),
-    /// It is committed, by an earlier call of it where `again` is true, and its session was to be written: what came of
+    /// It is committed, by an earlier call of it where `again` is true, and its session is written: what came of
     /// that is told when the passes are spent.
-    Written { place: Place, again: bool },
+    Writing { place: Place, again: bool },
 }
 
 /// How far a request has come.

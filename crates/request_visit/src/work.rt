@@ -16,7 +16,7 @@ impl Fate {
     {
         match self {
             Fate::Known(outcome) => Fate::Known(outcome),
-            Fate::Written { place, again } => {
+            Fate::Writing { place, again } => {
                 Fate::Known(ItemOutcome::Ended(RequestOutcome::Page { place, again }))
             }
         }
@@ -28,7 +28,7 @@ impl Fate {
     {
         match self {
             Fate::Known(outcome) => Fate::Known(outcome),
-            Fate::Written { place, again } => Fate::Known(ItemOutcome::Missed {
+            Fate::Writing { place, again } => Fate::Known(ItemOutcome::Missed {
                 place,
                 again,
                 causes,

@@ -1,7 +1,7 @@
 mod Answered
 mod Ending
-mod GoingOn
-mod Holders
+pub mod GoingOn
+pub mod Holders
 mod Marked
 mod PassesKept
 mod Settled

@@ -1,4 +1,8 @@
-use Rattle.request_visit.proofs.Marking.{advance_marks, inside_mark, item_marks, leave_marks, outside_marks, windows_mark}
+use Rattle.std.proofs.Common.{refl}
+use Rattle.outcome_items.specs.declared.outcome.ItemOutcome.TheVariants as item
+use Rattle.session_way.specs.declared.way.SessionWay.TheVariants as way
+use Rattle.request_visit.specs.declared.visit.Work.TheVariants.{Decided}
+use Rattle.request_visit.proofs.Marking.{advance_marks, back_marks, begun_marks, dropped_marks, either_marks, inside_mark, item_marks, leave_marks, opened_marks, outside_marks, windows_mark}
 use Rattle.request_visit.proofs.laws.requests_account_for_their_marks.Goals as goal
 
 pub returns-clause-windows : goal.returns-clause-windows
@@ -21,3 +25,23 @@ returns-clause-leave g c = λ marks v turned m. leave_marks marks v.cookie v.way
 
 pub returns-clause-item : goal.returns-clause-item
 returns-clause-item g c = λ marks v i turned is m. item_marks marks v v.work i turned is m
+
+pub returns-clause-begins : goal.returns-clause-begins
+returns-clause-begins g c = λ facts counts read v is. either_marks v facts counts read is
+
+pub returns-clause-refused : goal.returns-clause-refused
+returns-clause-refused g c = λ facts counts why v is.
+    begun_marks v facts counts way.Resting (Decided (item.Refused why)) is (refl, record { rests = refl; marks_are = refl })
+
+pub returns-clause-spent : goal.returns-clause-spent
+returns-clause-spent g c = λ facts counts seen v is.
+    begun_marks v facts counts way.Resting (Decided (item.SerialsSpent seen)) is (refl, record { rests = refl; marks_are = refl })
+
+pub returns-clause-opens : goal.returns-clause-opens
+returns-clause-opens g c = λ marks v tries program is m. opened_marks marks v tries program is m
+
+pub returns-clause-dropped : goal.returns-clause-dropped
+returns-clause-dropped g c = λ marks v m. dropped_marks marks v.cookie v.way v.work m
+
+pub returns-clause-back : goal.returns-clause-back
+returns-clause-back g c = λ marks old new fate back is some m. back_marks marks old new fate back is some m

@@ -1,4 +1,4 @@
-use Rattle.request_visit.proofs.Saying.{advance_says, either_says, inside_says, item_says, leave_says, meanwhile_says, opened_says, outside_says, same_says, windows_says}
+use Rattle.request_visit.proofs.Saying.{advance_says, back_says, dropped_says, either_says, inside_says, item_says, leave_says, meanwhile_says, opened_says, outside_says, same_says, windows_says}
 use Rattle.std.proofs.Common.{refl}
 use Rattle.outcome_items.specs.declared.outcome.ItemOutcome.TheVariants as item
 use Rattle.request_visit.specs.declared.visit.Work.TheVariants.{Decided}
@@ -40,3 +40,9 @@ returns-clause-spent g c = λ key history facts counts way seen v is.
 
 pub returns-clause-opens : goal.returns-clause-opens
 returns-clause-opens g c = λ key history out v tries program is s. opened_says key history out v tries program is s
+
+pub returns-clause-dropped : goal.returns-clause-dropped
+returns-clause-dropped g c = λ key history out v s. dropped_says key history out v s
+
+pub returns-clause-back : goal.returns-clause-back
+returns-clause-back g c = λ key history out marks old new fate back is some m s. back_says key history out marks old new fate back is some m s
