@@ -38,7 +38,7 @@ use Rattle.session_way.specs.declared.way.SessionWay.{SessionWay}
 use Rattle.session_way.specs.declared.way.Wants.{Wants}
 use Rattle.session_way.specs.declared.way.Wants.TheVariants as wanted
 use Rattle.shepherd.specs.Accounting.{Accounting, AddsEvents, IsAccountedFor, IsTold, ItemStands, LeavesMarks, StageTells, Tells, Told, told_events, told_items, told_marks, trace_in, traces_in}
-use Rattle.shepherd.specs.Shepherds.{fresh, turn}
+use Rattle.shepherd.specs.Shepherds.{fresh, has_item, is_over, turn}
 use Rattle.shepherd.specs.Steps.{MayPutOut, OnVisit, OpensCall, OpensStage, PutsOut, ShepherdSteps, StepsVisit, TakesItem, VisitsOutside, dropped_stage, rested}
 use Rattle.shepherd.specs.declared.shepherd.AskedCall.{AskedCall}
 use Rattle.shepherd.specs.declared.shepherd.Shepherd.{Shepherd}
@@ -306,12 +306,21 @@ out {P} asks accounts marked start history own marks bytes items s stage is puts
       by (Refusing why last) t may puts = subst (λ x. StageTells asks start history h.open_own h.open_marks x) (sym puts.1) t
       by (Over end) t may puts = absurd may
 
+over_now : (t : Turn) → is_over t ≡ true → t ≡ visit.Over
+over_now visit.Outside is = absurd (cc)
+over_now visit.Windows is = absurd (cc)
+over_now visit.Inside is = absurd (cc)
+over_now visit.Program is = absurd (cc)
+over_now visit.Own is = absurd (cc)
+over_now visit.Output is = absurd (cc)
+over_now visit.Over is = refl
+
 nothing_told : {P : Type 0} (asks : P → List Answer → Next) (start : Start) (history : List Event) (b : Bool) → StageTells asks start history [] [] (rested b)
 nothing_told asks start history true = (refl, refl)
 nothing_told asks start history false = (refl, refl)
 
 pub item : {P : Type 0} (asks : P → List Answer → Next) (start : Start) (history own : List Event) (marks : List WindowMark) (items : List Item) (i : Item) (s : Shepherd P) (stage : Stage P)
-    → turn s ≡ turns.Item → TakesItem s.stage i stage → Accounting asks start history own marks items s
+    → has_item s.stage ≡ true → TakesItem s.stage i stage → Accounting asks start history own marks items s
     → Accounting asks start history own marks (items ++ i ∷ []) (record s { front = i.holds.front; stage = stage })
 item {P} asks start history own marks items i s stage is takes h = by s.stage refl takes where
   by : (x : Stage P) → s.stage ≡ x → TakesItem x i stage → Accounting asks start history own marks (items ++ i ∷ []) (record s { front = i.holds.front; stage = stage })
@@ -325,7 +334,7 @@ item {P} asks start history own marks items i s stage is takes h = by s.stage re
         open_marks = [];
         items_are = ap (λ xs. xs ++ i ∷ []) h.items_are ∙ sym (map-append (λ (x : Told P). x.item) h.told (one ∷ []));
         stand = All-push (IsTold asks start history) h.told one h.stand (record {
-          over = turned_so s visit.Over v call was (ap step_of is);
+          over = over_now (visit_turn v) (sym (ap has_item was) ∙ is);
           is_item = takes.0;
           accounts = t.accounts;
           marks_are = t.marks_are;

@@ -11,7 +11,7 @@ use Rattle.request_visit.specs.declared.visit.Turn.{Turn}
 use Rattle.request_visit.specs.declared.visit.Turn.TheVariants as visit
 use Rattle.request_visit.specs.declared.visit.Visit.{Visit}
 use Rattle.session_way.specs.Way.{wants}
-use Rattle.shepherd.specs.Shepherds.{stage_turn, turn, turn_by}
+use Rattle.shepherd.specs.Shepherds.{has_item, is_over, stage_turn, turn, turn_by}
 use Rattle.shepherd.specs.Standing.{HasServedAll, HasServedFirst, IsOpen, IsOpenFor, Standing, all_before, coming, ending_of, heads_of, last_of, responses_of}
 use Rattle.shepherd.specs.Steps.{OnVisit}
 use Rattle.shepherd.specs.declared.shepherd.AskedCall.{AskedCall}
@@ -124,3 +124,12 @@ has_call fed written items s is h =
 pub has_moment : {P : Type 0} (fed written : List ℕ) (items : List Item) (s : Shepherd P) → turn s ≡ turns.Inside → Standing fed written items s → OnVisit s.stage (λ v call. v.facts.now.0 < 2 ^ 62)
 has_moment fed written items s is h =
     open_is (λ v call. v.facts.now.0 < 2 ^ 62) fed written items s visit.Inside (ap step_of is) (λ front v call opened sent turned o. o.small) h
+
+-- nothing is left to be done where the item is next
+pub item_next : {P : Type 0} (s : Shepherd P) → turn s ≡ turns.Item → has_item s.stage ≡ true
+item_next {P} s is = by s.stage (asks_visit s visit.Over (ap step_of is)) where
+  by : (x : Stage P) → OnVisit x (λ v call. visit_turn v ≡ visit.Over) → has_item x ≡ true
+  by Resting turned = absurd turned
+  by (Serving v call) turned = ap is_over turned
+  by (Refusing why last) turned = absurd turned
+  by (Over end) turned = absurd turned

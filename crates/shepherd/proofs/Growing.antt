@@ -13,16 +13,17 @@ use Rattle.request_visit.specs.declared.visit.Turn.TheVariants as visit
 use Rattle.request_visit.specs.declared.visit.Visit.{Visit}
 use Rattle.request_visit.specs.declared.visit.Work.{Work}
 use Rattle.request_visit.specs.declared.visit.Work.TheVariants.{Serving as ServingBy}
+use Rattle.send_windows.specs.Windows.{WindowsValue}
 use Rattle.session_way.specs.Way.{wants}
 use Rattle.shepherd.specs.Shepherds.{fresh, turn}
 use Rattle.shepherd.specs.Standing.{IsOpen, IsOpenFor, Standing, all_before, coming, has_left, heads_of}
-use Rattle.shepherd.specs.Steps.{OnVisit, OpensCall, OpensStage, ShepherdSteps, StepsVisit, dropped_stage}
+use Rattle.shepherd.specs.Steps.{GivesBack, OnVisit, OpensCall, OpensStage, ShepherdSteps, StepsVisit, dropped_stage}
 use Rattle.shepherd.specs.declared.shepherd.AskedCall.{AskedCall}
 use Rattle.shepherd.specs.declared.shepherd.Shepherd.{Shepherd}
 use Rattle.shepherd.specs.declared.shepherd.ShepherdTurn.TheVariants as turns
 use Rattle.shepherd.specs.declared.shepherd.Stage.{Stage}
 use Rattle.shepherd.specs.declared.shepherd.Stage.TheVariants.{Resting, Serving, Refusing, Over}
-use Rattle.shepherd.proofs.Keeping.{Keeps, dropping_keeps}
+use Rattle.shepherd.proofs.Keeping.{Keeps, back_keeps, dropping_keeps}
 use Rattle.shepherd.proofs.Turning.{asks_output, asks_request, asks_visit, early, unsent}
 
 pub begins : (P : Type 0) → Standing {P = P} [] [] [] fresh
@@ -153,3 +154,15 @@ opens {P} makes maker worker fed written items s stage is does h = by s.stage re
   by (Serving v call) was opened turned = one v call was turned opened
   by (Refusing why bytes) was opened turned = absurd opened
   by (Over end) was opened turned = absurd opened
+
+pub given_back : {P : Type 0} (fed written : List ℕ) (items : List Item) (s : Shepherd P) (stage : Stage P) (windows after : WindowsValue) → GivesBack s.stage windows stage after
+    → Standing fed written items s → Standing fed written items (record s { stage = stage })
+given_back {P} fed written items s stage windows after back h = by s.stage refl back where
+  same : (x : Stage P) → s.stage ≡ x → stage ≡ x → Standing fed written items (record s { stage = stage })
+  same x was is = subst (λ y. Standing fed written items (record s { stage = y })) (was ∙ sym is) h
+
+  by : (x : Stage P) → s.stage ≡ x → GivesBack x windows stage after → Standing fed written items (record s { stage = stage })
+  by Resting was b = same Resting was b.0
+  by (Serving v call) was b = with_visit fed written items s stage v b.0 call was b.2 (back_keeps v b.0 b.1.back) h
+  by (Refusing why bytes) was b = same (Refusing why bytes) was b.0
+  by (Over end) was b = same (Over end) was b.0

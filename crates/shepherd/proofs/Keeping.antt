@@ -6,7 +6,7 @@ use Rattle.container_core.specs.Container.{ContainerValue}
 use Rattle.outside.specs.Link.{Tally}
 use Rattle.outside.specs.declared.link.LinkEvent.{LinkEvent}
 use Rattle.request_visit.specs.Advancing.{Advances, HearsReadOf, after_read}
-use Rattle.request_visit.specs.Stepping.{OnServing, ServesBy, ServesWork, VisitsInside, VisitsWindows, after_closing_if, dropped}
+use Rattle.request_visit.specs.Stepping.{IsGivenBack, OnServing, ServesBy, ServesWork, VisitsInside, VisitsWindows, after_closing_if, dropped}
 use Rattle.request_visit.specs.Visits.{after_outcome, overloaded, with_fate}
 use Rattle.request_visit.specs.declared.ready.Ready.TheVariants.{Respond, Write}
 use Rattle.request_visit.specs.declared.serving.Closed.TheVariants as closes
@@ -135,3 +135,6 @@ dropping_keeps {P} old = let same = by old.work in record { facts = refl; left =
   by (Decided became) = (refl, refl)
   by (Answered fate bytes) = (refl, refl)
   by (Left fate) = (refl, refl)
+
+pub back_keeps : {P : Type 0} (old new : Visit P) → IsGivenBack old new → Keeps old new
+back_keeps old new back = subst (λ v. Keeps old v) (sym back.new_is) (told_keeps old way.Resting back.outcome)

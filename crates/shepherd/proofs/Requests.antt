@@ -134,10 +134,10 @@ began {P} told gives looks key home counts head fed written items s new clock cl
       front_is = h.front_is;
     }))
 
-refused : {P R S : Type 0} (why : Untaken) (fed written : List ℕ) (items : List Item) (s new : Shepherd P) (random random_after : R) (serials serials_after : S)
+refused : {P C R S : Type 0} (why : Untaken) (fed written : List ℕ) (items : List Item) (s new : Shepherd P) (clock clock_after : C) (random random_after : R) (serials serials_after : S)
     → ((more : List ℕ) → requests (s.received ++ more) ≡ ended (ending_at why)) → s.stage ≡ Resting
-    → Refuses why s random serials new random_after serials_after → Standing fed written items s → Standing fed written items new
-refused why fed written items s new random random_after serials serials_after ends rest r h =
+    → Refuses why s clock random serials new clock_after random_after serials_after → Standing fed written items s → Standing fed written items new
+refused why fed written items s new clock clock_after random random_after serials serials_after ends rest r h =
     subst (λ x. Standing fed written items x) (sym r.new_is) (record {
       served = h.served;
       opened = h.opened;
@@ -161,10 +161,10 @@ takes told gives looks key home counts fed written items s new clock clock_after
     let rest = (asks_request s turned).0 in by rest (taken_of s.received) refl t where
       by : s.stage ≡ Resting → (x : Taken) → taken_of s.received ≡ x → TakesBy told gives looks key home counts x s clock random serials new clock_after random_after serials_after → Standing fed written items new
       by rest (took.Request head) is b = began told gives looks key home counts head fed written items s new clock clock_after random random_after serials serials_after compose rest is b h
-      by rest took.Bad is r = refused untaken.Bad fed written items s new random random_after serials serials_after (λ more. as_bad s.received more is) rest r h
-      by rest (took.TooLong len lines) is r = refused untaken.TooLong fed written items s new random random_after serials serials_after (λ more. as_long s.received more len lines is) rest r h
-      by rest took.NoCoding is r = refused untaken.NoCoding fed written items s new random random_after serials serials_after (λ more. as_coded s.received more is) rest r h
-      by rest (took.BodyTooLong said) is r = refused untaken.BodyTooLong fed written items s new random random_after serials serials_after (λ more. as_big s.received more said is) rest r h
+      by rest took.Bad is r = refused untaken.Bad fed written items s new clock clock_after random random_after serials serials_after (λ more. as_bad s.received more is) rest r h
+      by rest (took.TooLong len lines) is r = refused untaken.TooLong fed written items s new clock clock_after random random_after serials serials_after (λ more. as_long s.received more len lines is) rest r h
+      by rest took.NoCoding is r = refused untaken.NoCoding fed written items s new clock clock_after random random_after serials serials_after (λ more. as_coded s.received more is) rest r h
+      by rest (took.BodyTooLong said) is r = refused untaken.BodyTooLong fed written items s new clock clock_after random random_after serials serials_after (λ more. as_big s.received more said is) rest r h
       by rest took.More is r = absurd r
 
 -- the response of a request that is to leave then has left

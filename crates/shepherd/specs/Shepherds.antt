@@ -1,5 +1,5 @@
 -- Whose step is next for a connection.
-use Rattle.std.specs.Prelude.{ℕ, ◌==◌, Bool, false, if◌then◌else◌, List, [], length}
+use Rattle.std.specs.Prelude.{ℕ, ◌==◌, Bool, true, false, if◌then◌else◌, List, [], length}
 use Rattle.http_wire.specs.Taking.{settles, taken_of}
 use Rattle.request_visit.specs.Visits.{turn as visit_turn}
 use Rattle.request_visit.specs.declared.visit.Turn.{Turn}
@@ -41,3 +41,20 @@ stage_turn (Over end) received ended = turns.Ended end
 -- Whose step is next.
 abbrev pub turn : {P : Type 0} → Shepherd P → ShepherdTurn
 turn s = if s.wants_memory then turns.Ended OutOfMemory else stage_turn s.stage s.received s.ended
+
+-- whether nothing is left to be done for a request
+abbrev pub is_over : Turn → Bool
+is_over visit.Over = true
+is_over visit.Outside = false
+is_over visit.Windows = false
+is_over visit.Inside = false
+is_over visit.Program = false
+is_over visit.Own = false
+is_over visit.Output = false
+
+-- Whether the item of the request that is open can be taken.
+abbrev pub has_item : {P : Type 0} → Stage P → Bool
+has_item Resting = false
+has_item (Serving v call) = is_over (visit_turn v)
+has_item (Refusing why bytes) = false
+has_item (Over end) = false

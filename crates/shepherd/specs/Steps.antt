@@ -1,5 +1,5 @@
 -- What each step of a connection leaves.
-use Rattle.std.specs.Prelude.{◌≡◌, ℕ, ◌≤◌, ◌<◌, Bool, if◌then◌else◌, List, drop, replicate, Option, Some, None, option_map}
+use Rattle.std.specs.Prelude.{◌≡◌, ℕ, ◌≤◌, ◌<◌, Bool, if◌then◌else◌, List, drop, replicate, Option, Some, None, option_map, ◌++◌}
 use Rattle.auction_calls.specs.declared.action.ActionCall.{ActionCall}
 use Rattle.crash_base.specs.declared.numbers.Moment.{Moment}
 use Rattle.crash_base.specs.declared.numbers.Place.{Place}
@@ -23,7 +23,7 @@ use Rattle.request_intake.specs.declared.intake.Arrival.TheVariants.{Refused, Se
 use Rattle.request_intake.specs.declared.intake.HomeBoot.{HomeBoot}
 use Rattle.request_intake.specs.declared.intake.Intake.{Intake}
 use Rattle.request_visit.specs.Advancing.{IsItemOf, after_leaving, response_in, value_of}
-use Rattle.request_visit.specs.Stepping.{counted, dropped}
+use Rattle.request_visit.specs.Stepping.{IsGivenBack, counted, dropped}
 use Rattle.request_visit.specs.Visits.{begun, turn as visit_turn}
 use Rattle.request_visit.specs.declared.visit.Turn.TheVariants as visit
 use Rattle.request_visit.specs.declared.facts.VisitFacts.{VisitFacts}
@@ -34,7 +34,9 @@ use Rattle.request_tries.specs.Serving.{unbegun}
 use Rattle.request_decisions.specs.Calls.{call_by}
 use Rattle.crash_base.specs.declared.numbers.WorkerNo.{WorkerNo}
 use Rattle.shepherd.specs.declared.shepherd.AskedCall.{AskedCall}
-use Rattle.session_way.specs.Way.{StepsOutside}
+use Rattle.send_windows.specs.Windows.{WindowsValue}
+use Rattle.session_way.specs.Marks.{marks_by}
+use Rattle.session_way.specs.Way.{StepsOutside, after_give_back, held}
 use Rattle.session_way.specs.declared.way.SessionWay.TheVariants as way
 use Rattle.site_responses.specs.Responses.{last_response}
 use Rattle.site_responses.specs.declared.answer.Untaken.{Untaken}
@@ -97,8 +99,9 @@ pub record Begins {P C R S : Type 0} (told : C → ℕ) (gives : Gives R) (looks
   pub new_is : new ≡ record old { received = drop head.len old.received; stage = begun_by old.front counts head intake.now intake.arrival }
 
 -- No further request is taken: this is the last response.
-pub record Refuses {P R S : Type 0} (why : Untaken) (old : Shepherd P) (random : R) (serials : S) (new : Shepherd P) (random_after : R) (serials_after : S) : Type 0 where
+pub record Refuses {P C R S : Type 0} (why : Untaken) (old : Shepherd P) (clock : C) (random : R) (serials : S) (new : Shepherd P) (clock_after : C) (random_after : R) (serials_after : S) : Type 0 where
   pub new_is : new ≡ record old { stage = Refusing why (last_response why) }
+  pub no_reading : clock_after ≡ clock
   pub no_word : random_after ≡ random
   pub no_serial : serials_after ≡ serials
 
@@ -107,13 +110,13 @@ abbrev pub TakesBy : {P C R S : Type 0} → (C → ℕ) → Gives R → Looks S 
 TakesBy told gives looks key home counts (took.Request head) old clock random serials new clock_after random_after serials_after =
     Begins told gives looks key home counts head old clock random serials new clock_after random_after serials_after
 TakesBy told gives looks key home counts took.Bad old clock random serials new clock_after random_after serials_after =
-    Refuses untaken.Bad old random serials new random_after serials_after
+    Refuses untaken.Bad old clock random serials new clock_after random_after serials_after
 TakesBy told gives looks key home counts (took.TooLong len lines) old clock random serials new clock_after random_after serials_after =
-    Refuses untaken.TooLong old random serials new random_after serials_after
+    Refuses untaken.TooLong old clock random serials new clock_after random_after serials_after
 TakesBy told gives looks key home counts took.NoCoding old clock random serials new clock_after random_after serials_after =
-    Refuses untaken.NoCoding old random serials new random_after serials_after
+    Refuses untaken.NoCoding old clock random serials new clock_after random_after serials_after
 TakesBy told gives looks key home counts (took.BodyTooLong said) old clock random serials new clock_after random_after serials_after =
-    Refuses untaken.BodyTooLong old random serials new random_after serials_after
+    Refuses untaken.BodyTooLong old clock random serials new clock_after random_after serials_after
 TakesBy told gives looks key home counts took.More old clock random serials new clock_after random_after serials_after = ⊥
 
 -- A connection took what its bytes begin with.
@@ -188,3 +191,16 @@ rested close = if close then Over ends.Closed else Resting
 -- The item of the request that is open was taken.
 abbrev pub TakesItem : {P : Type 0} → Stage P → Item → Stage P → Type 0
 TakesItem stage item after = OnVisit stage (λ v call. IsItemOf v v.work item × (after ≡ rested v.facts.close))
+
+-- Passes that were held for a request were given back.
+pub record VisitGivesBack {P : Type 0} (old : Visit P) (windows : WindowsValue) (new : Visit P) (after : WindowsValue) : Type 0 where
+  pub back : IsGivenBack old new
+  pub windows_are : after ≡ after_give_back windows (held old.way)
+  pub marks : after.history ≡ windows.history ++ marks_by old.way way.Resting
+
+-- The passes that were held for the request that is open were given back, if one is open.
+abbrev pub GivesBack : {P : Type 0} → Stage P → WindowsValue → Stage P → WindowsValue → Type 0
+GivesBack Resting windows new after = (new ≡ Resting) × (after ≡ windows)
+GivesBack {P} (Serving v call) windows new after = (w : Visit P) × VisitGivesBack v windows w after × (new ≡ Serving w call)
+GivesBack (Refusing why bytes) windows new after = (new ≡ Refusing why bytes) × (after ≡ windows)
+GivesBack (Over end) windows new after = (new ≡ Over end) × (after ≡ windows)

@@ -1,7 +1,7 @@
 //! Laws of what a connection adds and leaves. Each is the contract of a function that does nothing: a caller that needs
 //! the law calls the function.
 
-ghost use Rattle.std.specs.Prelude.{◌≡◌, ℕ, List, [], ◌∷◌, ◌++◌};
+ghost use Rattle.std.specs.Prelude.{◌≡◌, ℕ, List, [], ◌∷◌, ◌++◌, true};
 ghost use Rattle.boot_core.specs.declared.boot.Start.{Start};
 ghost use Rattle.container_core.specs.Container.{ContainerValue, HasGrownBy, events_of};
 ghost use Rattle.container_core.specs.History.{entries_in};
@@ -17,7 +17,7 @@ ghost use Rattle.request_visit.specs.declared.visit.Turn.TheVariants as visit;
 ghost use Rattle.send_windows.specs.Windows.{WindowsValue};
 ghost use Rattle.send_windows.specs.declared.history.WindowMark.{WindowMark};
 ghost use Rattle.shepherd.specs.Accounting.{Accounting, AddsEvents, IsAccountedFor, LeavesMarks, StageTells};
-ghost use Rattle.shepherd.specs.Shepherds.{fresh, turn};
+ghost use Rattle.shepherd.specs.Shepherds.{fresh, has_item, turn};
 ghost use Rattle.shepherd.specs.Steps.{OnVisit, OpensStage, PutsOut, ShepherdSteps, TakesItem, TakesRequest, VisitsOutside, dropped_stage};
 ghost use Rattle.shepherd.specs.declared.shepherd.Shepherd.{Shepherd};
 ghost use Rattle.shepherd.specs.declared.shepherd.Stage.{Stage};
@@ -68,7 +68,7 @@ pub fn connections_account_for_what_they_add<P: Program, L: Link, M: ProgramMake
         → PutsOut s.stage bytes stage → Accounting P.asks start history own marks items s
         → Accounting P.asks start history own marks items (record s { stage = stage }) }
     ensures item { (start : Start) (history own : List Event) (marks : List WindowMark) (items : List Item) (i : Item)
-        (s : Shepherd P) (stage : Stage P) → turn s ≡ ShepherdTurn.Item → TakesItem s.stage i stage
+        (s : Shepherd P) (stage : Stage P) → has_item s.stage ≡ true → TakesItem s.stage i stage
         → Accounting P.asks start history own marks items s
         → Accounting P.asks start history own marks (items ++ i ∷ []) (record s { front = i.holds.front; stage = stage }) }
     ensures given_up { (start : Start) (history own : List Event) (marks : List WindowMark) (items : List Item)

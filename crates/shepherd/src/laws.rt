@@ -10,9 +10,9 @@ ghost use Rattle.request_intake.specs.declared.intake.HomeBoot.{HomeBoot};
 ghost use Rattle.request_visit.specs.Advancing.{Advances};
 ghost use Rattle.request_visit.specs.Stepping.{VisitsInside, VisitsWindows};
 ghost use Rattle.send_windows.specs.Windows.{WindowsValue};
-ghost use Rattle.shepherd.specs.Shepherds.{fresh, turn};
+ghost use Rattle.shepherd.specs.Shepherds.{fresh, has_item, turn};
 ghost use Rattle.shepherd.specs.Standing.{HasServedAll, HasServedFirst, Standing};
-ghost use Rattle.shepherd.specs.Steps.{OnVisit, OpensStage, PutsOut, ShepherdSteps, TakesItem, TakesRequest, VisitsOutside, dropped_stage};
+ghost use Rattle.shepherd.specs.Steps.{GivesBack, OnVisit, OpensStage, PutsOut, ShepherdSteps, TakesItem, TakesRequest, VisitsOutside, dropped_stage};
 ghost use Rattle.shepherd.specs.declared.shepherd.EndKind.{EndKind};
 ghost use Rattle.shepherd.specs.declared.shepherd.EndKind.TheVariants.{OutOfMemory};
 ghost use Rattle.shepherd.specs.declared.shepherd.Shepherd.{Shepherd};
@@ -74,12 +74,15 @@ pub fn connections_stand_with_their_requests<P: Program, L: Link, M: ProgramMake
     ensures open { (fed written : List ℕ) (items : List Item) (s : Shepherd P) (stage : Stage P) (maker : M)
         (worker : WorkerNo) → turn s ≡ ShepherdTurn.Program → OpensStage M.makes maker worker s.stage stage
         → Standing fed written items s → Standing fed written items (record s { stage = stage }) }
+    ensures given_back { (fed written : List ℕ) (items : List Item) (s : Shepherd P) (stage : Stage P)
+        (windows after : WindowsValue) → GivesBack s.stage windows stage after → Standing fed written items s
+        → Standing fed written items (record s { stage = stage }) }
     ensures given_up { (fed written : List ℕ) (items : List Item) (s : Shepherd P) → Standing fed written items s
         → Standing fed written items (record s { stage = dropped_stage s.stage }) }
 {}
 
-/// The items of a connection are for the first requests of its bytes, in order, each once, and what was put out are their
-/// responses in order, whatever bytes follow and however they were cut; and where it has ended, and memory was not
+/// The items of a connection are for the first requests of its bytes, in order, each once, and what was put out are the
+/// bytes that were put out for each, in order, whatever bytes follow and however they were cut; and where it has ended, and memory was not
 /// wanted, they are for all, and the last response is that of what is refused. A request whose program is to be made has
 /// a call, and the moment of each is below the end of moments.
 pub fn items_are_for_requests_in_order<P>(_program: &P)
@@ -90,6 +93,7 @@ pub fn items_are_for_requests_in_order<P>(_program: &P)
         → HasServedAll fed written items end }
     ensures asked { (fed written : List ℕ) (items : List Item) (s : Shepherd P) → turn s ≡ ShepherdTurn.Program
         → Standing fed written items s → OnVisit s.stage (λ v call. call ≢ None) }
+    ensures item { (s : Shepherd P) → turn s ≡ ShepherdTurn.Item → has_item s.stage ≡ true }
     ensures moment { (fed written : List ℕ) (items : List Item) (s : Shepherd P) → turn s ≡ ShepherdTurn.Inside
         → Standing fed written items s → OnVisit s.stage (λ v call. v.facts.now.0 < 2 ^ 62) }
 {

@@ -8,7 +8,8 @@ ghost use Rattle.request_visit.specs.Stepping.{OnServing, VisitsInside, VisitsWi
 ghost use Rattle.request_visit.specs.Visits.{turn as visit_turn};
 ghost use Rattle.request_visit.specs.declared.visit.Turn.TheVariants as visit;
 ghost use Rattle.session_cookie.specs.Cookie.{AreHolders};
-ghost use Rattle.session_way.specs.Way.{answer_held};
+ghost use Rattle.send_windows.specs.declared.windows.TakeRefusal.TheVariants as refusal;
+ghost use Rattle.session_way.specs.Way.{IsRefused, answer_held};
 ghost use Rattle.shepherd.specs.Shepherds.{turn};
 ghost use Rattle.shepherd.specs.Steps.{OnVisit, ShepherdSteps, StepsVisit, VisitsOutside, dropped_stage};
 
@@ -24,8 +25,9 @@ impl<P: Drop> Stage<P> {
     /// One call of the link.
     fn step_outside<L: Link>(&mut self, alloc: Global, link: &mut L) -> Result<(), OutOfMemory>
         requires { OnVisit self.old (λ v call. visit_turn v ≡ visit.Outside) }
-        ensures { OnOk result (StepsVisit (λ v after. VisitsOutside L.makes L.tally v link.old after link.new)
+        ensures step { OnOk result (StepsVisit (λ v after. VisitsOutside L.makes L.tally v link.old after link.new)
             self.old self.new) }
+        ensures same { OnErr result (self.new ≡ self.old) }
     {
         match self {
             Stage::Serving(visit, _) => visit.step_outside(alloc, link),
@@ -38,8 +40,10 @@ impl<P: Drop> Stage<P> {
     /// One call of the windows.
     fn step_windows(&mut self, alloc: Global, windows: &mut Windows) -> Result<(), OutOfMemory>
         requires { OnVisit self.old (λ v call. visit_turn v ≡ visit.Windows) }
-        ensures { OnOk result (StepsVisit (λ v after. VisitsWindows v windows.old after windows.new)
+        ensures step { OnOk result (StepsVisit (λ v after. VisitsWindows v windows.old after windows.new)
             self.old self.new) }
+        ensures want { OnErr result (StepsVisit (λ v after.
+            IsRefused v.way windows.old after.way windows.new refusal.OutOfMemory) self.old self.new) }
     {
         match self {
             Stage::Serving(visit, _) => visit.step_windows(alloc, windows),
@@ -54,7 +58,8 @@ impl<P: Drop> Stage<P> {
         requires turn { OnVisit self.old (λ v call. visit_turn v ≡ visit.Own) }
         requires holders { OnVisit self.old (λ v call.
             IfSome (cookie_in (answer_held v.way)) (λ c. AreHolders c.bricks)) }
-        ensures { OnOk result (StepsVisit (λ v after. Advances key.now v v.work after) self.old self.new) }
+        ensures step { OnOk result (StepsVisit (λ v after. Advances key.now v v.work after) self.old self.new) }
+        ensures holds { OnErr result (StepsVisit (λ v after. after.way ≡ v.way) self.old self.new) }
     {
         match self {
             Stage::Serving(visit, _) => visit.advance(alloc, key),
@@ -131,7 +136,7 @@ impl<P: Drop> Shepherd<P> {
         requires { turn self.old ≡ ShepherdTurn.Outside }
         ensures step { OnOk result (ShepherdSteps (λ v after. VisitsOutside L.makes L.tally v link.old after link.new)
             self.old self.new) }
-        ensures want { OnErr result (self.new.wants_memory ≡ true) }
+        ensures want { OnErr result (self.new ≡ record self.old { wants_memory = true }) }
     {
         let answer = self.stage.step_outside(alloc, link);
         self.heed(answer)
@@ -145,7 +150,9 @@ impl<P: Drop> Shepherd<P> {
         requires { turn self.old ≡ ShepherdTurn.Windows }
         ensures step { OnOk result (ShepherdSteps (λ v after. VisitsWindows v windows.old after windows.new)
             self.old self.new) }
-        ensures want { OnErr result (self.new.wants_memory ≡ true) }
+        ensures holds { OnErr result (StepsVisit (λ v after.
+            IsRefused v.way windows.old after.way windows.new refusal.OutOfMemory) self.old.stage self.new.stage) }
+        ensures want { OnErr result (self.new ≡ record self.old { stage = self.new.stage; wants_memory = true }) }
     {
         let answer = self.stage.step_windows(alloc, windows);
         self.heed(answer)
@@ -161,7 +168,8 @@ impl<P: Drop> Shepherd<P> {
         requires holders { OnVisit self.old.stage (λ v call.
             IfSome (cookie_in (answer_held v.way)) (λ c. AreHolders c.bricks)) }
         ensures step { OnOk result (ShepherdSteps (λ v after. Advances key.now v v.work after) self.old self.new) }
-        ensures want { OnErr result (self.new.wants_memory ≡ true) }
+        ensures holds { OnErr result (StepsVisit (λ v after. after.way ≡ v.way) self.old.stage self.new.stage) }
+        ensures want { OnErr result (self.new ≡ record self.old { stage = self.new.stage; wants_memory = true }) }
     {
         let answer = self.stage.advance(alloc, key);
         self.heed(answer)
@@ -186,7 +194,7 @@ impl<P: Program + Drop> Shepherd<P> {
         requires moment { OnVisit self.old.stage (λ v call. v.facts.now.0 < 2 ^ 62) }
         ensures step { OnOk result (ShepherdSteps (λ v after. VisitsInside P.asks v container.old after container.new)
             self.old self.new) }
-        ensures want { OnErr result (self.new.wants_memory ≡ true) }
+        ensures want { OnErr result (self.new ≡ record self.old { stage = self.new.stage; wants_memory = true }) }
         ensures nothing { OnErr result (container.new.since ≡ container.old.since) }
         ensures count { container.old.faults ≤ container.new.faults }
         ensures grown { HasGrownBy container.old container.new }

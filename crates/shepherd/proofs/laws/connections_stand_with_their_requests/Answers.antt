@@ -1,4 +1,4 @@
-use Rattle.shepherd.proofs.Growing.{given_up, opens, stepped}
+use Rattle.shepherd.proofs.Growing.{given_back, given_up, opens, stepped}
 use Rattle.shepherd.proofs.Keeping.{advance_keeps, inside_keeps, outside_keeps, windows_keep}
 use Rattle.request_visit.specs.Advancing.{Advances}
 use Rattle.request_visit.specs.Stepping.{VisitsInside, VisitsWindows}
@@ -27,3 +27,6 @@ returns-clause-open g c = λ bytes written items s stage maker worker turned ope
 
 pub returns-clause-given_up : goal.returns-clause-given_up
 returns-clause-given_up g c = λ bytes written items s h. given_up bytes written items s h
+
+pub returns-clause-given_back : goal.returns-clause-given_back
+returns-clause-given_back g c = λ bytes written items s stage windows after back h. given_back bytes written items s stage windows after back h

@@ -1,4 +1,4 @@
-use Rattle.shepherd.proofs.Ending.{has_call, has_moment, serves_all, serves_first}
+use Rattle.shepherd.proofs.Ending.{has_call, has_moment, item_next, serves_all, serves_first}
 use Rattle.shepherd.proofs.laws.items_are_for_requests_in_order.Goals as goal
 
 pub returns-clause-first : goal.returns-clause-first
@@ -13,3 +13,6 @@ returns-clause-asked g c = λ bytes written items s turned h. has_call bytes wri
 
 pub returns-clause-moment : goal.returns-clause-moment
 returns-clause-moment g c = λ bytes written items s turned h. has_moment bytes written items s turned h
+
+pub returns-clause-item : goal.returns-clause-item
+returns-clause-item g c = λ s turned. item_next s turned
