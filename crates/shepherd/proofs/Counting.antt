@@ -117,15 +117,15 @@ still asks start history own marks items s new same h =
     with_stage asks start history own marks items s new h (subst (λ x. StageTells asks start history h.open_own h.open_marks x) (sym same) h.tells)
 
 -- a request made a step, as the one that is open
-record Went {P : Type 0} (So : Visit P → Visit P → Type 0) (old new : Shepherd P) : Type 0 where
-  visit : Visit P
-  after : Visit P
-  call : Option AskedCall
-  was : old.stage ≡ Serving visit call
-  is : new.stage ≡ Serving after call
-  so : So visit after
+pub record Went {P : Type 0} (So : Visit P → Visit P → Type 0) (old new : Shepherd P) : Type 0 where
+  pub visit : Visit P
+  pub after : Visit P
+  pub call : Option AskedCall
+  pub was : old.stage ≡ Serving visit call
+  pub is : new.stage ≡ Serving after call
+  pub so : So visit after
 
-went : {P : Type 0} (So : Visit P → Visit P → Type 0) (old new : Shepherd P) → ShepherdSteps So old new → Went So old new
+pub went : {P : Type 0} (So : Visit P → Visit P → Type 0) (old new : Shepherd P) → ShepherdSteps So old new → Went So old new
 went {P} So old new steps = by old.stage refl steps.steps where
   by : (x : Stage P) → old.stage ≡ x → StepsVisit So x new.stage → Went So old new
   by Resting was s = absurd s
@@ -143,7 +143,7 @@ number_kept : {P : Type 0} (v w : Visit P) (call : Option AskedCall) → Keeps v
 number_kept v w call keeps number = subst (λ f. IfSome call (λ (a : AskedCall). f.request ≡ Some a.request)) (sym keeps.facts) number
 
 -- its turn
-turned_so : {P : Type 0} (s : Shepherd P) (wanted : Turn) (v : Visit P) (call : Option AskedCall) → s.stage ≡ Serving v call → step_of (turn s) ≡ Some wanted → visit_turn v ≡ wanted
+pub turned_so : {P : Type 0} (s : Shepherd P) (wanted : Turn) (v : Visit P) (call : Option AskedCall) → s.stage ≡ Serving v call → step_of (turn s) ≡ Some wanted → visit_turn v ≡ wanted
 turned_so s wanted v call was is = subst (λ x. OnVisit x (λ v call. visit_turn v ≡ wanted)) was (asks_visit s wanted is)
 
 pub outside : {P L : Type 0} (asks : P → List Answer → Next) (makes : L → LinkEvent → L → Type 0) (tally : L → Tally)
@@ -248,7 +248,7 @@ advance {P} asks accounts marked start history own marks key items old new is st
     }))
 
 -- a request whose program is to be made is at that stage
-opening : {P : Type 0} (w : Work P) (want : Wants) → visit_turn_by w want ≡ visit.Program → w ≡ Opening
+pub opening : {P : Type 0} (w : Work P) (want : Wants) → visit_turn_by w want ≡ visit.Program → w ≡ Opening
 opening Reading wanted.Nothing is = absurd (cc)
 opening Reading wanted.Outside is = absurd (cc)
 opening Reading wanted.Windows is = absurd (cc)
@@ -306,7 +306,7 @@ out {P} asks accounts marked start history own marks bytes items s stage is puts
       by (Refusing why last) t may puts = subst (λ x. StageTells asks start history h.open_own h.open_marks x) (sym puts.1) t
       by (Over end) t may puts = absurd may
 
-over_now : (t : Turn) → is_over t ≡ true → t ≡ visit.Over
+pub over_now : (t : Turn) → is_over t ≡ true → t ≡ visit.Over
 over_now visit.Outside is = absurd (cc)
 over_now visit.Windows is = absurd (cc)
 over_now visit.Inside is = absurd (cc)
@@ -346,7 +346,7 @@ item {P} asks start history own marks items i s stage is takes h = by s.stage re
   by (Refusing why bytes) was takes = absurd takes
   by (Over end) was takes = absurd takes
 
-dropped_marks : {P : Type 0} (marks : List WindowMark) (cookie : Option Cookie) (way : SessionWay) (w : Work P) → MarksOf marks cookie way w → MarksOf marks cookie way (dropped w)
+pub dropped_marks : {P : Type 0} (marks : List WindowMark) (cookie : Option Cookie) (way : SessionWay) (w : Work P) → MarksOf marks cookie way w → MarksOf marks cookie way (dropped w)
 dropped_marks marks cookie way Reading m = m
 dropped_marks marks cookie way Opening m = m
 dropped_marks marks cookie way (ServingBy tries program) m = m

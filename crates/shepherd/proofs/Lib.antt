@@ -3,5 +3,7 @@ mod Counting
 mod Ending
 mod Growing
 mod Keeping
+mod Replying
 mod Requests
+mod Responding
 mod Turning

@@ -168,7 +168,7 @@ takes told gives looks key home counts fed written items s new clock clock_after
       by rest took.More is r = absurd r
 
 -- the response of a request that is to leave then has left
-then_left : {P : Type 0} (w : Work P) (want : Wants) → visit_turn_by w want ≡ visit.Output → has_left (departed w) ≡ true
+pub then_left : {P : Type 0} (w : Work P) (want : Wants) → visit_turn_by w want ≡ visit.Output → has_left (departed w) ≡ true
 then_left Reading wanted.Nothing is = absurd (cc)
 then_left Reading wanted.Outside is = absurd (cc)
 then_left Reading wanted.Windows is = absurd (cc)
@@ -181,7 +181,7 @@ then_left (Decided became) want is = absurd (cc)
 then_left (Answered fate bytes) want is = refl
 then_left (Left fate) want is = refl
 
-still_early : {P : Type 0} (w : Work P) → is_early (departed w) ≡ is_early w
+pub still_early : {P : Type 0} (w : Work P) → is_early (departed w) ≡ is_early w
 still_early Reading = refl
 still_early Opening = refl
 still_early (ServingBy tries program) = refl

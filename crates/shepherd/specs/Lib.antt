@@ -1,4 +1,5 @@
 pub mod Accounting
+pub mod Answering
 pub mod Shepherds
 pub mod Standing
 pub mod Steps

@@ -29,7 +29,9 @@
 //! definition of `http_wire`, are those of the items, each once and in order, then the one that is open, and then
 //! those of what is left and is still to come; and what was put out is what was put out for each, in order, and at last
 //! the response of what is refused. `Standing` does not say that what was put out for a request is the response to its
-//! item: `responses_are_of_their_items` of `request_visit` does, for each request.
+//! item: `specs/Answering.antt` does, as `Answering`, which each step keeps (`connections_answer_their_requests`,
+//! `taken_requests_are_answered`): so the bytes are the responses to the items, in order, each to the request of its head
+//! (`responses_are_to_their_items`).
 //!
 //! `specs/Accounting.antt` has what a connection added to the history of the container and left in that of the windows,
 //! as `Accounting`: each step keeps it, whatever others add meanwhile (`connections_account_for_what_they_add`,
@@ -38,6 +40,7 @@
 #![tactic(auto)]
 
 mod accounting;
+mod answering;
 mod laws;
 mod leaving;
 mod opening;
@@ -47,6 +50,9 @@ mod taking;
 
 pub use accounting::{
     connections_account_for_what_they_add, items_tell_what_was_added, taken_requests_add_nothing,
+};
+pub use answering::{
+    connections_answer_their_requests, responses_are_to_their_items, taken_requests_are_answered,
 };
 pub use laws::{
     connections_stand, connections_stand_with_their_requests, items_are_for_requests_in_order,
