@@ -1,5 +1,5 @@
 -- Reads and writes go on by steps over a link that others call as well.
-use Rattle.std.proofs.Common.{◌≡◌, ◌∙◌, ap, sym, refl, subst, ℕ, IsTrue, List, [], ◌∷◌, ◌++◌, map, append_assoc, append-nil, Option, Some, None, Result, Ok, Err}
+use Rattle.std.proofs.Common.{◌≡◌, ◌∙◌, ap, sym, refl, subst, ℕ, IsTrue, List, [], ◌∷◌, ◌++◌, map, append_assoc, append-nil, Some, Result, Ok, Err}
 use Rattle.std.proofs.lemmas.List.{map-append}
 use Rattle.std.proofs.lemmas.List.Sums.{fold-append}
 use Rattle.crash_base.specs.declared.numbers.BrickNo.{BrickNo}
@@ -32,10 +32,9 @@ use Rattle.session_way.specs.Runs.{HasRead, HasSettled, HasWritten}
 use Rattle.session_way.specs.Way.{outside_or, passes_for}
 use Rattle.session_way.specs.Writing.{WritingState, write_begun}
 use Rattle.session_way.specs.declared.session_write.WriteOrder.{WriteOrder}
-use Rattle.session_way.specs.declared.way.SessionWay.{SessionWay}
 use Rattle.session_way.specs.declared.way.SessionWay.TheVariants as way
 use Rattle.session_way.specs.declared.way.Wants.TheVariants as wanted
-use Rattle.request_visit.specs.Sessions.{HasBegun, RunsOn, IsWriting, MakesAmong, WritesTo}
+use Rattle.request_visit.specs.Sessions.{HasBegun, RunsOn, MakesAmong, WritesTo}
 
 -- calls in a row are calls among others
 made_among : {L : Type 0} (makes : L → LinkEvent → L → Type 0) (old : L) (made : List LinkEvent) (new : L) → Made makes old made new → Made (MakesAmong makes) tt made tt

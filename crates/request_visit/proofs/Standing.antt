@@ -1,6 +1,6 @@
 -- What is so of the session of a request, step by step.
 use Rattle.std.specs.Prelude.{option_map, IfSome}
-use Rattle.std.proofs.Common.{◌≡◌, ◌≢◌, ◌⊎◌, ◌≤◌, ◌+◌, ℕ, Bool, List, [], ◌++◌, length, take, Option, Some, None, Result, Ok, Err, refl, sym, ap, ◌∙◌, subst, inl, inr, arith, length-append}
+use Rattle.std.proofs.Common.{◌≡◌, ◌≢◌, ◌≤◌, ◌+◌, ℕ, Bool, List, [], ◌++◌, length, take, Option, Some, None, Result, Ok, Err, refl, sym, ap, ◌∙◌, subst, inl, inr, arith, length-append}
 use Rattle.std.proofs.lemmas.List.{take-append-le}
 use Rattle.crash_base.specs.declared.numbers.Moment.{Moment}
 use Rattle.crash_base.specs.declared.numbers.Place.{Place}
@@ -21,13 +21,13 @@ use Rattle.session_cookie.specs.Cookie.{AreHolders}
 use Rattle.session_cookie.specs.declared.cookie.Cookie.{Cookie}
 use Rattle.session_cookie.specs.declared.cookie.TheConstants.{MAX_HOLDERS}
 use Rattle.ssm_stub.specs.Reads.{ReadState, read_answer, read_start}
-use Rattle.ssm_stub.specs.Writes.{WriteState, write_answer, write_until}
+use Rattle.ssm_stub.specs.Writes.{write_answer}
 use Rattle.ssm_stub.specs.declared.read_call.ReadRefusal.TheVariants as read_refusal
 use Rattle.ssm_stub.specs.declared.write_call.WriteRefusal.{WriteRefusal}
 use Rattle.session_way.specs.Lease.{value_to_write}
 use Rattle.session_way.specs.Reading.{answer_of_read}
 use Rattle.session_way.specs.Runs.{HasRead}
-use Rattle.session_way.specs.Way.{IsRefused, IsTaken, StepsOutside, StepsWindows, answer_held, outside_or, passes_for, settled, wants}
+use Rattle.session_way.specs.Way.{IsRefused, IsTaken, StepsOutside, StepsWindows, answer_held, passes_for, settled, wants}
 use Rattle.session_way.specs.Writing.{WritingState, answer_of_write, write_begun}
 use Rattle.session_way.specs.declared.lease.SessionLease.{SessionLease}
 use Rattle.session_way.specs.declared.session_read.ReadOutcome.{ReadOutcome}
@@ -47,18 +47,16 @@ use Rattle.request_tries.specs.declared.outcome.RequestOutcome.TheVariants.{Page
 use Rattle.outcome_items.specs.declared.item.Item.{Item}
 use Rattle.outcome_items.specs.declared.outcome.ItemOutcome.{ItemOutcome}
 use Rattle.outcome_items.specs.declared.outcome.ItemOutcome.TheVariants as item
-use Rattle.request_visit.specs.Advancing.{Advances, HearsReadOf, HearsRead, IsItemOf, IsOfRead, after_leaving, after_read, cookie_in, departed}
+use Rattle.request_visit.specs.Advancing.{Advances, HearsReadOf, IsItemOf, IsOfRead, after_leaving, after_read, cookie_in, departed}
 use Rattle.request_visit.specs.Ready.{ready_by, ready_of, set_in}
 use Rattle.request_visit.specs.Marks.{IsSettling}
 use Rattle.request_visit.specs.Serving.{closed_with, closing_of, holds_of}
-use Rattle.request_visit.specs.Sessions.{IsAnswered, Awaits, CookieTold, EndTold, FateTold, HasAnswer, HasCome, IsGone, IsKnown, IsOrderOf, IsReading, RunsOn, IsWriting, MakesAmong, ReadsTo, SessionOf, SessionStands, SessionTold, SettlesWith, TellsSession, WritesBy, WritesTo}
+use Rattle.request_visit.specs.Sessions.{IsAnswered, Awaits, CookieTold, EndTold, FateTold, HasAnswer, HasCome, IsGone, IsKnown, IsReading, MakesAmong, ReadsTo, SessionOf, SessionStands, SessionTold, SettlesWith, TellsSession, WritesBy, WritesTo}
 use Rattle.request_visit.specs.Stepping.{IsGivenBack, ServesWork, VisitsInside, VisitsWindows, after_closing_if, dropped, left_so, shown_so}
 use Rattle.request_visit.specs.Visits.{after_outcome, begun, or_over, or_own, overloaded, turn, turn_by}
 use Rattle.request_visit.specs.declared.facts.VisitFacts.{VisitFacts}
 use Rattle.request_visit.specs.declared.ready.Ready.{Ready}
 use Rattle.request_visit.specs.declared.ready.Ready.TheVariants.{Respond, Write}
-use Rattle.request_visit.specs.declared.ready.Shown.{Shown}
-use Rattle.request_visit.specs.declared.serving.Closed.{Closed}
 use Rattle.request_visit.specs.declared.serving.Closed.TheVariants as closes
 use Rattle.request_visit.specs.declared.serving.Closing.{Closing}
 use Rattle.request_visit.specs.declared.visit.Fate.{Fate}

@@ -39,7 +39,6 @@ ghost use Rattle.request_visit.specs.declared.visit.Fate.{Fate};
 ghost use Rattle.request_visit.specs.declared.visit.Fate.TheVariants.{Writing};
 ghost use Rattle.request_visit.specs.declared.visit.Work.TheVariants.{Reading, Opening, Serving, Decided, Left};
 ghost use Rattle.request_visit.specs.declared.visit.Visit.{Visit};
-
 ghost use Rattle.crash_base.specs.declared.numbers.Moment.{Moment};
 ghost use Rattle.crash_base.specs.declared.numbers.Place.{Place};
 ghost use Rattle.crash_base.specs.declared.numbers.Version.{Version};

@@ -61,8 +61,13 @@ impl<P: Drop> Visit<P> {
         requires { turn self.old ≡ Turn.Outside }
         ensures step { OnOk result (StepsOutside L.makes self.old.way link.old self.new.way link.new) }
         ensures rest { OnOk result (self.new
-            ≡ record self.old { way = self.new.way; counts = record {
-            hushed = (L.tally link.new).hushed; got = (L.tally link.new).got } }) }
+            ≡ record self.old {
+              way = self.new.way;
+              counts = record {
+                hushed = (L.tally link.new).hushed;
+                got = (L.tally link.new).got;
+              };
+            }) }
         ensures same { OnErr result (self.new ≡ self.old) }
         ensures want { OnErr result (BreaksOffOutside L.makes self.old.way link.old link.new) }
     {

@@ -1,4 +1,4 @@
-use Rattle.std.proofs.Common.{refl, [], Ok, Err}
+use Rattle.std.proofs.Common.{refl, Ok, Err}
 use Rattle.outcome_items.specs.declared.outcome.ItemOutcome.TheVariants as item
 use Rattle.ssm_stub.proofs.Distinct.{holders-differ}
 use Rattle.ssm_stub.proofs.ReadFacts.{read_facts}
