@@ -69,8 +69,8 @@ pub record IsOrderOf (facts : VisitFacts) (lease : Option SessionLease) (what : 
   pub nonce_is : order.nonce ≡ facts.write
   pub expiry_is : order.expiry.0 ≡ facts.now.0 + 1800000
 
--- A write of this order has begun by passes that were taken for it; at least as many bricks are to store its value as a
--- cookie names.
+-- A write of this order has begun by passes that were taken for it; its value is to be stored by at least one brick, and
+-- by no more than a cookie may name.
 pub record HasBegun (order : WriteOrder) (begun : WritingState) : Type 0 where
   pub old : WindowsValue
   pub new : WindowsValue

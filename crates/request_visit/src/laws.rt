@@ -222,10 +222,10 @@ pub fn responses_are_of_their_items<P: Program>(_program: &P)
 
 /// A request accounts for its session at each step, whatever others do between two of them, with the link too: what it
 /// knows of it is what the read of its cookie answered; it is written exactly where the entry of its page sets it, or
-/// keeps it and it was read and its lease is due; by an order of the request's own key and nonce, with passes that were
-/// taken for that; and its cookie, or the causes for which there is none, are what that write came to. A cookie that is
-/// held while a response is made may be read, and stays until the passes are spent. So what its item says of its session
-/// is what came of it.
+/// keeps it and it was read and its lease is due; by an order of the request's own key and nonce, with passes that
+/// were taken for that; and its cookie, or the causes for which there is none, are what that write came to. A cookie
+/// that is held while a response is made may be read, and stays until the passes are spent. So what its item says of
+/// its session is what came of it.
 pub fn requests_account_for_their_sessions<P: Program, L: Link>(_program: &P, _link: &L)
     ensures begins { (history : List Event) (facts : VisitFacts) (counts : LinkCounts) (nonce : Version)
         (cookie : Cookie) (v : Visit P)
