@@ -105,7 +105,7 @@ in_place key history heads more written items s new rest says h =
       says = says;
     }
 
-pub taken : {P C R S : Type 0} → SaysBegun P → SaysRefused P → SaysSpent P → (told : C → ℕ) (gives : Rattle.request_intake.specs.Drawing.Gives R) (looks : Rattle.request_intake.specs.Drawing.Looks S)
+pub taken : {P C R S : Type 0} → SaysBegun P → SaysRefused P → SaysSpent P → (told : C → ℕ) (gives : Rattle.request_intake.specs.Intakes.Gives R) (looks : Rattle.request_intake.specs.Intakes.Looks S)
     (key : List ℕ) (home : HomeBoot) (counts : LinkCounts) (history : List Event) (heads : List Head) (written : List ℕ) (items : List Item) (s new : Shepherd P)
     (clock clock_after : C) (random random_after : R) (serials serials_after : S) → turn s ≡ turns.Request
     → TakesRequest told gives looks key home counts s clock random serials new clock_after random_after serials_after
