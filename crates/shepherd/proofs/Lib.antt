@@ -1,4 +1,5 @@
 mod Beginning
+mod Begun
 mod Counting
 mod Ending
 mod Growing

@@ -1,5 +1,6 @@
 pub mod Accounting
 pub mod Answering
+pub mod Serving
 pub mod Shepherds
 pub mod Standing
 pub mod Steps

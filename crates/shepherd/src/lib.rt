@@ -23,6 +23,10 @@
 //! between any two. After a call that wanted memory the connection has ended. `drop_call` and `drop_passes` give up, at
 //! any turn, what its request holds; where its response has left, its item can still be taken then.
 //!
+//! A request that is admitted begins with its own number, moment, key and nonces, and is served by the program of its own
+//! call, as the user of its session (`requests_are_served_as_they_came`). That this is carried to its item no law says
+//! yet, nor which numbers were drawn for the requests of a connection together.
+//!
 //! `specs/Standing.antt` has what is so of a connection at any time, as `Standing`: over the bytes that were fed, those
 //! that were put out, and the items that were taken. The law `connections_stand` says that each step keeps it, and
 //! `items_are_for_requests_in_order` what follows: however the bytes were cut, the requests of all bytes, by the
@@ -44,6 +48,7 @@ mod answering;
 mod laws;
 mod leaving;
 mod opening;
+mod serving;
 mod shepherd;
 mod stepping;
 mod taking;
@@ -58,4 +63,5 @@ pub use laws::{
     connections_stand, connections_stand_with_their_requests, items_are_for_requests_in_order,
 };
 pub use opening::ProgramMaker;
+pub use serving::requests_are_served_as_they_came;
 pub use shepherd::{AskedCall, EndKind, Shepherd, ShepherdTurn, Stage};
