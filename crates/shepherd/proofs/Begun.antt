@@ -1,29 +1,17 @@
 -- Requests are served as they came.
-use Rattle.std.proofs.Common.{◌≡◌, ℕ, List, Option, Some, None, refl, sym, ap, subst, ◌∙◌}
-use Rattle.std.specs.Prelude.{option_map}
-use Rattle.auction_calls.specs.declared.action.ActionCall.{ActionCall}
+use Rattle.std.proofs.Common.{◌≡◌, Option, Some, None, refl, sym, ap, subst, ◌∙◌}
 use Rattle.crash_base.specs.declared.numbers.Moment.{Moment}
 use Rattle.crash_base.specs.declared.numbers.Place.{Place}
-use Rattle.crash_base.specs.declared.numbers.WorkerNo.{WorkerNo}
 use Rattle.http_wire.specs.declared.taken.Head.{Head}
 use Rattle.outside.specs.declared.link.LinkCounts.{LinkCounts}
-use Rattle.request_decisions.specs.Calls.{call_by, user_of}
 use Rattle.request_intake.specs.declared.intake.Admission.{Admission}
 use Rattle.request_intake.specs.declared.intake.Arrival.{Arrival}
 use Rattle.request_intake.specs.declared.intake.Arrival.TheVariants.{Admitted}
-use Rattle.request_tries.specs.Serving.{unbegun}
-use Rattle.request_visit.specs.Advancing.{value_of}
-use Rattle.request_visit.specs.declared.visit.Visit.{Visit}
-use Rattle.request_visit.specs.declared.visit.Work.{Work}
-use Rattle.request_visit.specs.declared.visit.Work.TheVariants.{Serving as ServingBy}
 use Rattle.session_cookie.specs.declared.cookie.Cookie.{Cookie}
-use Rattle.session_way.specs.declared.lease.SessionLease.{SessionLease}
 use Rattle.session_way.specs.declared.way.SessionWay.TheVariants as way
 use Rattle.ssm_stub.specs.Reads.{read_start}
 use Rattle.shepherd.specs.Serving.{IsServedWith}
-use Rattle.shepherd.specs.Steps.{OnVisit, OpensBy, admitted_visit, begun_by, facts_of}
-use Rattle.shepherd.specs.declared.shepherd.AskedCall.{AskedCall}
-use Rattle.shepherd.specs.declared.shepherd.Shepherd.{Shepherd}
+use Rattle.shepherd.specs.Steps.{OnVisit, admitted_visit, begun_by, facts_of}
 use Rattle.shepherd.specs.declared.shepherd.Stage.{Stage}
 
 by_cookie : (P : Type 0) (front : Place) (counts : LinkCounts) (head : Head) (now : Moment) (a : Admission) (cookie : Option Cookie) → a.cookie ≡ cookie

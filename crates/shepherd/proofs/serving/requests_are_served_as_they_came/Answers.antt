@@ -1,10 +1,8 @@
-use Rattle.std.proofs.Common.{refl, sym, ap, ◌∙◌, Some, Option, List, ℕ}
+use Rattle.std.proofs.Common.{refl, ap, Option}
 use Rattle.std.specs.Prelude.{option_map}
 use Rattle.request_decisions.specs.Calls.{call_by, user_of}
 use Rattle.request_visit.specs.Advancing.{value_of}
-use Rattle.request_visit.specs.declared.visit.Work.{Work}
 use Rattle.session_way.specs.declared.lease.SessionLease.{SessionLease}
-use Rattle.shepherd.specs.declared.shepherd.Shepherd.{Shepherd}
 use Rattle.shepherd.proofs.Begun.{begins_so}
 use Rattle.shepherd.proofs.serving.requests_are_served_as_they_came.Goals as goal
 
