@@ -1,5 +1,5 @@
--- What a connection added to the history of the container, and the marks that it left in that of the windows, by its items
--- and by the request that is open.
+-- What a connection added to the history of the container, and the marks that it left in that of the windows, by its
+-- items and by the request that is open.
 use Rattle.std.specs.Prelude.{◌≡◌, List, [], ◌++◌, map, take, All, Option, Some, IfSome}
 use Rattle.std.specs.List.{flat_map}
 use Rattle.boot_core.specs.declared.boot.Start.{Start}
@@ -66,9 +66,9 @@ StageTells asks start history own marks (Serving v call) = Tells asks start hist
 StageTells asks start history own marks (Refusing why bytes) = (own ≡ []) × (marks ≡ [])
 StageTells asks start history own marks (Over end) = (own ≡ []) × (marks ≡ [])
 
--- A connection accounts for what it added to the history of the container, and for the marks that it left in that of the
--- windows, with the numbers of passes left out: they are those of its items, in order, and then those of the request that is
--- open.
+-- A connection accounts for what it added to the history of the container, and for the marks that it left in that of
+-- the windows, with the numbers of passes left out: they are those of its items, in order, and then those of the
+-- request that is open.
 pub record Accounting {P : Type 0} (asks : P → List Answer → Next) (start : Start) (history own : List Event) (marks : List WindowMark) (items : List Item) (s : Shepherd P) : Type 0 where
   pub told : List (Told P)
   pub open_own : List Event
@@ -93,8 +93,8 @@ pub record ItemStands (start : Start) (history : List Event) (i : Item) : Type 0
   pub facts : VisitFacts
   pub became : Became start history errand facts i.holds (trace_in history i) i.outcome
 
--- A connection's own events and marks are those that its items tell of, in order, and then what the request that is open has
--- added and left; and each item stands.
+-- A connection's own events and marks are those that its items tell of, in order, and then what the request that is
+-- open has added and left; and each item stands.
 pub record IsAccountedFor (start : Start) (history own : List Event) (marks : List WindowMark) (items : List Item) (open_own : List Event) (open_marks : List WindowMark) : Type 0 where
   pub events : own ≡ traces_in history items ++ open_own
   pub marks_are : marks ≡ window_traces items ++ open_marks

@@ -21,7 +21,8 @@ use Rattle.shepherd.specs.declared.shepherd.Shepherd.{Shepherd}
 use Rattle.shepherd.specs.declared.shepherd.Stage.{Stage}
 use Rattle.shepherd.specs.declared.shepherd.Stage.TheVariants.{Resting, Serving, Refusing, Over}
 
--- a request that was answered: its head, how it was at its end, its item, the marks that it left, and what was put out for it
+-- a request that was answered: its head, how it was at its end, its item, the marks that it left, and what was put out
+-- for it
 pub record Answered (P : Type 0) : Type 0 where
   pub head : Head
   pub visit : Visit P
@@ -71,8 +72,8 @@ StageSays key history opened sent (Serving v call) = SaysSo key history opened s
 StageSays key history opened sent (Refusing why last) = (opened ≡ []) × (sent ≡ []) × (last ≡ last_response why)
 StageSays key history opened sent (Over end) = (opened ≡ []) × (sent ≡ last_of end)
 
--- A connection answers the requests of these heads, in order: what it put out is what was put out for each, and what has left
--- for the one that is open, or at last for what is refused; and each says what became of its request.
+-- A connection answers the requests of these heads, in order: what it put out is what was put out for each, and what
+-- has left for the one that is open, or at last for what is refused; and each says what became of its request.
 pub record Answering {P : Type 0} (key : List ℕ) (history : List Event) (heads : List Head) (written : List ℕ) (items : List Item) (s : Shepherd P) : Type 0 where
   pub answered : List (Answered P)
   pub opened : List Head
@@ -98,7 +99,8 @@ pub record Response : Type 0 where
   pub item : Item
   pub bytes : List ℕ
 
--- The bytes are the response to the item of the request, over the history as it was when the container was last held for it.
+-- The bytes are the response to the item of the request, over the history as it was when the container was last held
+-- for it.
 abbrev pub Responds : List ℕ → List Event → Response → Type 0
 Responds key history r = IsResponse key (entries_in (take r.item.holds.held history)) r.item r.head r.bytes
 

@@ -91,8 +91,8 @@ is_early (Decided became) = false
 is_early (Answered fate bytes) = false
 is_early (Left fate) = false
 
--- The request that is open is the one of this head, behind an item with this front; this was put out for it, and its call
--- is there until its program is made.
+-- The request that is open is the one of this head, behind an item with this front; this was put out for it, and its
+-- call is there until its program is made.
 pub record IsOpenFor {P : Type 0} (front : Place) (v : Visit P) (call : Option AskedCall) (opened : List Head) (sent : List ℕ) : Type 0 where
   pub head : Head
   pub opened_is : opened ≡ head ∷ []
@@ -115,9 +115,9 @@ abbrev pub last_front : Place → List Item → Place
 last_front front [] = front
 last_front front (i ∷ items) = last_front i.holds.front items
 
--- A connection stands: whatever bytes follow, the requests of all bytes are those of its items, each once and in order, then
--- the one that is open, and then those of what is left and of what follows. And what it put out is the responses of those,
--- in order, and what has left for the one that is open, or at last for what is refused.
+-- A connection stands: whatever bytes follow, the requests of all bytes are those of its items, each once and in order,
+-- then the one that is open, and then those of what is left and of what follows. And what it put out is the responses
+-- of those, in order, and what has left for the one that is open, or at last for what is refused.
 pub record Standing {P : Type 0} (fed written : List ℕ) (items : List Item) (s : Shepherd P) : Type 0 where
   pub served : List Served
   pub opened : List Head
@@ -128,8 +128,8 @@ pub record Standing {P : Type 0} (fed written : List ℕ) (items : List Item) (s
   pub is_open : IsOpen s.front s.stage opened sent
   pub front_is : s.front ≡ last_front (record { 0 = 0 }) items
 
--- A connection has ended so: its items are for all requests of its bytes, and all their responses were put out, with the last
--- one of what is refused.
+-- A connection has ended so: its items are for all requests of its bytes, and all their responses were put out, with
+-- the last one of what is refused.
 pub record HasServedAll (fed written : List ℕ) (items : List Item) (end : EndKind) : Type 0 where
   pub served : List Served
   pub items_are : items ≡ items_of served

@@ -145,8 +145,8 @@ pub record VisitsOutside {P L : Type 0} (makes : L → LinkEvent → L → Type 
   pub steps : StepsOutside makes old.way link new.way after
   pub rest : new ≡ record old { way = new.way; counts = counted (tally after) }
 
--- A program was made of what a request asks for, as the user of its session asks for it; and the request is served by tries
--- that have not begun.
+-- A program was made of what a request asks for, as the user of its session asks for it; and the request is served by
+-- tries that have not begun.
 pub record OpensBy {P M : Type 0} (makes : M → ActionCall → List ℕ → P → Type 0) (maker : M) (worker : WorkerNo) (old : Visit P) (asked : AskedCall) (new : Visit P) : Type 0 where
   pub text : List ℕ
   pub program : P

@@ -28,8 +28,8 @@ use call_ticket::Program;
 use outside::{Clock, Link, Random, Serials};
 use request_visit::{requests_account_for_their_events, requests_account_for_their_marks};
 
-/// A connection accounts for each event that it adds to the history of the container, and for each mark that it leaves in
-/// that of the windows, at each of its steps, whatever others add meanwhile.
+/// A connection accounts for each event that it adds to the history of the container, and for each mark that it leaves
+/// in that of the windows, at each of its steps, whatever others add meanwhile.
 pub fn connections_account_for_what_they_add<P: Program, L: Link, M: ProgramMaker<P>>(
     program: &P,
     link: &L,
@@ -96,9 +96,9 @@ pub fn taken_requests_add_nothing<P: Program, C: Clock, R: Random, S: Serials>(
     requests_account_for_their_events(program);
 }
 
-/// A connection's own events are those that its items tell of, in order, over the history as it is now, and then what the
-/// request that is open has added; and so are its marks. Each item stands: this became of its request, as the history
-/// shows.
+/// A connection's own events are those that its items tell of, in order, over the history as it is now, and then what
+/// the request that is open has added; and so are its marks. Each item stands: this became of its request, as the
+/// history shows.
 pub fn items_tell_what_was_added<P: Program, L: Link>(program: &P, link: &L)
     ensures { (start : Start) (history own : List Event) (marks : List WindowMark) (items : List Item) (s : Shepherd P)
         → Accounting P.asks start history own marks items s

@@ -1,5 +1,5 @@
-//! Laws of what a connection puts out. Each is the contract of a function that does nothing: a caller that needs the law
-//! calls the function.
+//! Laws of what a connection puts out. Each is the contract of a function that does nothing: a caller that needs the
+//! law calls the function.
 
 ghost use Rattle.std.specs.Prelude.{◌≡◌, ℕ, true, List, [], ◌∷◌, ◌++◌};
 ghost use Rattle.container_core.specs.Container.{ContainerValue, HasGrownBy, events_of};
@@ -28,9 +28,9 @@ use call_ticket::Program;
 use outside::{Clock, Link, Random, Serials};
 use request_visit::{requests_account_for_their_marks, responses_are_of_their_items};
 
-/// A connection answers its requests in order, at each of its steps, whatever others add meanwhile: what was put out for
-/// each says what became of it. While a write is settled, the cookie of its answer has to stay, which is so of runs of a
-/// write (`ssm_stub::answers_stay`).
+/// A connection answers its requests in order, at each of its steps, whatever others add meanwhile: what was put out
+/// for each says what became of it. While a write is settled, the cookie of its answer has to stay, which is so of runs
+/// of a write (`ssm_stub::answers_stay`).
 pub fn connections_answer_their_requests<P: Program, L: Link, M: ProgramMaker<P>>(
     program: &P,
     link: &L,
@@ -79,8 +79,8 @@ pub fn connections_answer_their_requests<P: Program, L: Link, M: ProgramMaker<P>
     responses_are_of_their_items(program);
 }
 
-/// A request that is taken off the bytes is the next one that is answered; and where none is, what is refused has the last
-/// response.
+/// A request that is taken off the bytes is the next one that is answered; and where none is, what is refused has the
+/// last response.
 pub fn taken_requests_are_answered<P: Program, C: Clock, R: Random, S: Serials>(
     program: &P,
     _clock: &C,
@@ -98,8 +98,8 @@ pub fn taken_requests_are_answered<P: Program, C: Clock, R: Random, S: Serials>(
     responses_are_of_their_items(program);
 }
 
-/// What a connection put out are the responses to its items, in order, each to the request of its head, and then what has
-/// left for the request that is open, or at last for what is refused.
+/// What a connection put out are the responses to its items, in order, each to the request of its head, and then what
+/// has left for the request that is open, or at last for what is refused.
 pub fn responses_are_to_their_items<P: Program>(program: &P)
     ensures { (key : List ℕ) (history : List Event) (heads : List Head) (written : List ℕ) (items : List Item)
         (s : Shepherd P) → Answering key history heads written items s → (opened : List Head) × (last : List ℕ)

@@ -24,9 +24,9 @@ use call_ticket::Program;
 use http_wire::requests_compose;
 use outside::{Clock, Link, Random, Serials};
 
-/// A connection stands from its begin on. It stands with the bytes that are fed to it, and where no more come; a request
-/// that is taken off is the next one of the bytes; what is put out joins what was; and an item is that of the request that
-/// was open.
+/// A connection stands from its begin on. It stands with the bytes that are fed to it, and where no more come; a
+/// request that is taken off is the next one of the bytes; what is put out joins what was; and an item is that of the
+/// request that was open.
 pub fn connections_stand<P, C: Clock, R: Random, S: Serials>(
     _program: &P,
     _clock: &C,
@@ -82,9 +82,9 @@ pub fn connections_stand_with_their_requests<P: Program, L: Link, M: ProgramMake
 {}
 
 /// The items of a connection are for the first requests of its bytes, in order, each once, and what was put out are the
-/// bytes that were put out for each, in order, whatever bytes follow and however they were cut; and where it has ended, and memory was not
-/// wanted, they are for all, and the last response is that of what is refused. A request whose program is to be made has
-/// a call, and the moment of each is below the end of moments.
+/// bytes that were put out for each, in order, whatever bytes follow and however they were cut; and where it has ended,
+/// and memory was not wanted, they are for all, and the last response is that of what is refused. A request whose
+/// program is to be made has a call, and the moment of each is below the end of moments.
 pub fn items_are_for_requests_in_order<P>(_program: &P)
     ensures first { (fed more written : List ℕ) (items : List Item) (s : Shepherd P) → Standing fed written items s
         → HasServedFirst fed written items more }

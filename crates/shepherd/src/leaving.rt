@@ -128,8 +128,8 @@ impl<P: Drop> Shepherd<P> {
         item
     }
 
-    /// Gives back the passes that are held for the request that is open, an unheard one as Silent, at any turn. Where its
-    /// response has left, its item can be taken then. It takes no memory.
+    /// Gives back the passes that are held for the request that is open, an unheard one as Silent, at any turn. Where
+    /// its response has left, its item can be taken then. It takes no memory.
     pub fn drop_passes(&mut self, windows: &mut Windows)
         ensures stage { GivesBack self.old.stage windows.old self.new.stage windows.new }
         ensures rest { self.new ≡ record self.old { stage = self.new.stage } }

@@ -81,8 +81,8 @@ impl<P: Drop> Stage<P> {
 }
 
 impl<P: Drop> Shepherd<P> {
-    /// Makes the program of the request that is open, of its call as the user of its session makes it; and it is served in
-    /// the container from now on, by tries that have not begun.
+    /// Makes the program of the request that is open, of its call as the user of its session makes it; and it is served
+    /// in the container from now on, by tries that have not begun.
     ///
     /// # Errors
     /// There is no memory: the connection has ended.

@@ -158,8 +158,8 @@ impl<P: Drop> Shepherd<P> {
         self.heed(answer)
     }
 
-    /// Takes in what was heard for the request that is open, or makes its response, under the service's key: nobody else
-    /// is asked.
+    /// Takes in what was heard for the request that is open, or makes its response, under the service's key: nobody
+    /// else is asked.
     ///
     /// # Errors
     /// There is no memory: the connection has ended.

@@ -176,8 +176,8 @@ impl<P: Drop> Shepherd<P> {
         }
     }
 
-    /// Takes what the bytes begin with. A request is decided, its moment is read off the clock, and all is drawn for it;
-    /// what is refused has its last response made.
+    /// Takes what the bytes begin with. A request is decided, its moment is read off the clock, and all is drawn for
+    /// it; what is refused has its last response made.
     ///
     /// # Errors
     /// There is no memory: the connection has ended.
