@@ -382,6 +382,16 @@ item_holds v (Decided became) i is = absurd is
 item_holds v (Answered fate bytes) i is = absurd is
 item_holds v (Left fate) i is = ap (λ (x : Item). x.holds) is
 
+-- and so are its number and its moment
+item_facts : {P : Type 0} (v : Visit P) (w : Work P) (i : Item) → IsItemOf v w i → (i.request ≡ v.facts.request) × (i.moment ≡ v.facts.now)
+item_facts v Reading i is = absurd is
+item_facts v Opening i is = absurd is
+item_facts v (ServingBy tries program) i is = absurd is
+item_facts v (Committed place again shown) i is = absurd is
+item_facts v (Decided became) i is = absurd is
+item_facts v (Answered fate bytes) i is = absurd is
+item_facts v (Left fate) i is = (ap (λ (x : Item). x.request) is, ap (λ (x : Item). x.moment) is)
+
 -- what a law tells of an item
 abbrev pub ItemTells : {P : Type 0} → (P → List Answer → Next) → Type 0
 ItemTells {P} asks = (start : Start) (history : List Event) (errand : Errand) (own : List Event) (v : Visit P) (i : Item) → IsItemOf v v.work i → Accounts asks start history errand own v
@@ -393,6 +403,8 @@ item_stands asks tells start history t h =
     record {
       errand = t.errand;
       facts = t.visit.facts;
+      request_is = (item_facts t.visit t.visit.work t.item h.is_item).0;
+      moment_is = (item_facts t.visit t.visit.work t.item h.is_item).1;
       became = subst (λ x. Became start history t.errand t.visit.facts x (trace_in history t.item) t.item.outcome) (sym (item_holds t.visit t.visit.work t.item h.is_item))
           (subst (λ x. Became start history t.errand t.visit.facts t.visit.holds x t.item.outcome) found.1 found.0);
     }

@@ -87,10 +87,13 @@ trace_in history i = event_trace (entries_in (take i.holds.held history)) i
 abbrev pub traces_in : List Event → List Item → List Event
 traces_in history items = flat_map (trace_in history) items
 
--- An item stands in a history: this became of its request, and it added just what the item tells.
+-- An item stands in a history: this became of its request, at its moment and under its number, and it added just what
+-- the item tells.
 pub record ItemStands (start : Start) (history : List Event) (i : Item) : Type 0 where
   pub errand : Errand
   pub facts : VisitFacts
+  pub request_is : i.request ≡ facts.request
+  pub moment_is : i.moment ≡ facts.now
   pub became : Became start history errand facts i.holds (trace_in history i) i.outcome
 
 -- A connection's own events and marks are those that its items tell of, in order, and then what the request that is
