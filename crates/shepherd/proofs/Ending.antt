@@ -3,6 +3,7 @@ use Rattle.std.proofs.Common.{◌≡◌, ◌≢◌, ℕ, ◌<◌, ◌^◌, ◌==
 use Rattle.std.proofs.lemmas.List.{append-nil, append_assoc}
 use Rattle.http_wire.specs.Requests.{closed, cut, ended, requests}
 use Rattle.http_wire.specs.Taking.{settles, taken_of}
+use Rattle.http_wire.specs.declared.taken.Head.{Head}
 use Rattle.http_wire.specs.declared.taken.Taken.{Taken}
 use Rattle.http_wire.specs.declared.taken.Taken.TheVariants as took
 use Rattle.outcome_items.specs.declared.item.Item.{Item}
@@ -25,8 +26,8 @@ use Rattle.shepherd.specs.declared.shepherd.Stage.TheVariants.{Resting, Serving,
 use Rattle.shepherd.proofs.Requests.{with_heads}
 use Rattle.shepherd.proofs.Turning.{asks_visit, early, step_of}
 
-pub serves_first : {P : Type 0} (fed more written : List ℕ) (items : List Item) (s : Shepherd P) → Standing fed written items s → HasServedFirst fed written items more
-serves_first fed more written items s h = record {
+pub serves_first : {P : Type 0} (fed more : List ℕ) (heads : List Head) (written : List ℕ) (items : List Item) (s : Shepherd P) → Standing fed heads written items s → HasServedFirst fed written items more
+serves_first fed more heads written items s h = record {
   served = h.served;
   behind = h.opened ++ (coming s.stage (s.received ++ more)).heads;
   last = h.sent;
@@ -73,10 +74,10 @@ rest_end false true true end is = let e : end ≡ ends.Closed = cc in (refl, ap 
 rest_end false true false end is = let e : end ≡ ends.Cut = cc in (refl, ap ending_of e, ap last_of e)
 rest_end false false c end is = absurd (cc)
 
-pub serves_all : {P : Type 0} (fed written : List ℕ) (items : List Item) (s : Shepherd P) (end : EndKind)
+pub serves_all : {P : Type 0} (fed : List ℕ) (heads : List Head) (written : List ℕ) (items : List Item) (s : Shepherd P) (end : EndKind)
     → ((bytes : List ℕ) → taken_of bytes ≡ took.More → requests bytes ≡ ended (if length bytes == 0 then closed else cut))
-    → turn s ≡ turns.Ended end → end ≢ ends.OutOfMemory → Standing fed written items s → HasServedAll fed written items end
-serves_all {P} fed written items s end rest turned memory h = by_memory s.wants_memory (ap end_in turned) where
+    → turn s ≡ turns.Ended end → end ≢ ends.OutOfMemory → Standing fed heads written items s → HasServedAll fed written items end
+serves_all {P} fed heads written items s end rest turned memory h = by_memory s.wants_memory (ap end_in turned) where
   all : h.opened ≡ [] → h.sent ≡ last_of end → coming s.stage s.received ≡ ended (ending_of end) → HasServedAll fed written items end
   all none sent ends = record {
     served = h.served;
@@ -106,24 +107,24 @@ serves_all {P} fed written items s end rest turned memory h = by_memory s.wants_
   by_memory false e = by_stage s.stage refl e
 
 -- what is so of each request that is open is so of the one whose step is next
-open_is : {P : Type 0} (So : Visit P → Option AskedCall → Type 0) (fed written : List ℕ) (items : List Item) (s : Shepherd P) (wanted : Turn) → step_of (turn s) ≡ Some wanted
+open_is : {P : Type 0} (So : Visit P → Option AskedCall → Type 0) (fed : List ℕ) (heads : List Head) (written : List ℕ) (items : List Item) (s : Shepherd P) (wanted : Turn) → step_of (turn s) ≡ Some wanted
     → ((front : Rattle.crash_base.specs.declared.numbers.Place.Place) (v : Visit P) (call : Option AskedCall) (opened : List Rattle.http_wire.specs.declared.taken.Head.Head) (sent : List ℕ)
     → visit_turn v ≡ wanted → IsOpenFor front v call opened sent → So v call)
-    → Standing fed written items s → OnVisit s.stage So
-open_is {P} So fed written items s wanted is shows h = by s.stage refl (asks_visit s wanted is) where
+    → Standing fed heads written items s → OnVisit s.stage So
+open_is {P} So fed heads written items s wanted is shows h = by s.stage refl (asks_visit s wanted is) where
   by : (x : Stage P) → s.stage ≡ x → OnVisit x (λ v call. visit_turn v ≡ wanted) → OnVisit x So
   by Resting was turned = absurd turned
   by (Serving v call) was turned = shows s.front v call h.opened h.sent turned (subst (λ x. IsOpen s.front x h.opened h.sent) was h.is_open)
   by (Refusing why last) was turned = absurd turned
   by (Over end) was turned = absurd turned
 
-pub has_call : {P : Type 0} (fed written : List ℕ) (items : List Item) (s : Shepherd P) → turn s ≡ turns.Program → Standing fed written items s → OnVisit s.stage (λ v call. call ≢ None)
-has_call fed written items s is h =
-    open_is (λ v call. call ≢ None) fed written items s visit.Program (ap step_of is) (λ front v call opened sent turned o. o.asked (early v.work (wants v.way) turned)) h
+pub has_call : {P : Type 0} (fed : List ℕ) (heads : List Head) (written : List ℕ) (items : List Item) (s : Shepherd P) → turn s ≡ turns.Program → Standing fed heads written items s → OnVisit s.stage (λ v call. call ≢ None)
+has_call fed heads written items s is h =
+    open_is (λ v call. call ≢ None) fed heads written items s visit.Program (ap step_of is) (λ front v call opened sent turned o. o.asked (early v.work (wants v.way) turned)) h
 
-pub has_moment : {P : Type 0} (fed written : List ℕ) (items : List Item) (s : Shepherd P) → turn s ≡ turns.Inside → Standing fed written items s → OnVisit s.stage (λ v call. v.facts.now.0 < 2 ^ 62)
-has_moment fed written items s is h =
-    open_is (λ v call. v.facts.now.0 < 2 ^ 62) fed written items s visit.Inside (ap step_of is) (λ front v call opened sent turned o. o.small) h
+pub has_moment : {P : Type 0} (fed : List ℕ) (heads : List Head) (written : List ℕ) (items : List Item) (s : Shepherd P) → turn s ≡ turns.Inside → Standing fed heads written items s → OnVisit s.stage (λ v call. v.facts.now.0 < 2 ^ 62)
+has_moment fed heads written items s is h =
+    open_is (λ v call. v.facts.now.0 < 2 ^ 62) fed heads written items s visit.Inside (ap step_of is) (λ front v call opened sent turned o. o.small) h
 
 -- nothing is left to be done where the item is next
 pub item_next : {P : Type 0} (s : Shepherd P) → turn s ≡ turns.Item → has_item s.stage ≡ true
@@ -133,3 +134,8 @@ item_next {P} s is = by s.stage (asks_visit s visit.Over (ap step_of is)) where
   by (Serving v call) turned = ap is_over turned
   by (Refusing why last) turned = absurd turned
   by (Over end) turned = absurd turned
+
+-- the requests of all bytes begin with those that were taken
+pub takes_first : {P : Type 0} (fed more : List ℕ) (heads : List Head) (written : List ℕ) (items : List Item) (s : Shepherd P) → Standing fed heads written items s
+    → requests (fed ++ more) ≡ all_before heads (coming s.stage (s.received ++ more))
+takes_first fed more heads written items s h = h.requests_are more ∙ ap (λ hs. all_before hs (coming s.stage (s.received ++ more))) (sym h.heads_are)

@@ -26,11 +26,12 @@ use Rattle.shepherd.specs.declared.shepherd.Stage.TheVariants.{Resting, Serving,
 use Rattle.shepherd.proofs.Keeping.{Keeps, back_keeps, dropping_keeps}
 use Rattle.shepherd.proofs.Turning.{asks_output, asks_request, asks_visit, early, unsent}
 
-pub begins : (P : Type 0) → Standing {P = P} [] [] [] fresh
+pub begins : (P : Type 0) → Standing {P = P} [] [] [] [] fresh
 begins P = record {
   served = [];
   opened = [];
   sent = [];
+  heads_are = refl;
   items_are = refl;
   requests_are = λ more. refl;
   written_is = refl;
@@ -38,12 +39,13 @@ begins P = record {
   front_is = refl;
 }
 
-pub fed : {P : Type 0} (bytes more written : List ℕ) (items : List Item) (s : Shepherd P) → Standing bytes written items s
-    → Standing (bytes ++ more) written items (record s { received = s.received ++ more })
-fed bytes more written items s h = record {
+pub fed : {P : Type 0} (bytes more : List ℕ) (heads : List Head) (written : List ℕ) (items : List Item) (s : Shepherd P) → Standing bytes heads written items s
+    → Standing (bytes ++ more) heads written items (record s { received = s.received ++ more })
+fed bytes more heads written items s h = record {
   served = h.served;
   opened = h.opened;
   sent = h.sent;
+  heads_are = h.heads_are;
   items_are = h.items_are;
   requests_are = λ rest.
       ap requests (append_assoc bytes more rest) ∙ h.requests_are (more ++ rest)
@@ -53,11 +55,12 @@ fed bytes more written items s h = record {
   front_is = h.front_is;
 }
 
-pub no_more : {P : Type 0} (bytes written : List ℕ) (items : List Item) (s : Shepherd P) → Standing bytes written items s → Standing bytes written items (record s { ended = true })
-no_more bytes written items s h = record {
+pub no_more : {P : Type 0} (bytes : List ℕ) (heads : List Head) (written : List ℕ) (items : List Item) (s : Shepherd P) → Standing bytes heads written items s → Standing bytes heads written items (record s { ended = true })
+no_more bytes heads written items s h = record {
   served = h.served;
   opened = h.opened;
   sent = h.sent;
+  heads_are = h.heads_are;
   items_are = h.items_are;
   requests_are = h.requests_are;
   written_is = h.written_is;
@@ -80,13 +83,14 @@ kept_open front v w call opened sent keeps o = record {
 }
 
 -- A stage with another request that has the same facts stands.
-pub with_visit : {P : Type 0} (fed written : List ℕ) (items : List Item) (s : Shepherd P) (stage : Stage P) (v w : Visit P) (call : Option AskedCall)
-    → s.stage ≡ Serving v call → stage ≡ Serving w call → Keeps v w → Standing fed written items s → Standing fed written items (record s { stage = stage })
-with_visit fed written items s stage v w call was is keeps h =
-    subst (λ x. Standing fed written items (record s { stage = x })) (sym is) (record {
+pub with_visit : {P : Type 0} (fed : List ℕ) (heads : List Head) (written : List ℕ) (items : List Item) (s : Shepherd P) (stage : Stage P) (v w : Visit P) (call : Option AskedCall)
+    → s.stage ≡ Serving v call → stage ≡ Serving w call → Keeps v w → Standing fed heads written items s → Standing fed heads written items (record s { stage = stage })
+with_visit fed heads written items s stage v w call was is keeps h =
+    subst (λ x. Standing fed heads written items (record s { stage = x })) (sym is) (record {
       served = h.served;
       opened = h.opened;
       sent = h.sent;
+      heads_are = h.heads_are;
       items_are = h.items_are;
       requests_are = λ more. subst (λ x. requests (fed ++ more) ≡ all_before (heads_of h.served ++ h.opened) (coming x (s.received ++ more))) was (h.requests_are more)
           ∙ ap (λ f. all_before (heads_of h.served ++ h.opened) (if f.close then ended closed else requests (s.received ++ more))) (sym keeps.facts);
@@ -97,40 +101,41 @@ with_visit fed written items s stage v w call was is keeps h =
 
 -- A connection whose request made a step that keeps it stands.
 pub stepped : {P : Type 0} (So : Visit P → Visit P → Type 0) → ((v w : Visit P) → So v w → Keeps v w)
-    → (fed written : List ℕ) (items : List Item) (old new : Shepherd P) → ShepherdSteps So old new → Standing fed written items old → Standing fed written items new
-stepped {P} So keeps fed written items old new steps h =
-    subst (λ x. Standing fed written items x) (sym steps.rest) (by old.stage refl steps.steps) where
-      by : (stage : Stage P) → old.stage ≡ stage → StepsVisit So stage new.stage → Standing fed written items (record old { stage = new.stage })
+    → (fed : List ℕ) (heads : List Head) (written : List ℕ) (items : List Item) (old new : Shepherd P) → ShepherdSteps So old new → Standing fed heads written items old → Standing fed heads written items new
+stepped {P} So keeps fed heads written items old new steps h =
+    subst (λ x. Standing fed heads written items x) (sym steps.rest) (by old.stage refl steps.steps) where
+      by : (stage : Stage P) → old.stage ≡ stage → StepsVisit So stage new.stage → Standing fed heads written items (record old { stage = new.stage })
       by Resting is visits = absurd visits
-      by (Serving v call) is visits = with_visit fed written items old new.stage v visits.0 call is visits.2 (keeps v visits.0 visits.1) h
+      by (Serving v call) is visits = with_visit fed heads written items old new.stage v visits.0 call is visits.2 (keeps v visits.0 visits.1) h
       by (Refusing why bytes) is visits = absurd visits
       by (Over end) is visits = absurd visits
 
-pub given_up : {P : Type 0} (fed written : List ℕ) (items : List Item) (s : Shepherd P) → Standing fed written items s → Standing fed written items (record s { stage = dropped_stage s.stage })
-given_up {P} fed written items s h = by s.stage refl where
-  same : (stage : Stage P) → s.stage ≡ stage → Standing fed written items (record s { stage = stage })
-  same stage is = subst (λ x. Standing fed written items (record s { stage = x })) is h
+pub given_up : {P : Type 0} (fed : List ℕ) (heads : List Head) (written : List ℕ) (items : List Item) (s : Shepherd P) → Standing fed heads written items s → Standing fed heads written items (record s { stage = dropped_stage s.stage })
+given_up {P} fed heads written items s h = by s.stage refl where
+  same : (stage : Stage P) → s.stage ≡ stage → Standing fed heads written items (record s { stage = stage })
+  same stage is = subst (λ x. Standing fed heads written items (record s { stage = x })) is h
 
-  by : (stage : Stage P) → s.stage ≡ stage → Standing fed written items (record s { stage = dropped_stage stage })
+  by : (stage : Stage P) → s.stage ≡ stage → Standing fed heads written items (record s { stage = dropped_stage stage })
   by Resting is = same Resting is
-  by (Serving v call) is = with_visit fed written items s (dropped_stage (Serving v call)) v (record v { work = Rattle.request_visit.specs.Stepping.dropped v.work }) call is refl (dropping_keeps v) h
+  by (Serving v call) is = with_visit fed heads written items s (dropped_stage (Serving v call)) v (record v { work = Rattle.request_visit.specs.Stepping.dropped v.work }) call is refl (dropping_keeps v) h
   by (Refusing why bytes) is = same (Refusing why bytes) is
   by (Over end) is = same (Over end) is
 
 -- the program of an early request was made
-pub opens : {P M : Type 0} (makes : M → ActionCall → List ℕ → P → Type 0) (maker : M) (worker : WorkerNo) (fed written : List ℕ) (items : List Item) (s : Shepherd P) (stage : Stage P)
-    → turn s ≡ turns.Program → OpensStage makes maker worker s.stage stage → Standing fed written items s → Standing fed written items (record s { stage = stage })
-opens {P} makes maker worker fed written items s stage is does h = by s.stage refl does (asks_visit s visit.Program (ap Rattle.shepherd.proofs.Turning.step_of is)) where
-  one : (v : Visit P) (call : Option AskedCall) → s.stage ≡ Serving v call → visit_turn v ≡ visit.Program → OpensCall makes maker worker v call stage → Standing fed written items (record s { stage = stage })
+pub opens : {P M : Type 0} (makes : M → ActionCall → List ℕ → P → Type 0) (maker : M) (worker : WorkerNo) (fed : List ℕ) (heads : List Head) (written : List ℕ) (items : List Item) (s : Shepherd P) (stage : Stage P)
+    → turn s ≡ turns.Program → OpensStage makes maker worker s.stage stage → Standing fed heads written items s → Standing fed heads written items (record s { stage = stage })
+opens {P} makes maker worker fed heads written items s stage is does h = by s.stage refl does (asks_visit s visit.Program (ap Rattle.shepherd.proofs.Turning.step_of is)) where
+  one : (v : Visit P) (call : Option AskedCall) → s.stage ≡ Serving v call → visit_turn v ≡ visit.Program → OpensCall makes maker worker v call stage → Standing fed heads written items (record s { stage = stage })
   one v None was turned opened = absurd opened
   one v (Some asked) was turned opened =
       let o : IsOpenFor s.front v (Some asked) h.opened h.sent = subst (λ x. IsOpen s.front x h.opened h.sent) was h.is_open in
       let made : Visit P = record v { work = ServingBy (Rattle.request_tries.specs.Serving.unbegun asked.request worker opened.1.text) opened.1.program } in
       let stage_is : stage ≡ Serving made None = opened.2 ∙ ap (λ x. Serving x None) opened.1.new_is in
-      subst (λ x. Standing fed written items (record s { stage = x })) (sym stage_is) (record {
+      subst (λ x. Standing fed heads written items (record s { stage = x })) (sym stage_is) (record {
         served = h.served;
         opened = h.opened;
         sent = h.sent;
+        heads_are = h.heads_are;
         items_are = h.items_are;
         requests_are = λ more. subst (λ x. requests (fed ++ more) ≡ all_before (heads_of h.served ++ h.opened) (coming x (s.received ++ more))) was (h.requests_are more);
         written_is = h.written_is;
@@ -149,20 +154,20 @@ opens {P} makes maker worker fed written items s stage is does h = by s.stage re
         never : (w : Work P) (want : Rattle.session_way.specs.declared.way.Wants.Wants) → Rattle.request_visit.specs.Visits.turn_by w want ≡ visit.Program → has_left w ≡ false
         never w want e = Rattle.shepherd.proofs.Turning.unmade w want e
 
-  by : (x : Stage P) → s.stage ≡ x → OpensStage makes maker worker x stage → OnVisit x (λ v call. visit_turn v ≡ visit.Program) → Standing fed written items (record s { stage = stage })
+  by : (x : Stage P) → s.stage ≡ x → OpensStage makes maker worker x stage → OnVisit x (λ v call. visit_turn v ≡ visit.Program) → Standing fed heads written items (record s { stage = stage })
   by Resting was opened turned = absurd opened
   by (Serving v call) was opened turned = one v call was turned opened
   by (Refusing why bytes) was opened turned = absurd opened
   by (Over end) was opened turned = absurd opened
 
-pub given_back : {P : Type 0} (fed written : List ℕ) (items : List Item) (s : Shepherd P) (stage : Stage P) (windows after : WindowsValue) → GivesBack s.stage windows stage after
-    → Standing fed written items s → Standing fed written items (record s { stage = stage })
-given_back {P} fed written items s stage windows after back h = by s.stage refl back where
-  same : (x : Stage P) → s.stage ≡ x → stage ≡ x → Standing fed written items (record s { stage = stage })
-  same x was is = subst (λ y. Standing fed written items (record s { stage = y })) (was ∙ sym is) h
+pub given_back : {P : Type 0} (fed : List ℕ) (heads : List Head) (written : List ℕ) (items : List Item) (s : Shepherd P) (stage : Stage P) (windows after : WindowsValue) → GivesBack s.stage windows stage after
+    → Standing fed heads written items s → Standing fed heads written items (record s { stage = stage })
+given_back {P} fed heads written items s stage windows after back h = by s.stage refl back where
+  same : (x : Stage P) → s.stage ≡ x → stage ≡ x → Standing fed heads written items (record s { stage = stage })
+  same x was is = subst (λ y. Standing fed heads written items (record s { stage = y })) (was ∙ sym is) h
 
-  by : (x : Stage P) → s.stage ≡ x → GivesBack x windows stage after → Standing fed written items (record s { stage = stage })
+  by : (x : Stage P) → s.stage ≡ x → GivesBack x windows stage after → Standing fed heads written items (record s { stage = stage })
   by Resting was b = same Resting was b.0
-  by (Serving v call) was b = with_visit fed written items s stage v b.0 call was b.2 (back_keeps v b.0 b.1.back) h
+  by (Serving v call) was b = with_visit fed heads written items s stage v b.0 call was b.2 (back_keeps v b.0 b.1.back) h
   by (Refusing why bytes) was b = same (Refusing why bytes) was b.0
   by (Over end) was b = same (Over end) was b.0

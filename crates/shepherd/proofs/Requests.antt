@@ -31,6 +31,7 @@ use Rattle.site_responses.specs.Responses.{last_response}
 use Rattle.site_responses.specs.declared.answer.Untaken.{Untaken}
 use Rattle.site_responses.specs.declared.answer.Untaken.TheVariants as untaken
 use Rattle.shepherd.specs.Shepherds.{turn}
+use Rattle.shepherd.specs.Answering.{heads_in}
 use Rattle.shepherd.specs.Standing.{IsOpen, IsOpenFor, Served, Standing, all_before, coming, ending_at, has_left, heads_of, is_early, last_front, responses_of}
 use Rattle.shepherd.specs.Steps.{Begins, MayPutOut, PutsOut, Refuses, TakesBy, TakesItem, TakesRequest, admitted_visit, begun_by, facts_of, rested}
 use Rattle.shepherd.specs.declared.shepherd.AskedCall.{AskedCall}
@@ -105,66 +106,68 @@ composes next last bytes more head is = by head.close refl where
   by false e = next bytes more head is e
 
 -- a connection at rest has nothing open
-resting_open : {P : Type 0} (fed written : List ℕ) (items : List Item) (s : Shepherd P) (h : Standing fed written items s) → s.stage ≡ Resting → (h.opened ≡ []) × (h.sent ≡ [])
-resting_open fed written items s h is = subst (λ x. IsOpen s.front x h.opened h.sent) is h.is_open
+resting_open : {P : Type 0} (fed : List ℕ) (heads : List Head) (written : List ℕ) (items : List Item) (s : Shepherd P) (h : Standing fed heads written items s) → s.stage ≡ Resting → (h.opened ≡ []) × (h.sent ≡ [])
+resting_open fed heads written items s h is = subst (λ x. IsOpen s.front x h.opened h.sent) is h.is_open
 
-resting_requests : {P : Type 0} (fed written : List ℕ) (items : List Item) (s : Shepherd P) (h : Standing fed written items s) → s.stage ≡ Resting
+resting_requests : {P : Type 0} (fed : List ℕ) (heads : List Head) (written : List ℕ) (items : List Item) (s : Shepherd P) (h : Standing fed heads written items s) → s.stage ≡ Resting
     → (more : List ℕ) → requests (fed ++ more) ≡ all_before (heads_of h.served ++ h.opened) (requests (s.received ++ more))
-resting_requests fed written items s h is more =
+resting_requests fed heads written items s h is more =
     subst (λ x. requests (fed ++ more) ≡ all_before (heads_of h.served ++ h.opened) (coming x (s.received ++ more))) is (h.requests_are more)
 
-began : {P C R S : Type 0} (told : C → ℕ) (gives : Gives R) (looks : Looks S) (key : List ℕ) (home : HomeBoot) (counts : LinkCounts) (head : Head) (fed written : List ℕ) (items : List Item)
+began : {P C R S : Type 0} (told : C → ℕ) (gives : Gives R) (looks : Looks S) (key : List ℕ) (home : HomeBoot) (counts : LinkCounts) (head : Head) (fed : List ℕ) (heads : List Head) (written : List ℕ) (items : List Item)
     (s new : Shepherd P) (clock clock_after : C) (random random_after : R) (serials serials_after : S) → Composes → s.stage ≡ Resting → taken_of s.received ≡ took.Request head
-    → Begins told gives looks key home counts head s clock random serials new clock_after random_after serials_after → Standing fed written items s → Standing fed written items new
-began {P} told gives looks key home counts head fed written items s new clock clock_after random random_after serials serials_after compose rest is b h =
+    → Begins told gives looks key home counts head s clock random serials new clock_after random_after serials_after → Standing fed heads written items s → Standing fed (heads ++ head ∷ []) written items new
+began {P} told gives looks key home counts head fed heads written items s new clock clock_after random random_after serials serials_after compose rest is b h =
     let g : Opens {P = P} s.front head (begun_by s.front counts head b.intake.now b.intake.arrival) = begun_opens s.front counts head b.intake.now b.intake.arrival b.small in
-    subst (λ x. Standing fed written items x) (sym b.new_is)
-    (subst (λ x. Standing fed written items (record s { received = drop head.len s.received; stage = x })) (sym g.stage_is) (record {
+    subst (λ x. Standing fed (heads ++ head ∷ []) written items x) (sym b.new_is)
+    (subst (λ x. Standing fed (heads ++ head ∷ []) written items (record s { received = drop head.len s.received; stage = x })) (sym g.stage_is) (record {
       served = h.served;
       opened = head ∷ [];
       sent = [];
+      heads_are = ap (λ hs. hs ++ head ∷ []) (h.heads_are ∙ ap (λ hs. heads_of h.served ++ hs) (resting_open fed heads written items s h rest).0 ∙ append-nil (heads_of h.served));
       items_are = h.items_are;
       requests_are = λ more.
-          resting_requests fed written items s h rest more
+          resting_requests fed heads written items s h rest more
           ∙ ap (λ r. all_before (heads_of h.served ++ h.opened) r) (compose s.received more head is)
-          ∙ one_more (heads_of h.served) h.opened head (if head.close then ended closed else requests (drop head.len s.received ++ more)) (resting_open fed written items s h rest).0
+          ∙ one_more (heads_of h.served) h.opened head (if head.close then ended closed else requests (drop head.len s.received ++ more)) (resting_open fed heads written items s h rest).0
           ∙ ap (λ b. all_before (heads_of h.served ++ head ∷ []) (if b then ended closed else requests (drop head.len s.received ++ more))) (sym g.close);
-      written_is = h.written_is ∙ ap (λ bs. responses_of h.served ++ bs) (resting_open fed written items s h rest).1;
+      written_is = h.written_is ∙ ap (λ bs. responses_of h.served ++ bs) (resting_open fed heads written items s h rest).1;
       is_open = g.is_open;
       front_is = h.front_is;
     }))
 
-refused : {P C R S : Type 0} (why : Untaken) (fed written : List ℕ) (items : List Item) (s new : Shepherd P) (clock clock_after : C) (random random_after : R) (serials serials_after : S)
+refused : {P C R S : Type 0} (why : Untaken) (fed : List ℕ) (heads : List Head) (written : List ℕ) (items : List Item) (s new : Shepherd P) (clock clock_after : C) (random random_after : R) (serials serials_after : S)
     → ((more : List ℕ) → requests (s.received ++ more) ≡ ended (ending_at why)) → s.stage ≡ Resting
-    → Refuses why s clock random serials new clock_after random_after serials_after → Standing fed written items s → Standing fed written items new
-refused why fed written items s new clock clock_after random random_after serials serials_after ends rest r h =
-    subst (λ x. Standing fed written items x) (sym r.new_is) (record {
+    → Refuses why s clock random serials new clock_after random_after serials_after → Standing fed heads written items s → Standing fed (heads ++ []) written items new
+refused why fed heads written items s new clock clock_after random random_after serials serials_after ends rest r h =
+    subst (λ x. Standing fed (heads ++ []) written items x) (sym r.new_is) (record {
       served = h.served;
       opened = h.opened;
       sent = h.sent;
+      heads_are = append-nil heads ∙ h.heads_are;
       items_are = h.items_are;
-      requests_are = λ more. resting_requests fed written items s h rest more ∙ ap (λ r. all_before (heads_of h.served ++ h.opened) r) (ends more);
+      requests_are = λ more. resting_requests fed heads written items s h rest more ∙ ap (λ r. all_before (heads_of h.served ++ h.opened) r) (ends more);
       written_is = h.written_is;
-      is_open = ((resting_open fed written items s h rest).0, (resting_open fed written items s h rest).1, refl);
+      is_open = ((resting_open fed heads written items s h rest).0, (resting_open fed heads written items s h rest).1, refl);
       front_is = h.front_is;
     })
 
-pub takes : {P C R S : Type 0} (told : C → ℕ) (gives : Gives R) (looks : Looks S) (key : List ℕ) (home : HomeBoot) (counts : LinkCounts) (fed written : List ℕ) (items : List Item)
+pub takes : {P C R S : Type 0} (told : C → ℕ) (gives : Gives R) (looks : Looks S) (key : List ℕ) (home : HomeBoot) (counts : LinkCounts) (fed : List ℕ) (heads : List Head) (written : List ℕ) (items : List Item)
     (s new : Shepherd P) (clock clock_after : C) (random random_after : R) (serials serials_after : S) → Composes
     → ((bytes more : List ℕ) → taken_of bytes ≡ took.Bad → requests (bytes ++ more) ≡ ended bad)
     → ((bytes more : List ℕ) (len lines : ℕ) → taken_of bytes ≡ took.TooLong len lines → requests (bytes ++ more) ≡ ended too_long)
     → ((bytes more : List ℕ) → taken_of bytes ≡ took.NoCoding → requests (bytes ++ more) ≡ ended no_coding)
     → ((bytes more : List ℕ) (said : ℕ) → taken_of bytes ≡ took.BodyTooLong said → requests (bytes ++ more) ≡ ended body_too_long)
     → turn s ≡ turns.Request → TakesRequest told gives looks key home counts s clock random serials new clock_after random_after serials_after
-    → Standing fed written items s → Standing fed written items new
-takes told gives looks key home counts fed written items s new clock clock_after random random_after serials serials_after compose as_bad as_long as_coded as_big turned t h =
+    → Standing fed heads written items s → Standing fed (heads ++ heads_in (taken_of s.received)) written items new
+takes told gives looks key home counts fed heads written items s new clock clock_after random random_after serials serials_after compose as_bad as_long as_coded as_big turned t h =
     let rest = (asks_request s turned).0 in by rest (taken_of s.received) refl t where
-      by : s.stage ≡ Resting → (x : Taken) → taken_of s.received ≡ x → TakesBy told gives looks key home counts x s clock random serials new clock_after random_after serials_after → Standing fed written items new
-      by rest (took.Request head) is b = began told gives looks key home counts head fed written items s new clock clock_after random random_after serials serials_after compose rest is b h
-      by rest took.Bad is r = refused untaken.Bad fed written items s new clock clock_after random random_after serials serials_after (λ more. as_bad s.received more is) rest r h
-      by rest (took.TooLong len lines) is r = refused untaken.TooLong fed written items s new clock clock_after random random_after serials serials_after (λ more. as_long s.received more len lines is) rest r h
-      by rest took.NoCoding is r = refused untaken.NoCoding fed written items s new clock clock_after random random_after serials serials_after (λ more. as_coded s.received more is) rest r h
-      by rest (took.BodyTooLong said) is r = refused untaken.BodyTooLong fed written items s new clock clock_after random random_after serials serials_after (λ more. as_big s.received more said is) rest r h
+      by : s.stage ≡ Resting → (x : Taken) → taken_of s.received ≡ x → TakesBy told gives looks key home counts x s clock random serials new clock_after random_after serials_after → Standing fed (heads ++ heads_in x) written items new
+      by rest (took.Request head) is b = began told gives looks key home counts head fed heads written items s new clock clock_after random random_after serials serials_after compose rest is b h
+      by rest took.Bad is r = refused untaken.Bad fed heads written items s new clock clock_after random random_after serials serials_after (λ more. as_bad s.received more is) rest r h
+      by rest (took.TooLong len lines) is r = refused untaken.TooLong fed heads written items s new clock clock_after random random_after serials serials_after (λ more. as_long s.received more len lines is) rest r h
+      by rest took.NoCoding is r = refused untaken.NoCoding fed heads written items s new clock clock_after random random_after serials serials_after (λ more. as_coded s.received more is) rest r h
+      by rest (took.BodyTooLong said) is r = refused untaken.BodyTooLong fed heads written items s new clock clock_after random random_after serials serials_after (λ more. as_big s.received more said is) rest r h
       by rest took.More is r = absurd r
 
 -- the response of a request that is to leave then has left
@@ -195,17 +198,18 @@ with_bytes : (written bytes : List ℕ) (served : List Served) (sent : List ℕ)
 with_bytes written bytes served sent is none =
     ap (λ xs. xs ++ bytes) (is ∙ ap (λ xs. responses_of served ++ xs) none ∙ append-nil (responses_of served))
 
-pub puts_out : {P : Type 0} (fed written bytes : List ℕ) (items : List Item) (s : Shepherd P) (stage : Stage P) → turn s ≡ turns.Output → PutsOut s.stage bytes stage
-    → Standing fed written items s → Standing fed (written ++ bytes) items (record s { stage = stage })
-puts_out {P} fed written bytes items s stage turned out h = by s.stage refl (asks_output s turned) out where
-  by : (x : Stage P) → s.stage ≡ x → MayPutOut x → PutsOut x bytes stage → Standing fed (written ++ bytes) items (record s { stage = stage })
+pub puts_out : {P : Type 0} (fed : List ℕ) (heads : List Head) (written bytes : List ℕ) (items : List Item) (s : Shepherd P) (stage : Stage P) → turn s ≡ turns.Output → PutsOut s.stage bytes stage
+    → Standing fed heads written items s → Standing fed heads (written ++ bytes) items (record s { stage = stage })
+puts_out {P} fed heads written bytes items s stage turned out h = by s.stage refl (asks_output s turned) out where
+  by : (x : Stage P) → s.stage ≡ x → MayPutOut x → PutsOut x bytes stage → Standing fed heads (written ++ bytes) items (record s { stage = stage })
   by Resting was may out = absurd may
   by (Serving v call) was may out =
       let o : IsOpenFor s.front v call h.opened h.sent = subst (λ x. IsOpen s.front x h.opened h.sent) was h.is_open in
-      subst (λ x. Standing fed (written ++ bytes) items (record s { stage = x })) (sym out.1) (record {
+      subst (λ x. Standing fed heads (written ++ bytes) items (record s { stage = x })) (sym out.1) (record {
         served = h.served;
         opened = h.opened;
         sent = bytes;
+        heads_are = h.heads_are;
         items_are = h.items_are;
         requests_are = λ more. subst (λ x. requests (fed ++ more) ≡ all_before (heads_of h.served ++ h.opened) (coming x (s.received ++ more))) was (h.requests_are more);
         written_is = with_bytes written bytes h.served h.sent h.written_is (o.sent_is (unsent v.work (wants v.way) may));
@@ -223,10 +227,11 @@ puts_out {P} fed written bytes items s stage turned out h = by s.stage refl (ask
       })
   by (Refusing why last) was may out =
       let o : (h.opened ≡ []) × (h.sent ≡ []) × (last ≡ last_response why) = subst (λ x. IsOpen s.front x h.opened h.sent) was h.is_open in
-      subst (λ x. Standing fed (written ++ bytes) items (record s { stage = x })) (sym out.1) (record {
+      subst (λ x. Standing fed heads (written ++ bytes) items (record s { stage = x })) (sym out.1) (record {
         served = h.served;
         opened = h.opened;
         sent = bytes;
+        heads_are = h.heads_are;
         items_are = h.items_are;
         requests_are = λ more. subst (λ x. requests (fed ++ more) ≡ all_before (heads_of h.served ++ h.opened) (coming x (s.received ++ more))) was (h.requests_are more);
         written_is = with_bytes written bytes h.served h.sent h.written_is o.1;
@@ -247,24 +252,25 @@ nothing_open : (P : Type 0) (front : Place) (b : Bool) → IsOpen front (rested 
 nothing_open P front true = (refl, refl)
 nothing_open P front false = (refl, refl)
 
-pub takes_item : {P : Type 0} (fed written : List ℕ) (items : List Item) (i : Item) (s : Shepherd P) (stage : Stage P) → TakesItem s.stage i stage
-    → Standing fed written items s → Standing fed written (items ++ i ∷ []) (record s { front = i.holds.front; stage = stage })
-takes_item {P} fed written items i s stage takes h = by s.stage refl takes where
-  by : (x : Stage P) → s.stage ≡ x → TakesItem x i stage → Standing fed written (items ++ i ∷ []) (record s { front = i.holds.front; stage = stage })
+pub takes_item : {P : Type 0} (fed : List ℕ) (heads : List Head) (written : List ℕ) (items : List Item) (i : Item) (s : Shepherd P) (stage : Stage P) → TakesItem s.stage i stage
+    → Standing fed heads written items s → Standing fed heads written (items ++ i ∷ []) (record s { front = i.holds.front; stage = stage })
+takes_item {P} fed heads written items i s stage takes h = by s.stage refl takes where
+  by : (x : Stage P) → s.stage ≡ x → TakesItem x i stage → Standing fed heads written (items ++ i ∷ []) (record s { front = i.holds.front; stage = stage })
   by Resting was t = absurd t
   by (Serving v call) was t =
       let o : IsOpenFor s.front v call h.opened h.sent = subst (λ x. IsOpen s.front x h.opened h.sent) was h.is_open in
       let one : Served = record { head = o.head; item = i; response = h.sent } in
-      let heads : heads_of h.served ++ h.opened ≡ heads_of (h.served ++ one ∷ []) ++ [] =
+      let joined : heads_of h.served ++ h.opened ≡ heads_of (h.served ++ one ∷ []) ++ [] =
       ap (λ hs. heads_of h.served ++ hs) o.opened_is ∙ sym (map-append (λ (x : Served). x.head) h.served (one ∷ [])) ∙ sym (append-nil (heads_of (h.served ++ one ∷ []))) in
-      subst (λ x. Standing fed written (items ++ i ∷ []) (record s { front = i.holds.front; stage = x })) (sym t.1) (record {
+      subst (λ x. Standing fed heads written (items ++ i ∷ []) (record s { front = i.holds.front; stage = x })) (sym t.1) (record {
         served = h.served ++ one ∷ [];
         opened = [];
         sent = [];
+        heads_are = h.heads_are ∙ joined;
         items_are = ap (λ xs. xs ++ i ∷ []) h.items_are ∙ sym (map-append (λ (x : Served). x.item) h.served (one ∷ []));
         requests_are = λ more.
             subst (λ x. requests (fed ++ more) ≡ all_before (heads_of h.served ++ h.opened) (coming x (s.received ++ more))) was (h.requests_are more)
-            ∙ ap (λ hs. all_before hs (if v.facts.close then ended closed else requests (s.received ++ more))) heads
+            ∙ ap (λ hs. all_before hs (if v.facts.close then ended closed else requests (s.received ++ more))) joined
             ∙ ap (λ r. all_before (heads_of (h.served ++ one ∷ []) ++ []) r) (sym (coming_behind P v.facts.close (s.received ++ more)));
         written_is = h.written_is ∙ ap (λ xs. responses_of h.served ++ xs) (sym (append-nil h.sent)) ∙ sym (flat_map-append (λ (x : Served). x.response) h.served (one ∷ [])) ∙ sym (append-nil (responses_of (h.served ++ one ∷ [])));
         is_open = nothing_open P i.holds.front v.facts.close;

@@ -115,13 +115,15 @@ abbrev pub last_front : Place → List Item → Place
 last_front front [] = front
 last_front front (i ∷ items) = last_front i.holds.front items
 
--- A connection stands: whatever bytes follow, the requests of all bytes are those of its items, each once and in order,
--- then the one that is open, and then those of what is left and of what follows. And what it put out is the responses
--- of those, in order, and what has left for the one that is open, or at last for what is refused.
-pub record Standing {P : Type 0} (fed written : List ℕ) (items : List Item) (s : Shepherd P) : Type 0 where
+-- A connection stands for the requests of these heads: whatever bytes follow, the requests of all bytes are those, in
+-- order, and then those of what is left and of what follows. They are those of its items, each once and in order, and
+-- the one that is open. And what it put out is the responses of those, in order, and what has left for the one that is
+-- open, or at last for what is refused.
+pub record Standing {P : Type 0} (fed : List ℕ) (heads : List Head) (written : List ℕ) (items : List Item) (s : Shepherd P) : Type 0 where
   pub served : List Served
   pub opened : List Head
   pub sent : List ℕ
+  pub heads_are : heads ≡ heads_of served ++ opened
   pub items_are : items ≡ items_of served
   pub requests_are : (more : List ℕ) → requests (fed ++ more) ≡ all_before (heads_of served ++ opened) (coming s.stage (s.received ++ more))
   pub written_is : written ≡ responses_of served ++ sent

@@ -4,14 +4,18 @@
 ghost use Rattle.std.specs.Prelude.{◌≡◌, ◌≢◌, ℕ, ◌<◌, ◌^◌, true, List, [], ◌∷◌, ◌++◌, None};
 ghost use Rattle.container_core.specs.Container.{ContainerValue};
 ghost use Rattle.crash_base.specs.declared.numbers.WorkerNo.{WorkerNo};
+ghost use Rattle.http_wire.specs.Taking.{taken_of};
+ghost use Rattle.http_wire.specs.Requests.{requests};
+ghost use Rattle.http_wire.specs.declared.taken.Head.{Head};
 ghost use Rattle.outcome_items.specs.declared.item.Item.{Item};
 ghost use Rattle.outside.specs.declared.link.LinkCounts.{LinkCounts};
 ghost use Rattle.request_intake.specs.declared.intake.HomeBoot.{HomeBoot};
 ghost use Rattle.request_visit.specs.Advancing.{Advances};
 ghost use Rattle.request_visit.specs.Stepping.{VisitsInside, VisitsWindows};
 ghost use Rattle.send_windows.specs.Windows.{WindowsValue};
+ghost use Rattle.shepherd.specs.Answering.{heads_in};
 ghost use Rattle.shepherd.specs.Shepherds.{fresh, has_item, turn};
-ghost use Rattle.shepherd.specs.Standing.{HasServedAll, HasServedFirst, Standing};
+ghost use Rattle.shepherd.specs.Standing.{HasServedAll, HasServedFirst, Standing, all_before, coming};
 ghost use Rattle.shepherd.specs.Steps.{GivesBack, OnVisit, OpensStage, PutsOut, ShepherdSteps, TakesItem, TakesRequest, VisitsOutside, dropped_stage};
 ghost use Rattle.shepherd.specs.declared.shepherd.EndKind.{EndKind};
 ghost use Rattle.shepherd.specs.declared.shepherd.EndKind.TheVariants.{OutOfMemory};
@@ -33,22 +37,23 @@ pub fn connections_stand<P, C: Clock, R: Random, S: Serials>(
     _random: &R,
     _serials: &S,
 )
-    ensures begins { Standing {P = P} [] [] [] fresh }
-    ensures fed { (fed more written : List ℕ) (items : List Item) (s : Shepherd P) → Standing fed written items s
-        → Standing (fed ++ more) written items (record s { received = s.received ++ more }) }
-    ensures ended { (fed written : List ℕ) (items : List Item) (s : Shepherd P) → Standing fed written items s
-        → Standing fed written items (record s { ended = true }) }
-    ensures taken { (key : List ℕ) (home : HomeBoot) (counts : LinkCounts) (fed written : List ℕ) (items : List Item)
+    ensures begins { Standing {P = P} [] [] [] [] fresh }
+    ensures fed { (fed more : List ℕ) (heads : List Head) (written : List ℕ) (items : List Item) (s : Shepherd P) → Standing fed heads written items s
+        → Standing (fed ++ more) heads written items (record s { received = s.received ++ more }) }
+    ensures ended { (fed : List ℕ) (heads : List Head) (written : List ℕ) (items : List Item) (s : Shepherd P) → Standing fed heads written items s
+        → Standing fed heads written items (record s { ended = true }) }
+    ensures taken { (key : List ℕ) (home : HomeBoot) (counts : LinkCounts) (fed : List ℕ) (heads : List Head) (written : List ℕ) (items : List Item)
         (s new : Shepherd P) (clock clock_after : C) (random random_after : R) (serials serials_after : S)
         → turn s ≡ ShepherdTurn.Request → TakesRequest C.told R.gives S.looks key home counts
         s clock random serials new clock_after random_after serials_after
-        → Standing fed written items s → Standing fed written items new }
-    ensures out { (fed written bytes : List ℕ) (items : List Item) (s : Shepherd P) (stage : Stage P)
-        → turn s ≡ ShepherdTurn.Output → PutsOut s.stage bytes stage → Standing fed written items s
-        → Standing fed (written ++ bytes) items (record s { stage = stage }) }
-    ensures item { (fed written : List ℕ) (items : List Item) (i : Item) (s : Shepherd P) (stage : Stage P)
-        → TakesItem s.stage i stage → Standing fed written items s
-        → Standing fed written (items ++ i ∷ []) (record s { front = i.holds.front; stage = stage }) }
+        → Standing fed heads written items s
+        → Standing fed (heads ++ heads_in (taken_of s.received)) written items new }
+    ensures out { (fed : List ℕ) (heads : List Head) (written bytes : List ℕ) (items : List Item) (s : Shepherd P) (stage : Stage P)
+        → turn s ≡ ShepherdTurn.Output → PutsOut s.stage bytes stage → Standing fed heads written items s
+        → Standing fed heads (written ++ bytes) items (record s { stage = stage }) }
+    ensures item { (fed : List ℕ) (heads : List Head) (written : List ℕ) (items : List Item) (i : Item) (s : Shepherd P) (stage : Stage P)
+        → TakesItem s.stage i stage → Standing fed heads written items s
+        → Standing fed heads written (items ++ i ∷ []) (record s { front = i.holds.front; stage = stage }) }
 {
     requests_compose();
 }
@@ -59,43 +64,47 @@ pub fn connections_stand_with_their_requests<P: Program, L: Link, M: ProgramMake
     _link: &L,
     _maker: &M,
 )
-    ensures outside { (fed written : List ℕ) (items : List Item) (old new : Shepherd P) (link after : L)
+    ensures outside { (fed : List ℕ) (heads : List Head) (written : List ℕ) (items : List Item) (old new : Shepherd P) (link after : L)
         → ShepherdSteps (λ v w. VisitsOutside L.makes L.tally v link w after) old new
-        → Standing fed written items old → Standing fed written items new }
-    ensures windows { (fed written : List ℕ) (items : List Item) (old new : Shepherd P) (windows after : WindowsValue)
+        → Standing fed heads written items old → Standing fed heads written items new }
+    ensures windows { (fed : List ℕ) (heads : List Head) (written : List ℕ) (items : List Item) (old new : Shepherd P) (windows after : WindowsValue)
         → ShepherdSteps (λ v w. VisitsWindows v windows w after) old new
-        → Standing fed written items old → Standing fed written items new }
-    ensures inside { (fed written : List ℕ) (items : List Item) (old new : Shepherd P) (container after : ContainerValue)
+        → Standing fed heads written items old → Standing fed heads written items new }
+    ensures inside { (fed : List ℕ) (heads : List Head) (written : List ℕ) (items : List Item) (old new : Shepherd P) (container after : ContainerValue)
         → ShepherdSteps (λ v w. VisitsInside P.asks v container w after) old new
-        → Standing fed written items old → Standing fed written items new }
-    ensures advance { (fed written key : List ℕ) (items : List Item) (old new : Shepherd P)
+        → Standing fed heads written items old → Standing fed heads written items new }
+    ensures advance { (fed : List ℕ) (heads : List Head) (written key : List ℕ) (items : List Item) (old new : Shepherd P)
         → ShepherdSteps (λ v w. Advances key v v.work w) old new
-        → Standing fed written items old → Standing fed written items new }
-    ensures open { (fed written : List ℕ) (items : List Item) (s : Shepherd P) (stage : Stage P) (maker : M)
+        → Standing fed heads written items old → Standing fed heads written items new }
+    ensures open { (fed : List ℕ) (heads : List Head) (written : List ℕ) (items : List Item) (s : Shepherd P) (stage : Stage P) (maker : M)
         (worker : WorkerNo) → turn s ≡ ShepherdTurn.Program → OpensStage M.makes maker worker s.stage stage
-        → Standing fed written items s → Standing fed written items (record s { stage = stage }) }
-    ensures given_back { (fed written : List ℕ) (items : List Item) (s : Shepherd P) (stage : Stage P)
-        (windows after : WindowsValue) → GivesBack s.stage windows stage after → Standing fed written items s
-        → Standing fed written items (record s { stage = stage }) }
-    ensures given_up { (fed written : List ℕ) (items : List Item) (s : Shepherd P) → Standing fed written items s
-        → Standing fed written items (record s { stage = dropped_stage s.stage }) }
+        → Standing fed heads written items s → Standing fed heads written items (record s { stage = stage }) }
+    ensures given_back { (fed : List ℕ) (heads : List Head) (written : List ℕ) (items : List Item) (s : Shepherd P) (stage : Stage P)
+        (windows after : WindowsValue) → GivesBack s.stage windows stage after → Standing fed heads written items s
+        → Standing fed heads written items (record s { stage = stage }) }
+    ensures given_up { (fed : List ℕ) (heads : List Head) (written : List ℕ) (items : List Item) (s : Shepherd P) → Standing fed heads written items s
+        → Standing fed heads written items (record s { stage = dropped_stage s.stage }) }
 {}
 
 /// The items of a connection are for the first requests of its bytes, in order, each once, and what was put out are the
 /// bytes that were put out for each, in order, whatever bytes follow and however they were cut; and where it has ended,
-/// and memory was not wanted, they are for all, and the last response is that of what is refused. A request whose
-/// program is to be made has a call, and the moment of each is below the end of moments.
+/// and memory was not wanted, they are for all, and the last response is that of what is refused. All requests of the
+/// bytes begin with those that were taken off. A request whose program is to be made has a call, and the moment of each
+/// is below the end of moments.
 pub fn items_are_for_requests_in_order<P>(_program: &P)
-    ensures first { (fed more written : List ℕ) (items : List Item) (s : Shepherd P) → Standing fed written items s
+    ensures first { (fed more : List ℕ) (heads : List Head) (written : List ℕ) (items : List Item) (s : Shepherd P) → Standing fed heads written items s
         → HasServedFirst fed written items more }
-    ensures all { (fed written : List ℕ) (items : List Item) (s : Shepherd P) (end : EndKind)
-        → turn s ≡ ShepherdTurn.Ended end → end ≢ OutOfMemory → Standing fed written items s
+    ensures taken { (fed more : List ℕ) (heads : List Head) (written : List ℕ) (items : List Item) (s : Shepherd P)
+        → Standing fed heads written items s
+        → requests (fed ++ more) ≡ all_before heads (coming s.stage (s.received ++ more)) }
+    ensures all { (fed : List ℕ) (heads : List Head) (written : List ℕ) (items : List Item) (s : Shepherd P) (end : EndKind)
+        → turn s ≡ ShepherdTurn.Ended end → end ≢ OutOfMemory → Standing fed heads written items s
         → HasServedAll fed written items end }
-    ensures asked { (fed written : List ℕ) (items : List Item) (s : Shepherd P) → turn s ≡ ShepherdTurn.Program
-        → Standing fed written items s → OnVisit s.stage (λ v call. call ≢ None) }
+    ensures asked { (fed : List ℕ) (heads : List Head) (written : List ℕ) (items : List Item) (s : Shepherd P) → turn s ≡ ShepherdTurn.Program
+        → Standing fed heads written items s → OnVisit s.stage (λ v call. call ≢ None) }
     ensures item { (s : Shepherd P) → turn s ≡ ShepherdTurn.Item → has_item s.stage ≡ true }
-    ensures moment { (fed written : List ℕ) (items : List Item) (s : Shepherd P) → turn s ≡ ShepherdTurn.Inside
-        → Standing fed written items s → OnVisit s.stage (λ v call. v.facts.now.0 < 2 ^ 62) }
+    ensures moment { (fed : List ℕ) (heads : List Head) (written : List ℕ) (items : List Item) (s : Shepherd P) → turn s ≡ ShepherdTurn.Inside
+        → Standing fed heads written items s → OnVisit s.stage (λ v call. v.facts.now.0 < 2 ^ 62) }
 {
     requests_compose();
 }

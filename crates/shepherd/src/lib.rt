@@ -27,15 +27,16 @@
 //! own call, as the user of its session (`requests_are_served_as_they_came`). That this is carried to its item no law
 //! says yet, nor which numbers were drawn for the requests of a connection together.
 //!
-//! `specs/Standing.antt` has what is so of a connection at any time, as `Standing`: over the bytes that were fed, those
-//! that were put out, and the items that were taken. The law `connections_stand` says that each step keeps it, and
-//! `items_are_for_requests_in_order` what follows: however the bytes were cut, the requests of all bytes, by the
-//! definition of `http_wire`, are those of the items, each once and in order, then the one that is open, and then those
-//! of what is left and is still to come; and what was put out is what was put out for each, in order, and at last the
-//! response of what is refused. `Standing` does not say that what was put out for a request is the response to its
-//! item: `specs/Answering.antt` does, as `Answering`, which each step keeps (`connections_answer_their_requests`,
-//! `taken_requests_are_answered`): so the bytes are the responses to the items, in order, each to the request of its
-//! head (`responses_are_to_their_items`).
+//! `specs/Standing.antt` has what is so of a connection at any time, as `Standing`: over the bytes that were fed, the
+//! heads of the requests that were taken off them, the bytes that were put out, and the items that were taken. The law
+//! `connections_stand` says that each step keeps it, and `items_are_for_requests_in_order` what follows: however the
+//! bytes were cut, the requests of all bytes, by the definition of `http_wire`, are those of the heads, in order, and
+//! then those of what is left and is still to come; the heads are those of the items, each once, and of the request
+//! that is open; and what was put out is what was put out for each, in order, and at last the response of what is
+//! refused. `Standing` does not say that what was put out for a request is the response to its item:
+//! `specs/Answering.antt` does, as `Answering`, over the same heads, which each step keeps
+//! (`connections_answer_their_requests`, `taken_requests_are_answered`): so the bytes are the responses to the items,
+//! in order, each to the request of its head (`responses_are_to_their_items`).
 //!
 //! `specs/Accounting.antt` has what a connection added to the history of the container and left in that of the windows,
 //! as `Accounting`: each step keeps it, whatever others add meanwhile (`connections_account_for_what_they_add`,
