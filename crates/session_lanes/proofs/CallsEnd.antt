@@ -58,7 +58,7 @@ module _ (w : WorldValue) (n : ℕ) (c : Call) (there : slice_get w.calls n ≡ 
   untold (event.Sweep brick moment) none = sweeps brick moment (history w brick)
 
 -- what is no turn of a call leaves it as it was
-left_alone : (st : LanesState) (s : LanesStep) (n : ℕ) (c : Call) → LanesAreSound st → slice_get st.world.calls n ≡ Some c → is_turn_of n s ≡ false → slice_get (after_step st s).world.calls n ≡ Some c
+pub left_alone : (st : LanesState) (s : LanesStep) (n : ℕ) (c : Call) → LanesAreSound st → slice_get st.world.calls n ≡ Some c → is_turn_of n s ≡ false → slice_get (after_step st s).world.calls n ≡ Some c
 left_alone st s n c sound there other = step_cases (λ later. slice_get later.world.calls n ≡ Some c) st s (record {
   same = there;
   windowed = λ windows. there;

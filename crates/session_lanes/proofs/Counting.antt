@@ -17,7 +17,7 @@ use Rattle.session_lanes.specs.Steps.{LanesStep, after_step}
 use Rattle.session_lanes.proofs.StepCases.{step_cases}
 
 -- a count that is one more, or the same
-abbrev Raised : ℕ → ℕ → Type 0
+abbrev pub Raised : ℕ → ℕ → Type 0
 Raised old new = (new ≡ old) ⊎ (new ≡ counted old)
 
 raised_grows : (old new : ℕ) → old < 2 ^ 64 → Raised old new → NeverFalls old new
@@ -34,10 +34,10 @@ pub record Rises (old new : CountsState) : Type 0 where
   pub hushed : Raised old.hushed new.hushed
   pub got : Raised old.got new.got
 
-same_rises : (c : CountsState) → Rises c c
+pub same_rises : (c : CountsState) → Rises c c
 same_rises c = record { silences = λ brick. inl refl; hushed = inl refl; got = inl refl }
 
-frame_rises : (c : CountsState) → Rises c (frame_got c)
+pub frame_rises : (c : CountsState) → Rises c (frame_got c)
 frame_rises c = record { silences = same; hushed = inl refl; got = inr refl } where
   same : (brick : ℕ) → Raised (silences_of c brick) (silences_of (frame_got c) brick)
   same zero = inl refl
@@ -60,7 +60,7 @@ set_either (x ∷ xs) zero n (suc other) unknown there = inl refl
 set_either (x ∷ xs) (suc k) n zero unknown there = inl refl
 set_either (x ∷ xs) (suc k) n (suc other) unknown there = set_either xs k n other unknown there
 
-silent_rises : (c : CountsState) (brick : ℕ) → Rises c (silent_by brick c)
+pub silent_rises : (c : CountsState) (brick : ℕ) → Rises c (silent_by brick c)
 silent_rises c zero = unknown_rises c 0
 silent_rises c (suc place) = go (slice_get c.silences place) refl where
   go : (o : Option ℕ) → slice_get c.silences place ≡ o → Rises c (silent_at place o c)
@@ -70,7 +70,7 @@ silent_rises c (suc place) = go (slice_get c.silences place) refl where
     each zero = inl refl
     each (suc other) = set_either c.silences place n other c.unknown is
 
-turn_rises : (st : LanesState) (n : ℕ) (x : StubNext) → Rises st.counts (turn_to st n x).counts
+pub turn_rises : (st : LanesState) (n : ℕ) (x : StubNext) → Rises st.counts (turn_to st n x).counts
 turn_rises st n (next.Send brick) = go (lane_at st.lanes brick.0) where
   go : (o : Option LaneState) → Rises st.counts (asks st n brick o).counts
   go None = silent_rises st.counts brick.0

@@ -1,6 +1,6 @@
 pub mod Beginning
-mod CallsEnd
-mod Counting
+pub mod CallsEnd
+pub mod Counting
 pub mod Ending
 mod Going
 pub mod HeardBy
@@ -8,7 +8,7 @@ pub mod Histories
 pub mod Keeping
 pub mod LaneLists
 pub mod LanesStay
-mod SpentPasses
+pub mod SpentPasses
 mod StayingNew
 pub mod StepCases
 pub mod Storing

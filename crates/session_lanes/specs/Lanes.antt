@@ -1,6 +1,6 @@
 -- Bricks with their lanes: a world, whose packets come in the order of lanes, and the windows on what is sent.
 use Rattle.std.specs.Prelude.{◌≡◌, ◌≤◌, IsTrue, ℕ, zero, suc, ◌+◌, ◌*◌, ◌-◌, nat_lt, Bool, true, false, if◌then◌else◌, List, [], ◌∷◌, length, map, slice_get, Option, Some, None}
-use Rattle.std.specs.Option.{option_map}
+use Rattle.std.specs.Option.{option_map, option_and_then}
 use lib.ListN.{replicate}
 use Rattle.crash_base.specs.declared.numbers.BrickNo.{BrickNo}
 use Rattle.session_cookie.specs.declared.cookie.TheConstants.{MAX_HOLDERS}
@@ -56,9 +56,17 @@ after_event st event = record st { world = step st.world event }
 abbrev pub with_lane : LanesState → ℕ → LaneState → LanesState
 with_lane st brick lane = record st { lanes = with_lane_at st.lanes brick lane }
 
+-- the number of the packet with the first reply that waits for the brick of a number to be heard, if one does
+abbrev pub first_waiting : LanesState → ℕ → Option ℕ
+first_waiting st brick = option_and_then (λ (lane : LaneState). slice_get lane.queue 0) (lane_at st.lanes brick)
+
 -- the lanes with these counts
 abbrev pub with_counts : LanesState → CountsState → LanesState
 with_counts st counts = record st { counts = counts }
+
+-- the lanes after the brick of a number was silent once more
+abbrev pub silent_once : LanesState → ℕ → LanesState
+silent_once st brick = with_counts st (silent_by brick st.counts)
 
 -- the lanes after an event in which the brick of a number was silent
 abbrev pub in_silence : LanesState → ℕ → WorldEvent → LanesState

@@ -1,6 +1,6 @@
 //! The lane of a brick.
 
-ghost use Rattle.std.specs.Prelude.{◌≡◌, ◌-◌, ◌∷◌, [], nat_lt, OnOk, MatchOption};
+ghost use Rattle.std.specs.Prelude.{◌≡◌, ◌-◌, ◌∷◌, [], nat_lt, slice_get, OnOk, MatchOption};
 ghost use Rattle.session_lanes.specs.Lane.{new_lane, raised, losing, dropping, waiting, with_reply, reply_made};
 
 use crash_base::OutOfMemory;
@@ -98,6 +98,13 @@ impl Lane {
     {
         self.queue.push_back(packet)?;
         Ok(())
+    }
+
+    /// The first reply that waits, if one does.
+    pub(crate) fn first_reply(&self) -> Option<u64>
+        ensures { result ≡ slice_get self.now.queue 0 }
+    {
+        self.queue.get(0).copied()
     }
 
     /// Takes the first reply that waits, if one does.

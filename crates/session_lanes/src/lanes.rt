@@ -1,25 +1,25 @@
 //! The bricks with their lanes.
 
-ghost use Rattle.std.specs.Prelude.{◌≡◌, ◌≢◌, ◌≤◌, ◌<◌, suc, true, false, length, slice_get, None, Some, IfOk, MatchOption};
+ghost use Rattle.std.specs.Prelude.{◌≡◌, ◌≢◌, ◌≤◌, ◌<◌, suc, true, false, length, option_map, slice_get, is_some, None, Some, IfOk, MatchOption};
 ghost use lib.ListN.{replicate};
 ghost use Rattle.send_windows.specs.declared.fact.TheConstants.{MAX_BRICKS};
 ghost use Rattle.send_windows.specs.Windows.{HasBrick, KeepLimits};
 ghost use Rattle.ssm_stub.specs.Reads.{ReadState};
 ghost use Rattle.ssm_stub.specs.Writes.{WriteState};
 ghost use Rattle.ssm_world.specs.declared.call.Call.TheVariants as kind;
-ghost use Rattle.ssm_world.specs.Worlds.{is_new};
+ghost use Rattle.ssm_world.specs.Worlds.{is_new, next_of};
 ghost use Rattle.session_lanes.specs.Calls.{left_if, more_lost, more_dropped, repeated, brick_crashed, brick_swept, values_of, hold_answer, pass_held, pass_freed};
 ghost use Rattle.session_lanes.specs.Counts.{silences_of};
 ghost use Rattle.session_lanes.specs.Lane.{brick_no, new_lane, lane_at};
-ghost use Rattle.session_lanes.specs.Lanes.{new_lanes};
+ghost use Rattle.session_lanes.specs.Lanes.{first_waiting, new_lanes, silent_once};
 
 use crate::counts::Counts;
 use crate::lane::Lane;
 use crash_base::{BrickNo, Moment, OutOfMemory, Version};
 use outside::LinkCounts;
 use send_windows::{Pass, PassMark, WindowFact, Windows};
-use ssm_stub::{ReadCall, WriteCall};
-use ssm_world::{World, WorldEvent};
+use ssm_stub::{ReadCall, StubNext, WriteCall};
+use ssm_world::{Packet, World, WorldEvent};
 use std::alloc::Global;
 use std::marker::Model;
 
@@ -152,6 +152,46 @@ impl Lanes {
             (λ read. slice_get self.now.world.calls call ≡ Some (kind.Read read.now)) }
     {
         self.world.read_of(call)
+    }
+
+    /// What the call of this number wants next, if there is one. It takes no memory.
+    pub fn next_of(&self, call: u64) -> Option<StubNext>
+        ensures { result ≡ option_map next_of (slice_get self.now.world.calls call) }
+    {
+        self.world.next_of(call)
+    }
+
+    /// The packet of this number, if there is one. It takes no memory.
+    pub fn packet_of(&self, packet: u64) -> Option<&Packet>
+        ensures { option_map (λ p. p.now) result ≡ slice_get self.now.world.packets packet }
+    {
+        self.world.packet_of(packet)
+    }
+
+    /// Whether there is a brick of this number. It takes no memory.
+    pub fn has_brick(&self, brick: u64) -> bool
+        ensures { result ≡ is_some (lane_at self.now.lanes brick) }
+    {
+        self.place_of(brick).is_some()
+    }
+
+    /// The number of the packet that a call would hear next of a brick: of the first reply that waits, if one does. It
+    /// takes no memory.
+    pub fn first_waiting(&self, brick: u64) -> Option<u64>
+        ensures { result ≡ first_waiting self.now brick }
+    {
+        match self.place_of(brick) {
+            None => None,
+            Some(place) => self.lanes[place].first_reply(),
+        }
+    }
+
+    /// The brick of a number is silent to someone who is no call: it is counted, and no event happens. It takes no
+    /// memory.
+    pub fn silence(&mut self, brick: u64)
+        ensures { self.new ≡ silent_once self.old brick }
+    {
+        self.counts.silence(brick);
     }
 
     /// How often a brick was silent, over all calls, and how many frames calls heard. It takes no memory.

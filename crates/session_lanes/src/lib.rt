@@ -16,7 +16,7 @@
 //! by turn; other calls may take turns between.
 //!
 //! Each function leaves just what its definition says, and nothing changes where it is refused. Only after out of
-//! memory may anything between have been done.
+//! memory may anything between have been done, and a turn leaves the counts as they were then.
 //!
 //! What holds whatever is done with lanes:
 //!
@@ -25,6 +25,9 @@
 //! - `nonces_stay_new`: a nonce that was drawn is new until a call begins with it, in whatever order calls begin.
 //! - `counts_never_fall`: the silences of each brick and of all, and the frames that calls heard.
 //!
+//! `lend_windows` and `LentLanes::with_windows` take the windows apart from the lanes and put them back, so that others
+//! may take and spend passes of them.
+//!
 //! A turn costs what the events of the world cost that it makes. The packets and the calls of all time are kept.
 #![tactic(auto)]
 
@@ -32,10 +35,12 @@ mod counts;
 mod lane;
 mod lanes;
 mod laws;
+mod lending;
 mod reading;
 mod turns;
 mod writing;
 
 pub use lanes::{HoldAnswer, Lanes, TURNS_PER_BRICK};
 pub use laws::{calls_end, counts_never_fall, lanes_stay_sound, nonces_stay_new};
+pub use lending::LentLanes;
 pub use writing::WriteOrder;

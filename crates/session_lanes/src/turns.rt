@@ -1,6 +1,6 @@
 //! How a call goes on.
 
-ghost use Rattle.std.specs.Prelude.{◌≡◌, ◌<◌, suc, true, false, length, slice_get, option_map, Some, Ok, IfOk, OnOk};
+ghost use Rattle.std.specs.Prelude.{◌≡◌, ◌<◌, suc, true, false, length, slice_get, option_map, Some, Ok, IfOk, OnOk, OnErr};
 ghost use Rattle.crash_base.specs.declared.numbers.BrickNo.{BrickNo};
 ghost use Rattle.ssm_stub.specs.declared.event.StubNext.TheVariants as next;
 ghost use Rattle.ssm_world.specs.declared.event.WorldEvent.TheVariants.{Send, Hush};
@@ -18,7 +18,8 @@ use std::alloc::Global;
 impl Lanes {
     /// An event of the world.
     fn happens(&mut self, alloc: Global, event: WorldEvent) -> Result<(), OutOfMemory>
-        ensures { OnOk result (self.new ≡ after_event self.old event) }
+        ensures after { OnOk result (self.new ≡ after_event self.old event) }
+        ensures counts { OnErr result (self.new.counts ≡ self.old.counts) }
     {
         self.world.step(alloc, &event)?;
         Ok(())
@@ -26,7 +27,8 @@ impl Lanes {
 
     /// A call hears nothing of a brick, which was silent.
     fn hush(&mut self, alloc: Global, call: u64, brick: BrickNo) -> Result<(), OutOfMemory>
-        ensures { OnOk result (self.new ≡ in_silence self.old brick.0 (Hush call)) }
+        ensures after { OnOk result (self.new ≡ in_silence self.old brick.0 (Hush call)) }
+        ensures counts { OnErr result (self.new.counts ≡ self.old.counts) }
     {
         self.happens(alloc, WorldEvent::Hush { call })?;
         self.counts.silence(u64::from(brick.0));
@@ -35,7 +37,8 @@ impl Lanes {
 
     /// A call hears the packet of a number.
     fn hear(&mut self, alloc: Global, call: u64, packet: u64) -> Result<(), OutOfMemory>
-        ensures { OnOk result (self.new ≡ gets self.old call packet) }
+        ensures after { OnOk result (self.new ≡ gets self.old call packet) }
+        ensures counts { OnErr result (self.new.counts ≡ self.old.counts) }
     {
         self.happens(alloc, WorldEvent::Hear { call, packet })?;
         self.counts.frame();
@@ -44,7 +47,8 @@ impl Lanes {
 
     /// The ask of a call to a brick is not sent, since the link was silent.
     fn ask_nobody(&mut self, alloc: Global, call: u64, brick: BrickNo) -> Result<(), OutOfMemory>
-        ensures { OnOk result (self.new ≡ in_silence self.old brick.0 (Send call true false)) }
+        ensures after { OnOk result (self.new ≡ in_silence self.old brick.0 (Send call true false)) }
+        ensures counts { OnErr result (self.new.counts ≡ self.old.counts) }
     {
         self.happens(
             alloc,
@@ -62,8 +66,9 @@ impl Lanes {
     /// dropped.
     fn ask_at(&mut self, alloc: Global, call: u64, place: usize) -> Result<(), OutOfMemory>
         requires { place < length self.old.lanes }
-        ensures { OnOk result ((lane : LaneState) (brick : BrickNo) → slice_get self.old.lanes place ≡ Some lane
+        ensures after { OnOk result ((lane : LaneState) (brick : BrickNo) → slice_get self.old.lanes place ≡ Some lane
             → brick.0 ≡ suc place → self.new ≡ asks self.old call brick (Some lane)) }
+        ensures counts { OnErr result (self.new.counts ≡ self.old.counts) }
     {
         let ask = self.world.packets();
         self.happens(
@@ -86,7 +91,8 @@ impl Lanes {
 
     /// A call sends its ask to a brick. To a number without a brick the link is silent.
     fn ask(&mut self, alloc: Global, call: u64, brick: BrickNo) -> Result<(), OutOfMemory>
-        ensures { OnOk result (self.new ≡ asks self.old call brick (lane_at self.old.lanes brick.0)) }
+        ensures after { OnOk result (self.new ≡ asks self.old call brick (lane_at self.old.lanes brick.0)) }
+        ensures counts { OnErr result (self.new.counts ≡ self.old.counts) }
     {
         match self.place_of(u64::from(brick.0)) {
             None => self.ask_nobody(alloc, call, brick),
@@ -97,8 +103,9 @@ impl Lanes {
     /// A call hears the brick whose lane stands at a place: the first reply that waits comes, or the link is silent.
     fn listen_at(&mut self, alloc: Global, call: u64, place: usize) -> Result<(), OutOfMemory>
         requires { place < length self.old.lanes }
-        ensures { OnOk result ((lane : LaneState) (brick : BrickNo) → slice_get self.old.lanes place ≡ Some lane
+        ensures after { OnOk result ((lane : LaneState) (brick : BrickNo) → slice_get self.old.lanes place ≡ Some lane
             → brick.0 ≡ suc place → self.new ≡ listens self.old call brick (Some lane)) }
+        ensures counts { OnErr result (self.new.counts ≡ self.old.counts) }
     {
         let brick = self.number_at(place);
         let Some(packet) = self.lanes[place].next_reply() else {
@@ -111,7 +118,8 @@ impl Lanes {
 
     /// A call hears a brick.
     fn listen(&mut self, alloc: Global, call: u64, brick: BrickNo) -> Result<(), OutOfMemory>
-        ensures { OnOk result (self.new ≡ listens self.old call brick (lane_at self.old.lanes brick.0)) }
+        ensures after { OnOk result (self.new ≡ listens self.old call brick (lane_at self.old.lanes brick.0)) }
+        ensures counts { OnErr result (self.new.counts ≡ self.old.counts) }
     {
         match self.place_of(u64::from(brick.0)) {
             None => self.hush(alloc, call, brick),
@@ -125,6 +133,7 @@ impl Lanes {
         ensures turn { OnOk result (self.new ≡ turn_of self.old call (slice_get self.old.world.calls call)) }
         ensures more { IfOk result (λ more. more ≡ wants_more self.old call) }
         ensures ended { result ≡ Ok false → self.new ≡ self.old }
+        ensures counts { OnErr result (self.new.counts ≡ self.old.counts) }
     {
         match self.world.next_of(call) {
             Some(StubNext::Send { brick }) => {
