@@ -1,6 +1,8 @@
 pub mod Accounting
 pub mod Chaining
+pub mod Ended
 pub mod Following
+pub mod Going
 pub mod Kept
 pub mod Marking
 pub mod Saying

@@ -1,9 +1,10 @@
 //! Laws of a request on its way. Each is the contract of a function that does nothing: a caller that needs the law
 //! calls the function.
 
-ghost use Rattle.std.specs.Prelude.{◌≡◌, ◌≢◌, ◌⊎◌, ◌≤◌, ◌+◌, ◌++◌, ℕ, Bool, List, [], Option, None, Some, Ok, Err, IfSome, length, map, take};
+ghost use Rattle.std.specs.Prelude.{◌≡◌, ◌≢◌, ◌⊎◌, ◌≤◌, ◌<◌, ◌^◌, ◌+◌, ◌++◌, ℕ, Bool, List, [], Option, None, Some, Ok, Err, IfSome, length, map, take};
+ghost use Rattle.boot_core.specs.Boot.{BootValue, HasGrown};
 ghost use Rattle.boot_core.specs.declared.boot.Start.{Start};
-ghost use Rattle.container_core.specs.Container.{ContainerValue, events_of};
+ghost use Rattle.container_core.specs.Container.{ContainerValue, HasGrownBy, events_of};
 ghost use Rattle.journal_model.specs.declared.entry.DoneText.{DoneText};
 ghost use Rattle.journal_model.specs.declared.entry.SessionChange.TheVariants.{Keep, Set};
 ghost use Rattle.outcome_items.specs.Answers.{IsResponse, answer_of_page, is_head_only};
@@ -23,7 +24,7 @@ ghost use Rattle.outcome_items.specs.declared.item.Item.{Item};
 ghost use Rattle.outcome_items.specs.declared.outcome.ItemOutcome.TheVariants as item;
 ghost use Rattle.request_decisions.specs.declared.decision.Refusal.{Refusal};
 ghost use Rattle.request_tries.specs.Ends.{Errand};
-ghost use Rattle.request_tries.specs.Serving.{TriesValue, errand_of};
+ghost use Rattle.request_tries.specs.Serving.{IsServing, TriesValue, errand_of, unbegun};
 ghost use Rattle.send_windows.specs.Windows.{WindowsValue};
 ghost use Rattle.send_windows.specs.declared.history.WindowMark.{WindowMark};
 ghost use Rattle.session_way.specs.Way.{StepsOutside, answer_held};
@@ -31,8 +32,9 @@ ghost use Rattle.session_way.specs.declared.way.SessionWay.{SessionWay};
 ghost use Rattle.request_visit.specs.Accounts.{Accounts, AddsOwn, Became};
 ghost use Rattle.request_visit.specs.Advancing.{Advances, IsItemOf, after_leaving, cookie_in, response_in};
 ghost use Rattle.request_visit.specs.Says.{Says};
+ghost use Rattle.request_visit.specs.Going.{MayGoOn};
 ghost use Rattle.request_visit.specs.Marks.{AddsMarks, Marks};
-ghost use Rattle.request_visit.specs.Stepping.{IsGivenBack, VisitsInside, VisitsWindows, dropped};
+ghost use Rattle.request_visit.specs.Stepping.{IsGivenBack, OnServing, VisitsInside, VisitsWindows, dropped};
 ghost use Rattle.request_visit.specs.Visits.{begun, turn};
 ghost use Rattle.request_visit.specs.declared.facts.VisitFacts.{VisitFacts};
 ghost use Rattle.request_visit.specs.declared.visit.Fate.{Fate};
@@ -41,7 +43,9 @@ ghost use Rattle.request_visit.specs.declared.visit.Work.TheVariants.{Reading, O
 ghost use Rattle.request_visit.specs.declared.visit.Visit.{Visit};
 ghost use Rattle.crash_base.specs.declared.numbers.Moment.{Moment};
 ghost use Rattle.crash_base.specs.declared.numbers.Place.{Place};
+ghost use Rattle.crash_base.specs.declared.numbers.RequestNo.{RequestNo};
 ghost use Rattle.crash_base.specs.declared.numbers.Version.{Version};
+ghost use Rattle.crash_base.specs.declared.numbers.WorkerNo.{WorkerNo};
 ghost use Rattle.journal_model.specs.declared.entry.Entry.{Entry};
 ghost use Rattle.session_cookie.specs.Cookie.{AreHolders};
 ghost use Rattle.session_cookie.specs.declared.cookie.Cookie.{Cookie};
@@ -60,14 +64,14 @@ ghost use Rattle.request_visit.specs.Sessions.{MakesAmong, ReadsTo, SessionStand
 use crate::visit::Turn;
 use call_ticket::Program;
 use outside::Link;
-use request_tries::ends_stay_true;
+use request_tries::{ends_begin_with_the_first_try, ends_stay_true};
 use session_way::ways_have_answers;
 use ssm_stub::answers_stay;
 
 /// A request accounts for each event that it adds to the history of the container, at each step, whatever others add
 /// meanwhile: it adds nothing before it has ended there, and then just what its end tells, which stands in the
 /// history. So what its item tells is what it added.
-pub fn requests_account_for_their_events<P: Program>(_program: &P)
+pub fn requests_account_for_their_events<P: Program>()
     ensures meanwhile { (start : Start) (history more : List Event) (errand : Errand) (own : List Event) (v : Visit P)
         → Accounts P.asks start history errand own v → Accounts P.asks start (history ++ more) errand own v }
     ensures inside { (start : Start) (errand : Errand) (own : List Event) (old new : Visit P)
@@ -117,7 +121,7 @@ pub fn requests_account_for_their_events<P: Program>(_program: &P)
 /// by itself leaves one; and a step of the windows just those that are told: a take, a spend, or that passes were
 /// refused; and where passes are given back behind its response, a spend. So what its item tells is what it left, and
 /// each pass that was taken was spent.
-pub fn requests_account_for_their_marks<P: Program, L: Link>(_program: &P, _link: &L)
+pub fn requests_account_for_their_marks<P: Program, L: Link>()
     ensures windows { (marks : List WindowMark) (old new : Visit P) (windows after : WindowsValue)
         → turn old ≡ Turn.Windows → VisitsWindows old windows new after → Marks marks old
         → AddsMarks marks windows after new }
@@ -177,7 +181,7 @@ pub fn pages_follow_their_entries()
 /// made at once, what is made before a commit, and what is made once its session is written. So the bytes that leave
 /// are the response to its item. While its write is settled, the cookie of its answer has to stay, and there is one
 /// answer where passes are given back: so `requests_account_for_their_sessions` says.
-pub fn responses_are_of_their_items<P: Program>(_program: &P)
+pub fn responses_are_of_their_items<P: Program>()
     ensures begins { (key : List ℕ) (history : List Event) (facts : VisitFacts) (counts : LinkCounts) (way : SessionWay)
         (v : Visit P) → (v ≡ begun facts counts way Reading) ⊎ (v ≡ begun facts counts way Opening)
         → Says key history [] v }
@@ -226,7 +230,7 @@ pub fn responses_are_of_their_items<P: Program>(_program: &P)
 /// were taken for that; and its cookie, or the causes for which there is none, are what that write came to. A cookie
 /// that is held while a response is made may be read, and stays until the passes are spent. So what its item says of
 /// its session is what came of it.
-pub fn requests_account_for_their_sessions<P: Program, L: Link>(_program: &P, _link: &L)
+pub fn requests_account_for_their_sessions<P: Program, L: Link>()
     ensures begins { (history : List Event) (facts : VisitFacts) (counts : LinkCounts) (nonce : Version)
         (cookie : Cookie) (v : Visit P)
         → v ≡ begun facts counts (way_is.Reading (read_start facts.now nonce cookie)) Reading
@@ -298,4 +302,48 @@ pub fn requests_account_for_their_sessions<P: Program, L: Link>(_program: &P, _l
 {
     ways_have_answers();
     answers_stay();
+}
+
+/// A request that may go on in a boot may go on after each of its steps, whatever others do between two of them: in
+/// the boot as it has grown meanwhile. It may begin with the length that the journal had when the container was last
+/// held, and come to the container with a program that the deployment accepts, and with tries that have not begun.
+/// So its caller may let it step in the container, at each turn of the container's; and the places of its item are in
+/// order, from that length on.
+pub fn requests_go_on<P: Program>()
+    ensures begins { (boot : BootValue) (facts : VisitFacts) (counts : LinkCounts) (way : SessionWay) (why : Refusal)
+        (seen : ℕ) → facts.front.0 ≤ length boot.entries → facts.now.0 < 2 ^ 62
+        → MayGoOn P.accepts P.asks boot (begun facts counts way Reading)
+        × MayGoOn P.accepts P.asks boot (begun facts counts way Opening)
+        × MayGoOn P.accepts P.asks boot (begun facts counts way (Decided (item.Refused why)))
+        × MayGoOn P.accepts P.asks boot (begun facts counts way (Decided (item.SerialsSpent seen))) }
+    ensures opens { (boot : BootValue) (v : Visit P) (request : RequestNo) (worker : WorkerNo) (text : List ℕ)
+        (program : P) → v.work ≡ Opening → P.accepts program boot.start.deployment
+        → MayGoOn P.accepts P.asks boot v
+        → MayGoOn P.accepts P.asks boot (record v { work = Serving (unbegun request worker text) program }) }
+    ensures grows { (old new : BootValue) (v : Visit P) → HasGrown old new
+        → MayGoOn P.accepts P.asks old v → MayGoOn P.accepts P.asks new v }
+    ensures inside { (old new : Visit P) (container after : ContainerValue) → VisitsInside P.asks old container new after
+        → HasGrownBy container after → MayGoOn P.accepts P.asks container.boot old
+        → MayGoOn P.accepts P.asks after.boot new }
+    ensures windows { (boot : BootValue) (old new : Visit P) (windows after : WindowsValue)
+        → VisitsWindows old windows new after → MayGoOn P.accepts P.asks boot old → MayGoOn P.accepts P.asks boot new }
+    ensures outside { (boot : BootValue) (v : Visit P) (way : SessionWay) (counts : LinkCounts)
+        → MayGoOn P.accepts P.asks boot v → MayGoOn P.accepts P.asks boot (record v { way = way; counts = counts }) }
+    ensures advance { (boot : BootValue) (key : List ℕ) (old new : Visit P) → Advances key old old.work new
+        → MayGoOn P.accepts P.asks boot old → MayGoOn P.accepts P.asks boot new }
+    ensures leave { (boot : BootValue) (v : Visit P)
+        → MayGoOn P.accepts P.asks boot v → MayGoOn P.accepts P.asks boot (after_leaving v) }
+    ensures dropped { (boot : BootValue) (v : Visit P)
+        → MayGoOn P.accepts P.asks boot v → MayGoOn P.accepts P.asks boot (record v { work = dropped v.work }) }
+    ensures back { (boot : BootValue) (old new : Visit P) → IsGivenBack old new
+        → MayGoOn P.accepts P.asks boot old → MayGoOn P.accepts P.asks boot new }
+    ensures inside_turn { (boot : BootValue) (v : Visit P) → turn v ≡ Turn.Inside → MayGoOn P.accepts P.asks boot v
+        → OnServing v.work (λ tries program. P.accepts program boot.start.deployment
+        × IsServing boot (P.asks program) tries) }
+    ensures item { (boot : BootValue) (v : Visit P) (i : Item) → IsItemOf v v.work i
+        → MayGoOn P.accepts P.asks boot v → (v.facts.front.0 ≤ i.holds.from.0)
+        × (i.holds.from.0 ≤ i.holds.front.0) × (i.holds.front.0 ≤ length boot.entries) }
+{
+    ends_stay_true();
+    ends_begin_with_the_first_try();
 }
