@@ -1,10 +1,12 @@
 pub mod Accounting
 pub mod Chaining
+pub mod Counted
 pub mod Ended
 pub mod Following
 pub mod Going
 pub mod Kept
 pub mod Marking
+pub mod Noting
 pub mod Saying
 pub mod Standing
 pub mod Telling

@@ -1,5 +1,6 @@
 pub mod Accounts
 pub mod Advancing
+pub mod Counts
 pub mod Going
 pub mod Marks
 pub mod Ready

@@ -32,9 +32,10 @@ ghost use Rattle.session_way.specs.declared.way.SessionWay.{SessionWay};
 ghost use Rattle.request_visit.specs.Accounts.{Accounts, AddsOwn, Became};
 ghost use Rattle.request_visit.specs.Advancing.{Advances, IsItemOf, after_leaving, cookie_in, response_in};
 ghost use Rattle.request_visit.specs.Says.{Says};
+ghost use Rattle.request_visit.specs.Counts.{CountsStand, HasCounted, causes_of, noted_by};
 ghost use Rattle.request_visit.specs.Going.{MayGoOn};
 ghost use Rattle.request_visit.specs.Marks.{AddsMarks, Marks};
-ghost use Rattle.request_visit.specs.Stepping.{IsGivenBack, OnServing, VisitsInside, VisitsWindows, dropped};
+ghost use Rattle.request_visit.specs.Stepping.{IsGivenBack, OnServing, VisitsInside, VisitsWindows, counted, dropped};
 ghost use Rattle.request_visit.specs.Visits.{begun, turn};
 ghost use Rattle.request_visit.specs.declared.facts.VisitFacts.{VisitFacts};
 ghost use Rattle.request_visit.specs.declared.visit.Fate.{Fate};
@@ -303,6 +304,39 @@ pub fn requests_account_for_their_sessions<P: Program, L: Link>()
     ways_have_answers();
     answers_stay();
 }
+
+/// The causes that a request is told came with what the link counted while the request was on its way, whatever others
+/// do between two of its steps, with the link too: a silence for each brick that was silent, and 64 frames for each
+/// that strayed, up to the last value of a count. Others only raise what the link counted, so it is at least what the
+/// request saw last.
+pub fn requests_account_for_their_causes<P: Program, L: Link>()
+    ensures begins { (facts : VisitFacts) (counts : LinkCounts) (nonce : Version) (cookie : Cookie) (v : Visit P)
+        → (v ≡ begun facts counts (way_is.Reading (read_start facts.now nonce cookie)) Reading)
+        ⊎ (v ≡ begun facts counts way_is.Resting Opening) → CountsStand counts v }
+    ensures refused { (facts : VisitFacts) (counts : LinkCounts) (why : Refusal) (v : Visit P)
+        → v ≡ begun facts counts way_is.Resting (Decided (item.Refused why)) → CountsStand counts v }
+    ensures spent { (facts : VisitFacts) (counts : LinkCounts) (seen : ℕ) (v : Visit P)
+        → v ≡ begun facts counts way_is.Resting (Decided (item.SerialsSpent seen)) → CountsStand counts v }
+    ensures opens { (begin : LinkCounts) (v : Visit P) (tries : TriesValue) (program : P)
+        → CountsStand begin v → CountsStand begin (record v { work = Serving tries program }) }
+    ensures outside { (begin : LinkCounts) (v : Visit P) (way : SessionWay) (link after : L)
+        → StepsOutside L.makes v.way link way after
+        → v.counts.hushed ≤ (L.tally link).hushed → v.counts.got ≤ (L.tally link).got
+        → CountsStand begin v → CountsStand begin (record v { way = way; counts = counted (L.tally after) }) }
+    ensures windows { (begin : LinkCounts) (old new : Visit P) (windows after : WindowsValue)
+        → VisitsWindows old windows new after → CountsStand begin old → CountsStand begin new }
+    ensures inside { (begin : LinkCounts) (old new : Visit P) (container after : ContainerValue)
+        → VisitsInside P.asks old container new after → CountsStand begin old → CountsStand begin new }
+    ensures advance { (begin : LinkCounts) (key : List ℕ) (old new : Visit P)
+        → Advances key old old.work new → CountsStand begin old → CountsStand begin new }
+    ensures leave { (begin : LinkCounts) (v : Visit P) → CountsStand begin v → CountsStand begin (after_leaving v) }
+    ensures dropped { (begin : LinkCounts) (v : Visit P)
+        → CountsStand begin v → CountsStand begin (record v { work = dropped v.work }) }
+    ensures back { (begin : LinkCounts) (old new : Visit P)
+        → IsGivenBack old new → CountsStand begin old → CountsStand begin new }
+    ensures item { (begin : LinkCounts) (v : Visit P) (i : Item) → IsItemOf v v.work i → CountsStand begin v
+        → HasCounted (noted_by (causes_of i.outcome)) begin i.counts }
+{}
 
 /// A request that may go on in a boot may go on after each of its steps, whatever others do between two of them: in
 /// the boot as it has grown meanwhile. It may begin with the length that the journal had when the container was last

@@ -36,12 +36,13 @@
 //!
 //! `drop_call` and `drop_passes` give up, at any turn, what a request holds.
 //!
-//! Five laws follow a request over its steps, whatever others do between two of them:
+//! Six laws follow a request over its steps, whatever others do between two of them:
 //! `requests_account_for_their_events` (`specs/Accounts.antt`: which events it added to the history of the container),
 //! `requests_account_for_their_marks` (`specs/Marks.antt`: which marks it left in that of the windows),
 //! `responses_are_of_their_items` (`specs/Says.antt`: what its response says),
 //! `requests_account_for_their_sessions` (`specs/Sessions.antt`: what came of the read and of the write of its session;
-//! so the cookie that `advance` is to show may be read), and
+//! so the cookie that `advance` is to show may be read),
+//! `requests_account_for_their_causes` (`specs/Counts.antt`: that the link counted what its causes say), and
 //! `requests_go_on` (`specs/Going.antt`: that it may step in the container, as `step_inside` asks). Each ends at the
 //! item. The law `pages_follow_their_entries` says what is shown and what is written after a commit.
 #![tactic(auto)]
@@ -59,9 +60,9 @@ mod work;
 
 pub use facts::VisitFacts;
 pub use laws::{
-    pages_follow_their_entries, requests_account_for_their_events,
-    requests_account_for_their_marks, requests_account_for_their_sessions, requests_go_on,
-    responses_are_of_their_items,
+    pages_follow_their_entries, requests_account_for_their_causes,
+    requests_account_for_their_events, requests_account_for_their_marks,
+    requests_account_for_their_sessions, requests_go_on, responses_are_of_their_items,
 };
 pub use ready::{Ready, Shown, ready_of};
 pub use serving::{Closed, Closing, serve};
