@@ -1,0 +1,5 @@
+mod Growing
+mod Items
+mod Meanings
+mod Reaching
+mod Showing

@@ -1,0 +1,3 @@
+pub mod Errands
+pub mod Pages
+pub mod Touched
