@@ -85,12 +85,12 @@ pub fn ordered_requests_are_admitted<R: Random, S: Serials>()
 /// - at a call of the link, where it gives no brick that serves a cause against it (`Serve`);
 /// - at a step in the container, where that is free (`IsFree`: no reboot, conflict or full journal stands in its way)
 ///   and the keeper did not fail, so that its count of faults did not rise;
-/// - where passes are taken, if of the bricks that they are for as many serve as are to store a value: so the windows of
-///   as many are open;
+/// - where passes are taken, if of the bricks that they are for as many serve as are to store a value: so as many
+///   windows are open;
 /// - and at each other step. Its item is then a page.
 pub fn unhindered_requests_end_as_pages<P: Program, L: Link>()
-    ensures unread { (serves : BrickNo → Bool) (facts : VisitFacts) (counts : LinkCounts) (way : SessionWay) (v : Visit P)
-        → v ≡ begun facts counts way Opening → IsUnhindered serves v }
+    ensures unread { (serves : BrickNo → Bool) (facts : VisitFacts) (counts : LinkCounts) (way : SessionWay)
+        (v : Visit P) → v ≡ begun facts counts way Opening → IsUnhindered serves v }
     ensures read { (serves : BrickNo → Bool) (facts : VisitFacts) (counts : LinkCounts) (nonce : Version)
         (cookie : Cookie) (v : Visit P)
         → v ≡ begun facts counts (way_is.Reading (read_start facts.now nonce cookie)) Reading
@@ -135,7 +135,8 @@ pub fn requests_come_to_their_end<P: Program, L: Link>()
         → steps_left (record v { way = way; counts = counts }) < steps_left v }
     ensures opens { (v : Visit P) (tries : TriesValue) (program : P) → v.work ≡ Opening
         → steps_left (record v { work = Serving tries program }) < steps_left v }
-    ensures inside { (old new : Visit P) (container after : ContainerValue) → VisitsInside P.asks old container new after
+    ensures inside { (old new : Visit P) (container after : ContainerValue)
+        → VisitsInside P.asks old container new after
         → OnServing old.work (λ tries program. P.accepts program container.boot.start.deployment
         × IsServing container.boot (P.asks program) tries) → steps_left new < steps_left old }
     ensures windows { (old new : Visit P) (windows after : WindowsValue) → windows.w ≤ MAX_BRICKS
