@@ -1,6 +1,6 @@
 -- Journals stay meant by what requests of the site add.
 use Rattle.std.specs.Prelude.{IfSome}
-use Rattle.std.proofs.Common.{◌≡◌, ℕ, ◌+◌, true, false, List, [], ◌∷◌, ◌++◌, length, take, Option, Some, None, refl, sym, ap, ◌∙◌, subst, arith, length-append}
+use Rattle.std.proofs.Common.{◌≡◌, ℕ, true, false, List, [], ◌∷◌, ◌++◌, length, take, Option, Some, None, refl, sym, ap, ◌∙◌, subst, arith, length-append}
 use Rattle.std.proofs.lemmas.Grind.{flat_map-append}
 use Rattle.std.proofs.lemmas.List.{append-nil, take_all}
 use Rattle.std.proofs.Math.Seq.{take-append_seam}
@@ -10,7 +10,7 @@ use Rattle.journal_model.specs.declared.entry.Entry.TheVariants.{Commit}
 use Rattle.journal_model.specs.Rows.{rows_after}
 use Rattle.journal_model.proofs.Growing.{each_push}
 use Rattle.auction_calls.specs.declared.action.ActionCall.{ActionCall}
-use Rattle.auction_site.specs.Actions.{site, steps_of}
+use Rattle.auction_site.specs.Actions.{steps_of}
 use Rattle.auction_site.specs.Meant.{AreMeant, IsMeantEntry}
 use Rattle.boot_core.specs.declared.boot.Start.{Start}
 use Rattle.container_core.specs.Container.{ContainerValue, event_count, events_of}

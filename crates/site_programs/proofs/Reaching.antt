@@ -1,5 +1,5 @@
 -- What requests of the site are touched by is within the reach of their actions.
-use Rattle.std.proofs.Common.{◌≡◌, ◌↔◌, ℕ, ◌<◌, ◌≤◌, true, List, [], ◌∷◌, length, take, All, subst}
+use Rattle.std.proofs.Common.{◌≡◌, ◌↔◌, ℕ, true, List, [], ◌∷◌, take, All, subst}
 use Rattle.std.proofs.lemmas.List.Elements.{All-cons, All-nil}
 use Rattle.crash_base.specs.declared.numbers.GroupNo.{GroupNo}
 use Rattle.crash_base.specs.declared.numbers.Place.{Place}

@@ -1,41 +1,36 @@
 -- The entries that the history shows of requests.
 use Rattle.std.specs.Prelude.{option_and_then, option_map}
-use Rattle.std.proofs.Common.{◌≡◌, ℕ, ◌+◌, true, false, List, [], ◌∷◌, ◌++◌, length, take, drop, slice_get, Option, Some, None, refl, sym, ap, ◌∙◌, subst, arith, length-append}
+use Rattle.std.proofs.Common.{◌≡◌, ℕ, true, false, List, [], ◌∷◌, ◌++◌, length, take, drop, slice_get, Option, Some, refl, sym, ap, ◌∙◌, subst}
 use Rattle.std.proofs.lemmas.Grind.{flat_map-append}
-use Rattle.std.proofs.lemmas.List.{append_assoc, take-append-drop, take_at}
+use Rattle.std.proofs.lemmas.List.{append_assoc, take-append-drop}
 use Rattle.std.proofs.Math.Seq.{take-append_seam}
 use Rattle.crash_base.specs.declared.numbers.Place.{Place}
 use Rattle.crash_base.specs.declared.rows.RowWrite.{RowWrite}
 use Rattle.journal_model.specs.declared.entry.ActionEntry.{ActionEntry}
 use Rattle.journal_model.specs.declared.entry.CommitEntry.{CommitEntry}
-use Rattle.journal_model.specs.declared.entry.DoneText.{DoneText}
 use Rattle.journal_model.specs.declared.entry.Entry.{Entry}
 use Rattle.journal_model.specs.declared.entry.Entry.TheVariants.{Commit}
 use Rattle.journal_model.specs.declared.limits.FullAt.{FullAt}
 use Rattle.journal_model.specs.Rows.{rows_after}
 use Rattle.journal_model.specs.Snapshots.{snapshot}
 use Rattle.journal_model.proofs.Found.{commit_there}
-use Rattle.journal_model.proofs.Growing.{each_push}
 use Rattle.journal_model.proofs.Places.{slice_get-append}
 use Rattle.action_plans.specs.declared.plan.Outcome.{Outcome}
 use Rattle.auction_calls.specs.declared.action.ActionCall.{ActionCall}
 use Rattle.auction_calls.specs.Texts.{Spells}
-use Rattle.auction_site.specs.Actions.{site, steps_of}
-use Rattle.auction_site.specs.Meant.{AreMeant, IsMeant, IsMeantEntry}
+use Rattle.auction_site.specs.Actions.{site}
+use Rattle.auction_site.specs.Meant.{AreMeant, IsMeant}
 use Rattle.boot_core.specs.declared.boot.Start.{Start}
-use Rattle.container_core.specs.Container.{ContainerValue, events_of}
 use Rattle.container_core.specs.History.{entries_in, entry_in}
 use Rattle.container_core.specs.declared.history.Event.{Event}
-use Rattle.container_core.specs.declared.history.Event.TheVariants.{Added, KeeperFailed as FailedMark}
-use Rattle.request_tries.specs.Ends.{Adds, EndStands, Errand, HasNoRoom, IsServed, OutcomeStands, done_at, done_if, done_of, page_of}
-use Rattle.request_tries.specs.Serving.{TriesValue, errand_of}
-use Rattle.request_tries.specs.Steps.{Brings}
+use Rattle.container_core.specs.declared.history.Event.TheVariants.{Added}
+use Rattle.request_tries.specs.Ends.{EndStands, Errand, HasNoRoom, IsServed, OutcomeStands, done_at, done_if, done_of, page_of}
 use Rattle.request_tries.specs.declared.outcome.Ended.{Ended}
 use Rattle.request_tries.specs.declared.outcome.RequestOutcome.{RequestOutcome}
 use Rattle.request_tries.specs.declared.outcome.RequestOutcome.TheVariants as outcomes
 use Rattle.site_programs.specs.Errands.{AsksSite}
 use Rattle.site_programs.specs.Pages.{HasNoRoomFor, HasOutcome, IsMeantThere, ShowsEntry}
-use Rattle.site_programs.proofs.Meanings.{RunRule, made_so, one_outcome, outcome_is_meant}
+use Rattle.site_programs.proofs.Meanings.{RunRule, made_so, one_outcome}
 
 -- the item after others
 at_seam : {A : Type 0} (xs ys : List A) (x : A) → slice_get (xs ++ x ∷ ys) (length xs) ≡ Some x

@@ -1,7 +1,7 @@
 //! Laws of the site's programs and of the pages that they come to. Each is the contract of a function that does
 //! nothing: a caller that needs the law calls the function.
 
-ghost use Rattle.std.specs.Prelude.{◌≡◌, ◌≤◌, false, true, List, ℕ, Option, Some, length, slice_get, take};
+ghost use Rattle.std.specs.Prelude.{◌≡◌, false, true, List, ℕ, Option, Some, slice_get, take};
 ghost use Rattle.action_plans.specs.declared.plan.Outcome.{Outcome};
 ghost use Rattle.auction_calls.specs.Texts.{Spells};
 ghost use Rattle.auction_calls.specs.declared.action.ActionCall.{ActionCall};
