@@ -26,8 +26,6 @@
 mod laws;
 mod maker;
 mod reach;
-#[cfg(test)]
-mod tests;
 
 pub use laws::{
     items_tell_their_ends, journals_stay_meant_by_requests, pages_are_what_the_site_means,
