@@ -1,6 +1,6 @@
 -- A connection accounts for what it adds and leaves, by what its requests account for.
 use Rattle.std.specs.Prelude.{All, IfSome}
-use Rattle.std.proofs.Common.{◌≡◌, ℕ, Bool, true, false, List, [], ◌∷◌, ◌++◌, map, take, refl, sym, ap, ◌∙◌, subst, Option, Some, None}
+use Rattle.std.proofs.Common.{◌≡◌, ◌≢◌, ℕ, Bool, true, false, List, [], ◌∷◌, ◌++◌, map, take, refl, sym, ap, ◌∙◌, subst, Option, Some, None}
 use Rattle.std.proofs.lemmas.Grind.{flat_map-append}
 use Rattle.std.proofs.lemmas.List.Elements.{All-cons, All-head, All-nil, All-push, All-tail, All-weaker}
 use Rattle.std.proofs.lemmas.List.{append-nil, append_assoc, map-append}
@@ -12,6 +12,7 @@ use Rattle.container_core.specs.Container.{ContainerValue, HasGrownBy, events_of
 use Rattle.container_core.specs.History.{entries_in}
 use Rattle.container_core.specs.declared.history.Event.{Event}
 use Rattle.container_core.specs.declared.history.Event.TheVariants.{Started}
+use Rattle.crash_base.specs.declared.numbers.Place.{Place}
 use Rattle.crash_base.specs.declared.numbers.WorkerNo.{WorkerNo}
 use Rattle.outcome_items.specs.Traces.{event_trace, uncounted, window_trace, window_traces}
 use Rattle.outcome_items.specs.declared.item.Item.{Item}
@@ -23,8 +24,10 @@ use Rattle.request_tries.specs.Serving.{TriesValue, errand_of, unbegun}
 use Rattle.request_visit.specs.Accounts.{Accounts, AddsOwn, Became}
 use Rattle.request_visit.specs.Advancing.{Advances, IsItemOf, after_leaving}
 use Rattle.request_visit.specs.Marks.{AddsMarks, Marks, MarksOf}
-use Rattle.request_visit.specs.Stepping.{VisitsInside, VisitsWindows, counted, dropped}
+use Rattle.request_visit.specs.Stepping.{IsGivenBack, VisitsInside, VisitsWindows, counted, dropped}
 use Rattle.request_visit.specs.Visits.{turn as visit_turn, turn_by as visit_turn_by}
+use Rattle.request_visit.specs.declared.visit.Fate.{Fate}
+use Rattle.request_visit.specs.declared.visit.Fate.TheVariants.{Writing}
 use Rattle.request_visit.specs.declared.visit.Turn.{Turn}
 use Rattle.request_visit.specs.declared.visit.Turn.TheVariants as visit
 use Rattle.request_visit.specs.declared.visit.Visit.{Visit}
@@ -33,20 +36,23 @@ use Rattle.request_visit.specs.declared.visit.Work.TheVariants.{Reading, Opening
 use Rattle.send_windows.specs.Windows.{WindowsValue}
 use Rattle.send_windows.specs.declared.history.WindowMark.{WindowMark}
 use Rattle.session_cookie.specs.declared.cookie.Cookie.{Cookie}
-use Rattle.session_way.specs.Way.{StepsOutside, wants}
+use Rattle.session_way.specs.Marks.{marks_by}
+use Rattle.session_way.specs.Way.{StepsOutside, answer_held, wants}
 use Rattle.session_way.specs.declared.way.SessionWay.{SessionWay}
+use Rattle.session_way.specs.declared.way.SessionWay.TheVariants as way
 use Rattle.session_way.specs.declared.way.Wants.{Wants}
 use Rattle.session_way.specs.declared.way.Wants.TheVariants as wanted
 use Rattle.shepherd.specs.Accounting.{Accounting, AddsEvents, IsAccountedFor, IsTold, ItemStands, LeavesMarks, StageTells, Tells, Told, told_events, told_items, told_marks, trace_in, traces_in}
 use Rattle.shepherd.specs.Shepherds.{fresh, has_item, is_over, turn}
-use Rattle.shepherd.specs.Steps.{MayPutOut, OnVisit, OpensCall, OpensStage, PutsOut, ShepherdSteps, StepsVisit, TakesItem, VisitsOutside, dropped_stage, rested}
+use Rattle.shepherd.specs.Standing.{has_left}
+use Rattle.shepherd.specs.Steps.{GivesBack, HasAnswerIfOpen, HasLeftIfOpen, MayPutOut, OnVisit, OpensCall, OpensStage, PutsOut, ShepherdSteps, StepsVisit, TakesItem, VisitsOutside, dropped_stage, rested}
 use Rattle.shepherd.specs.declared.shepherd.AskedCall.{AskedCall}
 use Rattle.shepherd.specs.declared.shepherd.Shepherd.{Shepherd}
 use Rattle.shepherd.specs.declared.shepherd.ShepherdTurn.TheVariants as turns
 use Rattle.shepherd.specs.declared.shepherd.Stage.{Stage}
 use Rattle.shepherd.specs.declared.shepherd.Stage.TheVariants.{Resting, Serving, Refusing, Over}
-use Rattle.shepherd.proofs.Keeping.{Keeps, advance_keeps, inside_keeps, outside_keeps, windows_keep}
-use Rattle.shepherd.proofs.Turning.{asks_output, asks_visit, step_of}
+use Rattle.shepherd.proofs.Keeping.{Keeps, advance_keeps, back_keeps, inside_keeps, outside_keeps, windows_keep}
+use Rattle.shepherd.proofs.Turning.{asks_output, asks_visit, fate_of, step_of}
 
 pub begins : {P : Type 0} (asks : P → List Answer → Next) (start : Start) (history : List Event) → Accounting asks start history [] [] [] fresh
 begins asks start history = record {
@@ -64,7 +70,7 @@ begins asks start history = record {
 abbrev pub GrowsWith : {P : Type 0} → (P → List Answer → Next) → Type 0
 GrowsWith {P} asks = (start : Start) (history more : List Event) (errand : Errand) (own : List Event) (v : Visit P) → Accounts asks start history errand own v → Accounts asks start (history ++ more) errand own v
 
-told_longer : {P : Type 0} (asks : P → List Answer → Next) → GrowsWith asks → (start : Start) (history more : List Event) (t : Told P) → IsTold asks start history t → IsTold asks start (history ++ more) t
+pub told_longer : {P : Type 0} (asks : P → List Answer → Next) → GrowsWith asks → (start : Start) (history more : List Event) (t : Told P) → IsTold asks start history t → IsTold asks start (history ++ more) t
 told_longer asks grows start history more t h = record {
   over = h.over;
   is_item = h.is_item;
@@ -372,8 +378,64 @@ given_up {P} asks accounts start history own marks items s h =
       by (Refusing why bytes) t = t
       by (Over end) t = t
 
+-- the turn of a request whose passes were given back behind its response
+pub over_behind : {P : Type 0}
+    → ((old new : Visit P) (fate : Fate) → IsGivenBack old new → old.work ≡ Left fate → visit_turn new ≡ visit.Over)
+    → (s : Shepherd P) (stage : Stage P) (win after : WindowsValue) → GivesBack s.stage win stage after → OnVisit s.stage (λ v call. has_left v.work ≡ true) → has_item stage ≡ true
+over_behind {P} over s stage win after back left = by s.stage back left where
+  by : (x : Stage P) → GivesBack x win stage after → OnVisit x (λ v call. has_left v.work ≡ true) → has_item stage ≡ true
+  by Resting back left = absurd left
+  by (Serving v call) back left = let fate = fate_of v.work left in ap has_item back.2 ∙ ap is_over (over v back.0 fate.0 back.1.back fate.1)
+  by (Refusing why bytes) back left = absurd left
+  by (Over end) back left = absurd left
+
+-- passes are given back behind a response
+pub given_back : {P : Type 0} (asks : P → List Answer → Next)
+    → ((start : Start) (history : List Event) (errand : Errand) (own : List Event) (old new : Visit P) → IsGivenBack old new → Accounts asks start history errand own old → Accounts asks start history errand own new)
+    → ((marks : List WindowMark) (old new : Visit P) (fate : Fate) → IsGivenBack old new → old.work ≡ Left fate
+    → ((place : Place) (again : Bool) → fate ≡ Writing place again → answer_held old.way ≢ None) → Marks marks old → Marks (marks ++ map uncounted (marks_by old.way way.Resting)) new)
+    → (start : Start) (history own : List Event) (marks : List WindowMark) (items : List Item) (s : Shepherd P) (stage : Stage P) (win after : WindowsValue) → GivesBack s.stage win stage after
+    → HasLeftIfOpen s.stage → HasAnswerIfOpen s.stage → Accounting asks start history own marks items s
+    → LeavesMarks asks start history own marks items win after (record s { stage = stage })
+given_back {P} asks accounts marked start history own marks items s stage win after back left has h = by s.stage h.tells back left has where
+  none : (x : Stage P) → stage ≡ x → after ≡ win → StageTells asks start history h.open_own h.open_marks x → LeavesMarks asks start history own marks items win after (record s { stage = stage })
+  none x is same tells = record {
+    added = [];
+    grown = ap (λ (w : WindowsValue). w.history) same ∙ sym (append-nil win.history);
+    accounts = subst (λ ms. Accounting asks start history own ms items (record s { stage = stage })) (sym (append-nil marks))
+        (with_stage asks start history own marks items s (record s { stage = stage }) h (subst (λ y. StageTells asks start history h.open_own h.open_marks y) (sym is) tells));
+  }
+
+  by : (x : Stage P) → StageTells asks start history h.open_own h.open_marks x → GivesBack x win stage after → HasLeftIfOpen x → HasAnswerIfOpen x
+      → LeavesMarks asks start history own marks items win after (record s { stage = stage })
+  by Resting t back left has = none Resting back.0 back.1 t
+  by (Serving v call) t back left has =
+      let fate = fate_of v.work left in
+      let added : List WindowMark = marks_by v.way way.Resting in
+      record {
+        added = added;
+        grown = back.1.marks;
+        accounts = record {
+          told = h.told;
+          open_own = h.open_own;
+          open_marks = h.open_marks ++ map uncounted added;
+          items_are = h.items_are;
+          stand = h.stand;
+          own_is = h.own_is;
+          marks_are = ap (λ xs. xs ++ map uncounted added) h.marks_are ∙ append_assoc (told_marks h.told) h.open_marks (map uncounted added);
+          tells = subst (λ x. StageTells asks start history h.open_own (h.open_marks ++ map uncounted added) x) (sym back.2) (record {
+            errand = t.errand;
+            accounts = accounts start history t.errand h.open_own v back.0 back.1.back t.accounts;
+            marks_are = marked h.open_marks v back.0 fate.0 back.1.back fate.1 (λ place again is. has place again (fate.1 ∙ ap (λ (f : Fate). Left f) is)) t.marks_are;
+            number = number_kept v back.0 call (back_keeps v back.0 back.1.back) t.number;
+          });
+        };
+      }
+  by (Refusing why bytes) t back left has = none (Refusing why bytes) back.0 back.1 t
+  by (Over end) t back left has = none (Over end) back.0 back.1 t
+
 -- the holds of an item are those of its request
-item_holds : {P : Type 0} (v : Visit P) (w : Work P) (i : Item) → IsItemOf v w i → i.holds ≡ v.holds
+pub item_holds : {P : Type 0} (v : Visit P) (w : Work P) (i : Item) → IsItemOf v w i → i.holds ≡ v.holds
 item_holds v Reading i is = absurd is
 item_holds v Opening i is = absurd is
 item_holds v (ServingBy tries program) i is = absurd is

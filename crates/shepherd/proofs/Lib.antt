@@ -1,10 +1,12 @@
 mod Beginning
 mod Begun
 mod Counting
+mod Driving
 mod Ending
 mod Growing
 mod Keeping
 mod Replying
 mod Requests
 mod Responding
+mod Stopped
 mod Turning

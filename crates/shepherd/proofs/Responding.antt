@@ -1,6 +1,6 @@
 -- A connection answers its requests, as each request says what became of it.
 use Rattle.std.specs.Prelude.{All}
-use Rattle.std.proofs.Common.{arith, ◌≡◌, ℕ, ◌≤◌, Bool, true, false, List, [], ◌∷◌, ◌++◌, length, map, take, refl, sym, ap, ◌∙◌, subst, Option, Some, None}
+use Rattle.std.proofs.Common.{arith, ◌≡◌, ◌≢◌, ℕ, ◌≤◌, Bool, true, false, List, [], ◌∷◌, ◌++◌, length, map, take, refl, sym, ap, ◌∙◌, subst, Option, Some, None}
 use Rattle.std.specs.List.{flat_map}
 use Rattle.std.proofs.lemmas.Grind.{flat_map-append}
 use Rattle.std.proofs.lemmas.List.Elements.{All-cons, All-head, All-nil, All-push, All-tail, All-weaker}
@@ -12,9 +12,11 @@ use Rattle.container_core.specs.Container.{ContainerValue, HasGrownBy, events_of
 use Rattle.container_core.specs.History.{entries_in}
 use Rattle.container_core.specs.declared.history.Event.{Event}
 use Rattle.container_core.specs.declared.history.Event.TheVariants.{Started}
+use Rattle.crash_base.specs.declared.numbers.Place.{Place}
 use Rattle.crash_base.specs.declared.numbers.WorkerNo.{WorkerNo}
 use Rattle.http_wire.specs.declared.taken.Head.{Head}
 use Rattle.outcome_items.specs.Answers.{IsResponse, is_head_only}
+use Rattle.outcome_items.specs.Traces.{uncounted}
 use Rattle.outcome_items.specs.declared.item.Item.{Item}
 use Rattle.outside.specs.Link.{Tally}
 use Rattle.outside.specs.declared.link.LinkCounts.{LinkCounts}
@@ -23,10 +25,11 @@ use Rattle.request_tries.specs.Serving.{TriesValue, unbegun}
 use Rattle.request_visit.specs.Advancing.{Advances, IsItemOf, after_leaving, cookie_in, response_in}
 use Rattle.request_visit.specs.Marks.{AddsMarks, Marks, MarksOf}
 use Rattle.request_visit.specs.Says.{Says, SaysOf}
-use Rattle.request_visit.specs.Stepping.{VisitsInside, VisitsWindows, counted, dropped}
+use Rattle.request_visit.specs.Stepping.{IsGivenBack, VisitsInside, VisitsWindows, counted, dropped}
 use Rattle.request_visit.specs.Visits.{turn as visit_turn}
 use Rattle.request_visit.specs.declared.facts.VisitFacts.{VisitFacts}
 use Rattle.request_visit.specs.declared.visit.Fate.{Fate}
+use Rattle.request_visit.specs.declared.visit.Fate.TheVariants.{Writing}
 use Rattle.request_visit.specs.declared.visit.Turn.TheVariants as visit
 use Rattle.request_visit.specs.declared.visit.Visit.{Visit}
 use Rattle.request_visit.specs.declared.visit.Work.{Work}
@@ -34,24 +37,26 @@ use Rattle.request_visit.specs.declared.visit.Work.TheVariants.{Reading, Opening
 use Rattle.send_windows.specs.Windows.{WindowsValue}
 use Rattle.send_windows.specs.declared.history.WindowMark.{WindowMark}
 use Rattle.session_cookie.specs.declared.cookie.Cookie.{Cookie}
+use Rattle.session_way.specs.Marks.{marks_by}
 use Rattle.session_way.specs.Way.{StepsOutside, answer_held, wants}
 use Rattle.session_way.specs.declared.way.SessionWay.{SessionWay}
+use Rattle.session_way.specs.declared.way.SessionWay.TheVariants as way
 use Rattle.shepherd.specs.Answering.{Answered, Answering, AreResponses, IsForHead, Responds, Response, SaidAll, SaysSo, StageSays, answered_bytes, answered_heads, answered_items}
 use Rattle.shepherd.specs.Shepherds.{fresh, has_item, turn}
 use Rattle.shepherd.specs.Standing.{has_left}
-use Rattle.shepherd.specs.Steps.{MayPutOut, OpensCall, OpensStage, PutsOut, ShepherdSteps, TakesItem, VisitsOutside, dropped_stage, rested}
+use Rattle.shepherd.specs.Steps.{GivesBack, HasAnswerIfOpen, HasLeftIfOpen, MayPutOut, OpensCall, OpensStage, PutsOut, ShepherdSteps, TakesItem, VisitsOutside, dropped_stage, rested}
 use Rattle.shepherd.specs.declared.shepherd.AskedCall.{AskedCall}
 use Rattle.shepherd.specs.declared.shepherd.Shepherd.{Shepherd}
 use Rattle.shepherd.specs.declared.shepherd.ShepherdTurn.TheVariants as turns
 use Rattle.shepherd.specs.declared.shepherd.Stage.{Stage}
 use Rattle.shepherd.specs.declared.shepherd.Stage.TheVariants.{Resting, Serving, Refusing, Over}
 use Rattle.shepherd.proofs.Counting.{dropped_marks, opening, over_now, turned_so, went}
-use Rattle.shepherd.proofs.Keeping.{Keeps, advance_keeps, inside_keeps, outside_keeps, windows_keep}
+use Rattle.shepherd.proofs.Keeping.{Keeps, advance_keeps, back_keeps, inside_keeps, outside_keeps, windows_keep}
 use Rattle.shepherd.proofs.Requests.{then_left}
-use Rattle.shepherd.proofs.Turning.{asks_output, step_of, unmade, unsent}
+use Rattle.shepherd.proofs.Turning.{asks_output, fate_of, step_of, unmade, unsent}
 
-pub begins : {P : Type 0} (program : P) (key : List ℕ) (history : List Event) → Answering {P = P} key history [] [] [] fresh
-begins {P} program key history = record {
+pub begins : {P : Type 0} (key : List ℕ) (history : List Event) → Answering {P = P} key history [] [] [] fresh
+begins {P} key history = record {
   answered = [];
   opened = [];
   sent = [];
@@ -355,6 +360,27 @@ given_up {P} key history heads written items s h = with_stage key history heads 
   }
   by (Refusing why bytes) t = t
   by (Over end) t = t
+
+-- passes are given back behind a response
+pub given_back : {P : Type 0}
+    → ((marks : List WindowMark) (old new : Visit P) (fate : Fate) → IsGivenBack old new → old.work ≡ Left fate
+    → ((place : Place) (again : Bool) → fate ≡ Writing place again → answer_held old.way ≢ None) → Marks marks old → Marks (marks ++ map uncounted (marks_by old.way way.Resting)) new)
+    → ((key : List ℕ) (history : List Event) (out : List ℕ) (marks : List WindowMark) (old new : Visit P) (fate : Fate) → IsGivenBack old new → old.work ≡ Left fate
+    → ((place : Place) (again : Bool) → fate ≡ Writing place again → answer_held old.way ≢ None) → Marks marks old → Says key history out old → Says key history out new)
+    → (key : List ℕ) (history : List Event) (heads : List Head) (written : List ℕ) (items : List Item) (s : Shepherd P) (stage : Stage P) (win after : WindowsValue) → GivesBack s.stage win stage after
+    → HasLeftIfOpen s.stage → HasAnswerIfOpen s.stage → Answering key history heads written items s → Answering key history heads written items (record s { stage = stage })
+given_back {P} marked said key history heads written items s stage win after back left has h =
+    with_stage key history heads written items s (record s { stage = stage }) h (by s.stage h.says back left has) where
+      by : (x : Stage P) → StageSays key history h.opened h.sent x → GivesBack x win stage after → HasLeftIfOpen x → HasAnswerIfOpen x → StageSays key history h.opened h.sent stage
+      by Resting t back left has = subst (λ x. StageSays key history h.opened h.sent x) (sym back.0) t
+      by (Serving v call) t back left has =
+          let fate = fate_of v.work left in
+          let answered : (place : Place) (again : Bool) → fate.0 ≡ Writing place again → answer_held v.way ≢ None = λ place again is. has place again (fate.1 ∙ ap (λ (f : Fate). Left f) is) in
+          with_visit key history h.opened h.sent v back.0 call stage t back.2 (back_keeps v back.0 back.1.back) (t.marks ++ map uncounted (marks_by v.way way.Resting))
+          (marked t.marks v back.0 fate.0 back.1.back fate.1 answered t.marks_are)
+          (said key history h.sent t.marks v back.0 fate.0 back.1.back fate.1 answered t.marks_are t.says)
+      by (Refusing why bytes) t back left has = subst (λ x. StageSays key history h.opened h.sent x) (sym back.0) t
+      by (Over end) t back left has = subst (λ x. StageSays key history h.opened h.sent x) (sym back.0) t
 
 -- what a law tells of an item
 abbrev pub ItemResponds : Type 0 → Type 0

@@ -4,6 +4,7 @@ use Rattle.session_way.specs.declared.way.Wants.{Wants}
 use Rattle.session_way.specs.declared.way.Wants.TheVariants as wanted
 use Rattle.http_wire.specs.Taking.{settles, taken_of}
 use Rattle.request_visit.specs.Visits.{turn as visit_turn, turn_by as visit_turn_by}
+use Rattle.request_visit.specs.declared.visit.Fate.{Fate}
 use Rattle.request_visit.specs.declared.visit.Turn.{Turn}
 use Rattle.request_visit.specs.declared.visit.Turn.TheVariants as visit
 use Rattle.request_visit.specs.declared.visit.Work.{Work}
@@ -182,3 +183,13 @@ unmade (Answered fate bytes) want is = refl
 unmade (Left fate) wanted.Nothing is = absurd (cc)
 unmade (Left fate) wanted.Outside is = absurd (cc)
 unmade (Left fate) wanted.Windows is = absurd (cc)
+
+-- what became so far of a request whose response has left
+pub fate_of : {P : Type 0} (w : Work P) → has_left w ≡ true → (fate : Fate) × (w ≡ Left fate)
+fate_of Reading e = absurd (cc)
+fate_of Opening e = absurd (cc)
+fate_of (ServingBy tries program) e = absurd (cc)
+fate_of (Committed place again shown) e = absurd (cc)
+fate_of (Decided became) e = absurd (cc)
+fate_of (Answered fate bytes) e = absurd (cc)
+fate_of (Left fate) e = (fate, refl)

@@ -1,5 +1,5 @@
 -- What each step of a connection leaves.
-use Rattle.std.specs.Prelude.{◌≡◌, ℕ, ◌≤◌, ◌<◌, Bool, if◌then◌else◌, List, drop, replicate, Option, Some, None, option_map, ◌++◌}
+use Rattle.std.specs.Prelude.{◌≡◌, ◌≢◌, ℕ, ◌≤◌, ◌<◌, Bool, true, if◌then◌else◌, List, drop, replicate, Option, Some, None, option_map, ◌++◌}
 use Rattle.auction_calls.specs.declared.action.ActionCall.{ActionCall}
 use Rattle.crash_base.specs.declared.numbers.Moment.{Moment}
 use Rattle.crash_base.specs.declared.numbers.Place.{Place}
@@ -27,8 +27,9 @@ use Rattle.request_visit.specs.Stepping.{IsGivenBack, counted, dropped}
 use Rattle.request_visit.specs.Visits.{begun, turn as visit_turn}
 use Rattle.request_visit.specs.declared.visit.Turn.TheVariants as visit
 use Rattle.request_visit.specs.declared.facts.VisitFacts.{VisitFacts}
+use Rattle.request_visit.specs.declared.visit.Fate.TheVariants.{Writing}
 use Rattle.request_visit.specs.declared.visit.Visit.{Visit}
-use Rattle.request_visit.specs.declared.visit.Work.TheVariants.{Reading, Opening, Serving as ServingBy, Decided}
+use Rattle.request_visit.specs.declared.visit.Work.TheVariants.{Reading, Opening, Serving as ServingBy, Decided, Left}
 use Rattle.session_cookie.specs.declared.cookie.Cookie.{Cookie}
 use Rattle.request_tries.specs.Serving.{unbegun}
 use Rattle.request_decisions.specs.Calls.{call_by}
@@ -36,12 +37,13 @@ use Rattle.crash_base.specs.declared.numbers.WorkerNo.{WorkerNo}
 use Rattle.shepherd.specs.declared.shepherd.AskedCall.{AskedCall}
 use Rattle.send_windows.specs.Windows.{WindowsValue}
 use Rattle.session_way.specs.Marks.{marks_by}
-use Rattle.session_way.specs.Way.{StepsOutside, after_give_back, held}
+use Rattle.session_way.specs.Way.{StepsOutside, after_give_back, answer_held, held}
 use Rattle.session_way.specs.declared.way.SessionWay.TheVariants as way
 use Rattle.site_responses.specs.Responses.{last_response}
 use Rattle.site_responses.specs.declared.answer.Untaken.{Untaken}
 use Rattle.site_responses.specs.declared.answer.Untaken.TheVariants as untaken
 use Rattle.ssm_stub.specs.Reads.{read_start}
+use Rattle.shepherd.specs.Standing.{has_left}
 use Rattle.shepherd.specs.declared.shepherd.EndKind.TheVariants as ends
 use Rattle.shepherd.specs.declared.shepherd.Shepherd.{Shepherd}
 use Rattle.shepherd.specs.declared.shepherd.Stage.{Stage}
@@ -131,6 +133,13 @@ OnVisit (Serving v call) So = So v call
 OnVisit (Refusing why bytes) So = ⊥
 OnVisit (Over end) So = ⊥
 
+-- this is so of the request that is open and of its call, if one is open
+abbrev pub IfOpen : {P : Type 0} → Stage P → (Visit P → Option AskedCall → Type 0) → Type 0
+IfOpen Resting So = Unit {0}
+IfOpen (Serving v call) So = So v call
+IfOpen (Refusing why bytes) So = Unit {0}
+IfOpen (Over end) So = Unit {0}
+
 -- The request that is open made a step: this is so of it before and after, and nothing else changed.
 abbrev pub StepsVisit : {P : Type 0} → (Visit P → Visit P → Type 0) → Stage P → Stage P → Type 0
 StepsVisit {P} So old new = OnVisit old (λ v call. (after : Visit P) × So v after × (new ≡ Serving after call))
@@ -204,3 +213,12 @@ GivesBack Resting windows new after = (new ≡ Resting) × (after ≡ windows)
 GivesBack {P} (Serving v call) windows new after = (w : Visit P) × VisitGivesBack v windows w after × (new ≡ Serving w call)
 GivesBack (Refusing why bytes) windows new after = (new ≡ Refusing why bytes) × (after ≡ windows)
 GivesBack (Over end) windows new after = (new ≡ Over end) × (after ≡ windows)
+
+-- the response of the request that is open has left, if one is open
+abbrev pub HasLeftIfOpen : {P : Type 0} → Stage P → Type 0
+HasLeftIfOpen stage = IfOpen stage (λ v call. has_left v.work ≡ true)
+
+-- a write that is settled for the request that is open has its answer
+abbrev pub HasAnswerIfOpen : {P : Type 0} → Stage P → Type 0
+HasAnswerIfOpen stage = IfOpen stage (λ v call.
+    (place : Place) (again : Bool) → v.work ≡ Left (Writing place again) → answer_held v.way ≢ None)

@@ -18,7 +18,8 @@ ghost use Rattle.send_windows.specs.Windows.{WindowsValue};
 ghost use Rattle.send_windows.specs.declared.history.WindowMark.{WindowMark};
 ghost use Rattle.shepherd.specs.Accounting.{Accounting, AddsEvents, IsAccountedFor, LeavesMarks, StageTells};
 ghost use Rattle.shepherd.specs.Shepherds.{fresh, has_item, turn};
-ghost use Rattle.shepherd.specs.Steps.{OnVisit, OpensStage, PutsOut, ShepherdSteps, TakesItem, TakesRequest, VisitsOutside, dropped_stage};
+ghost use Rattle.shepherd.specs.Standing.{has_left};
+ghost use Rattle.shepherd.specs.Steps.{GivesBack, HasAnswerIfOpen, HasLeftIfOpen, OnVisit, OpensStage, PutsOut, ShepherdSteps, TakesItem, TakesRequest, VisitsOutside, dropped_stage};
 ghost use Rattle.shepherd.specs.declared.shepherd.Shepherd.{Shepherd};
 ghost use Rattle.shepherd.specs.declared.shepherd.Stage.{Stage};
 
@@ -29,12 +30,9 @@ use outside::{Clock, Link, Random, Serials};
 use request_visit::{requests_account_for_their_events, requests_account_for_their_marks};
 
 /// A connection accounts for each event that it adds to the history of the container, and for each mark that it leaves
-/// in that of the windows, at each of its steps, whatever others add meanwhile.
-pub fn connections_account_for_what_they_add<P: Program, L: Link, M: ProgramMaker<P>>(
-    program: &P,
-    link: &L,
-    _maker: &M,
-)
+/// in that of the windows, at each of its steps, whatever others add meanwhile. So it is where passes are given back
+/// behind a response whose write has its answer (`connections_go_on.answered`); and its item is next then.
+pub fn connections_account_for_what_they_add<P: Program, L: Link, M: ProgramMaker<P>>()
     ensures begins { (start : Start) (history : List Event) → Accounting P.asks start history [] [] [] fresh }
     ensures meanwhile { (start : Start) (history more own : List Event) (marks : List WindowMark) (items : List Item)
         (s : Shepherd P) → Accounting P.asks start history own marks items s
@@ -74,18 +72,20 @@ pub fn connections_account_for_what_they_add<P: Program, L: Link, M: ProgramMake
     ensures given_up { (start : Start) (history own : List Event) (marks : List WindowMark) (items : List Item)
         (s : Shepherd P) → Accounting P.asks start history own marks items s
         → Accounting P.asks start history own marks items (record s { stage = dropped_stage s.stage }) }
+    ensures given_back { (start : Start) (history own : List Event) (marks : List WindowMark) (items : List Item)
+        (s : Shepherd P) (stage : Stage P) (windows after : WindowsValue) → GivesBack s.stage windows stage after
+        → HasLeftIfOpen s.stage → HasAnswerIfOpen s.stage → Accounting P.asks start history own marks items s
+        → LeavesMarks P.asks start history own marks items windows after (record s { stage = stage }) }
+    ensures item_next { (s : Shepherd P) (stage : Stage P) (windows after : WindowsValue)
+        → GivesBack s.stage windows stage after → OnVisit s.stage (λ v call. has_left v.work ≡ true)
+        → has_item stage ≡ true }
 {
-    requests_account_for_their_events(program);
-    requests_account_for_their_marks(program, link);
+    requests_account_for_their_events::<P>();
+    requests_account_for_their_marks::<P, L>();
 }
 
 /// A request that is taken off the bytes has added nothing, and left no mark.
-pub fn taken_requests_add_nothing<P: Program, C: Clock, R: Random, S: Serials>(
-    program: &P,
-    _clock: &C,
-    _random: &R,
-    _serials: &S,
-)
+pub fn taken_requests_add_nothing<P: Program, C: Clock, R: Random, S: Serials>()
     ensures { (key : List ℕ) (home : HomeBoot) (counts : LinkCounts) (start : Start) (history own : List Event)
         (marks : List WindowMark) (items : List Item) (s new : Shepherd P) (clock clock_after : C)
         (random random_after : R) (serials serials_after : S) → turn s ≡ ShepherdTurn.Request
@@ -93,19 +93,19 @@ pub fn taken_requests_add_nothing<P: Program, C: Clock, R: Random, S: Serials>(
         s clock random serials new clock_after random_after serials_after
         → Accounting P.asks start history own marks items s → Accounting P.asks start history own marks items new }
 {
-    requests_account_for_their_events(program);
+    requests_account_for_their_events::<P>();
 }
 
 /// A connection's own events are those that its items tell of, in order, over the history as it is now, and then what
 /// the request that is open has added; and so are its marks. Each item stands: this became of its request, as the
 /// history shows.
-pub fn items_tell_what_was_added<P: Program, L: Link>(program: &P, link: &L)
+pub fn items_tell_what_was_added<P: Program, L: Link>()
     ensures { (start : Start) (history own : List Event) (marks : List WindowMark) (items : List Item) (s : Shepherd P)
         → Accounting P.asks start history own marks items s
         → (open_own : List Event) × (open_marks : List WindowMark)
         × IsAccountedFor start history own marks items open_own open_marks
         × StageTells P.asks start history open_own open_marks s.stage }
 {
-    requests_account_for_their_events(program);
-    requests_account_for_their_marks(program, link);
+    requests_account_for_their_events::<P>();
+    requests_account_for_their_marks::<P, L>();
 }

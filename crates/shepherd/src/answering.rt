@@ -18,7 +18,7 @@ ghost use Rattle.send_windows.specs.Windows.{WindowsValue};
 ghost use Rattle.session_way.specs.Way.{answer_held};
 ghost use Rattle.shepherd.specs.Answering.{Answering, AreResponses, StageSays, heads_in};
 ghost use Rattle.shepherd.specs.Shepherds.{fresh, has_item, turn};
-ghost use Rattle.shepherd.specs.Steps.{OpensStage, PutsOut, ShepherdSteps, TakesItem, TakesRequest, VisitsOutside, dropped_stage};
+ghost use Rattle.shepherd.specs.Steps.{GivesBack, HasAnswerIfOpen, HasLeftIfOpen, OpensStage, PutsOut, ShepherdSteps, TakesItem, TakesRequest, VisitsOutside, dropped_stage};
 ghost use Rattle.shepherd.specs.declared.shepherd.Shepherd.{Shepherd};
 ghost use Rattle.shepherd.specs.declared.shepherd.Stage.{Stage};
 
@@ -29,13 +29,10 @@ use outside::{Clock, Link, Random, Serials};
 use request_visit::{requests_account_for_their_marks, responses_are_of_their_items};
 
 /// A connection answers its requests in order, at each of its steps, whatever others add meanwhile: what was put out
-/// for each says what became of it. While a write is settled, the cookie of its answer has to stay, which is so of runs
-/// of a write (`ssm_stub::answers_stay`).
-pub fn connections_answer_their_requests<P: Program, L: Link, M: ProgramMaker<P>>(
-    program: &P,
-    link: &L,
-    _maker: &M,
-)
+/// for each says what became of it. While a write is settled, the cookie of its answer has to stay, and it has to have
+/// its answer where its passes are given back: so it is of connections that go on (`connections_go_on.stays` and
+/// `.answered`).
+pub fn connections_answer_their_requests<P: Program, L: Link, M: ProgramMaker<P>>()
     ensures begins { (key : List ℕ) (history : List Event) → Answering {P = P} key history [] [] [] fresh }
     ensures meanwhile { (key : List ℕ) (history more : List Event) (heads : List Head) (written : List ℕ)
         (items : List Item) (s : Shepherd P) → Answering key history heads written items s
@@ -74,19 +71,18 @@ pub fn connections_answer_their_requests<P: Program, L: Link, M: ProgramMaker<P>
     ensures given_up { (key : List ℕ) (history : List Event) (heads : List Head) (written : List ℕ) (items : List Item)
         (s : Shepherd P) → Answering key history heads written items s
         → Answering key history heads written items (record s { stage = dropped_stage s.stage }) }
+    ensures given_back { (key : List ℕ) (history : List Event) (heads : List Head) (written : List ℕ) (items : List Item)
+        (s : Shepherd P) (stage : Stage P) (windows after : WindowsValue) → GivesBack s.stage windows stage after
+        → HasLeftIfOpen s.stage → HasAnswerIfOpen s.stage → Answering key history heads written items s
+        → Answering key history heads written items (record s { stage = stage }) }
 {
-    requests_account_for_their_marks(program, link);
-    responses_are_of_their_items(program);
+    requests_account_for_their_marks::<P, L>();
+    responses_are_of_their_items::<P>();
 }
 
 /// A request that is taken off the bytes is the next one that is answered; and where none is, what is refused has the
 /// last response.
-pub fn taken_requests_are_answered<P: Program, C: Clock, R: Random, S: Serials>(
-    program: &P,
-    _clock: &C,
-    _random: &R,
-    _serials: &S,
-)
+pub fn taken_requests_are_answered<P: Program, C: Clock, R: Random, S: Serials>()
     ensures { (key : List ℕ) (home : HomeBoot) (counts : LinkCounts) (history : List Event) (heads : List Head)
         (written : List ℕ) (items : List Item) (s new : Shepherd P) (clock clock_after : C)
         (random random_after : R) (serials serials_after : S) → turn s ≡ ShepherdTurn.Request
@@ -95,15 +91,15 @@ pub fn taken_requests_are_answered<P: Program, C: Clock, R: Random, S: Serials>(
         → Answering key history heads written items s
         → Answering key history (heads ++ heads_in (taken_of s.received)) written items new }
 {
-    responses_are_of_their_items(program);
+    responses_are_of_their_items::<P>();
 }
 
 /// What a connection put out are the responses to its items, in order, each to the request of its head, and then what
 /// has left for the request that is open, or at last for what is refused.
-pub fn responses_are_to_their_items<P: Program>(program: &P)
+pub fn responses_are_to_their_items<P: Program>()
     ensures { (key : List ℕ) (history : List Event) (heads : List Head) (written : List ℕ) (items : List Item)
         (s : Shepherd P) → Answering key history heads written items s → (opened : List Head) × (last : List ℕ)
         × AreResponses key history heads written items opened last × StageSays key history opened last s.stage }
 {
-    responses_are_of_their_items(program);
+    responses_are_of_their_items::<P>();
 }

@@ -31,12 +31,7 @@ use outside::{Clock, Link, Random, Serials};
 /// A connection stands from its begin on. It stands with the bytes that are fed to it, and where no more come; a
 /// request that is taken off is the next one of the bytes; what is put out joins what was; and an item is that of the
 /// request that was open.
-pub fn connections_stand<P, C: Clock, R: Random, S: Serials>(
-    _program: &P,
-    _clock: &C,
-    _random: &R,
-    _serials: &S,
-)
+pub fn connections_stand<P, C: Clock, R: Random, S: Serials>()
     ensures begins { Standing {P = P} [] [] [] [] fresh }
     ensures fed { (fed more : List ℕ) (heads : List Head) (written : List ℕ) (items : List Item) (s : Shepherd P) → Standing fed heads written items s
         → Standing (fed ++ more) heads written items (record s { received = s.received ++ more }) }
@@ -59,11 +54,7 @@ pub fn connections_stand<P, C: Clock, R: Random, S: Serials>(
 }
 
 /// A connection stands with each step of the request that is open, whatever others did before it.
-pub fn connections_stand_with_their_requests<P: Program, L: Link, M: ProgramMaker<P>>(
-    _program: &P,
-    _link: &L,
-    _maker: &M,
-)
+pub fn connections_stand_with_their_requests<P: Program, L: Link, M: ProgramMaker<P>>()
     ensures outside { (fed : List ℕ) (heads : List Head) (written : List ℕ) (items : List Item) (old new : Shepherd P) (link after : L)
         → ShepherdSteps (λ v w. VisitsOutside L.makes L.tally v link w after) old new
         → Standing fed heads written items old → Standing fed heads written items new }
@@ -91,7 +82,7 @@ pub fn connections_stand_with_their_requests<P: Program, L: Link, M: ProgramMake
 /// and memory was not wanted, they are for all, and the last response is that of what is refused. All requests of the
 /// bytes begin with those that were taken off. A request whose program is to be made has a call, and the moment of each
 /// is below the end of moments.
-pub fn items_are_for_requests_in_order<P>(_program: &P)
+pub fn items_are_for_requests_in_order<P>()
     ensures first { (fed more : List ℕ) (heads : List Head) (written : List ℕ) (items : List Item) (s : Shepherd P) → Standing fed heads written items s
         → HasServedFirst fed written items more }
     ensures taken { (fed more : List ℕ) (heads : List Head) (written : List ℕ) (items : List Item) (s : Shepherd P)

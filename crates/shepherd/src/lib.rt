@@ -42,16 +42,26 @@
 //! as `Accounting`: each step keeps it, whatever others add meanwhile (`connections_account_for_what_they_add`,
 //! `taken_requests_add_nothing`). So its own events and marks are those that its items tell of, in order, and then
 //! those of the request that is open (`items_tell_what_was_added`).
+//!
+//! Whoever drives several connections keeps of each that it goes on in its container (`specs/Going.antt`, as `GoesOn`):
+//! each step keeps it, whatever others add meanwhile, and then each call that its turn asks for may be made
+//! (`connections_go_on`, `taken_requests_go_on`).
+//!
+//! `specs/Stopping.antt` has what a connection has added and left where memory was wanted, as `Stopped`: what its items
+//! tell of, and what one more request may have done. It stays so where its call and its passes are given up
+//! (`stopped_connections_account_for_what_they_left`).
 #![tactic(auto)]
 
 mod accounting;
 mod answering;
+mod going;
 mod laws;
 mod leaving;
 mod opening;
 mod serving;
 mod shepherd;
 mod stepping;
+mod stopping;
 mod taking;
 
 pub use accounting::{
@@ -60,9 +70,11 @@ pub use accounting::{
 pub use answering::{
     connections_answer_their_requests, responses_are_to_their_items, taken_requests_are_answered,
 };
+pub use going::{connections_go_on, taken_requests_go_on};
 pub use laws::{
     connections_stand, connections_stand_with_their_requests, items_are_for_requests_in_order,
 };
 pub use opening::ProgramMaker;
 pub use serving::requests_are_served_as_they_came;
 pub use shepherd::{AskedCall, EndKind, Shepherd, ShepherdTurn, Stage};
+pub use stopping::stopped_connections_account_for_what_they_left;

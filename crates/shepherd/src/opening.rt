@@ -8,6 +8,7 @@ ghost use Rattle.request_visit.specs.Visits.{turn as visit_turn};
 ghost use Rattle.request_visit.specs.declared.visit.Turn.TheVariants as visit;
 ghost use Rattle.shepherd.specs.Shepherds.{turn};
 ghost use Rattle.shepherd.specs.Steps.{OnVisit, OpensBy, OpensStage};
+ghost use Rattle.shepherd.specs.declared.shepherd.Stage.TheVariants.{Serving};
 
 use crate::shepherd::{AskedCall, Shepherd, ShepherdTurn, Stage};
 use auction_calls::CheckedCall;
@@ -48,6 +49,7 @@ fn open<P: Drop, M: ProgramMaker<P>>(
 ) -> Result<(), OutOfMemory>
     requires { visit_turn served.old ≡ visit.Program }
     ensures opened { OnOk result (OpensBy M.makes maker.now worker served.old asked served.new) }
+    ensures same { OnErr result (served.new ≡ served.old) }
 {
     let AskedCall { request, call } = asked;
     let call = call_by(call, value_of(served.lease.as_ref()));
@@ -66,7 +68,8 @@ impl<P: Drop> Stage<P> {
     ) -> Result<(), OutOfMemory>
         requires turn { OnVisit self.old (λ v call. visit_turn v ≡ visit.Program) }
         requires asked { OnVisit self.old (λ v call. call ≢ None) }
-        ensures { OnOk result (OpensStage M.makes maker.now worker self.old self.new) }
+        ensures opened { OnOk result (OpensStage M.makes maker.now worker self.old self.new) }
+        ensures unmade { OnErr result (OnVisit self.old (λ v call. self.new ≡ Serving v None)) }
     {
         match self {
             Stage::Serving(visit, call) => match call.take() {
@@ -96,7 +99,8 @@ impl<P: Drop> Shepherd<P> {
         requires asked { OnVisit self.old.stage (λ v call. call ≢ None) }
         ensures stage { OnOk result (OpensStage M.makes maker.now worker self.old.stage self.new.stage) }
         ensures rest { OnOk result (self.new ≡ record self.old { stage = self.new.stage }) }
-        ensures want { OnErr result (self.new.wants_memory ≡ true) }
+        ensures unmade { OnErr result (OnVisit self.old.stage (λ v call. self.new.stage ≡ Serving v None)) }
+        ensures want { OnErr result (self.new ≡ record self.old { stage = self.new.stage; wants_memory = true }) }
     {
         let answer = self.stage.open(alloc, worker, maker);
         self.heed(answer)

@@ -25,13 +25,7 @@ use outside::{Clock, Random, Serials};
 /// A request is served as it came. One that is admitted begins with its own number, moment, key and nonces, and its
 /// session is read before its program is made. Its program is that of its own call, as the user of the session that was
 /// read asks for it, and as nobody where none was; and its tries bear its number.
-pub fn requests_are_served_as_they_came<P, C: Clock, R: Random, S: Serials, M: ProgramMaker<P>>(
-    _program: &P,
-    _clock: &C,
-    _random: &R,
-    _serials: &S,
-    _maker: &M,
-)
+pub fn requests_are_served_as_they_came<P, C: Clock, R: Random, S: Serials, M: ProgramMaker<P>>()
     ensures begins { (key : List ℕ) (home : HomeBoot) (counts : LinkCounts) (head : Head) (s new : Shepherd P)
         (clock clock_after : C) (random random_after : R) (serials serials_after : S)
         (h : Begins C.told R.gives S.looks key home counts head s clock random serials

@@ -155,6 +155,7 @@ impl<P: Drop> Shepherd<P> {
         ensures taken { OnOk result (TakesRequest C.told R.gives S.looks key.now home (counted (L.tally link.now))
             self.old clock.old random.old serials.old self.new clock.new random.new serials.new) }
         ensures rises { C.told clock.old ≤ C.told clock.new }
+        ensures same { OnErr result (self.new.stage ≡ self.old.stage) }
     {
         match self.received.take(alloc)? {
             Taken::Request(head) => {
@@ -196,6 +197,7 @@ impl<P: Drop> Shepherd<P> {
         ensures taken { OnOk result (TakesRequest C.told R.gives S.looks key.now home (counted (L.tally link.now))
             self.old clock.old random.old serials.old self.new clock.new random.new serials.new) }
         ensures rises { C.told clock.old ≤ C.told clock.new }
+        ensures same { OnErr result (self.new.stage ≡ self.old.stage) }
         ensures want { OnErr result (self.new.wants_memory ≡ true) }
     {
         match self.take(alloc, router, key, home, link, clock, random, serials) {

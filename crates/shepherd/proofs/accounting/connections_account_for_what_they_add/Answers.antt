@@ -1,4 +1,4 @@
-use Rattle.shepherd.proofs.Counting.{advance, begins, given_up, inside, item, meanwhile, opens, out, outside, still, windows}
+use Rattle.shepherd.proofs.Counting.{advance, begins, given_back, given_up, inside, item, meanwhile, opens, out, outside, over_behind, still, windows}
 use Rattle.shepherd.proofs.accounting.connections_account_for_what_they_add.Goals as goal
 
 pub returns-clause-begins : goal.returns-clause-begins
@@ -47,3 +47,11 @@ returns-clause-item g c = λ start history own marks items i s stage is takes h.
 pub returns-clause-given_up : goal.returns-clause-given_up
 returns-clause-given_up g c = λ start history own marks items s h.
     given_up g.P.Program.asks c.requests_account_for_their_events.ensures.dropped start history own marks items s h
+
+pub returns-clause-given_back : goal.returns-clause-given_back
+returns-clause-given_back g c = λ start history own marks items s stage win after back left has h.
+    given_back g.P.Program.asks c.requests_account_for_their_events.ensures.back c.requests_account_for_their_marks.ensures.back
+    start history own marks items s stage win after back left has h
+
+pub returns-clause-item_next : goal.returns-clause-item_next
+returns-clause-item_next g c = λ s stage win after back left. over_behind c.requests_account_for_their_events.ensures.over s stage win after back left

@@ -1,8 +1,8 @@
-use Rattle.shepherd.proofs.Responding.{advance, begins, given_up, inside, item, meanwhile, opens, out, outside, still, windows}
+use Rattle.shepherd.proofs.Responding.{advance, begins, given_back, given_up, inside, item, meanwhile, opens, out, outside, still, windows}
 use Rattle.shepherd.proofs.answering.connections_answer_their_requests.Goals as goal
 
 pub returns-clause-begins : goal.returns-clause-begins
-returns-clause-begins g c = λ key history. begins c.args.program.now key history
+returns-clause-begins g c = λ key history. begins key history
 
 pub returns-clause-meanwhile : goal.returns-clause-meanwhile
 returns-clause-meanwhile g c = λ key history more heads written items s h.
@@ -44,3 +44,8 @@ returns-clause-item g c = λ key history heads written items i s stage is takes 
 
 pub returns-clause-given_up : goal.returns-clause-given_up
 returns-clause-given_up g c = λ key history heads written items s h. given_up key history heads written items s h
+
+pub returns-clause-given_back : goal.returns-clause-given_back
+returns-clause-given_back g c = λ key history heads written items s stage win after back left has h.
+    given_back c.requests_account_for_their_marks.ensures.back c.responses_are_of_their_items.ensures.back
+    key history heads written items s stage win after back left has h
