@@ -1,6 +1,6 @@
 -- A connection goes on with each of its steps.
 use Rattle.std.specs.Prelude.{IfSome}
-use Rattle.std.proofs.Common.{◌≡◌, ◌≢◌, ℕ, ◌≤◌, ◌<◌, ◌^◌, Bool, true, false, if◌then◌else◌, List, [], ◌∷◌, ◌++◌, length, refl, sym, ap, ◌∙◌, subst, Option, Some, None, arith, length-append}
+use Rattle.std.proofs.Common.{◌≡◌, ◌≢◌, ℕ, ◌≤◌, ◌<◌, ◌^◌, Bool, true, false, if◌then◌else◌, List, ◌∷◌, ◌++◌, length, refl, sym, ap, ◌∙◌, subst, Option, Some, None, arith, length-append}
 use Rattle.auction_calls.specs.declared.action.ActionCall.{ActionCall}
 use Rattle.boot_core.specs.Boot.{BootValue, HasGrown}
 use Rattle.call_ticket.specs.declared.next.Answer.{Answer}
@@ -31,7 +31,7 @@ use Rattle.request_intake.specs.declared.intake.Arrival.{Arrival}
 use Rattle.request_intake.specs.declared.intake.Arrival.TheVariants.{Refused, SerialsSpent, Admitted}
 use Rattle.request_intake.specs.declared.intake.HomeBoot.{HomeBoot}
 use Rattle.request_tries.specs.Serving.{IsServing, TriesValue, unbegun}
-use Rattle.request_visit.specs.Advancing.{Advances, IsItemOf, after_leaving, cookie_in, departed}
+use Rattle.request_visit.specs.Advancing.{Advances, after_leaving, cookie_in, departed}
 use Rattle.request_visit.specs.Going.{MayGoOn}
 use Rattle.request_visit.specs.Sessions.{SessionStands}
 use Rattle.request_visit.specs.Stepping.{IsGivenBack, OnServing, VisitsInside, VisitsWindows, counted, dropped}
@@ -56,7 +56,7 @@ use Rattle.site_responses.specs.declared.answer.Untaken.TheVariants as untaken
 use Rattle.ssm_stub.specs.Reads.{ReadState, read_start}
 use Rattle.shepherd.specs.Going.{GoesOn, IsGoing, OpenGoesOn}
 use Rattle.shepherd.specs.Shepherds.{stage_turn, turn}
-use Rattle.shepherd.specs.Standing.{has_left, is_early}
+use Rattle.shepherd.specs.Standing.{is_early}
 use Rattle.shepherd.specs.Steps.{GivesBack, HasAnswerIfOpen, HasLeftIfOpen, IfOpen, MayPutOut, OnVisit, OpensCall, OpensStage, PutsOut, Refuses, ShepherdSteps, StepsVisit, TakesBy, TakesItem, TakesRequest, VisitsOutside, admitted_visit, bare_facts, begun_by, dropped_stage, facts_of, rested}
 use Rattle.shepherd.specs.declared.shepherd.AskedCall.{AskedCall}
 use Rattle.shepherd.specs.declared.shepherd.EndKind.TheVariants as ends

@@ -1,16 +1,14 @@
 -- A connection that stops accounts for what it has added and left.
-use Rattle.std.specs.Prelude.{All}
-use Rattle.std.proofs.Common.{◌≡◌, ◌⊎◌, inl, inr, ℕ, ◌≤◌, Bool, true, false, List, [], ◌∷◌, ◌++◌, length, map, slice_get, refl, sym, ap, ◌∙◌, subst, Option, Some, None, arith}
+use Rattle.std.proofs.Common.{◌≡◌, inl, inr, ◌≤◌, true, false, List, [], ◌∷◌, ◌++◌, length, map, slice_get, refl, sym, ap, ◌∙◌, subst, Option, Some, None, arith}
 use Rattle.std.proofs.lemmas.List.Elements.{All-weaker}
 use Rattle.std.proofs.lemmas.List.{append-nil, append_assoc}
 use Rattle.boot_core.specs.declared.boot.Start.{Start}
 use Rattle.call_ticket.specs.declared.next.Answer.{Answer}
 use Rattle.call_ticket.specs.declared.next.Next.{Next}
 use Rattle.container_core.specs.declared.history.Event.{Event}
-use Rattle.crash_base.specs.declared.numbers.Place.{Place}
 use Rattle.crash_base.specs.declared.numbers.RequestNo.{RequestNo}
 use Rattle.journal_model.specs.declared.entry.Entry.{Entry}
-use Rattle.outcome_items.specs.Traces.{added_if, entry_added, events_of_end, mark_of, marks_of_outcome, uncounted, window_trace, window_traces}
+use Rattle.outcome_items.specs.Traces.{added_if, events_of_end, mark_of, marks_of_outcome, uncounted, window_trace, window_traces}
 use Rattle.outcome_items.specs.declared.item.Holds.{Holds}
 use Rattle.outcome_items.specs.declared.item.Item.{Item}
 use Rattle.outcome_items.specs.declared.outcome.ItemOutcome.{ItemOutcome}
@@ -18,10 +16,9 @@ use Rattle.outcome_items.specs.declared.outcome.ItemOutcome.TheVariants as item_
 use Rattle.request_tries.specs.Ends.{Errand}
 use Rattle.request_tries.specs.declared.outcome.RequestOutcome.{RequestOutcome}
 use Rattle.request_tries.specs.declared.outcome.RequestOutcome.TheVariants.{Page, Sentinel, Revoked, Conflict, JournalFull, KeeperFailed}
-use Rattle.request_visit.specs.Accounts.{Accounts, AccountsOf, Became, EndsWith, FateStands, IsUnheld}
+use Rattle.request_visit.specs.Accounts.{AccountsOf, Became, EndsWith, FateStands, IsUnheld}
 use Rattle.request_visit.specs.Advancing.{IsItemOf}
-use Rattle.request_visit.specs.Marks.{FateMarks, HasWrite, IsSettling, Marks, MarksOf, MayBeRead, Rests, WritesWith}
-use Rattle.request_visit.specs.Stepping.{IsGivenBack}
+use Rattle.request_visit.specs.Marks.{HasWrite, IsSettling, Marks, MarksOf, MayBeRead, Rests, WritesWith}
 use Rattle.request_visit.specs.Visits.{after_outcome, fate_missed, fate_written, turn as visit_turn, turn_by as visit_turn_by, with_fate}
 use Rattle.request_visit.specs.declared.facts.VisitFacts.{VisitFacts}
 use Rattle.request_visit.specs.declared.visit.Fate.{Fate}
@@ -43,12 +40,11 @@ use Rattle.session_way.specs.declared.way.SessionWay.{SessionWay}
 use Rattle.session_way.specs.declared.way.SessionWay.TheVariants as way
 use Rattle.session_way.specs.declared.way.Wants.{Wants}
 use Rattle.session_way.specs.declared.way.Wants.TheVariants as wanted
-use Rattle.shepherd.specs.Accounting.{Accounting, IsAccountedFor, IsTold, StageTells, Tells, Told, told_events, told_items, told_marks, traces_in}
+use Rattle.shepherd.specs.Accounting.{Accounting, IsAccountedFor, IsTold, StageTells, told_events, told_marks, traces_in}
 use Rattle.shepherd.specs.Shepherds.{fresh, has_item, is_over}
 use Rattle.shepherd.specs.Standing.{has_left}
 use Rattle.shepherd.specs.Steps.{GivesBack, IfOpen, OnVisit, StepsVisit, dropped_stage}
 use Rattle.shepherd.specs.Stopping.{AreMarksOf, AreOfOne, StageMarks, Stopped, StopsWith}
-use Rattle.shepherd.specs.declared.shepherd.AskedCall.{AskedCall}
 use Rattle.shepherd.specs.declared.shepherd.Shepherd.{Shepherd}
 use Rattle.shepherd.specs.declared.shepherd.Stage.{Stage}
 use Rattle.shepherd.specs.declared.shepherd.Stage.TheVariants.{Resting, Serving, Refusing, Over}
