@@ -7,6 +7,7 @@ pub mod Going
 pub mod Kept
 pub mod Marking
 pub mod Noting
+mod Plain
 pub mod Saying
 pub mod Standing
 pub mod Telling

@@ -51,7 +51,7 @@ use Rattle.request_visit.specs.Advancing.{Advances, HearsReadOf, IsItemOf, IsOfR
 use Rattle.request_visit.specs.Ready.{ready_by, ready_of, set_in}
 use Rattle.request_visit.specs.Marks.{IsSettling}
 use Rattle.request_visit.specs.Serving.{closed_with, closing_of, holds_of}
-use Rattle.request_visit.specs.Sessions.{IsAnswered, Awaits, CookieTold, EndTold, FateTold, HasAnswer, HasCome, IsGone, IsKnown, IsReading, MakesAmong, ReadsTo, SessionOf, SessionStands, SessionTold, SettlesWith, TellsSession, WritesBy, WritesTo}
+use Rattle.request_visit.specs.Sessions.{IsAnswered, Awaits, CookieTold, EndTold, FateTold, HasAnswer, HasCome, IsGone, IsKnown, IsReading, MakesAmong, ReadsTo, SessionOf, SessionStands, SessionTold, SettlesWith, TellsSession, WritesBy, WritesTo, WereFull}
 use Rattle.request_visit.specs.Stepping.{IsGivenBack, ServesWork, VisitsInside, VisitsWindows, after_closing_if, dropped, left_so, shown_so}
 use Rattle.request_visit.specs.Visits.{after_outcome, begun, or_over, or_own, overloaded, turn, turn_by}
 use Rattle.request_visit.specs.declared.facts.VisitFacts.{VisitFacts}
@@ -348,6 +348,14 @@ module _ {L : Type 0} (makes : L → LinkEvent → L → Type 0) (begin : Option
   write_refused order (way.Settling v) after windows later full r k = absurd k
   write_refused order (way.Holding passes) after windows later full r k = absurd k
 
+  were_full : (order : WriteOrder) (w after : SessionWay) (windows later : WindowsValue) (full : List WindowFact) → IsRefused w windows after later (refusal.Overload full) → WritesBy makes order w → WereFull full
+  were_full order way.Resting after windows later full r k = absurd k
+  were_full order (way.Reading x) after windows later full r k = absurd k
+  were_full order (way.Ordered now) after windows later full r k = (windows, r.1.0, r.1.1)
+  were_full order (way.Writing v) after windows later full r k = absurd r
+  were_full order (way.Settling v) after windows later full r k = absurd k
+  were_full order (way.Holding passes) after windows later full r k = absurd k
+
   refused_of : {P : Type 0} (es : List Entry) (facts : VisitFacts) (lease : Option SessionLease) (cookie : Option Cookie) (w after : SessionWay) (windows later : WindowsValue) (full : List WindowFact) (work : Work P)
       → IsRefused w windows after later (refusal.Overload full) → SessionOf makes begin es facts lease cookie w work → SessionOf makes begin es facts lease cookie after (overloaded full work)
   refused_of es facts lease cookie w after windows later full Reading r k = absurd (read_refused w after windows later full r k.2)
@@ -355,7 +363,7 @@ module _ {L : Type 0} (makes : L → LinkEvent → L → Type 0) (begin : Option
   refused_of es facts lease cookie w after windows later full (Serving tries program) r k = absurd (rests_refused w after windows later full r k.2)
   refused_of es facts lease cookie w after windows later full (Committed place again shown) r k =
       let a = k.2 in
-      ((k.0, k.1, (a.order, a.is_order)), write_refused a.order w after windows later full r a.writes)
+      ((k.0, k.1, (a.order, a.is_order), were_full a.order w after windows later full r a.writes), write_refused a.order w after windows later full r a.writes)
   refused_of es facts lease cookie w after windows later full (Decided became) r k = absurd (rests_refused w after windows later full r k.1)
   refused_of es facts lease cookie w after windows later full (Answered (Known became) bytes) r k = absurd (rests_refused w after windows later full r k.1)
   refused_of es facts lease cookie w after windows later full (Answered (Writing place again) bytes) r k =

@@ -1,12 +1,14 @@
 -- What is so of the session of a request: what its read answered, and what came of its write. The calls of the link are
 -- the request's own: others may call it between two of these.
-use Rattle.std.specs.Prelude.{◌≡◌, ◌≤◌, ◌+◌, ℕ, List, length, take, Option, Some, None, Result, Ok, Err, option_map}
+use Rattle.std.specs.Prelude.{◌≡◌, ◌≤◌, ◌<◌, ◌+◌, ℕ, List, length, take, Option, Some, None, Result, Ok, Err, option_map}
 use Rattle.container_core.specs.History.{entries_in}
 use Rattle.container_core.specs.declared.history.Event.{Event}
 use Rattle.journal_model.specs.declared.entry.DoneText.{DoneText}
 use Rattle.journal_model.specs.declared.entry.Entry.{Entry}
 use Rattle.outside.specs.declared.link.LinkEvent.{LinkEvent}
+use Rattle.send_windows.specs.Facts.{full_facts, open_count}
 use Rattle.send_windows.specs.Windows.{WindowsValue}
+use Rattle.send_windows.specs.declared.fact.WindowFact.{WindowFact}
 use Rattle.session_cookie.specs.declared.cookie.Cookie.{Cookie}
 use Rattle.session_cookie.specs.declared.cookie.TheConstants.{MAX_HOLDERS}
 use Rattle.ssm_stub.specs.Ends.{ReadEnds}
@@ -167,6 +169,10 @@ EndTold makes es facts lease cookie (Conflict tries) = cookie ≡ None
 EndTold makes es facts lease cookie (JournalFull full) = cookie ≡ None
 EndTold makes es facts lease cookie KeeperFailed = cookie ≡ None
 
+-- Passes were refused while these windows were full: fewer were open than a write needs, and these are all others.
+abbrev pub WereFull : List WindowFact → Type 0
+WereFull full = (windows : WindowsValue) × (open_count windows.facts < windows.wq) × (full ≡ full_facts windows.facts)
+
 -- What came of a session, by what became of its request.
 abbrev pub SessionTold : {L : Type 0} → (L → LinkEvent → L → Type 0) → Option ReadState → List Entry → VisitFacts → Option SessionLease → Option Cookie → ItemOutcome → Type 0
 SessionTold makes begin es facts lease cookie (item.Refused why) = IsKnown makes begin lease × (cookie ≡ None)
@@ -179,6 +185,7 @@ SessionTold makes begin es facts lease cookie (item.Ended end) =
     IsKnown makes begin lease × EndTold makes es facts lease cookie end
 SessionTold makes begin es facts lease cookie (item.Overload place again full) =
     IsKnown makes begin lease × (cookie ≡ None) × ((order : WriteOrder) × IsOrderOf facts lease (done_at es place) order)
+    × WereFull full
 SessionTold makes begin es facts lease cookie (item.Missed place again causes) =
     IsKnown makes begin lease × (cookie ≡ None) × HasCome makes facts lease (done_at es place) (Err (write_refusal.Missed causes))
 

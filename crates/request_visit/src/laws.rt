@@ -1,7 +1,12 @@
 //! Laws of a request on its way. Each is the contract of a function that does nothing: a caller that needs the law
 //! calls the function.
 
-ghost use Rattle.std.specs.Prelude.{◌≡◌, ◌≢◌, ◌⊎◌, ◌≤◌, ◌<◌, ◌^◌, ◌+◌, ◌++◌, ℕ, Bool, List, [], Option, None, Some, Ok, Err, IfSome, length, map, take};
+ghost use Rattle.send_windows.specs.Facts.{full_facts, open_count};
+ghost use Rattle.send_windows.specs.declared.fact.WindowFact.{WindowFact};
+ghost use Rattle.request_tries.specs.declared.outcome.RequestOutcome.TheVariants.{Page};
+ghost use Rattle.ssm_stub.specs.Counted.{is_silent, is_strayed};
+ghost use Rattle.std.specs.List.{count_by};
+ghost use Rattle.std.specs.Prelude.{◌≡◌, ◌≢◌, ◌⊎◌, ◌≤◌, ◌<◌, ◌^◌, ◌+◌, ◌++◌, ℕ, Bool, List, [], Option, None, Some, Ok, Err, IfSome, length, map, min, option_map, take, ◌*◌, ◌-◌};
 ghost use Rattle.boot_core.specs.Boot.{BootValue, HasGrown};
 ghost use Rattle.boot_core.specs.declared.boot.Start.{Start};
 ghost use Rattle.container_core.specs.Container.{ContainerValue, HasGrownBy, events_of};
@@ -23,7 +28,7 @@ ghost use Rattle.outside.specs.declared.link.LinkCounts.{LinkCounts};
 ghost use Rattle.outcome_items.specs.declared.item.Item.{Item};
 ghost use Rattle.outcome_items.specs.declared.outcome.ItemOutcome.TheVariants as item;
 ghost use Rattle.request_decisions.specs.declared.decision.Refusal.{Refusal};
-ghost use Rattle.request_tries.specs.Ends.{Errand};
+ghost use Rattle.request_tries.specs.Ends.{done_at, Errand};
 ghost use Rattle.request_tries.specs.Serving.{IsServing, TriesValue, errand_of, unbegun};
 ghost use Rattle.send_windows.specs.Windows.{WindowsValue};
 ghost use Rattle.send_windows.specs.declared.history.WindowMark.{WindowMark};
@@ -287,6 +292,19 @@ pub fn requests_account_for_their_sessions<P: Program, L: Link>()
         → TellsSession L.makes begin facts es i → i.cookie ≡ Some c
         → (c.key ≡ facts.key) × (c.version ≡ facts.write) × (c.expiry.0 ≡ facts.now.0 + 1800000)
         × AreHolders c.bricks }
+    ensures unset { (begin : Option ReadState) (facts : VisitFacts) (es : List Entry) (i : Item) (place : Place)
+        (again : Bool) → TellsSession L.makes begin facts es i → i.outcome ≡ item.Ended (Page place again)
+        → i.cookie ≡ None → (lease : Option SessionLease) × (i.value ≡ option_map (λ l. l.value) lease)
+        × (value_to_write (set_in (done_at es place)) facts.now lease ≡ None) }
+    ensures set { (begin : Option ReadState) (facts : VisitFacts) (es : List Entry) (i : Item) (place : Place)
+        (again : Bool) (c : Cookie) → TellsSession L.makes begin facts es i → i.outcome ≡ item.Ended (Page place again)
+        → i.cookie ≡ Some c → (lease : Option SessionLease) × (i.value ≡ option_map (λ l. l.value) lease)
+        × (order : WriteOrder) × (value_to_write (set_in (done_at es place)) facts.now lease ≡ Some order.value)
+        × WritesTo L.makes order (Ok c) }
+    ensures full { (begin : Option ReadState) (facts : VisitFacts) (es : List Entry) (i : Item) (place : Place)
+        (again : Bool) (full : List WindowFact) → TellsSession L.makes begin facts es i
+        → i.outcome ≡ item.Overload place again full → (windows : WindowsValue)
+        × (open_count windows.facts < windows.wq) × (full ≡ full_facts windows.facts) }
     ensures found { (now : Moment) (nonce : Version) (cookie : Cookie) (value : List ℕ) → AreHolders cookie.bricks
         → ReadsTo L.makes (read_start now nonce cookie) (Ok value)
         → IsRead (MakesAmong L.makes) nonce cookie tt tt value }
@@ -336,6 +354,15 @@ pub fn requests_account_for_their_causes<P: Program, L: Link>()
         → IsGivenBack old new → CountsStand begin old → CountsStand begin new }
     ensures item { (begin : LinkCounts) (v : Visit P) (i : Item) → IsItemOf v v.work i → CountsStand begin v
         → HasCounted (noted_by (causes_of i.outcome)) begin i.counts }
+    ensures lost { (begin : LinkCounts) (v : Visit P) (i : Item) (causes : List BrickCause) → IsItemOf v v.work i
+        → CountsStand begin v → i.outcome ≡ item.Lost causes
+        → (min (begin.hushed + count_by is_silent causes) (2 ^ 64 - 1) ≤ i.counts.hushed)
+        × (min (begin.got + 64 * count_by is_strayed causes) (2 ^ 64 - 1) ≤ i.counts.got) }
+    ensures missed { (begin : LinkCounts) (v : Visit P) (i : Item) (place : Place) (again : Bool)
+        (causes : List BrickCause) → IsItemOf v v.work i → CountsStand begin v
+        → i.outcome ≡ item.Missed place again causes
+        → (min (begin.hushed + count_by is_silent causes) (2 ^ 64 - 1) ≤ i.counts.hushed)
+        × (min (begin.got + 64 * count_by is_strayed causes) (2 ^ 64 - 1) ≤ i.counts.got) }
 {}
 
 /// A request that may go on in a boot may go on after each of its steps, whatever others do between two of them: in

@@ -3,7 +3,7 @@
 ghost use Rattle.std.specs.Prelude.{◌≡◌, ◌≤◌, ◌<◌, ◌^◌, ◌++◌, IfOk, OnOk, OnErr};
 ghost use Rattle.std.specs.Option.{option_map};
 ghost use Rattle.container_core.specs.Container.{HasGrownBy};
-ghost use Rattle.request_tries.specs.Serving.{IsServing};
+ghost use Rattle.request_tries.specs.Serving.{IsServing, TriesValue};
 ghost use Rattle.send_windows.specs.declared.windows.TakeRefusal.TheVariants as refusal;
 ghost use Rattle.session_way.specs.Marks.{marks_by};
 ghost use Rattle.session_way.specs.Way.{BreaksOffOutside, IsRefused, StepsOutside, after_give_back, answer_held, held};
@@ -127,6 +127,8 @@ impl<P: Program + Drop> Work<P> {
         requires moment { facts.now.0 < 2 ^ 62 }
         ensures serves { IfOk result (λ closing. ServesWork P.asks container.old facts
             (option_map (λ l. l.now) lease.entry) self.old closing container.new self.new) }
+        ensures kept { OnErr result (OnServing self.old (λ tries program.
+            (after : TriesValue) × (self.new ≡ Work.Serving after program))) }
         ensures nothing { OnErr result (container.new.since ≡ container.old.since) }
         ensures count { container.old.faults ≤ container.new.faults }
         ensures grown { HasGrownBy container.old container.new }
@@ -214,6 +216,8 @@ impl<P: Program + Drop> Visit<P> {
             × IsServing container.old.boot (P.asks program) tries) }
         requires moment { self.old.facts.now.0 < 2 ^ 62 }
         ensures step { OnOk result (VisitsInside P.asks self.old container.old self.new container.new) }
+        ensures holds { OnErr result (OnServing self.old.work (λ tries program.
+            (after : TriesValue) × (self.new ≡ record self.old { work = Work.Serving after program }))) }
         ensures nothing { OnErr result (container.new.since ≡ container.old.since) }
         ensures count { container.old.faults ≤ container.new.faults }
         ensures grown { HasGrownBy container.old container.new }

@@ -1,7 +1,9 @@
-use Rattle.std.proofs.Common.{refl, inl, inr}
+use Rattle.std.proofs.Common.{refl, inl, inr, subst}
+use Rattle.outcome_items.specs.declared.outcome.ItemOutcome.{ItemOutcome}
 use Rattle.outcome_items.specs.declared.outcome.ItemOutcome.TheVariants as item
 use Rattle.session_way.specs.declared.way.SessionWay.TheVariants as way
 use Rattle.ssm_stub.specs.Reads.{read_start}
+use Rattle.request_visit.specs.Counts.{HasCounted, causes_of, noted_by}
 use Rattle.request_visit.specs.declared.visit.Work.TheVariants.{Reading, Opening, Decided}
 use Rattle.request_visit.proofs.Counted.{advance_counts, back_counts, begun_counts, dropped_counts, inside_counts, item_counts, leave_counts, opened_counts, outside_counts, unread, windows_count}
 use Rattle.request_visit.proofs.laws.requests_account_for_their_causes.Goals as goal
@@ -45,3 +47,15 @@ returns-clause-back g c = λ begin old new back s. back_counts begin old new bac
 
 pub returns-clause-item : goal.returns-clause-item
 returns-clause-item g c = λ begin v i is s. item_counts begin v i is s
+
+pub returns-clause-lost : goal.returns-clause-lost
+returns-clause-lost g c = λ begin v i causes is s out.
+    let h : HasCounted (noted_by causes) begin i.counts =
+    subst (λ (o : ItemOutcome). HasCounted (noted_by (causes_of o)) begin i.counts) out (item_counts begin v i is s) in
+    (h.hushed, h.got)
+
+pub returns-clause-missed : goal.returns-clause-missed
+returns-clause-missed g c = λ begin v i place again causes is s out.
+    let h : HasCounted (noted_by causes) begin i.counts =
+    subst (λ (o : ItemOutcome). HasCounted (noted_by (causes_of o)) begin i.counts) out (item_counts begin v i is s) in
+    (h.hushed, h.got)

@@ -8,6 +8,7 @@ use Rattle.request_visit.specs.Sessions.{MakesAmong}
 use Rattle.request_visit.specs.declared.visit.Work.TheVariants.{Opening, Decided}
 use Rattle.request_visit.proofs.Chaining.{missed_so, written_so}
 use Rattle.request_visit.proofs.Standing.{advance_stands, answered_stands, back_stands, cookie_stays, cookie_told_by, dropped_stands, holders_stand, inside_stands, item_stands, leave_stands, meanwhile_stands, opened_stands, outside_stands, reading_begins, unread_begins, windows_stand}
+use Rattle.request_visit.proofs.Plain.{full_by, set_by, unset_by}
 use Rattle.request_visit.proofs.laws.requests_account_for_their_sessions.Goals as goal
 
 pub returns-clause-begins : goal.returns-clause-begins
@@ -87,3 +88,12 @@ returns-clause-written g c = λ order cookie w. (w.writing.has_begun.old, writte
 
 pub returns-clause-missed : goal.returns-clause-missed
 returns-clause-missed g c = λ order causes w. (w.writing.has_begun.old, missed_so g.L.Link.makes order causes w)
+
+pub returns-clause-unset : goal.returns-clause-unset
+returns-clause-unset g c = λ begin facts es i place again told is none. unset_by g.L.Link.makes begin facts es i place again told is none
+
+pub returns-clause-set : goal.returns-clause-set
+returns-clause-set g c = λ begin facts es i place again cookie told is some. set_by g.L.Link.makes begin facts es i place again cookie told is some
+
+pub returns-clause-full : goal.returns-clause-full
+returns-clause-full g c = λ begin facts es i place again full told is. full_by g.L.Link.makes begin facts es i place again full told is
