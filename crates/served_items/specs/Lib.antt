@@ -1,0 +1,3 @@
+pub mod Attributing
+pub mod Following
+pub mod Served
