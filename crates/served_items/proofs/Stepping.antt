@@ -29,34 +29,30 @@ use Rattle.request_visit.specs.Accounts.{Accounts, AddsOwn}
 use Rattle.request_visit.specs.Advancing.{Advances, after_leaving, value_of}
 use Rattle.request_visit.specs.Sessions.{SessionStands}
 use Rattle.request_visit.specs.Stepping.{IsGivenBack, VisitsInside, VisitsWindows, counted, dropped}
-use Rattle.request_visit.specs.Visits.{after_outcome, fate_missed, fate_written, turn as visit_turn, with_fate}
+use Rattle.request_visit.specs.Visits.{turn as visit_turn}
 use Rattle.request_visit.specs.declared.facts.VisitFacts.{VisitFacts}
 use Rattle.request_visit.specs.declared.visit.Fate.{Fate}
 use Rattle.request_visit.specs.declared.visit.Turn.TheVariants as visit
 use Rattle.request_visit.specs.declared.visit.Visit.{Visit}
 use Rattle.request_visit.specs.declared.visit.Work.{Work}
-use Rattle.request_visit.specs.declared.visit.Work.TheVariants.{Reading, Opening, Serving as ServingBy, Committed, Decided, Answered, Left}
+use Rattle.request_visit.specs.declared.visit.Work.TheVariants.{Opening, Serving as ServingBy, Left}
 use Rattle.send_windows.specs.Windows.{WindowsValue}
 use Rattle.session_cookie.specs.declared.cookie.TheConstants.{MAX_HOLDERS}
 use Rattle.session_way.specs.Way.{StepsOutside, wants}
 use Rattle.session_way.specs.declared.lease.SessionLease.{SessionLease}
-use Rattle.session_way.specs.declared.session_write.WriteOutcome.{WriteOutcome}
-use Rattle.session_way.specs.declared.session_write.WriteOutcome.TheVariants as outcome
 use Rattle.session_way.specs.declared.way.SessionWay.{SessionWay}
-use Rattle.session_way.specs.declared.way.SessionWay.TheVariants as way
-use Rattle.shepherd.specs.Shepherds.{fresh, has_item, is_over, turn}
-use Rattle.shepherd.specs.Standing.{has_left}
-use Rattle.shepherd.specs.Steps.{GivesBack, OpensCall, OpensStage, PutsOut, ShepherdSteps, StepsVisit, TakesItem, VisitsOutside, asked_call, dropped_stage, rested}
+use Rattle.shepherd.specs.Shepherds.{fresh, has_item, turn}
+use Rattle.shepherd.specs.Steps.{GivesBack, HasLeftIfOpen, OpensCall, OpensStage, PutsOut, ShepherdSteps, StepsVisit, TakesItem, VisitsOutside, asked_call, dropped_stage, rested}
 use Rattle.shepherd.specs.declared.shepherd.AskedCall.{AskedCall}
 use Rattle.shepherd.specs.declared.shepherd.Shepherd.{Shepherd}
 use Rattle.shepherd.specs.declared.shepherd.ShepherdTurn.TheVariants as turns
 use Rattle.shepherd.specs.declared.shepherd.Stage.{Stage}
 use Rattle.shepherd.specs.declared.shepherd.Stage.TheVariants.{Resting, Serving, Refusing, Over}
 use Rattle.ssm_stub.specs.Reads.{ReadState}
-use Rattle.served_items.specs.Attributing.{Attributed, AttributesBy, GoesBack, IsAttributed, IsErrandOf, IsOpenBy, OnAdmitted, StageBy, TakenIn, WorkBy, drawn_for_all, facts_by, has_answered, heads_of, moments_of, read_by, taken_in}
+use Rattle.served_items.specs.Attributing.{Attributed, AttributesBy, GoesBack, IsAttributed, IsErrandOf, IsOpenBy, OnAdmitted, StageBy, TakenIn, WorkBy, drawn_for_all, facts_by, heads_of, moments_of, read_by, taken_in}
 use Rattle.served_items.proofs.Carrying.{Carries, advance_carries, back_carries, dropping_carries, inside_carries, leaving_carries, outside_carries, windows_carry}
 use Rattle.served_items.proofs.Rising.{rises_to}
-use Rattle.served_items.proofs.Turning.{fate_of, not_over, opening, over_now, turned, visit_step}
+use Rattle.served_items.proofs.Turning.{fate_of, opening, over_now, turned, visit_step}
 
 -- a request made a step, as the one that is open
 record Went {P : Type 0} (So : Visit P → Visit P → Type 0) (old new : Shepherd P) : Type 0 where
@@ -374,11 +370,11 @@ module _ {P L : Type 0} (asks : P → List Answer → Next) (calls : L → LinkE
 
   pub back : ((start : Start) (history : List Event) (errand : Errand) (own : List Event) (old new : Visit P) → IsGivenBack old new → Accounts asks start history errand own old → Accounts asks start history errand own new)
       → ((begin : Option ReadState) (history : List Event) (old new : Visit P) (fate : Fate) → IsGivenBack old new → old.work ≡ Left fate → SessionStands calls begin history old → SessionStands calls begin history new)
-      → (start : Start) (history : List Event) (heads : List Head) (drawn : List Draw) (latest : ℕ) (items : List Item) (s : Shepherd P) (stage : Stage P) (win after : WindowsValue) → has_answered s.stage ≡ true
+      → (start : Start) (history : List Event) (heads : List Head) (drawn : List Draw) (latest : ℕ) (items : List Item) (s : Shepherd P) (stage : Stage P) (win after : WindowsValue) → HasLeftIfOpen s.stage
       → GivesBack s.stage win stage after
       → AttributesBy asks calls makes came start history heads drawn latest items s → AttributesBy asks calls makes came start history heads drawn latest items (record s { stage = stage })
   back accounts sessions start history heads drawn latest items s stage win after answered gives h = with_stage start history heads drawn latest items s (record s { stage = stage }) h (by s.stage answered h.is_open gives) where
-    by : (x : Stage P) → has_answered x ≡ true → StageBy asks calls makes came start history h.opened x → GivesBack x win stage after → StageBy asks calls makes came start history h.opened stage
+    by : (x : Stage P) → HasLeftIfOpen x → StageBy asks calls makes came start history h.opened x → GivesBack x win stage after → StageBy asks calls makes came start history h.opened stage
     by Resting answered t gives = subst (λ (x : Stage P). StageBy asks calls makes came start history h.opened x) (sym gives.0) t
     by (Serving v call) answered t gives =
         let fate = fate_of v.work answered in
@@ -432,25 +428,3 @@ opens {P} asks calls makes maker came accounts sessions start history heads draw
   by (Serving v call) was does = one v call was does
   by (Refusing why bytes) was does = absurd does
   by (Over end) was does = absurd does
-
-fated : {P : Type 0} (change : Fate → Fate) (w : Work P) → has_left (with_fate change w) ≡ has_left w
-fated change Reading = refl
-fated change Opening = refl
-fated change (ServingBy tries program) = refl
-fated change (Committed place again shown) = refl
-fated change (Decided became) = refl
-fated change (Answered fate bytes) = refl
-fated change (Left fate) = refl
-
--- whether nothing is left to be done once its passes were given back
-told_over : {P : Type 0} (old : Visit P) (w : SessionWay) (o : Option WriteOutcome) → has_left old.work ≡ false → is_over (visit_turn (after_outcome o (record old { way = w }))) ≡ false
-told_over {P} old w None unsent = not_over old.work (wants w) unsent
-told_over {P} old w (Some (outcome.Written cookie)) unsent = not_over (with_fate fate_written old.work) (wants w) (fated fate_written old.work ∙ unsent)
-told_over {P} old w (Some (outcome.Missed causes)) unsent = not_over (with_fate (fate_missed causes) old.work) (wants w) (fated (fate_missed causes) old.work ∙ unsent)
-
-pub no_item : {P : Type 0} (old stage : Stage P) (win after : WindowsValue) → has_answered old ≡ false → GivesBack old win stage after → has_item stage ≡ false
-no_item Resting stage win after answered gives = absurd (cc)
-no_item {P} (Serving v call) stage win after answered gives =
-    ap has_item gives.2 ∙ ap (λ (x : Visit P). is_over (visit_turn x)) gives.1.back.new_is ∙ told_over v way.Resting gives.1.back.outcome answered
-no_item (Refusing why bytes) stage win after answered gives = absurd (cc)
-no_item (Over end) stage win after answered gives = absurd (cc)

@@ -103,20 +103,6 @@ over_now visit.Own is = absurd (cc)
 over_now visit.Output is = absurd (cc)
 over_now visit.Over is = refl
 
--- nothing is left to be done only for a request whose response has left
-pub not_over : {P : Type 0} (w : Work P) (want : Wants) → has_left w ≡ false → is_over (visit_turn_by w want) ≡ false
-not_over Reading wanted.Nothing is = refl
-not_over Reading wanted.Outside is = refl
-not_over Reading wanted.Windows is = refl
-not_over Opening want is = refl
-not_over (ServingBy tries program) want is = refl
-not_over (Committed place again shown) wanted.Nothing is = refl
-not_over (Committed place again shown) wanted.Outside is = refl
-not_over (Committed place again shown) wanted.Windows is = refl
-not_over (Decided became) want is = refl
-not_over (Answered fate bytes) want is = refl
-not_over (Left fate) want is = absurd (cc)
-
 -- a response that has left, has left with some fate
 pub fate_of : {P : Type 0} (w : Work P) → has_left w ≡ true → (fate : Fate) × (w ≡ Left fate)
 fate_of Reading is = absurd (cc)

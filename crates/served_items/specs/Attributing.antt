@@ -1,5 +1,5 @@
 -- To which request each item of a connection goes back: to its head, and to what was decided of it and drawn for it.
-use Rattle.std.specs.Prelude.{◌≡◌, ℕ, Bool, true, List, [], ◌∷◌, ◌++◌, map, All, Option, Some, None, option_map}
+use Rattle.std.specs.Prelude.{◌≡◌, ℕ, true, List, [], ◌∷◌, ◌++◌, map, All, Option, Some, None, option_map}
 use Rattle.std.specs.List.{flat_map}
 use Rattle.auction_calls.specs.declared.action.ActionCall.{ActionCall}
 use Rattle.boot_core.specs.declared.boot.Start.{Start}
@@ -37,7 +37,6 @@ use Rattle.request_visit.specs.declared.visit.Work.{Work}
 use Rattle.request_visit.specs.declared.visit.Work.TheVariants.{Reading, Opening, Serving as ServingBy, Committed, Decided, Answered, Left}
 use Rattle.session_cookie.specs.declared.cookie.Cookie.{Cookie}
 use Rattle.ssm_stub.specs.Reads.{ReadState, read_start}
-use Rattle.shepherd.specs.Standing.{has_left}
 use Rattle.shepherd.specs.Steps.{asked_call, bare_facts, facts_of}
 use Rattle.shepherd.specs.declared.shepherd.AskedCall.{AskedCall}
 use Rattle.shepherd.specs.declared.shepherd.Shepherd.{Shepherd}
@@ -170,13 +169,6 @@ StageBy asks calls makes came start history opened (Serving v call) =
     IsOpenBy asks calls makes came start history opened v call
 StageBy asks calls makes came start history opened (Refusing why bytes) = opened ≡ []
 StageBy asks calls makes came start history opened (Over end) = opened ≡ []
-
--- whether no request is open whose response has not left
-abbrev pub has_answered : {P : Type 0} → Stage P → Bool
-has_answered Resting = true
-has_answered (Serving v call) = has_left v.work
-has_answered (Refusing why bytes) = true
-has_answered (Over end) = true
 
 -- A connection attributes each of its items to its request. Its heads are those of the requests that were taken in, in
 -- order: those of its items, and the one that is open. All that was drawn was drawn for them, in order; and no moment

@@ -1,7 +1,7 @@
 //! Laws of how items go back to their requests. Each is the contract of a function that does nothing: a caller that
 //! needs the law calls the function.
 
-ghost use Rattle.std.specs.Prelude.{◌≡◌, ◌≤◌, ℕ, true, false, List, [], ◌∷◌, ◌++◌};
+ghost use Rattle.std.specs.Prelude.{◌≡◌, ◌≤◌, ℕ, true, List, [], ◌∷◌, ◌++◌};
 ghost use Rattle.boot_core.specs.Boot.{BootValue};
 ghost use Rattle.boot_core.specs.declared.boot.Start.{Start};
 ghost use Rattle.container_core.specs.Container.{ContainerValue, HasGrownBy, events_of};
@@ -18,13 +18,13 @@ ghost use Rattle.request_visit.specs.Going.{MayGoOn};
 ghost use Rattle.request_visit.specs.Stepping.{VisitsInside, VisitsWindows};
 ghost use Rattle.send_windows.specs.Windows.{WindowsValue};
 ghost use Rattle.session_cookie.specs.declared.cookie.TheConstants.{MAX_HOLDERS};
-ghost use Rattle.served_items.specs.Attributing.{Attributing, Service, has_answered};
+ghost use Rattle.served_items.specs.Attributing.{Attributing, Service};
 ghost use Rattle.served_items.specs.Following.{FollowOn};
 ghost use Rattle.served_items.specs.Served.{AttributesNext};
 ghost use Rattle.shepherd.specs.Answering.{heads_in};
 ghost use Rattle.shepherd.specs.Shepherds.{fresh, has_item, turn};
 ghost use Rattle.shepherd.specs.Standing.{Standing};
-ghost use Rattle.shepherd.specs.Steps.{GivesBack, OnVisit, OpensStage, PutsOut, ShepherdSteps, TakesItem, TakesRequest, VisitsOutside, dropped_stage};
+ghost use Rattle.shepherd.specs.Steps.{GivesBack, HasLeftIfOpen, OnVisit, OpensStage, PutsOut, ShepherdSteps, TakesItem, TakesRequest, VisitsOutside, dropped_stage};
 ghost use Rattle.shepherd.specs.declared.shepherd.Shepherd.{Shepherd};
 ghost use Rattle.shepherd.specs.declared.shepherd.Stage.{Stage};
 
@@ -38,7 +38,8 @@ use shepherd::{ProgramMaker, ShepherdTurn};
 /// A connection attributes each of its items to its request, at each of its steps, whatever others add meanwhile and
 /// however late the clock tells then. A request that is served keeps what it was taken in with: its facts, the read of
 /// its session, and its call until its program is made; and from then on what it asks of the container is made of that
-/// call. Passes may be given back behind a response; before it, no item comes of the request.
+/// call. Passes may be given back behind a response: before it, no item comes of the request any more, as `shepherd`
+/// says.
 pub fn items_go_back_to_their_requests<
     P: Program,
     L: Link,
@@ -104,14 +105,12 @@ pub fn items_go_back_to_their_requests<
         → Attributing P.asks L.makes M.makes R.gives S.looks service start history heads drawn latest items s
         → Attributing P.asks L.makes M.makes R.gives S.looks service start history heads drawn latest items
         (record s { stage = dropped_stage s.stage }) }
-    ensures back { (service : Service M) (start : Start) (history : List Event) (heads : List Head)
+    ensures given_back { (service : Service M) (start : Start) (history : List Event) (heads : List Head)
         (drawn : List Draw) (latest : ℕ) (items : List Item) (s : Shepherd P) (stage : Stage P)
-        (windows after : WindowsValue) → has_answered s.stage ≡ true → GivesBack s.stage windows stage after
+        (windows after : WindowsValue) → GivesBack s.stage windows stage after → HasLeftIfOpen s.stage
         → Attributing P.asks L.makes M.makes R.gives S.looks service start history heads drawn latest items s
         → Attributing P.asks L.makes M.makes R.gives S.looks service start history heads drawn latest items
         (record s { stage = stage }) }
-    ensures no_item { (old stage : Stage P) (windows after : WindowsValue) → has_answered old ≡ false
-        → GivesBack old windows stage after → has_item stage ≡ false }
 {
     requests_account_for_their_events::<P>();
     requests_account_for_their_sessions::<P, L>();

@@ -29,8 +29,9 @@
 //! `items_follow_one_another` says that the journal is no shorter when the container is first held for a request than
 //! when it was last held for a request before, as their items tell.
 //!
-//! Where memory was wanted, the connection has ended, and `drop_passes` may be called at any turn: before its response
-//! has left, no item comes of the request that is open.
+//! Where memory was wanted, the connection has ended, and `drop_passes` may be called at any turn: where the response
+//! of the open request has not left, no item comes of it any more
+//! (`shepherd::stopped_connections_account_for_what_they_left`).
 //!
 //! There is no code here but functions that do nothing, so there are no wrong bodies to refuse.
 #![tactic(auto)]

@@ -1,5 +1,5 @@
 use Rattle.served_items.specs.Attributing.{WasTakenIn}
-use Rattle.served_items.proofs.Stepping.{advance, back, begins, given_up, inside, item, meanwhile, no_item, opens, out, outside, still, windows}
+use Rattle.served_items.proofs.Stepping.{advance, back, begins, given_up, inside, item, meanwhile, opens, out, outside, still, windows}
 use Rattle.served_items.proofs.laws.items_go_back_to_their_requests.Goals as goal
 
 pub returns-clause-begins : goal.returns-clause-begins
@@ -65,11 +65,8 @@ returns-clause-given_up g c = λ service start history heads drawn latest items 
     c.requests_account_for_their_events.ensures.dropped c.requests_account_for_their_sessions.ensures.dropped
     start history heads drawn latest items s h
 
-pub returns-clause-back : goal.returns-clause-back
-returns-clause-back g c = λ service start history heads drawn latest items s stage before after answered gives h.
+pub returns-clause-given_back : goal.returns-clause-given_back
+returns-clause-given_back g c = λ service start history heads drawn latest items s stage before after gives answered h.
     back g.P.Program.asks g.L.Link.makes (g.M.ProgramMaker.makes service.maker) (WasTakenIn g.R.Random.gives g.S.Serials.looks service.key service.home)
     c.requests_account_for_their_events.ensures.back c.requests_account_for_their_sessions.ensures.back
     start history heads drawn latest items s stage before after answered gives h
-
-pub returns-clause-no_item : goal.returns-clause-no_item
-returns-clause-no_item g c = λ old stage before after answered gives. no_item old stage before after answered gives
