@@ -12,8 +12,10 @@ use Rattle.request_visit.specs.declared.visit.Turn.{Turn}
 use Rattle.request_visit.specs.declared.visit.Turn.TheVariants as visit
 use Rattle.request_visit.specs.declared.visit.Visit.{Visit}
 use Rattle.session_way.specs.Way.{wants}
+use Rattle.site_responses.specs.Responses.{last_response}
+use Rattle.site_responses.specs.declared.answer.Untaken.{Untaken}
 use Rattle.shepherd.specs.Shepherds.{has_item, is_over, stage_turn, turn, turn_by}
-use Rattle.shepherd.specs.Standing.{HasServedAll, HasServedFirst, IsOpen, IsOpenFor, Standing, all_before, coming, ending_of, heads_of, last_of, responses_of}
+use Rattle.shepherd.specs.Standing.{HasServedAll, HasServedFirst, IsOpen, IsOpenFor, Served, Standing, all_before, coming, ending_of, heads_of, items_of, last_of, responses_of}
 use Rattle.shepherd.specs.Steps.{OnVisit}
 use Rattle.shepherd.specs.declared.shepherd.AskedCall.{AskedCall}
 use Rattle.shepherd.specs.declared.shepherd.EndKind.{EndKind}
@@ -139,3 +141,9 @@ item_next {P} s is = by s.stage (asks_visit s visit.Over (ap step_of is)) where
 pub takes_first : {P : Type 0} (fed more : List ℕ) (heads : List Head) (written : List ℕ) (items : List Item) (s : Shepherd P) → Standing fed heads written items s
     → requests (fed ++ more) ≡ all_before heads (coming s.stage (s.received ++ more))
 takes_first fed more heads written items s h = h.requests_are more ∙ ap (λ hs. all_before hs (coming s.stage (s.received ++ more))) (sym h.heads_are)
+
+pub last_leaves : {P : Type 0} (fed : List ℕ) (heads : List Head) (written : List ℕ) (items : List Item) (s : Shepherd P) (why : Untaken) → s.stage ≡ Over (ends.Refused why) → Standing fed heads written items s
+    → (served : List Served) × (items ≡ items_of served) × (written ≡ responses_of served ++ last_response why)
+last_leaves fed heads written items s why over h =
+    let ended_so = subst (λ x. IsOpen s.front x h.opened h.sent) over h.is_open in
+    (h.served, h.items_are, h.written_is ∙ ap (λ xs. responses_of h.served ++ xs) ended_so.1)

@@ -39,6 +39,22 @@ begins P = record {
   front_is = refl;
 }
 
+pub still : {P : Type 0} (bytes : List ℕ) (heads : List Head) (written : List ℕ) (items : List Item) (s new : Shepherd P)
+    → new.stage ≡ s.stage → new.front ≡ s.front → new.received ≡ s.received → Standing bytes heads written items s → Standing bytes heads written items new
+still bytes heads written items s new stage front received h = record {
+  served = h.served;
+  opened = h.opened;
+  sent = h.sent;
+  heads_are = h.heads_are;
+  items_are = h.items_are;
+  requests_are = λ more. h.requests_are more
+      ∙ ap (λ x. all_before (heads_of h.served ++ h.opened) (coming x (s.received ++ more))) (sym stage)
+      ∙ ap (λ xs. all_before (heads_of h.served ++ h.opened) (coming new.stage (xs ++ more))) (sym received);
+  written_is = h.written_is;
+  is_open = subst (λ x. IsOpen new.front x h.opened h.sent) (sym stage) (subst (λ f. IsOpen f s.stage h.opened h.sent) (sym front) h.is_open);
+  front_is = front ∙ h.front_is;
+}
+
 pub fed : {P : Type 0} (bytes more : List ℕ) (heads : List Head) (written : List ℕ) (items : List Item) (s : Shepherd P) → Standing bytes heads written items s
     → Standing (bytes ++ more) heads written items (record s { received = s.received ++ more })
 fed bytes more heads written items s h = record {

@@ -1,5 +1,5 @@
 -- A connection that stops accounts for what it has added and left.
-use Rattle.std.proofs.Common.{◌≡◌, inl, inr, ◌≤◌, true, false, List, [], ◌∷◌, ◌++◌, length, map, slice_get, refl, sym, ap, ◌∙◌, subst, Option, Some, None, arith}
+use Rattle.std.proofs.Common.{◌≡◌, ◌≢◌, inl, inr, ◌≤◌, true, false, List, [], ◌∷◌, ◌++◌, length, map, slice_get, refl, sym, ap, ◌∙◌, subst, Option, Some, None, arith}
 use Rattle.std.proofs.lemmas.List.Elements.{All-weaker}
 use Rattle.std.proofs.lemmas.List.{append-nil, append_assoc}
 use Rattle.boot_core.specs.declared.boot.Start.{Start}
@@ -14,11 +14,13 @@ use Rattle.outcome_items.specs.declared.item.Item.{Item}
 use Rattle.outcome_items.specs.declared.outcome.ItemOutcome.{ItemOutcome}
 use Rattle.outcome_items.specs.declared.outcome.ItemOutcome.TheVariants as item_is
 use Rattle.request_tries.specs.Ends.{Errand}
+use Rattle.request_tries.specs.Serving.{TriesValue}
 use Rattle.request_tries.specs.declared.outcome.RequestOutcome.{RequestOutcome}
 use Rattle.request_tries.specs.declared.outcome.RequestOutcome.TheVariants.{Page, Sentinel, Revoked, Conflict, JournalFull, KeeperFailed}
 use Rattle.request_visit.specs.Accounts.{AccountsOf, Became, EndsWith, FateStands, IsUnheld}
 use Rattle.request_visit.specs.Advancing.{IsItemOf}
 use Rattle.request_visit.specs.Marks.{HasWrite, IsSettling, Marks, MarksOf, MayBeRead, Rests, WritesWith}
+use Rattle.request_visit.specs.Stepping.{OnServing}
 use Rattle.request_visit.specs.Visits.{after_outcome, fate_missed, fate_written, turn as visit_turn, turn_by as visit_turn_by, with_fate}
 use Rattle.request_visit.specs.declared.facts.VisitFacts.{VisitFacts}
 use Rattle.request_visit.specs.declared.visit.Fate.{Fate}
@@ -43,7 +45,7 @@ use Rattle.session_way.specs.declared.way.Wants.TheVariants as wanted
 use Rattle.shepherd.specs.Accounting.{Accounting, IsAccountedFor, IsTold, StageTells, told_events, told_marks, traces_in}
 use Rattle.shepherd.specs.Shepherds.{fresh, has_item, is_over}
 use Rattle.shepherd.specs.Standing.{has_left}
-use Rattle.shepherd.specs.Steps.{GivesBack, IfOpen, OnVisit, StepsVisit, dropped_stage}
+use Rattle.shepherd.specs.Steps.{GivesBack, IfOpen, IsServedStill, OnVisit, StepsVisit, dropped_stage}
 use Rattle.shepherd.specs.Stopping.{AreMarksOf, AreOfOne, StageMarks, Stopped, StopsWith}
 use Rattle.shepherd.specs.declared.shepherd.Shepherd.{Shepherd}
 use Rattle.shepherd.specs.declared.shepherd.Stage.{Stage}
@@ -242,6 +244,24 @@ kept {P} asks start history own marks items s new steps h = with_stage asks star
   by (Refusing why bytes) steps m = absurd steps
   by (Over end) steps m = absurd steps
 
+pub inside : {P : Type 0} (asks : P → List Answer → Next) (start : Start) (history own : List Event) (marks : List WindowMark) (items : List Item) (s new : Shepherd P)
+    → StepsVisit IsServedStill s.stage new.stage → Stopped asks start history own marks items s → Stopped asks start history own marks items new
+inside {P} asks start history own marks items s new steps h = kept asks start history own marks items s new (by s.stage steps) h where
+  same : (v after : Visit P) (w : Work P) → OnServing w (λ tries program. (later : TriesValue) × (after ≡ record v { work = ServingBy later program })) → after.way ≡ v.way
+  same v after Reading so = absurd so
+  same v after Opening so = absurd so
+  same v after (ServingBy tries program) so = ap (λ (x : Visit P). x.way) so.1
+  same v after (Committed place again shown) so = absurd so
+  same v after (Decided became) so = absurd so
+  same v after (Answered fate bytes) so = absurd so
+  same v after (Left fate) so = absurd so
+
+  by : (x : Stage P) → StepsVisit IsServedStill x new.stage → StepsVisit (λ v w. w.way ≡ v.way) x new.stage
+  by Resting steps = absurd steps
+  by (Serving v call) steps = (steps.0, same v steps.0 v.work steps.1, steps.2)
+  by (Refusing why bytes) steps = absurd steps
+  by (Over end) steps = absurd steps
+
 pub unmade : {P : Type 0} (asks : P → List Answer → Next) (start : Start) (history own : List Event) (marks : List WindowMark) (items : List Item) (s new : Shepherd P)
     → OnVisit s.stage (λ v call. new.stage ≡ Serving v None) → Stopped asks start history own marks items s → Stopped asks start history own marks items new
 unmade {P} asks start history own marks items s new is h = with_stage asks start history own marks items s new h (by s.stage is h.stage_marks) where
@@ -341,8 +361,8 @@ of_one marks (way.Holding passes) m = inr (inr (inl m))
 pub told : {P : Type 0} (asks : P → List Answer → Next) → ItemTells asks
     → ((marks : List WindowMark) (v : Visit P) (i : Item) → visit_turn v ≡ visit.Over → IsItemOf v v.work i → Marks marks v → marks ≡ window_trace i)
     → (start : Start) (history own : List Event) (marks : List WindowMark) (items : List Item) (s : Shepherd P) → Stopped asks start history own marks items s
-    → (open_own : List Event) × (open_marks : List WindowMark) × IsAccountedFor start history own marks items open_own open_marks × (length open_own ≤ 1) × AreOfOne open_marks
-told {P} asks tells marked start history own marks items s h = (h.open_own, h.open_marks, whole, h.few, by s.stage h.stage_marks) where
+    → (open_own : List Event) × (open_marks : List WindowMark) × IsAccountedFor start history own marks items open_own open_marks × (length open_own ≤ 1) × AreOfOne open_marks × StageMarks s.stage open_marks
+told {P} asks tells marked start history own marks items s h = (h.open_own, h.open_marks, whole, h.few, by s.stage h.stage_marks, h.stage_marks) where
   closed : Accounting asks start history (told_events h.told) (told_marks h.told) items fresh
   closed = record {
     told = h.told;
@@ -369,6 +389,35 @@ told {P} asks tells marked start history own marks items s h = (h.open_own, h.op
   by (Serving v call) m = of_one h.open_marks v.way m
   by (Refusing why bytes) m = inl m
   by (Over end) m = inl m
+
+-- no marks, or those of a session with which nothing is done any more, are not those of passes that were never spent
+none_spent : (marks : List WindowMark) → marks ≡ [] → marks ≢ mark.Taken 0 ∷ []
+none_spent marks none taken = absurd (cc)
+
+resting_spent : (marks : List WindowMark) → AreMarksOf way.Resting marks → marks ≢ mark.Taken 0 ∷ []
+resting_spent marks (inl none) taken = absurd (cc)
+resting_spent marks (inr (inl refused)) taken = absurd (cc)
+resting_spent marks (inr (inr spent)) taken = absurd (cc)
+
+-- Where the passes of a request were given back, none are left that were never spent.
+back_spent : {P : Type 0} (marks : List WindowMark) (x stage : Stage P) (win after : WindowsValue) → GivesBack x win stage after → StageMarks stage marks → marks ≢ mark.Taken 0 ∷ []
+back_spent marks Resting stage win after back m = none_spent marks (subst (λ y. StageMarks y marks) back.0 m)
+back_spent {P} marks (Serving v call) stage win after back m =
+    let rests : back.0.way ≡ way.Resting = ap (λ (x : Visit P). x.way) back.1.back.new_is ∙ rests_behind v back.1.back.outcome in
+    resting_spent marks (subst (λ (w : SessionWay). AreMarksOf w marks) rests (subst (λ y. StageMarks y marks) back.2 m))
+back_spent marks (Refusing why bytes) stage win after back m = none_spent marks (subst (λ y. StageMarks y marks) back.0 m)
+back_spent marks (Over end) stage win after back m = none_spent marks (subst (λ y. StageMarks y marks) back.0 m)
+
+pub spent : {P : Type 0} (asks : P → List Answer → Next) → ItemTells asks
+    → ((marks : List WindowMark) (v : Visit P) (i : Item) → visit_turn v ≡ visit.Over → IsItemOf v v.work i → Marks marks v → marks ≡ window_trace i)
+    → (start : Start) (history own : List Event) (marks : List WindowMark) (items : List Item) (s : Shepherd P) (stage : Stage P) (win after : WindowsValue)
+    → GivesBack s.stage win stage after → Stopped asks start history own marks items s
+    → (added : List WindowMark) × (after.history ≡ win.history ++ added) × (open_own : List Event) × (open_marks : List WindowMark)
+    × IsAccountedFor start history own (marks ++ map uncounted added) items open_own open_marks × (length open_own ≤ 1) × AreOfOne open_marks × (open_marks ≢ mark.Taken 0 ∷ [])
+spent {P} asks tells marked start history own marks items s stage win after back h =
+    let given = given_back asks start history own marks items s stage win after back h in
+    let found = told asks tells marked start history own (marks ++ map uncounted given.added) items (record s { stage = stage }) given.stopped in
+    (given.added, given.grown, found.0, found.1, found.2, found.3, found.4, back_spent found.1 s.stage stage win after back found.5)
 
 -- a response that has not left is none that is over
 unsent_over : {P : Type 0} (w : Work P) (want : Wants) → has_left w ≡ false → is_over (visit_turn_by w want) ≡ false

@@ -23,7 +23,7 @@ use Rattle.request_intake.specs.declared.intake.Arrival.TheVariants.{Refused, Se
 use Rattle.request_intake.specs.declared.intake.HomeBoot.{HomeBoot}
 use Rattle.request_intake.specs.declared.intake.Intake.{Intake}
 use Rattle.request_visit.specs.Advancing.{IsItemOf, after_leaving, response_in, value_of}
-use Rattle.request_visit.specs.Stepping.{IsGivenBack, counted, dropped}
+use Rattle.request_visit.specs.Stepping.{IsGivenBack, OnServing, counted, dropped}
 use Rattle.request_visit.specs.Visits.{begun, turn as visit_turn}
 use Rattle.request_visit.specs.declared.visit.Turn.TheVariants as visit
 use Rattle.request_visit.specs.declared.facts.VisitFacts.{VisitFacts}
@@ -31,7 +31,7 @@ use Rattle.request_visit.specs.declared.visit.Fate.TheVariants.{Writing}
 use Rattle.request_visit.specs.declared.visit.Visit.{Visit}
 use Rattle.request_visit.specs.declared.visit.Work.TheVariants.{Reading, Opening, Serving as ServingBy, Decided, Left}
 use Rattle.session_cookie.specs.declared.cookie.Cookie.{Cookie}
-use Rattle.request_tries.specs.Serving.{unbegun}
+use Rattle.request_tries.specs.Serving.{TriesValue, unbegun}
 use Rattle.request_decisions.specs.Calls.{call_by}
 use Rattle.crash_base.specs.declared.numbers.WorkerNo.{WorkerNo}
 use Rattle.shepherd.specs.declared.shepherd.AskedCall.{AskedCall}
@@ -148,6 +148,10 @@ StepsVisit {P} So old new = OnVisit old (λ v call. (after : Visit P) × So v af
 pub record ShepherdSteps {P : Type 0} (So : Visit P → Visit P → Type 0) (old new : Shepherd P) : Type 0 where
   pub steps : StepsVisit So old.stage new.stage
   pub rest : new ≡ record old { stage = new.stage }
+
+-- A request that is served in the container is served there still: its tries alone may be others.
+abbrev pub IsServedStill : {P : Type 0} → Visit P → Visit P → Type 0
+IsServedStill old new = OnServing old.work (λ tries program. (after : TriesValue) × (new ≡ record old { work = ServingBy after program }))
 
 -- a request made one call of the link, and saw what that has counted
 pub record VisitsOutside {P L : Type 0} (makes : L → LinkEvent → L → Type 0) (tally : L → Tally) (old : Visit P) (link : L) (new : Visit P) (after : L) : Type 0 where

@@ -1,5 +1,5 @@
--- What a connection that stopped, since memory was wanted, has added and left. What it was about to do for the request
--- that was open is not told by an item.
+-- What a connection that stopped, since memory was wanted, has added and left. What it did for the request that was
+-- open may be told by no item.
 use Rattle.std.specs.Prelude.{◌≡◌, ◌⊎◌, ◌≤◌, List, [], ◌∷◌, ◌++◌, All, length, map}
 use Rattle.boot_core.specs.declared.boot.Start.{Start}
 use Rattle.call_ticket.specs.declared.next.Answer.{Answer}

@@ -15,12 +15,15 @@ ghost use Rattle.request_visit.specs.Stepping.{VisitsInside, VisitsWindows};
 ghost use Rattle.send_windows.specs.Windows.{WindowsValue};
 ghost use Rattle.shepherd.specs.Answering.{heads_in};
 ghost use Rattle.shepherd.specs.Shepherds.{fresh, has_item, turn};
-ghost use Rattle.shepherd.specs.Standing.{HasServedAll, HasServedFirst, Standing, all_before, coming};
+ghost use Rattle.shepherd.specs.Standing.{HasServedAll, HasServedFirst, Served, Standing, all_before, coming, items_of, responses_of};
 ghost use Rattle.shepherd.specs.Steps.{GivesBack, OnVisit, OpensStage, PutsOut, ShepherdSteps, TakesItem, TakesRequest, VisitsOutside, dropped_stage};
 ghost use Rattle.shepherd.specs.declared.shepherd.EndKind.{EndKind};
-ghost use Rattle.shepherd.specs.declared.shepherd.EndKind.TheVariants.{OutOfMemory};
+ghost use Rattle.shepherd.specs.declared.shepherd.EndKind.TheVariants.{OutOfMemory, Refused};
 ghost use Rattle.shepherd.specs.declared.shepherd.Shepherd.{Shepherd};
 ghost use Rattle.shepherd.specs.declared.shepherd.Stage.{Stage};
+ghost use Rattle.shepherd.specs.declared.shepherd.Stage.TheVariants.{Over};
+ghost use Rattle.site_responses.specs.Responses.{last_response};
+ghost use Rattle.site_responses.specs.declared.answer.Untaken.{Untaken};
 
 use crate::opening::ProgramMaker;
 use crate::shepherd::ShepherdTurn;
@@ -30,9 +33,12 @@ use outside::{Clock, Link, Random, Serials};
 
 /// A connection stands from its begin on. It stands with the bytes that are fed to it, and where no more come; a
 /// request that is taken off is the next one of the bytes; what is put out joins what was; and an item is that of the
-/// request that was open.
+/// request that was open. It stands where its stage, its front and its bytes are as they were (`still`).
 pub fn connections_stand<P, C: Clock, R: Random, S: Serials>()
     ensures begins { Standing {P = P} [] [] [] [] fresh }
+    ensures still { (fed : List ℕ) (heads : List Head) (written : List ℕ) (items : List Item) (s new : Shepherd P) → new.stage ≡ s.stage
+        → new.front ≡ s.front → new.received ≡ s.received → Standing fed heads written items s
+        → Standing fed heads written items new }
     ensures fed { (fed more : List ℕ) (heads : List Head) (written : List ℕ) (items : List Item) (s : Shepherd P) → Standing fed heads written items s
         → Standing (fed ++ more) heads written items (record s { received = s.received ++ more }) }
     ensures ended { (fed : List ℕ) (heads : List Head) (written : List ℕ) (items : List Item) (s : Shepherd P) → Standing fed heads written items s
@@ -79,8 +85,8 @@ pub fn connections_stand_with_their_requests<P: Program, L: Link, M: ProgramMake
 
 /// The items of a connection are for the first requests of its bytes, in order, each once, and what was put out are the
 /// bytes that were put out for each, in order, whatever bytes follow and however they were cut; and where it has ended,
-/// and memory was not wanted, they are for all, and the last response is that of what is refused. All requests of the
-/// bytes begin with those that were taken off. A request whose program is to be made has a call, and the moment of each
+/// and memory was not wanted, they are for all; where it ended at what is refused, that has its last response (`last`).
+/// All requests of the bytes begin with those that were taken off. A request whose program is to be made has a call, and the moment of each
 /// is below the end of moments.
 pub fn items_are_for_requests_in_order<P>()
     ensures first { (fed more : List ℕ) (heads : List Head) (written : List ℕ) (items : List Item) (s : Shepherd P) → Standing fed heads written items s
@@ -91,6 +97,9 @@ pub fn items_are_for_requests_in_order<P>()
     ensures all { (fed : List ℕ) (heads : List Head) (written : List ℕ) (items : List Item) (s : Shepherd P) (end : EndKind)
         → turn s ≡ ShepherdTurn.Ended end → end ≢ OutOfMemory → Standing fed heads written items s
         → HasServedAll fed written items end }
+    ensures last { (fed : List ℕ) (heads : List Head) (written : List ℕ) (items : List Item) (s : Shepherd P) (why : Untaken)
+        → s.stage ≡ Over (Refused why) → Standing fed heads written items s
+        → (served : List Served) × (items ≡ items_of served) × (written ≡ responses_of served ++ last_response why) }
     ensures asked { (fed : List ℕ) (heads : List Head) (written : List ℕ) (items : List Item) (s : Shepherd P) → turn s ≡ ShepherdTurn.Program
         → Standing fed heads written items s → OnVisit s.stage (λ v call. call ≢ None) }
     ensures item { (s : Shepherd P) → turn s ≡ ShepherdTurn.Item → has_item s.stage ≡ true }

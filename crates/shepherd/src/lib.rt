@@ -24,8 +24,8 @@
 //! any turn, what its request holds; where its response has left, its item can still be taken then.
 //!
 //! A request that is admitted begins with its own number, moment, key and nonces, and is served by the program of its
-//! own call, as the user of its session (`requests_are_served_as_they_came`). That this is carried to its item no law
-//! says yet, nor which numbers were drawn for the requests of a connection together.
+//! own call, as the user of its session (`requests_are_served_as_they_came`); the laws of `served_items` carry this to
+//! its item.
 //!
 //! `specs/Standing.antt` has what is so of a connection at any time, as `Standing`: over the bytes that were fed, the
 //! heads of the requests that were taken off them, the bytes that were put out, and the items that were taken. The law
@@ -48,8 +48,8 @@
 //! (`connections_go_on`, `taken_requests_go_on`).
 //!
 //! `specs/Stopping.antt` has what a connection has added and left where memory was wanted, as `Stopped`: what its items
-//! tell of, and what one more request may have done. It stays so where its call and its passes are given up
-//! (`stopped_connections_account_for_what_they_left`).
+//! tell of, and what one more request may have done. It stays so where its call and its passes are given up, and then
+//! no passes are left unspent (`stopped_connections_account_for_what_they_left`).
 #![tactic(auto)]
 
 mod accounting;

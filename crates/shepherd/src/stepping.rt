@@ -11,7 +11,7 @@ ghost use Rattle.session_cookie.specs.Cookie.{AreHolders};
 ghost use Rattle.send_windows.specs.declared.windows.TakeRefusal.TheVariants as refusal;
 ghost use Rattle.session_way.specs.Way.{IsRefused, answer_held};
 ghost use Rattle.shepherd.specs.Shepherds.{turn};
-ghost use Rattle.shepherd.specs.Steps.{OnVisit, ShepherdSteps, StepsVisit, VisitsOutside, dropped_stage};
+ghost use Rattle.shepherd.specs.Steps.{IsServedStill, OnVisit, ShepherdSteps, StepsVisit, VisitsOutside, dropped_stage};
 
 use crate::shepherd::{Shepherd, ShepherdTurn, Stage};
 use call_ticket::Program;
@@ -84,6 +84,7 @@ impl<P: Program + Drop> Stage<P> {
         requires moment { OnVisit self.old (λ v call. v.facts.now.0 < 2 ^ 62) }
         ensures step { OnOk result (StepsVisit (λ v after. VisitsInside P.asks v container.old after container.new)
             self.old self.new) }
+        ensures holds { OnErr result (StepsVisit IsServedStill self.old self.new) }
         ensures nothing { OnErr result (container.new.since ≡ container.old.since) }
         ensures count { container.old.faults ≤ container.new.faults }
         ensures grown { HasGrownBy container.old container.new }
@@ -181,7 +182,8 @@ impl<P: Program + Drop> Shepherd<P> {
     /// for, or its commit.
     ///
     /// # Errors
-    /// There is no memory: the connection has ended, and nothing was added to the history.
+    /// There is no memory: the connection has ended, and nothing was added to the history. The request that is open is
+    /// one that is served still, and does with its session what it did.
     pub fn step_inside<K: Keeper + Drop>(
         &mut self,
         alloc: Global,
@@ -194,6 +196,7 @@ impl<P: Program + Drop> Shepherd<P> {
         requires moment { OnVisit self.old.stage (λ v call. v.facts.now.0 < 2 ^ 62) }
         ensures step { OnOk result (ShepherdSteps (λ v after. VisitsInside P.asks v container.old after container.new)
             self.old self.new) }
+        ensures holds { OnErr result (StepsVisit IsServedStill self.old.stage self.new.stage) }
         ensures want { OnErr result (self.new ≡ record self.old { stage = self.new.stage; wants_memory = true }) }
         ensures nothing { OnErr result (container.new.since ≡ container.old.since) }
         ensures count { container.old.faults ≤ container.new.faults }

@@ -1,9 +1,13 @@
-use Rattle.shepherd.proofs.Growing.{begins, fed, no_more}
+use Rattle.shepherd.proofs.Growing.{begins, fed, no_more, still}
 use Rattle.shepherd.proofs.Requests.{composes, puts_out, takes, takes_item}
 use Rattle.shepherd.proofs.laws.connections_stand.Goals as goal
 
 pub returns-clause-begins : goal.returns-clause-begins
 returns-clause-begins g c = begins g.row.P.Denot
+
+pub returns-clause-still : goal.returns-clause-still
+returns-clause-still g c = λ bytes heads written items s new stage front received h.
+    still bytes heads written items s new stage front received h
 
 pub returns-clause-fed : goal.returns-clause-fed
 returns-clause-fed g c = λ bytes more heads written items s h. fed bytes more heads written items s h

@@ -1,4 +1,4 @@
-use Rattle.shepherd.proofs.Ending.{has_call, has_moment, item_next, serves_all, serves_first, takes_first}
+use Rattle.shepherd.proofs.Ending.{has_call, has_moment, item_next, last_leaves, serves_all, serves_first, takes_first}
 use Rattle.shepherd.proofs.laws.items_are_for_requests_in_order.Goals as goal
 
 pub returns-clause-first : goal.returns-clause-first
@@ -19,3 +19,6 @@ returns-clause-item g c = λ s turned. item_next s turned
 
 pub returns-clause-taken : goal.returns-clause-taken
 returns-clause-taken g c = λ bytes more heads written items s h. takes_first bytes more heads written items s h
+
+pub returns-clause-last : goal.returns-clause-last
+returns-clause-last g c = λ bytes heads written items s why over h. last_leaves bytes heads written items s why over h

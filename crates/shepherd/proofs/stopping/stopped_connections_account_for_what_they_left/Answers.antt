@@ -1,4 +1,4 @@
-use Rattle.shepherd.proofs.Stopped.{given_back, given_up, kept, meanwhile, no_item, refused, still, stops, told, unmade}
+use Rattle.shepherd.proofs.Stopped.{given_back, given_up, inside, kept, meanwhile, no_item, refused, spent, still, stops, told, unmade}
 use Rattle.shepherd.proofs.stopping.stopped_connections_account_for_what_they_left.Goals as goal
 
 pub returns-clause-stops : goal.returns-clause-stops
@@ -16,6 +16,10 @@ returns-clause-still g c = λ start history own marks items s new same h.
 pub returns-clause-kept : goal.returns-clause-kept
 returns-clause-kept g c = λ start history own marks items s new steps h.
     kept g.P.Program.asks start history own marks items s new steps h
+
+pub returns-clause-inside : goal.returns-clause-inside
+returns-clause-inside g c = λ start history own marks items s new steps h.
+    inside g.P.Program.asks start history own marks items s new steps h
 
 pub returns-clause-unmade : goal.returns-clause-unmade
 returns-clause-unmade g c = λ start history own marks items s new is h.
@@ -36,6 +40,10 @@ returns-clause-given_back g c = λ start history own marks items s stage win aft
 pub returns-clause-told : goal.returns-clause-told
 returns-clause-told g c = λ start history own marks items s h.
     told g.P.Program.asks c.requests_account_for_their_events.ensures.item c.requests_account_for_their_marks.ensures.item start history own marks items s h
+
+pub returns-clause-spent : goal.returns-clause-spent
+returns-clause-spent g c = λ start history own marks items s stage win after back h.
+    spent g.P.Program.asks c.requests_account_for_their_events.ensures.item c.requests_account_for_their_marks.ensures.item start history own marks items s stage win after back h
 
 pub returns-clause-no_item : goal.returns-clause-no_item
 returns-clause-no_item g c = λ s stage win after back unsent.
