@@ -1,5 +1,6 @@
 mod Growing
 mod Items
+mod Joining
 mod Meanings
 mod Reaching
 mod Showing

@@ -9,7 +9,8 @@
 //!
 //! What it makes of a call is accepted in the site's deployment, and asks the site for that call
 //! (`site_programs_are_accepted`). Where such a request has ended in a container of the site, the laws say in the words
-//! of the auction what the history shows of it, and so of its item (`items_tell_their_ends`):
+//! of the auction what the history shows of it, and so of its item (`items_tell_their_ends`,
+//! `items_are_what_the_site_means`):
 //!
 //! ```text
 //! a page                      its entry wrote and answered what the site means by the request's call, over the rows
@@ -25,6 +26,7 @@
 
 mod laws;
 mod maker;
+mod meaning;
 mod reach;
 
 pub use laws::{
@@ -32,4 +34,5 @@ pub use laws::{
     site_programs_are_accepted,
 };
 pub use maker::SiteMaker;
+pub use meaning::items_are_what_the_site_means;
 pub use reach::requests_touch_what_their_actions_reach;
