@@ -24,7 +24,7 @@ use Rattle.shepherd.specs.declared.shepherd.ShepherdTurn.TheVariants as turns
 use Rattle.shepherd.specs.declared.shepherd.Stage.{Stage}
 use Rattle.shepherd.specs.declared.shepherd.Stage.TheVariants.{Resting, Serving, Refusing, Over}
 use Rattle.shepherd.proofs.Keeping.{Keeps, back_keeps, dropping_keeps}
-use Rattle.shepherd.proofs.Turning.{asks_output, asks_request, asks_visit, early, unsent}
+use Rattle.shepherd.proofs.Turning.{asks_visit, early}
 
 pub begins : (P : Type 0) → Standing {P = P} [] [] [] [] fresh
 begins P = record {

@@ -149,7 +149,7 @@ pub record ShepherdSteps {P : Type 0} (So : Visit P → Visit P → Type 0) (old
   pub steps : StepsVisit So old.stage new.stage
   pub rest : new ≡ record old { stage = new.stage }
 
--- A request that is served in the container is served there still: its tries alone may be others.
+-- A request that is served in the container is as it was, but for its tries.
 abbrev pub IsServedStill : {P : Type 0} → Visit P → Visit P → Type 0
 IsServedStill old new = OnServing old.work (λ tries program. (after : TriesValue) × (new ≡ record old { work = ServingBy after program }))
 

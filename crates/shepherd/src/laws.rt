@@ -13,6 +13,8 @@ ghost use Rattle.request_intake.specs.declared.intake.HomeBoot.{HomeBoot};
 ghost use Rattle.request_visit.specs.Advancing.{Advances};
 ghost use Rattle.request_visit.specs.Stepping.{VisitsInside, VisitsWindows};
 ghost use Rattle.send_windows.specs.Windows.{WindowsValue};
+ghost use Rattle.site_responses.specs.Responses.{last_response};
+ghost use Rattle.site_responses.specs.declared.answer.Untaken.{Untaken};
 ghost use Rattle.shepherd.specs.Answering.{heads_in};
 ghost use Rattle.shepherd.specs.Shepherds.{fresh, has_item, turn};
 ghost use Rattle.shepherd.specs.Standing.{HasServedAll, HasServedFirst, Served, Standing, all_before, coming, items_of, responses_of};
@@ -22,8 +24,6 @@ ghost use Rattle.shepherd.specs.declared.shepherd.EndKind.TheVariants.{OutOfMemo
 ghost use Rattle.shepherd.specs.declared.shepherd.Shepherd.{Shepherd};
 ghost use Rattle.shepherd.specs.declared.shepherd.Stage.{Stage};
 ghost use Rattle.shepherd.specs.declared.shepherd.Stage.TheVariants.{Over};
-ghost use Rattle.site_responses.specs.Responses.{last_response};
-ghost use Rattle.site_responses.specs.declared.answer.Untaken.{Untaken};
 
 use crate::opening::ProgramMaker;
 use crate::shepherd::ShepherdTurn;
@@ -85,9 +85,9 @@ pub fn connections_stand_with_their_requests<P: Program, L: Link, M: ProgramMake
 
 /// The items of a connection are for the first requests of its bytes, in order, each once, and what was put out are the
 /// bytes that were put out for each, in order, whatever bytes follow and however they were cut; and where it has ended,
-/// and memory was not wanted, they are for all; where it ended at what is refused, that has its last response (`last`).
-/// All requests of the bytes begin with those that were taken off. A request whose program is to be made has a call, and the moment of each
-/// is below the end of moments.
+/// and memory was not wanted, they are for all. Where it has ended at what is refused, the last response was put out
+/// behind them (`last`). All requests of the bytes begin with those that were taken off. A request whose program is to
+/// be made has a call, and the moment of each is below the end of moments.
 pub fn items_are_for_requests_in_order<P>()
     ensures first { (fed more : List ℕ) (heads : List Head) (written : List ℕ) (items : List Item) (s : Shepherd P) → Standing fed heads written items s
         → HasServedFirst fed written items more }

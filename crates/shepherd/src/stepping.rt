@@ -182,8 +182,8 @@ impl<P: Program + Drop> Shepherd<P> {
     /// for, or its commit.
     ///
     /// # Errors
-    /// There is no memory: the connection has ended, and nothing was added to the history. The request that is open is
-    /// one that is served still, and does with its session what it did.
+    /// There is no memory: the connection has ended, and nothing was added to the history. All of the request that is
+    /// open is as it was, but for its tries.
     pub fn step_inside<K: Keeper + Drop>(
         &mut self,
         alloc: Global,

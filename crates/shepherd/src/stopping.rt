@@ -31,8 +31,8 @@ use request_visit::{requests_account_for_their_events, requests_account_for_thei
 /// So it is after each call that wanted memory. `feed`, `take_request` and `step_outside` leave the stage as it was
 /// (`still`), `step_inside` the request served in the container (`inside`), `advance` what the request does with its
 /// session (`kept`), and `open` a request without its call (`unmade`); `step_windows` was to take passes (`refused`).
-/// Where the response of the request has not left, no item comes any more (`no_item`). Whether it has left, the contracts
-/// of `step_windows` and `advance` do not say where memory was wanted.
+/// Where the response of the request has not left, no item comes any more (`no_item`). Whether it has left, the
+/// contracts of `step_windows` and `advance` do not say where memory was wanted.
 pub fn stopped_connections_account_for_what_they_left<P: Program, L: Link>()
     ensures stops { (start : Start) (history own : List Event) (marks : List WindowMark) (items : List Item)
         (s : Shepherd P) → Accounting P.asks start history own marks items s
