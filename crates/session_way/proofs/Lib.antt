@@ -1,4 +1,5 @@
 mod Answered
+mod Begun
 mod Ending
 pub mod GoingOn
 pub mod Holders

@@ -1,8 +1,9 @@
 -- A write of a session, and the passes by which it asks.
-use Rattle.std.specs.Prelude.{ℕ, List, map, Result, Ok, Err}
+use Rattle.std.specs.Prelude.{◌≡◌, ℕ, List, map, Result, Ok, Err}
 use Rattle.send_windows.specs.declared.pass.Pass.{Pass}
 use Rattle.send_windows.specs.Passes.{hushed}
 use Rattle.session_cookie.specs.declared.cookie.Cookie.{Cookie}
+use Rattle.ssm_frames.specs.declared.frame.Frame.TheVariants.{Put}
 use Rattle.ssm_stub.specs.declared.write_call.WriteRefusal.{WriteRefusal}
 use Rattle.ssm_stub.specs.declared.write_call.WriteRefusal.TheVariants as refusal
 use Rattle.ssm_stub.specs.Ends.{bricks_of}
@@ -23,6 +24,18 @@ write_begun order least passes =
       write = write_start (bricks_of passes) least order.nonce order.key order.value order.expiry;
       passes = passes;
     }
+
+-- A write asks for a value to be put, as the version of its nonce.
+pub record IsPut (w : WriteState) : Type 0 where
+  pub value : List ℕ
+  pub ask : w.ask ≡ Put w.nonce w.key w.nonce w.expiry value
+
+-- A write was begun of this order: it asks for just this.
+pub record IsBegunOf (order : WriteOrder) (w : WriteState) : Type 0 where
+  pub nonce : order.nonce ≡ w.nonce
+  pub key : order.key ≡ w.key
+  pub expiry : order.expiry ≡ w.expiry
+  pub ask : w.ask ≡ Put order.nonce order.key order.nonce order.expiry order.value
 
 -- the passes of a write as they are spent: by what it heard of their bricks, and Silent where it heard nothing
 abbrev pub passes_spent : WritingState → List Pass

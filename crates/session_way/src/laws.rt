@@ -25,7 +25,8 @@ ghost use Rattle.ssm_stub.specs.declared.write_call.WriteRefusal.TheVariants as 
 ghost use Rattle.ssm_stub.specs.Counted.{AreCounted};
 ghost use Rattle.ssm_stub.specs.Ends.{ReadEnds, WriteEnds, bricks_of};
 ghost use Rattle.ssm_stub.specs.Outcomes.{IsLost, IsMissed, IsRead, IsWritten};
-ghost use Rattle.ssm_stub.specs.Reads.{ReadState, read_answer, read_ask, read_machine, read_start};
+ghost use Rattle.ssm_stub.specs.declared.event.Told.{Told};
+ghost use Rattle.ssm_stub.specs.Reads.{ReadState, hear_read, read_answer, read_ask, read_machine, read_start};
 ghost use Rattle.ssm_stub.specs.Runs.{Steps};
 ghost use Rattle.ssm_stub.specs.Writes.{WriteState, heard_passes, pass_of, write_answer, write_machine};
 ghost use Rattle.session_way.specs.declared.lease.SessionLease.{SessionLease};
@@ -34,10 +35,11 @@ ghost use Rattle.session_way.specs.declared.way.SessionWay.{SessionWay};
 ghost use Rattle.session_way.specs.declared.way.SessionWay.TheVariants.{Holding, Reading, Resting, Settling, Writing};
 ghost use Rattle.session_way.specs.declared.way.Wants.TheVariants as wanted;
 ghost use Rattle.session_way.specs.Lease.{expiry_at, value_to_write, wants_write};
+ghost use Rattle.session_way.specs.Reading.{cookie_asked};
 ghost use Rattle.session_way.specs.Marks.{marks_by, owed, refusal_marks, spends, takes};
 ghost use Rattle.session_way.specs.Runs.{HasRead, HasSettled, HasWritten};
 ghost use Rattle.session_way.specs.Way.{IsHolding, IsRefused, IsTaken, OnHeld, StepsOutside, StepsWindows, after_give_back, answer_held, held, passes_for, settled, wants};
-ghost use Rattle.session_way.specs.Writing.{WritingState, passes_spent, write_begun};
+ghost use Rattle.session_way.specs.Writing.{IsBegunOf, WritingState, passes_spent, write_begun};
 
 use outside::Link;
 use ssm_stub::{
@@ -170,6 +172,17 @@ pub fn writes_follow_their_orders()
         → IsTaken order old (Writing w) new → w.passes ≡ chosen old order.nonce.serial }
     ensures bricks { (order : WriteOrder) (old new : WindowsValue) (w : WritingState)
         → IsTaken order old (Writing w) new → map (λ ask. ask.who) w.write.asks ≡ bricks_of w.passes }
+{}
+
+/// The cookie that a read tells is that by which it was begun, whatever it has heard since; and the order that a write
+/// tells is that of which it was begun. So the same call can be begun elsewhere. It refuses a copy that leaves out a
+/// holder.
+pub fn ways_tell_how_they_began()
+    ensures read { (now : Moment) (nonce : Version) (cookie : Cookie)
+        → cookie_asked (read_start now nonce cookie) ≡ cookie }
+    ensures read_stays { (here : ReadState) (told : Told) → cookie_asked (hear_read here told) ≡ cookie_asked here }
+    ensures write { (order copy : WriteOrder) (least : ℕ) (passes : List Pass)
+        → IsBegunOf copy (write_begun order least passes).write → copy ≡ order }
 {}
 
 /// No pass is lost on the way: those that were taken are held, each brick once and in their order, whatever steps are

@@ -6,12 +6,12 @@ ghost use Rattle.ssm_frames.specs.Spelling.{encode_of};
 ghost use Rattle.ssm_stub.specs.declared.event.StubNext.TheVariants.{Ended};
 ghost use Rattle.ssm_stub.specs.Reads.{read_answer, read_ask, read_machine, read_next, read_start};
 ghost use Rattle.ssm_stub.specs.Runs.{BreaksOff, Steps};
-ghost use Rattle.session_way.specs.Reading.{answer_of_read};
+ghost use Rattle.session_way.specs.Reading.{answer_of_read, cookie_asked};
 
 use crate::lease::SessionLease;
-use crash_base::{FrameBytes, Moment, OutOfMemory, SessionBytes, SessionKey, Version};
+use crash_base::{FrameBytes, Moment, OutOfMemory, SessionBytes, Version};
 use outside::Link;
-use session_cookie::Cookie;
+use session_cookie::{Cookie, HolderList};
 use ssm_stub::{CauseList, ReadCall, ReadRefusal, StubNext, read_step};
 use std::alloc::Global;
 use std::marker::Model;
@@ -31,8 +31,9 @@ pub enum ReadOutcome {
 #[derive(Drop)]
 pub struct SessionRead {
     call: ReadCall,
-    key: SessionKey,
-    expiry: Moment,
+    moment: Moment,
+    nonce: Version,
+    cookie: Cookie,
     ask: FrameBytes,
 }
 
@@ -40,17 +41,31 @@ impl Model for SessionRead {
     ghost use Rattle.std.specs.Prelude.{◌≡◌};
     ghost use Rattle.ssm_stub.specs.Reads.{ReadState, read_ask};
     ghost use Rattle.session_way.specs.Asks.{IsAskOf};
+    ghost use Rattle.session_way.specs.Reading.{IsBegunBy};
 
     ghost Value = { ReadState };
 
     ghost view = { λ r. r.call };
 
-    ghost invariant = { λ r. IsAskOf r.ask (read_ask r.call) × (r.key ≡ r.call.key) × (r.expiry ≡ r.call.expiry) };
+    ghost invariant = { λ r. IsAskOf r.ask (read_ask r.call) × IsBegunBy r.moment r.nonce r.cookie r.call };
+}
+
+/// A copy of a cookie.
+fn copied(alloc: Global, cookie: &Cookie) -> Result<Cookie, OutOfMemory>
+    ensures { IfOk result (λ copy. copy ≡ cookie.now) }
+{
+    let bricks = Vec::from_slice(alloc, cookie.bricks.as_slice())?;
+    Ok(Cookie {
+        key: cookie.key,
+        version: cookie.version,
+        expiry: cookie.expiry,
+        bricks: HolderList::from_vec(bricks),
+    })
 }
 
 impl SessionRead {
     /// A read of which nothing was sent yet: at the moment of its request, by this cookie, with a nonce that was drawn
-    /// for it. It visits each brick of the cookie once.
+    /// for it. It visits each brick of the cookie twice.
     ///
     /// # Errors
     /// There is no memory.
@@ -62,16 +77,40 @@ impl SessionRead {
     ) -> Result<SessionRead, OutOfMemory>
         ensures { IfOk result (λ read. read ≡ read_start now nonce cookie) }
     {
-        let key = cookie.key;
-        let expiry = cookie.expiry;
+        let kept = copied(alloc, &cookie)?;
         let call = ReadCall::new(alloc, now, nonce, cookie)?;
         let ask = call.frame(alloc)?;
         Ok(SessionRead {
             call,
-            key,
-            expiry,
+            moment: now,
+            nonce,
+            cookie: kept,
             ask,
         })
+    }
+
+    /// The moment of its request. It takes no memory.
+    pub fn moment(&self) -> Moment
+        ensures { result ≡ self.now.moment }
+    {
+        self.moment
+    }
+
+    /// The nonce that was drawn for it. It takes no memory.
+    pub fn nonce(&self) -> Version
+        ensures { result ≡ self.now.nonce }
+    {
+        self.nonce
+    }
+
+    /// A copy of the cookie by which it asks, whatever it has heard. It visits each brick of the cookie once.
+    ///
+    /// # Errors
+    /// There is no memory.
+    pub fn copy_cookie(&self, alloc: Global) -> Result<Cookie, OutOfMemory>
+        ensures { IfOk result (λ cookie. cookie ≡ cookie_asked self.now) }
+    {
+        copied(alloc, &self.cookie)
     }
 
     /// What it wants next; nothing once it has its answer. It takes no memory.
@@ -110,8 +149,8 @@ impl SessionRead {
         ensures key { (lease : SessionLease) → result ≡ ReadOutcome.Found lease → lease.key ≡ self.key }
         ensures expiry { (lease : SessionLease) → result ≡ ReadOutcome.Found lease → lease.expiry ≡ self.expiry }
     {
-        let key = self.key;
-        let expiry = self.expiry;
+        let key = self.cookie.key;
+        let expiry = self.cookie.expiry;
         match self.call.into_answer() {
             Some(Ok(value)) => ReadOutcome::Found(SessionLease { key, value, expiry }),
             Some(Err(ReadRefusal::Expired { now, expiry })) => ReadOutcome::Expired { now, expiry },

@@ -8,14 +8,15 @@ ghost use Rattle.ssm_stub.specs.declared.event.StubNext.TheVariants.{Ended};
 ghost use Rattle.ssm_stub.specs.Runs.{BreaksOff, Steps};
 ghost use Rattle.ssm_stub.specs.Writes.{write_answer, write_machine, write_next, write_until};
 ghost use Rattle.session_way.specs.Asks.{IsAskOf};
-ghost use Rattle.session_way.specs.Writing.{answer_of_write, passes_spent, write_begun};
+ghost use Rattle.session_way.specs.Writing.{IsBegunOf, answer_of_write, passes_spent, write_begun};
 
 use crash_base::{FrameBytes, Moment, OutOfMemory, SessionBytes, SessionKey, Version};
 use outside::Link;
-use send_windows::PassList;
+use send_windows::{Pass, PassList};
 use session_cookie::Cookie;
+use ssm_frames::Frame;
 use ssm_stub::{CauseList, StubNext, WriteCall, WriteRefusal, bricks_of, mark_passes, write_step};
-use std::alloc::Global;
+use std::alloc::{AllocFailed, Global};
 use std::marker::Model;
 
 /// What is to be written: a value under a session's key, as the version that the nonce names, until an expiry. Passes
@@ -56,13 +57,13 @@ pub struct SessionWrite {
 
 impl Model for SessionWrite {
     ghost use Rattle.session_way.specs.Asks.{IsAskOf};
-    ghost use Rattle.session_way.specs.Writing.{WritingState};
+    ghost use Rattle.session_way.specs.Writing.{IsPut, WritingState};
 
     ghost Value = { WritingState };
 
     ghost view = { λ w. record { write = w.call; passes = w.passes } };
 
-    ghost invariant = { λ w. IsAskOf w.ask w.call.ask };
+    ghost invariant = { λ w. IsAskOf w.ask w.call.ask × IsPut w.call };
 }
 
 /// A write of which nothing was sent, and the bytes of its ask.
@@ -150,6 +151,40 @@ impl SessionWrite {
         ensures { option_map (λ a. a.now) result ≡ write_answer self.now.write }
     {
         self.call.answer()
+    }
+
+    /// The passes by which it asks, as they were taken. It takes no memory.
+    pub fn passes(&self) -> &[Pass]
+        ensures { result.now ≡ self.now.passes }
+    {
+        self.passes.as_slice()
+    }
+
+    /// A copy of the order of which it was begun, whatever it has heard. It copies the value once.
+    ///
+    /// # Errors
+    /// There is no memory.
+    pub fn copy_order(&self, alloc: Global) -> Result<WriteOrder, OutOfMemory>
+        ensures { IfOk result (λ order. IsBegunOf order self.now.write) }
+    {
+        match self.call.ask() {
+            Frame::Put {
+                nonce,
+                key,
+                version: _,
+                expiry,
+                value,
+            } => {
+                let copy = Vec::from_slice(alloc, value.as_slice())?;
+                Ok(WriteOrder {
+                    nonce: *nonce,
+                    key: *key,
+                    value: SessionBytes::from_vec(copy),
+                    expiry: *expiry,
+                })
+            }
+            _ => unreachable!(),
+        }
     }
 
     /// Makes the call of the link that the write wants: one send of its ask, or one receive.
