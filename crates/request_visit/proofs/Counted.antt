@@ -10,6 +10,7 @@ use Rattle.outcome_items.specs.declared.item.Item.{Item}
 use Rattle.outside.specs.Link.{Tallied, Tally}
 use Rattle.outside.specs.declared.link.LinkCounts.{LinkCounts}
 use Rattle.outside.specs.declared.link.LinkEvent.{LinkEvent}
+use Rattle.request_tries.specs.Ends.{done_of}
 use Rattle.request_tries.specs.declared.outcome.Ended.{Ended}
 use Rattle.request_tries.specs.declared.outcome.RequestOutcome.{RequestOutcome}
 use Rattle.request_tries.specs.declared.outcome.RequestOutcome.TheVariants.{Page, Sentinel, Revoked, Conflict, JournalFull, KeeperFailed}
@@ -34,6 +35,7 @@ use Rattle.ssm_stub.specs.Runs.{Steps, told_of}
 use Rattle.ssm_stub.specs.Writes.{WriteState, write_machine, write_next}
 use Rattle.ssm_stub.specs.Reads.{read_next}
 use Rattle.ssm_stub.specs.declared.cause.BrickCause.{BrickCause}
+use Rattle.ssm_stub.specs.declared.event.Told.{Told}
 use Rattle.ssm_stub.specs.declared.reply.ReadReply.{ReadReply}
 use Rattle.ssm_stub.specs.declared.reply.WriteReply.{WriteReply}
 use Rattle.ssm_stub.specs.declared.write_call.WriteRefusal.TheVariants as write_refusal
@@ -74,14 +76,6 @@ begun_counts {P} facts counts w work v is none untold =
 -- a read that begins has asked no brick
 pub unread : (facts : VisitFacts) (nonce : Version) (cookie : Cookie) → noted_in (way.Reading (read_start facts.now nonce cookie)) ≡ nothing_noted
 unread facts nonce cookie = unasked_notes ReadReply cookie.bricks
-
--- what is told of a request changes, and what is held of its session stays or goes
-pub changed : {P : Type 0} (begin : LinkCounts) (v : Visit P) (w : SessionWay) (work : Work P) → noted_in w ≡ noted_in v.way → causes_in work ≡ causes_in v.work
-    → CountsStand begin v → HasCounted (noted_in w) begin v.counts × HasCounted (noted_by (causes_in work)) begin v.counts
-changed begin v w work same told s = (
-  subst (λ (n : Noted). HasCounted n begin v.counts) (sym same) s.held,
-  subst (λ (cs : List BrickCause). HasCounted (noted_by cs) begin v.counts) (sym told) s.told,
-)
 
 pub opened_counts : {P : Type 0} (begin : LinkCounts) (v : Visit P) (tries : TriesValue) (program : P)
     → CountsStand begin v → CountsStand begin (record v { work = Serving tries program })
@@ -129,7 +123,7 @@ leave_counts begin v s = record {
 module _ {L : Type 0} (makes : L → LinkEvent → L → Type 0) (tally : L → Tally) (tallies : (old new : L) (call : LinkEvent) → makes old call new → Tallied call (tally old) (tally new)) where
   -- what one step of the session notes and raises
   record Step (w after : SessionWay) (link later : L) : Type 0 where
-    told : Rattle.ssm_stub.specs.declared.event.Told.Told
+    told : Told
     notes : NotesMore told (noted_in w) (noted_in after)
     raises : Raises told (tally link) (tally later)
 
@@ -141,7 +135,7 @@ module _ {L : Type 0} (makes : L → LinkEvent → L → Type 0) (tally : L → 
   }
 
   write_step : (w next : WriteState) (link later : L) → Steps write_machine makes (encode_of w.ask) w link next later
-      → (told : Rattle.ssm_stub.specs.declared.event.Told.Told) × NotesMore told (noted_of w.asks) (noted_of next.asks) × Raises told (tally link) (tally later)
+      → (told : Told) × NotesMore told (noted_of w.asks) (noted_of next.asks) × Raises told (tally link) (tally later)
   write_step w next link later s = (
     told_of s.event,
     subst (λ (x : WriteState). NotesMore (told_of s.event) (noted_of w.asks) (noted_of x.asks)) (sym s.hears) (write_notes w (told_of s.event)),
@@ -336,7 +330,7 @@ closed_counts : {P : Type 0} (begin : LinkCounts) (v : Visit P) (history : List 
     → CountsStand begin v → CountsStand begin (after_closing_if (option_map (closing_of v.facts v.lease history) end) v)
 closed_counts begin v history None s = s
 closed_counts begin v history (Some e) s =
-    left_counts begin (record v { holds = (closing_of v.facts v.lease history e).holds }) (λ again. ready_of v.facts v.lease (Rattle.request_tries.specs.Ends.done_of history e)) e.outcome
+    left_counts begin (record v { holds = (closing_of v.facts v.lease history e).holds }) (λ again. ready_of v.facts v.lease (done_of history e)) e.outcome
     (record { held = s.held; told = s.told })
 
 pub inside_counts : {P : Type 0} (begin : LinkCounts) (asks : P → List Answer → Next) (old new : Visit P) (container after : ContainerValue)

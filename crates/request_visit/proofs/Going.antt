@@ -2,15 +2,18 @@
 use Rattle.std.specs.Prelude.{option_map, unwrap_or}
 use Rattle.std.proofs.Common.{◌≡◌, ℕ, ◌≤◌, ◌<◌, ◌^◌, ◌++◌, List, [], ◌∷◌, length, Option, Some, None, refl, sym, ap, subst, inl, inr, arith, length-append}
 use Rattle.boot_core.specs.Boot.{BootValue, HasGrown}
+use Rattle.boot_core.specs.declared.boot.Start.{Start}
 use Rattle.call_attempts.specs.Attempt.{AttemptValue}
 use Rattle.call_ticket.specs.declared.next.Answer.{Answer}
 use Rattle.call_ticket.specs.declared.next.Next.{Next}
 use Rattle.container_core.specs.Container.{ContainerValue, HasGrownBy, events_of}
 use Rattle.crash_base.specs.declared.numbers.Place.{Place}
 use Rattle.deployment.specs.declared.parts.Parts.{Parts}
+use Rattle.journal_model.specs.declared.entry.Entry.{Entry}
 use Rattle.outcome_items.specs.declared.item.Item.{Item}
 use Rattle.outside.specs.declared.link.LinkCounts.{LinkCounts}
-use Rattle.request_tries.specs.Serving.{IsServing, TriesValue, begun_at, closed, unbegun}
+use Rattle.request_tries.specs.Ends.{MayEnd}
+use Rattle.request_tries.specs.Serving.{IsServing, TriesValue, begun_at, errand_of}
 use Rattle.request_tries.specs.Tries.{first_begin}
 use Rattle.request_tries.specs.declared.outcome.Ended.{Ended}
 use Rattle.request_tries.specs.declared.outcome.Try.{Try}
@@ -27,7 +30,7 @@ use Rattle.session_way.specs.declared.way.Wants.TheVariants as wanted
 use Rattle.session_way.specs.Way.{wants}
 use Rattle.request_visit.specs.Advancing.{Advances, HearsReadOf, IsItemOf, after_leaving, after_read, departed}
 use Rattle.request_visit.specs.Going.{IsServedFrom, IsServedIn, MayGoOn}
-use Rattle.request_visit.specs.Serving.{Serves, closing_of}
+use Rattle.request_visit.specs.Serving.{GoesOn, Serves, closing_of}
 use Rattle.request_visit.specs.Stepping.{IsGivenBack, OnServing, ServesWork, VisitsInside, VisitsWindows, after_closing_if, dropped, left_so}
 use Rattle.request_visit.specs.Visits.{after_outcome, begun, fate_missed, fate_written, overloaded, turn, turn_by, with_fate}
 use Rattle.request_visit.specs.declared.facts.VisitFacts.{VisitFacts}
@@ -81,7 +84,7 @@ later_begin (t ∷ ts) a n m k le since = since
 
 longer : (old new : BootValue) → HasGrown old new → length old.entries ≤ length new.entries
 longer old new grown =
-    let more : length new.entries ≡ length (old.entries ++ grown.more) = ap (λ (es : List Rattle.journal_model.specs.declared.entry.Entry.Entry). length es) grown.entries in
+    let more : length new.entries ≡ length (old.entries ++ grown.more) = ap (λ (es : List Entry). length es) grown.entries in
     omega (arith, more, length-append old.entries grown.more)
 
 served_longer : {P : Type 0} (stays : StaysServed) (accepts : P → Parts → Type 0) (asks : P → List Answer → Next) (old new : BootValue) (front : Place) (work : Work P)
@@ -89,7 +92,7 @@ served_longer : {P : Type 0} (stays : StaysServed) (accepts : P → Parts → Ty
 served_longer stays accepts asks old new front Reading grown s = tt
 served_longer stays accepts asks old new front Opening grown s = tt
 served_longer stays accepts asks old new front (Serving tries program) grown s = record {
-  accepted = subst (λ (start : Rattle.boot_core.specs.declared.boot.Start.Start). accepts program start.deployment) (sym grown.start) s.accepted;
+  accepted = subst (λ (start : Start). accepts program start.deployment) (sym grown.start) s.accepted;
   serving = stays old new (asks program) tries grown s.serving;
   since = later_begin tries.tries tries.attempt (length old.entries) (length new.entries) front.0 (longer old new grown) s.since;
 }
@@ -252,22 +255,22 @@ serves_goes {P} first stays accepts asks old container after tries program closi
 
       on : serves.end ≡ None → IsServedFrom accepts asks after.boot old.facts.front later program
       on none = record {
-        accepted = subst (λ (start : Rattle.boot_core.specs.declared.boot.Start.Start). accepts program start.deployment) (sym grown.boot.start) s.accepted;
+        accepted = subst (λ (start : Start). accepts program start.deployment) (sym grown.boot.start) s.accepted;
         serving = serves.brings.serving none;
         since =
             subst (λ (n : ℕ). old.facts.front.0 ≤ n)
             (sym (begun_kept first container after (asks program) tries serves.mid later serves.to (length after.boot.entries) serves.steps
-            (subst (λ (o : Option Ended). Rattle.request_visit.specs.Serving.GoesOn container serves.mid serves.to o after later) none serves.goes_on)))
+            (subst (λ (o : Option Ended). GoesOn container serves.mid serves.to o after later) none serves.goes_on)))
             s.since;
       }
 
       by : (end : Option Ended) → serves.end ≡ end → MayGoOn accepts asks after.boot (after_closing_if (option_map (closing_of old.facts old.lease (events_of after)) end) (record old { work = Serving later program }))
       by None is = other_work accepts asks after.boot old (Serving later program) (on is) now
       by (Some e) is =
-          let goes = subst (λ (o : Option Ended). Rattle.request_visit.specs.Serving.GoesOn container serves.mid serves.to o after later) is serves.goes_on in
+          let goes = subst (λ (o : Option Ended). GoesOn container serves.mid serves.to o after later) is serves.goes_on in
           let from = ended_from first container after (asks program) tries serves.mid later serves.to e serves.steps goes in
           let front = ended_front container after (asks program) tries serves.mid later serves.to e serves.steps goes in
-          let stands = subst (λ (o : Option Ended). Rattle.request_tries.specs.Ends.MayEnd after.boot.start (events_of after) (Rattle.request_tries.specs.Serving.errand_of tries (asks program)) o) is serves.brings.ended in
+          let stands = subst (λ (o : Option Ended). MayEnd after.boot.start (events_of after) (errand_of tries (asks program)) o) is serves.brings.ended in
           left_goes accepts asks after.boot _ (closing_of old.facts old.lease (events_of after) e).closed
           (subst (λ (n : ℕ). old.facts.front.0 ≤ n) (sym from) s.since) stands.from (omega (arith, front)) g.small
 

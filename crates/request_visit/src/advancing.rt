@@ -183,12 +183,12 @@ impl<P: Drop> Visit<P> {
     /// cookies are written. A page of an entry without a write was made before its commit, so this makes no such one.
     ///
     /// # Errors
-    /// There is no memory. What it holds is as it was; its request goes no further.
+    /// There is no memory. The request is as it was, but its work is lost: it goes no further.
     pub fn advance(&mut self, alloc: Global, key: &[u8]) -> Result<(), OutOfMemory>
         requires turn { turn self.old ≡ Turn.Own }
         requires holders { IfSome (cookie_in (answer_held self.old.way)) (λ c. AreHolders c.bricks) }
         ensures advances { OnOk result (Advances key.now self.old self.old.work self.new) }
-        ensures holds { OnErr result (self.new.way ≡ self.old.way) }
+        ensures holds { OnErr result (self.new ≡ record self.old { work = Work.Opening }) }
     {
         match self.take_work() {
             Work::Reading => {

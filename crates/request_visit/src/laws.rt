@@ -45,7 +45,7 @@ ghost use Rattle.request_visit.specs.Visits.{begun, turn};
 ghost use Rattle.request_visit.specs.declared.facts.VisitFacts.{VisitFacts};
 ghost use Rattle.request_visit.specs.declared.visit.Fate.{Fate};
 ghost use Rattle.request_visit.specs.declared.visit.Fate.TheVariants.{Writing};
-ghost use Rattle.request_visit.specs.declared.visit.Work.TheVariants.{Reading, Opening, Serving, Decided, Left};
+ghost use Rattle.request_visit.specs.declared.visit.Work.TheVariants.{Reading, Opening, Serving, Committed, Decided, Left};
 ghost use Rattle.request_visit.specs.declared.visit.Visit.{Visit};
 ghost use Rattle.crash_base.specs.declared.numbers.Moment.{Moment};
 ghost use Rattle.crash_base.specs.declared.numbers.Place.{Place};
@@ -235,7 +235,8 @@ pub fn responses_are_of_their_items<P: Program>()
 /// keeps it and it was read and its lease is due; by an order of the request's own key and nonce, with passes that
 /// were taken for that; and its cookie, or the causes for which there is none, are what that write came to. A cookie
 /// that is held while a response is made may be read, and stays until the passes are spent. So what its item says of
-/// its session is what came of it.
+/// its session is what came of it. That passes were refused is told only where fewer windows are open than are to store
+/// the value, with all that are full; and that a session has expired only past the expiry of its cookie.
 pub fn requests_account_for_their_sessions<P: Program, L: Link>()
     ensures begins { (history : List Event) (facts : VisitFacts) (counts : LinkCounts) (nonce : Version)
         (cookie : Cookie) (v : Visit P)
@@ -294,17 +295,26 @@ pub fn requests_account_for_their_sessions<P: Program, L: Link>()
         × AreHolders c.bricks }
     ensures unset { (begin : Option ReadState) (facts : VisitFacts) (es : List Entry) (i : Item) (place : Place)
         (again : Bool) → TellsSession L.makes begin facts es i → i.outcome ≡ item.Ended (Page place again)
-        → i.cookie ≡ None → (lease : Option SessionLease) × (i.value ≡ option_map (λ l. l.value) lease)
-        × (value_to_write (set_in (done_at es place)) facts.now lease ≡ None) }
+        → i.cookie ≡ None → (set_in (done_at es place) ≡ None)
+        × ((start : ReadState) → begin ≡ Some start → facts.now.0 + 900000 ≤ start.expiry.0) }
     ensures set { (begin : Option ReadState) (facts : VisitFacts) (es : List Entry) (i : Item) (place : Place)
         (again : Bool) (c : Cookie) → TellsSession L.makes begin facts es i → i.outcome ≡ item.Ended (Page place again)
-        → i.cookie ≡ Some c → (lease : Option SessionLease) × (i.value ≡ option_map (λ l. l.value) lease)
-        × (order : WriteOrder) × (value_to_write (set_in (done_at es place)) facts.now lease ≡ Some order.value)
-        × WritesTo L.makes order (Ok c) }
+        → i.cookie ≡ Some c → (order : WriteOrder) × WritesTo L.makes order (Ok c)
+        × ((value : List ℕ) → set_in (done_at es place) ≡ Some value → order.value ≡ value)
+        × (set_in (done_at es place) ≡ None → (start : ReadState) × (begin ≡ Some start)
+        × (start.expiry.0 ≤ facts.now.0 + 899999) × (i.value ≡ Some order.value)) }
     ensures full { (begin : Option ReadState) (facts : VisitFacts) (es : List Entry) (i : Item) (place : Place)
         (again : Bool) (full : List WindowFact) → TellsSession L.makes begin facts es i
         → i.outcome ≡ item.Overload place again full → (windows : WindowsValue)
         × (open_count windows.facts < windows.wq) × (full ≡ full_facts windows.facts) }
+    ensures overload { (old new : Visit P) (windows after : WindowsValue) (place told : Place) (again once : Bool)
+        (shown : Shown) (full : List WindowFact) → VisitsWindows old windows new after
+        → old.work ≡ Committed place again shown → new.work ≡ Decided (item.Overload told once full)
+        → (told ≡ place) × (once ≡ again) × (open_count windows.facts < windows.wq)
+        × (full ≡ full_facts windows.facts) }
+    ensures expired { (now at expiry : Moment) (nonce : Version) (cookie : Cookie)
+        → ReadsTo L.makes (read_start now nonce cookie) (Err (read_refusal.Expired at expiry))
+        → (at ≡ now) × (expiry ≡ cookie.expiry) × (cookie.expiry.0 < now.0) }
     ensures found { (now : Moment) (nonce : Version) (cookie : Cookie) (value : List ℕ) → AreHolders cookie.bricks
         → ReadsTo L.makes (read_start now nonce cookie) (Ok value)
         → IsRead (MakesAmong L.makes) nonce cookie tt tt value }
@@ -325,8 +335,8 @@ pub fn requests_account_for_their_sessions<P: Program, L: Link>()
 
 /// The causes that a request is told came with what the link counted while the request was on its way, whatever others
 /// do between two of its steps, with the link too: a silence for each brick that was silent, and 64 frames for each
-/// that strayed, up to the last value of a count. Others only raise what the link counted, so it is at least what the
-/// request saw last.
+/// that strayed, up to the last value of a count. Others may only raise what the link counted: before a call it is at
+/// least what the request saw last (`outside`).
 pub fn requests_account_for_their_causes<P: Program, L: Link>()
     ensures begins { (facts : VisitFacts) (counts : LinkCounts) (nonce : Version) (cookie : Cookie) (v : Visit P)
         → (v ≡ begun facts counts (way_is.Reading (read_start facts.now nonce cookie)) Reading)
@@ -366,8 +376,8 @@ pub fn requests_account_for_their_causes<P: Program, L: Link>()
 {}
 
 /// A request that may go on in a boot may go on after each of its steps, whatever others do between two of them: in
-/// the boot as it has grown meanwhile. It may begin with the length that the journal had when the container was last
-/// held, and come to the container with a program that the deployment accepts, and with tries that have not begun.
+/// the boot as it has grown meanwhile. It may begin where the journal is no shorter than its front, and come to the
+/// container with a program that the deployment accepts, and with tries that have not begun.
 /// So its caller may let it step in the container, at each turn of the container's; and the places of its item are in
 /// order, from that length on.
 pub fn requests_go_on<P: Program>()

@@ -86,6 +86,7 @@ impl<P: Drop> Visit<P> {
         ensures step { OnOk result (VisitsWindows self.old windows.old self.new windows.new) }
         ensures want { OnErr result (
             IsRefused self.old.way windows.old self.new.way windows.new refusal.OutOfMemory) }
+        ensures rest { OnErr result (self.new ≡ record self.old { way = self.new.way }) }
     {
         match self.way.step_windows(alloc, windows) {
             Ok(outcome) => {

@@ -8,7 +8,7 @@ use Rattle.request_visit.specs.Sessions.{MakesAmong}
 use Rattle.request_visit.specs.declared.visit.Work.TheVariants.{Opening, Decided}
 use Rattle.request_visit.proofs.Chaining.{missed_so, written_so}
 use Rattle.request_visit.proofs.Standing.{advance_stands, answered_stands, back_stands, cookie_stays, cookie_told_by, dropped_stands, holders_stand, inside_stands, item_stands, leave_stands, meanwhile_stands, opened_stands, outside_stands, reading_begins, unread_begins, windows_stand}
-use Rattle.request_visit.proofs.Plain.{full_by, set_by, unset_by}
+use Rattle.request_visit.proofs.Plain.{expired_by, full_by, overload_by, set_by, unset_by}
 use Rattle.request_visit.proofs.laws.requests_account_for_their_sessions.Goals as goal
 
 pub returns-clause-begins : goal.returns-clause-begins
@@ -97,3 +97,10 @@ returns-clause-set g c = λ begin facts es i place again cookie told is some. se
 
 pub returns-clause-full : goal.returns-clause-full
 returns-clause-full g c = λ begin facts es i place again full told is. full_by g.L.Link.makes begin facts es i place again full told is
+
+pub returns-clause-overload : goal.returns-clause-overload
+returns-clause-overload g c = λ old new windows after place told again once shown full visits was is.
+    overload_by old new windows after place told again once shown full visits was is
+
+pub returns-clause-expired : goal.returns-clause-expired
+returns-clause-expired g c = λ now at expiry nonce cookie ends. expired_by g.L.Link.makes now at expiry nonce cookie ends
