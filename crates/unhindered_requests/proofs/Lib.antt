@@ -3,6 +3,7 @@ pub mod Asked
 pub mod Calls
 pub mod Ending
 pub mod Fewer
+pub mod Freeing
 pub mod Given
 pub mod Pages
 pub mod Tried

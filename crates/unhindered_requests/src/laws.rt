@@ -1,12 +1,25 @@
 //! The laws. Each is the contract of a function that does nothing: a caller that needs the law calls the function.
 
-ghost use Rattle.std.specs.Prelude.{◌≡◌, ◌≤◌, ◌<◌, ◌+◌, ℕ, Bool, true, List, Option, None, Some, IfSome};
+ghost use Rattle.std.specs.Prelude.{◌≡◌, ◌≤◌, ◌<◌, ◌+◌, ℕ, Bool, true, All, List, length, Option, None, Some, IfSome};
 ghost use Rattle.std.specs.List.{count_by};
+ghost use Rattle.boot_core.specs.Refusals.{HasRoomFor};
+ghost use Rattle.call_attempts.specs.Attempt.{AttemptValue, wanted};
+ghost use Rattle.call_ticket.specs.declared.next.Answer.{Answer};
+ghost use Rattle.call_ticket.specs.declared.next.Next.{Next};
+ghost use Rattle.call_ticket.specs.declared.next.Next.TheVariants as next;
 ghost use Rattle.crash_base.specs.declared.numbers.BrickNo.{BrickNo};
+ghost use Rattle.crash_base.specs.declared.numbers.ComponentNo.{ComponentNo};
 ghost use Rattle.crash_base.specs.declared.numbers.RequestNo.{RequestNo};
 ghost use Rattle.crash_base.specs.declared.numbers.Version.{Version};
 ghost use Rattle.container_core.specs.Container.{ContainerValue};
+ghost use Rattle.deployment.specs.Groups.{group_of};
 ghost use Rattle.http_wire.specs.declared.taken.Head.{Head};
+ghost use Rattle.journal_model.specs.Conflicts.{conflict_of};
+ghost use Rattle.journal_model.specs.Reboots.{down_of};
+ghost use Rattle.journal_model.specs.Stale.{stale_in};
+ghost use Rattle.journal_model.specs.declared.conflict.Conflict.{Conflict};
+ghost use Rattle.journal_model.specs.declared.entry.DoneText.{DoneText};
+ghost use Rattle.journal_model.specs.declared.stale.Stale.{Stale};
 ghost use Rattle.outside.specs.Faults.{Rose};
 ghost use Rattle.outside.specs.declared.link.LinkCounts.{LinkCounts};
 ghost use Rattle.outside.specs.declared.serials.TheConstants.{SERIALS_END};
@@ -20,12 +33,15 @@ ghost use Rattle.request_intake.specs.declared.intake.Arrival.TheVariants.{Seria
 ghost use Rattle.request_intake.specs.declared.intake.HomeBoot.{HomeBoot};
 ghost use Rattle.request_intake.specs.declared.intake.Intake.{Intake};
 ghost use Rattle.request_tries.specs.Serving.{IsServing, TriesValue};
+ghost use Rattle.request_tries.specs.Steps.{action_of};
 ghost use Rattle.send_windows.specs.declared.fact.TheConstants.{MAX_BRICKS};
 ghost use Rattle.send_windows.specs.Windows.{WindowsValue};
+ghost use Rattle.send_windows.specs.declared.pass.Pass.{Pass};
 ghost use Rattle.session_cookie.specs.declared.cookie.Cookie.{Cookie};
 ghost use Rattle.session_cookie.specs.declared.cookie.Holder.{Holder};
 ghost use Rattle.session_cookie.specs.Cookie.{AreHolders};
 ghost use Rattle.session_way.specs.Way.{StepsOutside, passes_for};
+ghost use Rattle.session_way.specs.Writing.{WritingState};
 ghost use Rattle.session_way.specs.declared.session_write.WriteOrder.{WriteOrder};
 ghost use Rattle.session_way.specs.declared.way.SessionWay.{SessionWay};
 ghost use Rattle.session_way.specs.declared.way.SessionWay.TheVariants as way_is;
@@ -82,9 +98,10 @@ pub fn ordered_requests_are_admitted<R: Random, S: Serials>()
 /// its steps. It begins unhindered where it has no session; and where its moment is not past the expiry of its cookie,
 /// and a brick of the cookie serves. It stays so
 ///
-/// - at a call of the link, where it gives no brick that serves a cause against it (`Serve`);
-/// - at a step in the container, where that is free (`IsFree`: no reboot, conflict or full journal stands in its way)
-///   and the keeper did not fail, so that its count of faults did not rise;
+/// - at a call of the link, where it gives no brick that serves a cause against it (`Serve`, by `serve` and
+///   `serve_else`);
+/// - at a step in the container, where that is free (`IsFree`, by `free`: no reboot, conflict or full journal stands in
+///   its way) and the keeper did not fail, so that its count of faults did not rise;
 /// - where passes are taken, if of the bricks that they are for as many serve as are to store a value: so as many
 ///   windows are open;
 /// - and at each other step. Its item is then a page.
@@ -98,12 +115,28 @@ pub fn unhindered_requests_end_as_pages<P: Program, L: Link>()
     ensures outside { (serves : BrickNo → Bool) (v : Visit P) (way : SessionWay) (counts : LinkCounts) (link after : L)
         → StepsOutside L.makes v.way link way after → Serve serves way
         → IsUnhindered serves v → IsUnhindered serves (record v { way = way; counts = counts }) }
+    ensures serve { (serves : BrickNo → Bool) (r : ReadState) (w : WritingState)
+        → (All (λ ask. serves ask.who.brick ≡ true → loss_by ask.ear ≡ None) r.asks → Serve serves (way_is.Reading r))
+        × (All (λ ask. serves ask.who ≡ true → cause_by ask.ear ≡ None) w.write.asks
+        → Serve serves (way_is.Writing w)) }
+    ensures serve_else { (serves : BrickNo → Bool) (order : WriteOrder) (w : WritingState) (passes : List Pass)
+        → Serve serves way_is.Resting × Serve serves (way_is.Ordered order) × Serve serves (way_is.Settling w)
+        × Serve serves (way_is.Holding passes) }
     ensures opens { (serves : BrickNo → Bool) (v : Visit P) (tries : TriesValue) (program : P)
         → IsUnhindered serves (record v { work = Serving tries program }) }
     ensures inside { (serves : BrickNo → Bool) (old new : Visit P) (container after : ContainerValue)
         → VisitsInside P.asks old container new after
         → OnServing old.work (λ tries program. IfSome tries.attempt (λ a. IsFree (P.asks program) container tries a))
         → (Rose container.faults after.faults → ⊥) → IsUnhindered serves new }
+    ensures free { (asks : List Answer → Next) (c : ContainerValue) (tries : TriesValue) (a : AttemptValue)
+        → ((shown : Stale) → stale_in c.boot.entries a.ticket.call.touched ≡ Some shown
+        → (length tries.tries + 1 < 3) × (a.repeats ≡ true))
+        → ((shown : Conflict) → conflict_of c.boot.entries a.ticket.call ≡ Some shown → length tries.tries + 1 < 3)
+        → ((x : ComponentNo) (method : ℕ) → wanted asks a ≡ next.Enter x method
+        → down_of c.boot.entries (group_of c.boot.start.deployment x.0) ≡ None)
+        → ((done : DoneText) → wanted asks a ≡ next.Done done
+        → HasRoomFor c.boot.start.limits c.boot.entries a.ticket.call (action_of tries done))
+        → IsFree asks c tries a }
     ensures windows { (serves : BrickNo → Bool) (old new : Visit P) (windows after : WindowsValue)
         → VisitsWindows old windows new after → ((order : WriteOrder) → old.way ≡ way_is.Ordered order
         → windows.wq ≤ count_by serves (bricks_of (passes_for order windows)))
@@ -123,7 +156,7 @@ pub fn unhindered_requests_end_as_pages<P: Program, L: Link>()
 }
 
 /// A request comes to its end, whether anything hinders it or not: each of its steps leaves fewer (`steps_left`), and
-/// where it began there are at most 2,476, or 1,435 without a session. So after at most so many its turn is `Over`.
+/// where it began there are at most 2,476, or 1,435 without a session. So no more than so many can be made.
 pub fn requests_come_to_their_end<P: Program, L: Link>()
     ensures unread { (facts : VisitFacts) (counts : LinkCounts) (v : Visit P)
         → v ≡ begun facts counts way_is.Resting Opening → steps_left v ≤ 1435 }

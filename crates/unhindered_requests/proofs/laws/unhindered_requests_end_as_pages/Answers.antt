@@ -1,3 +1,4 @@
+use Rattle.unhindered_requests.proofs.Freeing.{free_so}
 use Rattle.unhindered_requests.proofs.Pages.{advance_unhindered, back_unhindered, inside_unhindered, item_unhindered, leave_unhindered, outside_unhindered, read_unhindered, unread_unhindered, windows_unhindered}
 use Rattle.unhindered_requests.proofs.laws.unhindered_requests_end_as_pages.Goals as goal
 
@@ -32,3 +33,12 @@ returns-clause-back g c = back_unhindered
 
 pub returns-clause-item : goal.returns-clause-item
 returns-clause-item g c = item_unhindered
+
+pub returns-clause-serve : goal.returns-clause-serve
+returns-clause-serve g c = λ serves r w. (λ h. h, λ h. h)
+
+pub returns-clause-serve_else : goal.returns-clause-serve_else
+returns-clause-serve_else g c = λ serves order w passes. (tt, tt, tt, tt)
+
+pub returns-clause-free : goal.returns-clause-free
+returns-clause-free g c = λ asks container tries a stale conflict up room. free_so asks container tries a stale conflict up room
