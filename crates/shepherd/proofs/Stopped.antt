@@ -1,5 +1,5 @@
 -- A connection that stops accounts for what it has added and left.
-use Rattle.std.proofs.Common.{◌≡◌, ◌≢◌, inl, inr, ◌≤◌, true, false, List, [], ◌∷◌, ◌++◌, length, map, slice_get, refl, sym, ap, ◌∙◌, subst, Option, Some, None, arith}
+use Rattle.std.proofs.Common.{◌≡◌, ◌≢◌, ◌⊎◌, inl, inr, ◌≤◌, true, false, List, [], ◌∷◌, ◌++◌, length, map, slice_get, refl, sym, ap, ◌∙◌, subst, Option, Some, None, arith}
 use Rattle.std.proofs.lemmas.List.Elements.{All-weaker}
 use Rattle.std.proofs.lemmas.List.{append-nil, append_assoc}
 use Rattle.boot_core.specs.declared.boot.Start.{Start}
@@ -244,6 +244,15 @@ kept {P} asks start history own marks items s new steps h = with_stage asks star
   by (Refusing why bytes) steps m = absurd steps
   by (Over end) steps m = absurd steps
 
+pub opening : {P : Type 0} (asks : P → List Answer → Next) (start : Start) (history own : List Event) (marks : List WindowMark) (items : List Item) (s new : Shepherd P)
+    → StepsVisit (λ v w. w ≡ record v { work = Opening }) s.stage new.stage → Stopped asks start history own marks items s → Stopped asks start history own marks items new
+opening {P} asks start history own marks items s new steps h = kept asks start history own marks items s new (by s.stage steps) h where
+  by : (x : Stage P) → StepsVisit (λ v w. w ≡ record v { work = Opening }) x new.stage → StepsVisit (λ v w. w.way ≡ v.way) x new.stage
+  by Resting steps = absurd steps
+  by (Serving v call) steps = (steps.0, ap (λ (x : Visit P). x.way) steps.1, steps.2)
+  by (Refusing why bytes) steps = absurd steps
+  by (Over end) steps = absurd steps
+
 pub inside : {P : Type 0} (asks : P → List Answer → Next) (start : Start) (history own : List Event) (marks : List WindowMark) (items : List Item) (s new : Shepherd P)
     → StepsVisit IsServedStill s.stage new.stage → Stopped asks start history own marks items s → Stopped asks start history own marks items new
 inside {P} asks start history own marks items s new steps h = kept asks start history own marks items s new (by s.stage steps) h where
@@ -455,3 +464,49 @@ no_item {P} s stage win after back unsent = by s.stage back unsent where
       ap has_item back.2 ∙ unsent_over back.0.work (wants back.0.way) (ap (λ (x : Visit P). has_left x.work) back.1.back.new_is ∙ unsent_behind v back.1.back.outcome unsent)
   by (Refusing why bytes) back unsent = ap has_item back.0
   by (Over end) back unsent = ap has_item back.0
+
+-- Where the work of a request is lost, or it is served in the container still, its response has not left.
+pub unsent : {P : Type 0} (s new : Shepherd P) → StepsVisit (λ v w. w ≡ record v { work = Opening }) s.stage new.stage ⊎ StepsVisit IsServedStill s.stage new.stage
+    → IfOpen new.stage (λ v call. has_left v.work ≡ false)
+unsent {P} s new steps = elim steps [ inl opened ↦ opened_by s.stage opened | inr served ↦ served_by s.stage served ] where
+  opened_by : (x : Stage P) → StepsVisit (λ v w. w ≡ record v { work = Opening }) x new.stage → IfOpen new.stage (λ v call. has_left v.work ≡ false)
+  opened_by Resting steps = absurd steps
+  opened_by (Serving v call) steps = subst (λ (y : Stage P). IfOpen y (λ v call. has_left v.work ≡ false)) (sym steps.2) (ap (λ (x : Visit P). has_left x.work) steps.1)
+  opened_by (Refusing why bytes) steps = absurd steps
+  opened_by (Over end) steps = absurd steps
+
+  inside_unsent : (v after : Visit P) (w : Work P) → OnServing w (λ tries program. (later : TriesValue) × (after ≡ record v { work = ServingBy later program })) → has_left after.work ≡ false
+  inside_unsent v after Reading so = absurd so
+  inside_unsent v after Opening so = absurd so
+  inside_unsent v after (ServingBy tries program) so = ap (λ (x : Visit P). has_left x.work) so.1
+  inside_unsent v after (Committed place again shown) so = absurd so
+  inside_unsent v after (Decided became) so = absurd so
+  inside_unsent v after (Answered fate bytes) so = absurd so
+  inside_unsent v after (Left fate) so = absurd so
+
+  served_by : (x : Stage P) → StepsVisit IsServedStill x new.stage → IfOpen new.stage (λ v call. has_left v.work ≡ false)
+  served_by Resting steps = absurd steps
+  served_by (Serving v call) steps = subst (λ (y : Stage P). IfOpen y (λ v call. has_left v.work ≡ false)) (sym steps.2) (inside_unsent v steps.0 v.work steps.1)
+  served_by (Refusing why bytes) steps = absurd steps
+  served_by (Over end) steps = absurd steps
+
+-- Where all but the way of a session is as it was, or but the call, a response that had not left has not.
+pub unsent_still : {P : Type 0} (s new : Shepherd P)
+    → (new.stage ≡ s.stage) ⊎ (StepsVisit (λ v w. w ≡ record v { way = w.way }) s.stage new.stage ⊎ OnVisit s.stage (λ v call. new.stage ≡ Serving v None))
+    → IfOpen s.stage (λ v call. has_left v.work ≡ false) → IfOpen new.stage (λ v call. has_left v.work ≡ false)
+unsent_still {P} s new so before = elim so [
+  | inl same ↦ subst (λ (y : Stage P). IfOpen y (λ v call. has_left v.work ≡ false)) (sym same) before
+  | inr more ↦ elim more [ inl stepped ↦ stepped_by s.stage stepped before | inr unmade ↦ unmade_by s.stage unmade before ]
+] where
+  stepped_by : (x : Stage P) → StepsVisit (λ v w. w ≡ record v { way = w.way }) x new.stage → IfOpen x (λ v call. has_left v.work ≡ false) → IfOpen new.stage (λ v call. has_left v.work ≡ false)
+  stepped_by Resting steps before = absurd steps
+  stepped_by (Serving v call) steps before =
+      subst (λ (y : Stage P). IfOpen y (λ v call. has_left v.work ≡ false)) (sym steps.2) (ap (λ (x : Visit P). has_left x.work) steps.1 ∙ before)
+  stepped_by (Refusing why bytes) steps before = absurd steps
+  stepped_by (Over end) steps before = absurd steps
+
+  unmade_by : (x : Stage P) → OnVisit x (λ v call. new.stage ≡ Serving v None) → IfOpen x (λ v call. has_left v.work ≡ false) → IfOpen new.stage (λ v call. has_left v.work ≡ false)
+  unmade_by Resting is before = absurd is
+  unmade_by (Serving v call) is before = subst (λ (y : Stage P). IfOpen y (λ v call. has_left v.work ≡ false)) (sym is) before
+  unmade_by (Refusing why bytes) is before = absurd is
+  unmade_by (Over end) is before = absurd is

@@ -7,6 +7,7 @@ ghost use Rattle.request_visit.specs.Advancing.{Advances, cookie_in};
 ghost use Rattle.request_visit.specs.Stepping.{OnServing, VisitsInside, VisitsWindows};
 ghost use Rattle.request_visit.specs.Visits.{turn as visit_turn};
 ghost use Rattle.request_visit.specs.declared.visit.Turn.TheVariants as visit;
+ghost use Rattle.request_visit.specs.declared.visit.Work.TheVariants.{Opening};
 ghost use Rattle.session_cookie.specs.Cookie.{AreHolders};
 ghost use Rattle.send_windows.specs.declared.windows.TakeRefusal.TheVariants as refusal;
 ghost use Rattle.session_way.specs.Way.{IsRefused, answer_held};
@@ -44,6 +45,7 @@ impl<P: Drop> Stage<P> {
             self.old self.new) }
         ensures want { OnErr result (StepsVisit (λ v after.
             IsRefused v.way windows.old after.way windows.new refusal.OutOfMemory) self.old self.new) }
+        ensures rest { OnErr result (StepsVisit (λ v after. after ≡ record v { way = after.way }) self.old self.new) }
     {
         match self {
             Stage::Serving(visit, _) => visit.step_windows(alloc, windows),
@@ -59,7 +61,7 @@ impl<P: Drop> Stage<P> {
         requires holders { OnVisit self.old (λ v call.
             IfSome (cookie_in (answer_held v.way)) (λ c. AreHolders c.bricks)) }
         ensures step { OnOk result (StepsVisit (λ v after. Advances key.now v v.work after) self.old self.new) }
-        ensures holds { OnErr result (StepsVisit (λ v after. after.way ≡ v.way) self.old self.new) }
+        ensures holds { OnErr result (StepsVisit (λ v after. after ≡ record v { work = Opening }) self.old self.new) }
     {
         match self {
             Stage::Serving(visit, _) => visit.advance(alloc, key),
@@ -146,13 +148,16 @@ impl<P: Drop> Shepherd<P> {
     /// Makes one call of the windows for the session of the request that is open: passes are taken, or spent.
     ///
     /// # Errors
-    /// There is no memory: the connection has ended. Passes that were taken are given back by `drop_passes`.
+    /// There is no memory: the connection has ended. All of the request that is open is as it was, but for what it
+    /// does with its session: passes that were taken are given back by `drop_passes`.
     pub fn step_windows(&mut self, alloc: Global, windows: &mut Windows) -> Result<(), OutOfMemory>
         requires { turn self.old ≡ ShepherdTurn.Windows }
         ensures step { OnOk result (ShepherdSteps (λ v after. VisitsWindows v windows.old after windows.new)
             self.old self.new) }
         ensures holds { OnErr result (StepsVisit (λ v after.
             IsRefused v.way windows.old after.way windows.new refusal.OutOfMemory) self.old.stage self.new.stage) }
+        ensures rest { OnErr result (StepsVisit (λ v after. after ≡ record v { way = after.way })
+            self.old.stage self.new.stage) }
         ensures want { OnErr result (self.new ≡ record self.old { stage = self.new.stage; wants_memory = true }) }
     {
         let answer = self.stage.step_windows(alloc, windows);
@@ -163,13 +168,14 @@ impl<P: Drop> Shepherd<P> {
     /// else is asked.
     ///
     /// # Errors
-    /// There is no memory: the connection has ended.
+    /// There is no memory: the connection has ended. The request that is open is as it was, but its work is lost.
     pub fn advance(&mut self, alloc: Global, key: &[u8]) -> Result<(), OutOfMemory>
         requires turn { turn self.old ≡ ShepherdTurn.Own }
         requires holders { OnVisit self.old.stage (λ v call.
             IfSome (cookie_in (answer_held v.way)) (λ c. AreHolders c.bricks)) }
         ensures step { OnOk result (ShepherdSteps (λ v after. Advances key.now v v.work after) self.old self.new) }
-        ensures holds { OnErr result (StepsVisit (λ v after. after.way ≡ v.way) self.old.stage self.new.stage) }
+        ensures holds { OnErr result (StepsVisit (λ v after. after ≡ record v { work = Opening })
+            self.old.stage self.new.stage) }
         ensures want { OnErr result (self.new ≡ record self.old { stage = self.new.stage; wants_memory = true }) }
     {
         let answer = self.stage.advance(alloc, key);

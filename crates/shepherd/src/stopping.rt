@@ -1,11 +1,12 @@
 //! The law of connections that stopped, since memory was wanted. It is the contract of a function that does nothing: a
 //! caller that needs the law calls the function.
 
-ghost use Rattle.std.specs.Prelude.{◌≡◌, ◌≢◌, ◌≤◌, ℕ, false, List, [], ◌∷◌, ◌++◌, length, map, None};
+ghost use Rattle.std.specs.Prelude.{◌≡◌, ◌≢◌, ◌⊎◌, ◌≤◌, ℕ, false, List, [], ◌∷◌, ◌++◌, length, map, None};
 ghost use Rattle.boot_core.specs.declared.boot.Start.{Start};
 ghost use Rattle.container_core.specs.declared.history.Event.{Event};
 ghost use Rattle.outcome_items.specs.Traces.{uncounted};
 ghost use Rattle.outcome_items.specs.declared.item.Item.{Item};
+ghost use Rattle.request_visit.specs.declared.visit.Work.TheVariants.{Opening};
 ghost use Rattle.send_windows.specs.Windows.{WindowsValue};
 ghost use Rattle.send_windows.specs.declared.history.WindowMark.{WindowMark};
 ghost use Rattle.send_windows.specs.declared.history.WindowMark.TheVariants as mark;
@@ -29,10 +30,11 @@ use request_visit::{requests_account_for_their_events, requests_account_for_thei
 /// request at most (`told`). Once its passes were given back, none that it took are left unspent (`spent`).
 ///
 /// So it is after each call that wanted memory. `feed`, `take_request` and `step_outside` leave the stage as it was
-/// (`still`), `step_inside` the request served in the container (`inside`), `advance` what the request does with its
-/// session (`kept`), and `open` a request without its call (`unmade`); `step_windows` was to take passes (`refused`).
-/// Where the response of the request has not left, no item comes any more (`no_item`). Whether it has left, the
-/// contracts of `step_windows` and `advance` do not say where memory was wanted.
+/// (`still`), `step_inside` the request served in the container (`inside`), `advance` a request whose work is lost
+/// (`opening`), and `open` a request without its call (`unmade`); `step_windows` was to take passes (`refused`).
+/// Where the response of the request has not left, no item comes any more (`no_item`): so it is after `advance` and
+/// `step_inside` that wanted memory (`unsent`), and after each other call that did where it was so before
+/// (`unsent_still`).
 pub fn stopped_connections_account_for_what_they_left<P: Program, L: Link>()
     ensures stops { (start : Start) (history own : List Event) (marks : List WindowMark) (items : List Item)
         (s : Shepherd P) → Accounting P.asks start history own marks items s
@@ -48,6 +50,9 @@ pub fn stopped_connections_account_for_what_they_left<P: Program, L: Link>()
         → Stopped P.asks start history own marks items s → Stopped P.asks start history own marks items new }
     ensures inside { (start : Start) (history own : List Event) (marks : List WindowMark) (items : List Item)
         (s new : Shepherd P) → StepsVisit IsServedStill s.stage new.stage
+        → Stopped P.asks start history own marks items s → Stopped P.asks start history own marks items new }
+    ensures opening { (start : Start) (history own : List Event) (marks : List WindowMark) (items : List Item)
+        (s new : Shepherd P) → StepsVisit (λ v after. after ≡ record v { work = Opening }) s.stage new.stage
         → Stopped P.asks start history own marks items s → Stopped P.asks start history own marks items new }
     ensures unmade { (start : Start) (history own : List Event) (marks : List WindowMark) (items : List Item)
         (s new : Shepherd P) → OnVisit s.stage (λ v call. new.stage ≡ Serving v None)
@@ -79,6 +84,12 @@ pub fn stopped_connections_account_for_what_they_left<P: Program, L: Link>()
     ensures no_item { (s : Shepherd P) (stage : Stage P) (windows after : WindowsValue)
         → GivesBack s.stage windows stage after → IfOpen s.stage (λ v call. has_left v.work ≡ false)
         → has_item stage ≡ false }
+    ensures unsent { (s new : Shepherd P) → StepsVisit (λ v after. after ≡ record v { work = Opening }) s.stage new.stage
+        ⊎ StepsVisit IsServedStill s.stage new.stage → IfOpen new.stage (λ v call. has_left v.work ≡ false) }
+    ensures unsent_still { (s new : Shepherd P) → (new.stage ≡ s.stage)
+        ⊎ (StepsVisit (λ v after. after ≡ record v { way = after.way }) s.stage new.stage
+        ⊎ OnVisit s.stage (λ v call. new.stage ≡ Serving v None)) → IfOpen s.stage (λ v call. has_left v.work ≡ false)
+        → IfOpen new.stage (λ v call. has_left v.work ≡ false) }
 {
     requests_account_for_their_events::<P>();
     requests_account_for_their_marks::<P, L>();

@@ -1,4 +1,4 @@
-use Rattle.shepherd.proofs.Stopped.{given_back, given_up, inside, kept, meanwhile, no_item, refused, spent, still, stops, told, unmade}
+use Rattle.shepherd.proofs.Stopped.{given_back, given_up, inside, kept, meanwhile, no_item, opening, refused, spent, still, stops, told, unmade, unsent, unsent_still}
 use Rattle.shepherd.proofs.stopping.stopped_connections_account_for_what_they_left.Goals as goal
 
 pub returns-clause-stops : goal.returns-clause-stops
@@ -20,6 +20,10 @@ returns-clause-kept g c = λ start history own marks items s new steps h.
 pub returns-clause-inside : goal.returns-clause-inside
 returns-clause-inside g c = λ start history own marks items s new steps h.
     inside g.P.Program.asks start history own marks items s new steps h
+
+pub returns-clause-opening : goal.returns-clause-opening
+returns-clause-opening g c = λ start history own marks items s new steps h.
+    opening g.P.Program.asks start history own marks items s new steps h
 
 pub returns-clause-unmade : goal.returns-clause-unmade
 returns-clause-unmade g c = λ start history own marks items s new is h.
@@ -48,3 +52,9 @@ returns-clause-spent g c = λ start history own marks items s stage win after ba
 pub returns-clause-no_item : goal.returns-clause-no_item
 returns-clause-no_item g c = λ s stage win after back unsent.
     no_item s stage win after back unsent
+
+pub returns-clause-unsent : goal.returns-clause-unsent
+returns-clause-unsent g c = λ s new steps. unsent s new steps
+
+pub returns-clause-unsent_still : goal.returns-clause-unsent_still
+returns-clause-unsent_still g c = λ s new so before. unsent_still s new so before
