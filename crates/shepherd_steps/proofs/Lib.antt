@@ -1,0 +1,12 @@
+mod AloneEnds
+mod Deciding
+mod GoingAlone
+mod InsideSteps
+mod Keepers
+mod OpeningSteps
+mod OutsideSteps
+mod OwnSteps
+mod Strides
+mod TakingSteps
+mod WindowSteps
+mod WorldSteps

@@ -1,0 +1,10 @@
+pub mod Alone
+pub mod Deciding
+pub mod Inside
+pub mod Leaving
+pub mod Opening
+pub mod Outside
+pub mod Own
+pub mod Passes
+pub mod Stepping
+pub mod Taking
