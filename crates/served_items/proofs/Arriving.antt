@@ -49,7 +49,7 @@ use Rattle.ssm_stub.specs.declared.cause.BrickCause.{BrickCause}
 use Rattle.ssm_stub.specs.declared.read_call.ReadRefusal.{ReadRefusal}
 use Rattle.ssm_stub.specs.declared.read_call.ReadRefusal.TheVariants as read_refusal
 use Rattle.served_items.specs.Attributing.{BecameBy, IsErrandOf, OnAdmitted, TakenIn, WasTakenIn, facts_by, read_by}
-use Rattle.served_items.specs.Served.{HasOwnEntry, IsCallOf, IsItemFor, IsMadeOf, IsReadGone, IsValueRead, committed_at}
+use Rattle.served_items.specs.Served.{HasOwnEntry, IsCallOf, IsItemFor, IsOfOwnCall, IsReadGone, IsValueRead, committed_at}
 
 -- a request that was admitted
 record WasAdmitted (arrival : Arrival) (So : Admission → Type 0) : Type 0 where
@@ -159,7 +159,7 @@ module _ {P L : Type 0} (asks : P → List Answer → Next) (calls : L → LinkE
   call_of a None = record { same = refl; nobody = λ none. refl; somebody = λ bytes some. absurd (cc) }
   call_of a (Some value) = record { same = refl; nobody = λ none. absurd (cc); somebody = λ bytes some. (let same : value ≡ bytes = cc in ap session_user same) }
 
-  made_of : (a : Admission) → t.intake.arrival ≡ Admitted a → (e : IsErrandOf asks makes i.value h.errand a) → IsMadeOf makes t i e.text e.program
+  made_of : (a : Admission) → t.intake.arrival ≡ Admitted a → (e : IsErrandOf asks makes i.value h.errand a) → IsOfOwnCall makes t i e.text e.program
   made_of a is e = record {
     admission = a;
     arrived = is;
@@ -169,7 +169,7 @@ module _ {P L : Type 0} (asks : P → List Answer → Next) (calls : L → LinkE
     made = e.made;
   }
 
-  pub call_made : is_outside i.outcome ≡ false → (text : List ℕ) × (program : P) × IsMadeOf makes t i text program
+  pub call_made : is_outside i.outcome ≡ false → (text : List ℕ) × (program : P) × IsOfOwnCall makes t i text program
   call_made out =
       let w = came_to t.intake.arrival (λ a. IsErrandOf asks makes i.value h.errand a) i.outcome out h.became_by in
       (w.so.text, w.so.program, made_of w.a w.is w.so)

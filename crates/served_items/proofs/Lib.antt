@@ -1,8 +1,14 @@
 mod Arriving
 mod Carrying
 mod Following
+mod Numbered
+mod Placing
+mod Reaching
 mod Rising
 mod Serving
+mod Shown
 mod Stepping
 mod Taking
+mod Tallying
 mod Turning
+mod Unchanged

@@ -41,17 +41,17 @@ use Rattle.shepherd.specs.declared.shepherd.Shepherd.{Shepherd}
 use Rattle.shepherd.specs.declared.shepherd.Stage.{Stage}
 use Rattle.shepherd.specs.declared.shepherd.Stage.TheVariants.{Resting, Serving, Refusing, Over}
 use Rattle.ssm_stub.specs.Reads.{ReadState}
-use Rattle.served_items.specs.Attributing.{Attributed, AttributesBy, BecameBy, IsAttributed, IsErrandOf, Service, StageBy, TakenIn, WasTakenIn, WorkBy, attributed_items, drawn_for_all, facts_by, heads_of, moments_of, read_by, taken_in}
-use Rattle.served_items.specs.Served.{AreServed, IsItemFor, Served}
+use Rattle.served_items.specs.Attributing.{Attributed, AttributesBy, BecameBy, IsAttributed, IsErrandOf, Service, StageBy, TakenIn, WasTakenIn, WorkBy, attributed_items, drawn_for_all, facts_by, taken_heads, moments_of, read_by, taken_in}
+use Rattle.served_items.specs.Served.{AreServed, IsItemFor, ServedItem}
 
 -- what an item tells of its request
-record Facts {P : Type 0} (v : Visit P) (i : Item) : Type 0 where
-  number : i.request ≡ v.facts.request
-  moment : i.moment ≡ v.facts.now
-  holds : i.holds ≡ v.holds
-  value : i.value ≡ option_map value_of v.lease
+pub record Facts {P : Type 0} (v : Visit P) (i : Item) : Type 0 where
+  pub number : i.request ≡ v.facts.request
+  pub moment : i.moment ≡ v.facts.now
+  pub holds : i.holds ≡ v.holds
+  pub value : i.value ≡ option_map value_of v.lease
 
-item_facts : {P : Type 0} (v : Visit P) (w : Work P) (i : Item) → IsItemOf v w i → Facts v i
+pub item_facts : {P : Type 0} (v : Visit P) (w : Work P) (i : Item) → IsItemOf v w i → Facts v i
 item_facts v Reading i is = absurd is
 item_facts v Opening i is = absurd is
 item_facts v (ServingBy tries program) i is = absurd is
@@ -110,22 +110,22 @@ module _ {P L : Type 0} (asks : P → List Answer → Next) (calls : L → LinkE
             (item_by x.taken.intake.arrival (λ a. IsErrandOf asks makes (option_map value_of v.lease) x.errand a) x.call v v.work x.item h.is_item g.work);
       }
 
-abbrev told : {P : Type 0} → List (Attributed P) → List Served
+abbrev told : {P : Type 0} → List (Attributed P) → List ServedItem
 told {P} served = map (λ (x : Attributed P). record { taken = x.taken; item = x.item }) served
 
-told_taken : {P : Type 0} (served : List (Attributed P)) → taken_in served ≡ map (λ (x : Served). x.taken) (told served)
+told_taken : {P : Type 0} (served : List (Attributed P)) → taken_in served ≡ map (λ (x : ServedItem). x.taken) (told served)
 told_taken [] = refl
 told_taken (x ∷ served) = ap (λ xs. x.taken ∷ xs) (told_taken served)
 
-told_items : {P : Type 0} (served : List (Attributed P)) → attributed_items served ≡ map (λ (x : Served). x.item) (told served)
+told_items : {P : Type 0} (served : List (Attributed P)) → attributed_items served ≡ map (λ (x : ServedItem). x.item) (told served)
 told_items [] = refl
 told_items (x ∷ served) = ap (λ xs. x.item ∷ xs) (told_items served)
 
 all_for : {P L : Type 0} (asks : P → List Answer → Next) (calls : L → LinkEvent → L → Type 0) (makes : ActionCall → List ℕ → P → Type 0) (came : TakenIn → Type 0) (start : Start) (history : List Event) → ItemBecame asks → ItemSession P calls
-    → (served : List (Attributed P)) → All (IsAttributed asks calls makes came start history) served → All (λ (x : Served). IsItemFor asks calls makes came start history x.taken x.item) (told served)
-all_for asks calls makes came start history became sessions [] h = All-nil (λ (x : Served). IsItemFor asks calls makes came start history x.taken x.item)
+    → (served : List (Attributed P)) → All (IsAttributed asks calls makes came start history) served → All (λ (x : ServedItem). IsItemFor asks calls makes came start history x.taken x.item) (told served)
+all_for asks calls makes came start history became sessions [] h = All-nil (λ (x : ServedItem). IsItemFor asks calls makes came start history x.taken x.item)
 all_for asks calls makes came start history became sessions (x ∷ served) h =
-    All-cons (λ (y : Served). IsItemFor asks calls makes came start history y.taken y.item) (record { taken = x.taken; item = x.item }) (told served)
+    All-cons (λ (y : ServedItem). IsItemFor asks calls makes came start history y.taken y.item) (record { taken = x.taken; item = x.item }) (told served)
     (item_for asks calls makes came start history became sessions x (All-head (IsAttributed asks calls makes came start history) x served h))
     (all_for asks calls makes came start history became sessions served (All-tail (IsAttributed asks calls makes came start history) x served h))
 
@@ -147,10 +147,10 @@ one_at_most asks calls makes came start history opened (Refusing why bytes) h = 
 one_at_most asks calls makes came start history opened (Over end) h = subst (λ (ts : List TakenIn). length ts ≤ 1) (sym h) (omega arith)
 
 pub served : {P L M R S : Type 0} (asks : P → List Answer → Next) (calls : L → LinkEvent → L → Type 0) (makes : M → ActionCall → List ℕ → P → Type 0) (gives : Gives R) (looks : Looks S) → ItemBecame asks → ItemSession P calls
-    → (service : Service M) (start : Start) (history : List Event) (heads : List Head) (drawn : List Draw) (latest : ℕ) (items : List Item) (s : Shepherd P)
-    → AttributesBy asks calls (makes service.maker) (WasTakenIn gives looks service.key service.home) start history heads drawn latest items s
-    → AreServed asks calls makes gives looks service start history heads drawn latest items
-served {P} {L} {M} {R} {S} asks calls makes gives looks became sessions service start history heads drawn latest items s h =
+    → (service : Service M) (start : Start) (history : List Event) (heads : List Head) (drawn : List Draw) (earliest latest : ℕ) (items : List Item) (s : Shepherd P)
+    → AttributesBy asks calls (makes service.maker) (WasTakenIn gives looks service.key service.home) start history heads drawn earliest latest items s
+    → AreServed asks calls makes gives looks service start history heads drawn earliest latest items
+served {P} {L} {M} {R} {S} asks calls makes gives looks became sessions service start history heads drawn earliest latest items s h =
     let moments : moments_of (taken_in h.served ++ h.opened) ++ latest ∷ [] ≡ map (λ (i : Item). i.moment.0) items ++ (moments_of h.opened ++ latest ∷ []) =
     ap (λ ms. ms ++ latest ∷ []) (map-append (λ (t : TakenIn). t.intake.now.0) (taken_in h.served) h.opened)
     ∙ append_assoc (moments_of (taken_in h.served)) (moments_of h.opened) (latest ∷ [])
@@ -160,18 +160,18 @@ served {P} {L} {M} {R} {S} asks calls makes gives looks became sessions service 
       served = told h.served;
       opened = h.opened;
       one_open = one_at_most asks calls (makes service.maker) (WasTakenIn gives looks service.key service.home) start history h.opened s.stage h.is_open;
-      heads_are = h.heads_are ∙ ap (λ ts. heads_of (ts ++ h.opened)) (told_taken h.served);
+      heads_are = h.heads_are ∙ ap (λ ts. taken_heads (ts ++ h.opened)) (told_taken h.served);
       drawn_are = h.drawn_are ∙ ap (λ ts. drawn_for_all (ts ++ h.opened)) (told_taken h.served);
       items_are = h.items_are ∙ told_items h.served;
-      rise = subst (λ ms. ascends ms ≡ true) moments h.rise;
+      rise = subst (λ ms. ascends (earliest ∷ ms) ≡ true) moments h.rise;
       each = all_for asks calls (makes service.maker) (WasTakenIn gives looks service.key service.home) start history became sessions h.served h.attributed;
     }
 
 -- The tries of the request that is open bear its number.
-pub bear : {P L : Type 0} (asks : P → List Answer → Next) (calls : L → LinkEvent → L → Type 0) (makes : ActionCall → List ℕ → P → Type 0) (came : TakenIn → Type 0) (start : Start) (history : List Event) (heads : List Head) (drawn : List Draw) (latest : ℕ) (items : List Item) (s : Shepherd P)
-    (v : Visit P) (call : Option AskedCall) (tries : TriesValue) (program : P) → AttributesBy asks calls makes came start history heads drawn latest items s → s.stage ≡ Serving v call → v.work ≡ ServingBy tries program
+pub bear : {P L : Type 0} (asks : P → List Answer → Next) (calls : L → LinkEvent → L → Type 0) (makes : ActionCall → List ℕ → P → Type 0) (came : TakenIn → Type 0) (start : Start) (history : List Event) (heads : List Head) (drawn : List Draw) (earliest latest : ℕ) (items : List Item) (s : Shepherd P)
+    (v : Visit P) (call : Option AskedCall) (tries : TriesValue) (program : P) → AttributesBy asks calls makes came start history heads drawn earliest latest items s → s.stage ≡ Serving v call → v.work ≡ ServingBy tries program
     → v.facts.request ≡ Some tries.request
-bear {P} asks calls makes came start history heads drawn latest items s v call tries program h was is =
+bear {P} asks calls makes came start history heads drawn earliest latest items s v call tries program h was is =
     let t = subst (λ (x : Stage P). StageBy asks calls makes came start history h.opened x) was h.is_open in
     let a = subst (λ (w : Work P). AccountsOf asks start history t.errand v.facts v.holds t.own w) is t.goes_back.accounts in
     a.number_is ∙ ap (λ (e : Errand). Some e.request) a.errand_is

@@ -49,21 +49,21 @@ use Rattle.shepherd.specs.declared.shepherd.ShepherdTurn.TheVariants as turns
 use Rattle.shepherd.specs.declared.shepherd.Stage.{Stage}
 use Rattle.shepherd.specs.declared.shepherd.Stage.TheVariants.{Resting, Serving, Refusing, Over}
 use Rattle.ssm_stub.specs.Reads.{ReadState}
-use Rattle.served_items.specs.Attributing.{Attributed, AttributesBy, GoesBack, IsAttributed, IsErrandOf, IsOpenBy, OnAdmitted, StageBy, TakenIn, WorkBy, drawn_for_all, facts_by, heads_of, moments_of, read_by, taken_in}
+use Rattle.served_items.specs.Attributing.{Attributed, AttributesBy, GoesBack, IsAttributed, IsErrandOf, IsOpenBy, OnAdmitted, StageBy, TakenIn, WorkBy, drawn_for_all, facts_by, taken_heads, moments_of, read_by, taken_in}
 use Rattle.served_items.proofs.Carrying.{Carries, advance_carries, back_carries, dropping_carries, inside_carries, leaving_carries, outside_carries, windows_carry}
-use Rattle.served_items.proofs.Rising.{rises_to}
+use Rattle.served_items.proofs.Rising.{rises_at, rises_to}
 use Rattle.served_items.proofs.Turning.{fate_of, opening, over_now, turned, visit_step}
 
 -- a request made a step, as the one that is open
-record Went {P : Type 0} (So : Visit P → Visit P → Type 0) (old new : Shepherd P) : Type 0 where
-  visit : Visit P
-  after : Visit P
-  call : Option AskedCall
-  was : old.stage ≡ Serving visit call
-  is : new.stage ≡ Serving after call
-  so : So visit after
+pub record Went {P : Type 0} (So : Visit P → Visit P → Type 0) (old new : Shepherd P) : Type 0 where
+  pub visit : Visit P
+  pub after : Visit P
+  pub call : Option AskedCall
+  pub was : old.stage ≡ Serving visit call
+  pub is : new.stage ≡ Serving after call
+  pub so : So visit after
 
-went : {P : Type 0} (So : Visit P → Visit P → Type 0) (old new : Shepherd P) → ShepherdSteps So old new → Went So old new
+pub went : {P : Type 0} (So : Visit P → Visit P → Type 0) (old new : Shepherd P) → ShepherdSteps So old new → Went So old new
 went {P} So old new steps = by old.stage refl steps.steps where
   by : (x : Stage P) → old.stage ≡ x → StepsVisit So x new.stage → Went So old new
   by Resting was s = absurd s
@@ -71,7 +71,7 @@ went {P} So old new steps = by old.stage refl steps.steps where
   by (Refusing why bytes) was s = absurd s
   by (Over end) was s = absurd s
 
-longer_length : (before more : List Event) → length before ≤ length (before ++ more)
+pub longer_length : (before more : List Event) → length before ≤ length (before ++ more)
 longer_length [] more = omega arith
 longer_length (e ∷ before) more = let le = longer_length before more in omega (arith, le)
 
@@ -97,9 +97,9 @@ module _ {P L : Type 0} (asks : P → List Answer → Next) (calls : L → LinkE
   }
 
   -- Another stage goes back in the same way.
-  pub with_stage : (start : Start) (history : List Event) (heads : List Head) (drawn : List Draw) (latest : ℕ) (items : List Item) (s new : Shepherd P) (h : AttributesBy asks calls makes came start history heads drawn latest items s)
-      → StageBy asks calls makes came start history h.opened new.stage → AttributesBy asks calls makes came start history heads drawn latest items new
-  with_stage start history heads drawn latest items s new h stands = record {
+  pub with_stage : (start : Start) (history : List Event) (heads : List Head) (drawn : List Draw) (earliest latest : ℕ) (items : List Item) (s new : Shepherd P) (h : AttributesBy asks calls makes came start history heads drawn earliest latest items s)
+      → StageBy asks calls makes came start history h.opened new.stage → AttributesBy asks calls makes came start history heads drawn earliest latest items new
+  with_stage start history heads drawn earliest latest items s new h stands = record {
     served = h.served;
     opened = h.opened;
     heads_are = h.heads_are;
@@ -110,22 +110,22 @@ module _ {P L : Type 0} (asks : P → List Answer → Next) (calls : L → LinkE
     is_open = stands;
   }
 
-  pub begins : (start : Start) (history : List Event) (latest : ℕ) → AttributesBy asks calls makes came start history [] [] latest [] fresh
-  begins start history latest = record {
+  pub begins : (start : Start) (history : List Event) (now : ℕ) → AttributesBy asks calls makes came start history [] [] now now [] fresh
+  begins start history now = record {
     served = [];
     opened = [];
     heads_are = refl;
     drawn_are = refl;
-    rise = refl;
+    rise = rises_at now;
     items_are = refl;
     attributed = All-nil (IsAttributed asks calls makes came start history);
     is_open = refl;
   }
 
-  pub still : (start : Start) (history : List Event) (heads : List Head) (drawn : List Draw) (latest : ℕ) (items : List Item) (s new : Shepherd P) → new.stage ≡ s.stage
-      → AttributesBy asks calls makes came start history heads drawn latest items s → AttributesBy asks calls makes came start history heads drawn latest items new
-  still start history heads drawn latest items s new same h =
-      with_stage start history heads drawn latest items s new h (subst (λ (x : Stage P). StageBy asks calls makes came start history h.opened x) (sym same) h.is_open)
+  pub still : (start : Start) (history : List Event) (heads : List Head) (drawn : List Draw) (earliest latest : ℕ) (items : List Item) (s new : Shepherd P) → new.stage ≡ s.stage
+      → AttributesBy asks calls makes came start history heads drawn earliest latest items s → AttributesBy asks calls makes came start history heads drawn earliest latest items new
+  still start history heads drawn earliest latest items s new same h =
+      with_stage start history heads drawn earliest latest items s new h (subst (λ (x : Stage P). StageBy asks calls makes came start history h.opened x) (sym same) h.is_open)
 
   longer : AccountsGrow asks → SessionsGrow P calls → (start : Start) (history more : List Event) (t : TakenIn) (errand : Errand) (own : List Event) (v : Visit P) (call : Option AskedCall)
       → GoesBack asks calls makes came start history t errand own v call → GoesBack asks calls makes came start (history ++ more) t errand own v call
@@ -156,14 +156,14 @@ module _ {P L : Type 0} (asks : P → List Answer → Next) (calls : L → LinkE
   stage_longer accounts sessions start history more opened (Refusing why bytes) h = h
   stage_longer accounts sessions start history more opened (Over end) h = h
 
-  pub meanwhile : AccountsGrow asks → SessionsGrow P calls → (start : Start) (history more : List Event) (heads : List Head) (drawn : List Draw) (latest : ℕ) (items : List Item) (later : ℕ) (s : Shepherd P) → latest ≤ later
-      → AttributesBy asks calls makes came start history heads drawn latest items s → AttributesBy asks calls makes came start (history ++ more) heads drawn later items s
-  meanwhile accounts sessions start history more heads drawn latest items later s less h = record {
+  pub meanwhile : AccountsGrow asks → SessionsGrow P calls → (start : Start) (history more : List Event) (heads : List Head) (drawn : List Draw) (earliest latest : ℕ) (items : List Item) (later : ℕ) (s : Shepherd P) → latest ≤ later
+      → AttributesBy asks calls makes came start history heads drawn earliest latest items s → AttributesBy asks calls makes came start (history ++ more) heads drawn earliest later items s
+  meanwhile accounts sessions start history more heads drawn earliest latest items later s less h = record {
     served = h.served;
     opened = h.opened;
     heads_are = h.heads_are;
     drawn_are = h.drawn_are;
-    rise = rises_to (moments_of (taken_in h.served ++ h.opened)) latest later less h.rise;
+    rise = rises_to (earliest ∷ moments_of (taken_in h.served ++ h.opened)) latest later less h.rise;
     items_are = h.items_are;
     attributed = All-weaker (IsAttributed asks calls makes came start history) (IsAttributed asks calls makes came start (history ++ more)) (attributed_longer accounts sessions start history more) h.served h.attributed;
     is_open = stage_longer accounts sessions start history more h.opened s.stage h.is_open;
@@ -179,12 +179,12 @@ module _ {P L : Type 0} (asks : P → List Answer → Next) (calls : L → LinkE
   Goes start history So old = (v w : Visit P) (call : Option AskedCall) → old.stage ≡ Serving v call → So v w → (t : TakenIn) (errand : Errand) (own : List Event)
       → GoesBack asks calls makes came start history t errand own v call → GoesBack asks calls makes came start history t errand own w call
 
-  stepped : (So : Visit P → Visit P → Type 0) (start : Start) (history : List Event) (heads : List Head) (drawn : List Draw) (latest : ℕ) (items : List Item) (old new : Shepherd P) → ShepherdSteps So old new → Goes start history So old
-      → AttributesBy asks calls makes came start history heads drawn latest items old → AttributesBy asks calls makes came start history heads drawn latest items new
-  stepped So start history heads drawn latest items old new steps goes h =
+  stepped : (So : Visit P → Visit P → Type 0) (start : Start) (history : List Event) (heads : List Head) (drawn : List Draw) (earliest latest : ℕ) (items : List Item) (old new : Shepherd P) → ShepherdSteps So old new → Goes start history So old
+      → AttributesBy asks calls makes came start history heads drawn earliest latest items old → AttributesBy asks calls makes came start history heads drawn earliest latest items new
+  stepped So start history heads drawn earliest latest items old new steps goes h =
       let g = went So old new steps in
       let t = opened_so start history h.opened old.stage g.visit g.call g.was h.is_open in
-      with_stage start history heads drawn latest items old new h (subst (λ (x : Stage P). StageBy asks calls makes came start history h.opened x) (sym g.is) (record {
+      with_stage start history heads drawn earliest latest items old new h (subst (λ (x : Stage P). StageBy asks calls makes came start history h.opened x) (sym g.is) (record {
         taken = t.taken;
         opened_is = t.opened_is;
         errand = t.errand;
@@ -197,11 +197,11 @@ module _ {P L : Type 0} (asks : P → List Answer → Next) (calls : L → LinkE
       → Accounts asks start history errand own v → Accounts asks start history errand own (record v { way = way; counts = counts }))
       → ((begin : Option ReadState) (history : List Event) (v : Visit P) (way : SessionWay) (counts : LinkCounts) (link after : L) → visit_turn v ≡ visit.Outside → StepsOutside calls v.way link way after
       → SessionStands calls begin history v → SessionStands calls begin history (record v { way = way; counts = counts }))
-      → (start : Start) (history : List Event) (heads : List Head) (drawn : List Draw) (latest : ℕ) (items : List Item) (old new : Shepherd P) (link after : L) → turn old ≡ turns.Outside
+      → (start : Start) (history : List Event) (heads : List Head) (drawn : List Draw) (earliest latest : ℕ) (items : List Item) (old new : Shepherd P) (link after : L) → turn old ≡ turns.Outside
       → ShepherdSteps (λ v w. VisitsOutside calls tally v link w after) old new
-      → AttributesBy asks calls makes came start history heads drawn latest items old → AttributesBy asks calls makes came start history heads drawn latest items new
-  outside tally accounts sessions start history heads drawn latest items old new link after is steps h =
-      stepped (λ (v : Visit P) w. VisitsOutside calls tally v link w after) start history heads drawn latest items old new steps
+      → AttributesBy asks calls makes came start history heads drawn earliest latest items old → AttributesBy asks calls makes came start history heads drawn earliest latest items new
+  outside tally accounts sessions start history heads drawn earliest latest items old new link after is steps h =
+      stepped (λ (v : Visit P) w. VisitsOutside calls tally v link w after) start history heads drawn earliest latest items old new steps
       (λ v w call was so t errand own g. carried start history start history t errand own own v w call
       (outside_carries t.intake.arrival (λ lease a. IsErrandOf asks makes (option_map value_of lease) errand a) call calls tally v link w after so)
       (subst (λ (x : Visit P). SessionStands calls (read_by t.intake.now t.intake.arrival) history x) (sym so.rest)
@@ -212,11 +212,11 @@ module _ {P L : Type 0} (asks : P → List Answer → Next) (calls : L → LinkE
       → Accounts asks start history errand own old → Accounts asks start history errand own new)
       → ((begin : Option ReadState) (history : List Event) (old new : Visit P) (windows after : WindowsValue) → 1 ≤ windows.wq → windows.wq ≤ MAX_HOLDERS → VisitsWindows old windows new after
       → SessionStands calls begin history old → SessionStands calls begin history new)
-      → (start : Start) (history : List Event) (heads : List Head) (drawn : List Draw) (latest : ℕ) (items : List Item) (old new : Shepherd P) (win after : WindowsValue) → 1 ≤ win.wq → win.wq ≤ MAX_HOLDERS
+      → (start : Start) (history : List Event) (heads : List Head) (drawn : List Draw) (earliest latest : ℕ) (items : List Item) (old new : Shepherd P) (win after : WindowsValue) → 1 ≤ win.wq → win.wq ≤ MAX_HOLDERS
       → ShepherdSteps (λ v w. VisitsWindows v win w after) old new
-      → AttributesBy asks calls makes came start history heads drawn latest items old → AttributesBy asks calls makes came start history heads drawn latest items new
-  windows accounts sessions start history heads drawn latest items old new win after some few steps h =
-      stepped (λ (v : Visit P) w. VisitsWindows v win w after) start history heads drawn latest items old new steps
+      → AttributesBy asks calls makes came start history heads drawn earliest latest items old → AttributesBy asks calls makes came start history heads drawn earliest latest items new
+  windows accounts sessions start history heads drawn earliest latest items old new win after some few steps h =
+      stepped (λ (v : Visit P) w. VisitsWindows v win w after) start history heads drawn earliest latest items old new steps
       (λ v w call was so t errand own g. carried start history start history t errand own own v w call
       (windows_carry t.intake.arrival (λ lease a. IsErrandOf asks makes (option_map value_of lease) errand a) call v win w after so)
       (sessions (read_by t.intake.now t.intake.arrival) history v w win after some few so g.session) (accounts start history errand own v w win after so g.accounts) g) h
@@ -225,11 +225,11 @@ module _ {P L : Type 0} (asks : P → List Answer → Next) (calls : L → LinkE
       → Accounts asks start history errand own old → Accounts asks start history errand own new)
       → ((begin : Option ReadState) (key : List ℕ) (history : List Event) (old new : Visit P) → visit_turn old ≡ visit.Own → Advances key old old.work new
       → SessionStands calls begin history old → SessionStands calls begin history new)
-      → (start : Start) (history : List Event) (heads : List Head) (drawn : List Draw) (latest : ℕ) (items : List Item) (key : List ℕ) (old new : Shepherd P) → turn old ≡ turns.Own
+      → (start : Start) (history : List Event) (heads : List Head) (drawn : List Draw) (earliest latest : ℕ) (items : List Item) (key : List ℕ) (old new : Shepherd P) → turn old ≡ turns.Own
       → ShepherdSteps (λ v w. Advances key v v.work w) old new
-      → AttributesBy asks calls makes came start history heads drawn latest items old → AttributesBy asks calls makes came start history heads drawn latest items new
-  advance accounts sessions start history heads drawn latest items key old new is steps h =
-      stepped (λ (v : Visit P) w. Advances key v v.work w) start history heads drawn latest items old new steps
+      → AttributesBy asks calls makes came start history heads drawn earliest latest items old → AttributesBy asks calls makes came start history heads drawn earliest latest items new
+  advance accounts sessions start history heads drawn earliest latest items key old new is steps h =
+      stepped (λ (v : Visit P) w. Advances key v v.work w) start history heads drawn earliest latest items old new steps
       (λ v w call was so t errand own g. carried start history start history t errand own own v w call
       (advance_carries t.intake.arrival (λ lease a. IsErrandOf asks makes (option_map value_of lease) errand a) call key v w so)
       (sessions (read_by t.intake.now t.intake.arrival) key history v w (turned old v call visit.Own was (ap visit_step is)) so g.session) (accounts start history errand own v w key so g.accounts) g) h
@@ -239,11 +239,11 @@ module _ {P L : Type 0} (asks : P → List Answer → Next) (calls : L → LinkE
       → Accounts asks start (events_of container) errand own old → entries_in container.since ≡ container.boot.entries → AddsOwn asks errand own container after new)
       → ((begin : Option ReadState) (old new : Visit P) (container after : ContainerValue) → VisitsInside asks old container new after → length (events_of container) ≤ length (events_of after)
       → SessionStands calls begin (events_of container) old → SessionStands calls begin (events_of after) new)
-      → (heads : List Head) (drawn : List Draw) (latest : ℕ) (items : List Item) (old new : Shepherd P) (container after : ContainerValue)
+      → (heads : List Head) (drawn : List Draw) (earliest latest : ℕ) (items : List Item) (old new : Shepherd P) (container after : ContainerValue)
       → ShepherdSteps (λ v w. VisitsInside asks v container w after) old new → entries_in container.since ≡ container.boot.entries → HasGrownBy container after
-      → AttributesBy asks calls makes came container.boot.start (events_of container) heads drawn latest items old
-      → AttributesBy asks calls makes came after.boot.start (events_of after) heads drawn latest items new
-  inside accounts_grow sessions_grow accounts sessions heads drawn latest items old new container after steps is grown h =
+      → AttributesBy asks calls makes came container.boot.start (events_of container) heads drawn earliest latest items old
+      → AttributesBy asks calls makes came after.boot.start (events_of after) heads drawn earliest latest items new
+  inside accounts_grow sessions_grow accounts sessions heads drawn earliest latest items old new container after steps is grown h =
       let start = container.boot.start in
       let history = events_of container in
       let g = went (λ (v : Visit P) w. VisitsInside asks v container w after) old new steps in
@@ -298,10 +298,10 @@ module _ {P L : Type 0} (asks : P → List Answer → Next) (calls : L → LinkE
 
   pub out : ((start : Start) (history : List Event) (errand : Errand) (own : List Event) (v : Visit P) → Accounts asks start history errand own v → Accounts asks start history errand own (after_leaving v))
       → ((begin : Option ReadState) (history : List Event) (v : Visit P) → visit_turn v ≡ visit.Output → SessionStands calls begin history v → SessionStands calls begin history (after_leaving v))
-      → (start : Start) (history : List Event) (heads : List Head) (drawn : List Draw) (latest : ℕ) (items : List Item) (bytes : List ℕ) (s : Shepherd P) (stage : Stage P) → turn s ≡ turns.Output
+      → (start : Start) (history : List Event) (heads : List Head) (drawn : List Draw) (earliest latest : ℕ) (items : List Item) (bytes : List ℕ) (s : Shepherd P) (stage : Stage P) → turn s ≡ turns.Output
       → PutsOut s.stage bytes stage
-      → AttributesBy asks calls makes came start history heads drawn latest items s → AttributesBy asks calls makes came start history heads drawn latest items (record s { stage = stage })
-  out accounts sessions start history heads drawn latest items bytes s stage is puts h = with_stage start history heads drawn latest items s (record s { stage = stage }) h (by s.stage refl h.is_open puts) where
+      → AttributesBy asks calls makes came start history heads drawn earliest latest items s → AttributesBy asks calls makes came start history heads drawn earliest latest items (record s { stage = stage })
+  out accounts sessions start history heads drawn earliest latest items bytes s stage is puts h = with_stage start history heads drawn earliest latest items s (record s { stage = stage }) h (by s.stage refl h.is_open puts) where
     by : (x : Stage P) → s.stage ≡ x → StageBy asks calls makes came start history h.opened x → PutsOut x bytes stage → StageBy asks calls makes came start history h.opened stage
     by Resting was t puts = absurd puts
     by (Serving v call) was t puts = subst (λ (x : Stage P). StageBy asks calls makes came start history h.opened x) (sym puts.1) (record {
@@ -321,11 +321,11 @@ module _ {P L : Type 0} (asks : P → List Answer → Next) (calls : L → LinkE
   nothing_open start history true = refl
   nothing_open start history false = refl
 
-  pub item : (start : Start) (history : List Event) (heads : List Head) (drawn : List Draw) (latest : ℕ) (items : List Item) (i : Item) (s : Shepherd P) (stage : Stage P) → has_item s.stage ≡ true → TakesItem s.stage i stage
-      → AttributesBy asks calls makes came start history heads drawn latest items s
-      → AttributesBy asks calls makes came start history heads drawn latest (items ++ i ∷ []) (record s { front = i.holds.front; stage = stage })
-  item start history heads drawn latest items i s stage is takes h = by s.stage refl takes where
-    by : (x : Stage P) → s.stage ≡ x → TakesItem x i stage → AttributesBy asks calls makes came start history heads drawn latest (items ++ i ∷ []) (record s { front = i.holds.front; stage = stage })
+  pub item : (start : Start) (history : List Event) (heads : List Head) (drawn : List Draw) (earliest latest : ℕ) (items : List Item) (i : Item) (s : Shepherd P) (stage : Stage P) → has_item s.stage ≡ true → TakesItem s.stage i stage
+      → AttributesBy asks calls makes came start history heads drawn earliest latest items s
+      → AttributesBy asks calls makes came start history heads drawn earliest latest (items ++ i ∷ []) (record s { front = i.holds.front; stage = stage })
+  item start history heads drawn earliest latest items i s stage is takes h = by s.stage refl takes where
+    by : (x : Stage P) → s.stage ≡ x → TakesItem x i stage → AttributesBy asks calls makes came start history heads drawn earliest latest (items ++ i ∷ []) (record s { front = i.holds.front; stage = stage })
     by Resting was takes = absurd takes
     by (Serving v call) was takes =
         let t = opened_so start history h.opened s.stage v call was h.is_open in
@@ -335,9 +335,9 @@ module _ {P L : Type 0} (asks : P → List Answer → Next) (calls : L → LinkE
         record {
           served = h.served ++ one ∷ [];
           opened = [];
-          heads_are = h.heads_are ∙ ap heads_of same;
+          heads_are = h.heads_are ∙ ap taken_heads same;
           drawn_are = h.drawn_are ∙ ap drawn_for_all same;
-          rise = subst (λ xs. ascends (moments_of xs ++ latest ∷ []) ≡ true) same h.rise;
+          rise = subst (λ xs. ascends (earliest ∷ (moments_of xs ++ latest ∷ [])) ≡ true) same h.rise;
           items_are = ap (λ xs. xs ++ i ∷ []) h.items_are ∙ sym (map-append (λ (x : Attributed P). x.item) h.served (one ∷ []));
           attributed = All-push (IsAttributed asks calls makes came start history) h.served one h.attributed (record {
             over = over_now (visit_turn v) (sym (ap has_item was) ∙ is);
@@ -351,9 +351,9 @@ module _ {P L : Type 0} (asks : P → List Answer → Next) (calls : L → LinkE
 
   pub given_up : ((start : Start) (history : List Event) (errand : Errand) (own : List Event) (v : Visit P) → Accounts asks start history errand own v → Accounts asks start history errand own (record v { work = dropped v.work }))
       → ((begin : Option ReadState) (history : List Event) (v : Visit P) → SessionStands calls begin history v → SessionStands calls begin history (record v { work = dropped v.work }))
-      → (start : Start) (history : List Event) (heads : List Head) (drawn : List Draw) (latest : ℕ) (items : List Item) (s : Shepherd P)
-      → AttributesBy asks calls makes came start history heads drawn latest items s → AttributesBy asks calls makes came start history heads drawn latest items (record s { stage = dropped_stage s.stage })
-  given_up accounts sessions start history heads drawn latest items s h = with_stage start history heads drawn latest items s (record s { stage = dropped_stage s.stage }) h (by s.stage h.is_open) where
+      → (start : Start) (history : List Event) (heads : List Head) (drawn : List Draw) (earliest latest : ℕ) (items : List Item) (s : Shepherd P)
+      → AttributesBy asks calls makes came start history heads drawn earliest latest items s → AttributesBy asks calls makes came start history heads drawn earliest latest items (record s { stage = dropped_stage s.stage })
+  given_up accounts sessions start history heads drawn earliest latest items s h = with_stage start history heads drawn earliest latest items s (record s { stage = dropped_stage s.stage }) h (by s.stage h.is_open) where
     by : (x : Stage P) → StageBy asks calls makes came start history h.opened x → StageBy asks calls makes came start history h.opened (dropped_stage x)
     by Resting t = t
     by (Serving v call) t = record {
@@ -370,10 +370,10 @@ module _ {P L : Type 0} (asks : P → List Answer → Next) (calls : L → LinkE
 
   pub back : ((start : Start) (history : List Event) (errand : Errand) (own : List Event) (old new : Visit P) → IsGivenBack old new → Accounts asks start history errand own old → Accounts asks start history errand own new)
       → ((begin : Option ReadState) (history : List Event) (old new : Visit P) (fate : Fate) → IsGivenBack old new → old.work ≡ Left fate → SessionStands calls begin history old → SessionStands calls begin history new)
-      → (start : Start) (history : List Event) (heads : List Head) (drawn : List Draw) (latest : ℕ) (items : List Item) (s : Shepherd P) (stage : Stage P) (win after : WindowsValue) → HasLeftIfOpen s.stage
+      → (start : Start) (history : List Event) (heads : List Head) (drawn : List Draw) (earliest latest : ℕ) (items : List Item) (s : Shepherd P) (stage : Stage P) (win after : WindowsValue) → HasLeftIfOpen s.stage
       → GivesBack s.stage win stage after
-      → AttributesBy asks calls makes came start history heads drawn latest items s → AttributesBy asks calls makes came start history heads drawn latest items (record s { stage = stage })
-  back accounts sessions start history heads drawn latest items s stage win after answered gives h = with_stage start history heads drawn latest items s (record s { stage = stage }) h (by s.stage answered h.is_open gives) where
+      → AttributesBy asks calls makes came start history heads drawn earliest latest items s → AttributesBy asks calls makes came start history heads drawn earliest latest items (record s { stage = stage })
+  back accounts sessions start history heads drawn earliest latest items s stage win after answered gives h = with_stage start history heads drawn earliest latest items s (record s { stage = stage }) h (by s.stage answered h.is_open gives) where
     by : (x : Stage P) → HasLeftIfOpen x → StageBy asks calls makes came start history h.opened x → GivesBack x win stage after → StageBy asks calls makes came start history h.opened stage
     by Resting answered t gives = subst (λ (x : Stage P). StageBy asks calls makes came start history h.opened x) (sym gives.0) t
     by (Serving v call) answered t gives =
@@ -397,10 +397,10 @@ pub opens : {P L M : Type 0} (asks : P → List Answer → Next) (calls : L → 
     → Accounts asks start history errand own v → Accounts asks start history (errand_of tries (asks program)) own (record v { work = ServingBy tries program }))
     → ((begin : Option ReadState) (history : List Event) (v : Visit P) (tries : TriesValue) (program : P) → v.work ≡ Opening → SessionStands calls begin history v
     → SessionStands calls begin history (record v { work = ServingBy tries program }))
-    → (start : Start) (history : List Event) (heads : List Head) (drawn : List Draw) (latest : ℕ) (items : List Item) (s : Shepherd P) (stage : Stage P) (worker : WorkerNo) → turn s ≡ turns.Program
+    → (start : Start) (history : List Event) (heads : List Head) (drawn : List Draw) (earliest latest : ℕ) (items : List Item) (s : Shepherd P) (stage : Stage P) (worker : WorkerNo) → turn s ≡ turns.Program
     → OpensStage makes maker worker s.stage stage
-    → AttributesBy asks calls (makes maker) came start history heads drawn latest items s → AttributesBy asks calls (makes maker) came start history heads drawn latest items (record s { stage = stage })
-opens {P} asks calls makes maker came accounts sessions start history heads drawn latest items s stage worker is does h = with_stage asks calls (makes maker) came start history heads drawn latest items s (record s { stage = stage }) h (by s.stage refl does) where
+    → AttributesBy asks calls (makes maker) came start history heads drawn earliest latest items s → AttributesBy asks calls (makes maker) came start history heads drawn earliest latest items (record s { stage = stage })
+opens {P} asks calls makes maker came accounts sessions start history heads drawn earliest latest items s stage worker is does h = with_stage asks calls (makes maker) came start history heads drawn earliest latest items s (record s { stage = stage }) h (by s.stage refl does) where
   one : (v : Visit P) (call : Option AskedCall) → s.stage ≡ Serving v call → OpensCall makes maker worker v call stage → StageBy asks calls (makes maker) came start history h.opened stage
   one v None was does = absurd does
   one v (Some asked) was does =

@@ -51,7 +51,7 @@ use Rattle.shepherd.specs.declared.shepherd.Shepherd.{Shepherd}
 use Rattle.shepherd.specs.declared.shepherd.ShepherdTurn.TheVariants as turns
 use Rattle.shepherd.specs.declared.shepherd.Stage.{Stage}
 use Rattle.ssm_stub.specs.Reads.{read_start}
-use Rattle.served_items.specs.Attributing.{AttributesBy, Service, StageBy, TakenIn, WasTakenIn, drawn_for_all, heads_of, moments_of, taken_in}
+use Rattle.served_items.specs.Attributing.{AttributesBy, Service, StageBy, TakenIn, WasTakenIn, drawn_for_all, taken_heads, moments_of, taken_in}
 use Rattle.served_items.specs.Served.{AttributesNext}
 use Rattle.served_items.proofs.Rising.{rises_by, rises_to}
 use Rattle.served_items.proofs.Turning.{rests}
@@ -166,18 +166,18 @@ drew_by {R} {S} gives looks key home random random_after serials serials_after i
 
 -- What is taken off the bytes is attributed.
 pub taken : {P L M C R S : Type 0} (asks : P → List Answer → Next) (calls : L → LinkEvent → L → Type 0) (makes : M → ActionCall → List ℕ → P → Type 0) (told : C → ℕ) (gives : Gives R) (looks : Looks S)
-    → AccountsBegin asks → SessionsBegin P calls → (service : Service M) (counts : LinkCounts) (start : Start) (history : List Event) (heads : List Head) (drawn : List Draw) (latest : ℕ) (items : List Item) (s new : Shepherd P)
+    → AccountsBegin asks → SessionsBegin P calls → (service : Service M) (counts : LinkCounts) (start : Start) (history : List Event) (heads : List Head) (drawn : List Draw) (earliest latest : ℕ) (items : List Item) (s new : Shepherd P)
     (clock clock_after : C) (random random_after : R) (serials serials_after : S) → turn s ≡ turns.Request → latest ≤ told clock
     → TakesRequest told gives looks service.key service.home counts s clock random serials new clock_after random_after serials_after
-    → AttributesBy asks calls (makes service.maker) (WasTakenIn gives looks service.key service.home) start history heads drawn latest items s
-    → AttributesNext asks calls makes gives looks service start history (heads ++ heads_in (taken_of s.received)) drawn (told clock_after) items new random random_after serials serials_after
-taken {P} {L} {M} {C} {R} {S} asks calls makes told gives looks accounts sessions service counts start history heads drawn latest items s new clock clock_after random random_after serials serials_after is late takes h = by (taken_of s.received) takes where
+    → AttributesBy asks calls (makes service.maker) (WasTakenIn gives looks service.key service.home) start history heads drawn earliest latest items s
+    → AttributesNext asks calls makes gives looks service start history (heads ++ heads_in (taken_of s.received)) drawn earliest (told clock_after) items new random random_after serials serials_after
+taken {P} {L} {M} {C} {R} {S} asks calls makes told gives looks accounts sessions service counts start history heads drawn earliest latest items s new clock clock_after random random_after serials serials_after is late takes h = by (taken_of s.received) takes where
   none : h.opened ≡ []
   none = subst (λ (x : Stage P). StageBy asks calls (makes service.maker) (WasTakenIn gives looks service.key service.home) start history h.opened x) (rests s is) h.is_open
 
   -- nothing is taken
   refuses : StageBy asks calls (makes service.maker) (WasTakenIn gives looks service.key service.home) start history [] new.stage → clock_after ≡ clock → random_after ≡ random → serials_after ≡ serials
-      → AttributesNext asks calls makes gives looks service start history (heads ++ []) drawn (told clock_after) items new random random_after serials serials_after
+      → AttributesNext asks calls makes gives looks service start history (heads ++ []) drawn earliest (told clock_after) items new random random_after serials serials_after
   refuses stands no_reading no_word no_serial = record {
     more = [];
     mid = serials;
@@ -188,7 +188,7 @@ taken {P} {L} {M} {C} {R} {S} asks calls makes told gives looks accounts session
       opened = h.opened;
       heads_are = append-nil heads ∙ h.heads_are;
       drawn_are = append-nil drawn ∙ h.drawn_are;
-      rise = rises_to (moments_of (taken_in h.served ++ h.opened)) latest (told clock_after) (subst (λ (c : C). latest ≤ told c) (sym no_reading) late) h.rise;
+      rise = rises_to (earliest ∷ moments_of (taken_in h.served ++ h.opened)) latest (told clock_after) (subst (λ (c : C). latest ≤ told c) (sym no_reading) late) h.rise;
       items_are = h.items_are;
       attributed = h.attributed;
       is_open = subst (λ (ts : List TakenIn). StageBy asks calls (makes service.maker) (WasTakenIn gives looks service.key service.home) start history ts new.stage) (sym none) stands;
@@ -197,15 +197,15 @@ taken {P} {L} {M} {C} {R} {S} asks calls makes told gives looks accounts session
 
   -- a request is taken
   begins : (head : Head) → Begins told gives looks service.key service.home counts head s clock random serials new clock_after random_after serials_after
-      → AttributesNext asks calls makes gives looks service start history (heads ++ head ∷ []) drawn (told clock_after) items new random random_after serials serials_after
+      → AttributesNext asks calls makes gives looks service start history (heads ++ head ∷ []) drawn earliest (told clock_after) items new random random_after serials serials_after
   begins head b =
       let t : TakenIn = record { head = head; intake = b.intake } in
       let drew = drew_by gives looks service.key service.home random random_after serials serials_after b.intake b.taken_in.decision b.taken_in.follows in
       let bare : taken_in h.served ++ h.opened ≡ taken_in h.served = ap (λ ts. taken_in h.served ++ ts) none ∙ append-nil (taken_in h.served) in
       let stage : new.stage ≡ begun_by s.front counts head b.intake.now b.intake.arrival = ap (λ (x : Shepherd P). x.stage) b.new_is in
       let later : latest ≤ b.intake.now.0 = (let rises = b.rises in omega (arith, late, rises)) in
-      let rose : ascends (moments_of (taken_in h.served) ++ b.intake.now.0 ∷ []) ≡ true =
-      rises_to (moments_of (taken_in h.served)) latest b.intake.now.0 later (subst (λ ts. ascends (moments_of ts ++ latest ∷ []) ≡ true) bare h.rise) in
+      let rose : ascends (earliest ∷ (moments_of (taken_in h.served) ++ b.intake.now.0 ∷ [])) ≡ true =
+      rises_to (earliest ∷ moments_of (taken_in h.served)) latest b.intake.now.0 later (subst (λ ts. ascends (earliest ∷ (moments_of ts ++ latest ∷ [])) ≡ true) bare h.rise) in
       let twice : moments_of (taken_in h.served ++ t ∷ []) ++ b.intake.now.0 ∷ [] ≡ moments_of (taken_in h.served) ++ b.intake.now.0 ∷ b.intake.now.0 ∷ [] =
       ap (λ ms. ms ++ b.intake.now.0 ∷ []) (map-append (λ (x : TakenIn). x.intake.now.0) (taken_in h.served) (t ∷ [])) ∙ append_assoc (moments_of (taken_in h.served)) (b.intake.now.0 ∷ []) (b.intake.now.0 ∷ []) in
       record {
@@ -216,11 +216,11 @@ taken {P} {L} {M} {C} {R} {S} asks calls makes told gives looks accounts session
         attributes = record {
           served = h.served;
           opened = t ∷ [];
-          heads_are = ap (λ hs. hs ++ head ∷ []) (h.heads_are ∙ ap heads_of bare) ∙ sym (map-append (λ (x : TakenIn). x.head) (taken_in h.served) (t ∷ []));
+          heads_are = ap (λ hs. hs ++ head ∷ []) (h.heads_are ∙ ap taken_heads bare) ∙ sym (map-append (λ (x : TakenIn). x.head) (taken_in h.served) (t ∷ []));
           drawn_are = ap (λ ds. ds ++ b.intake.drawn) (h.drawn_are ∙ ap drawn_for_all bare)
               ∙ ap (λ ds. drawn_for_all (taken_in h.served) ++ ds) (sym (append-nil b.intake.drawn)) ∙ sym (flat_map-append (λ (x : TakenIn). x.intake.drawn) (taken_in h.served) (t ∷ []));
-          rise = subst (λ (m : ℕ). ascends (moments_of (taken_in h.served ++ t ∷ []) ++ m ∷ []) ≡ true) (sym b.told_is)
-              (subst (λ ms. ascends ms ≡ true) (sym twice) (rises_by (moments_of (taken_in h.served)) b.intake.now.0 rose));
+          rise = subst (λ (m : ℕ). ascends (earliest ∷ (moments_of (taken_in h.served ++ t ∷ []) ++ m ∷ [])) ≡ true) (sym b.told_is)
+              (subst (λ ms. ascends (earliest ∷ ms) ≡ true) (sym twice) (rises_by (earliest ∷ moments_of (taken_in h.served)) b.intake.now.0 rose));
           items_are = h.items_are;
           attributed = h.attributed;
           is_open = subst (λ (x : Stage P). StageBy asks calls (makes service.maker) (WasTakenIn gives looks service.key service.home) start history (t ∷ []) x) (sym stage)
@@ -232,7 +232,7 @@ taken {P} {L} {M} {C} {R} {S} asks calls makes told gives looks accounts session
   refused stage same stands = subst (λ (x : Stage P). StageBy asks calls (makes service.maker) (WasTakenIn gives looks service.key service.home) start history [] x) (sym same) stands
 
   by : (x : Taken) → TakesBy told gives looks service.key service.home counts x s clock random serials new clock_after random_after serials_after
-      → AttributesNext asks calls makes gives looks service start history (heads ++ heads_in x) drawn (told clock_after) items new random random_after serials serials_after
+      → AttributesNext asks calls makes gives looks service start history (heads ++ heads_in x) drawn earliest (told clock_after) items new random random_after serials serials_after
   by (took.Request head) b = begins head b
   by took.Bad r = refuses (refused _ (ap (λ (x : Shepherd P). x.stage) r.new_is) refl) r.no_reading r.no_word r.no_serial
   by (took.TooLong len lines) r = refuses (refused _ (ap (λ (x : Shepherd P). x.stage) r.new_is) refl) r.no_reading r.no_word r.no_serial

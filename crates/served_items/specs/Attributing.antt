@@ -137,8 +137,8 @@ abbrev pub attributed_items : {P : Type 0} → List (Attributed P) → List Item
 attributed_items {P} served = map (λ (x : Attributed P). x.item) served
 
 -- the heads of requests that were taken in
-abbrev pub heads_of : List TakenIn → List Head
-heads_of taken = map (λ (t : TakenIn). t.head) taken
+abbrev pub taken_heads : List TakenIn → List Head
+taken_heads taken = map (λ (t : TakenIn). t.head) taken
 
 -- what was drawn for them, in order
 abbrev pub drawn_for_all : List TakenIn → List Draw
@@ -171,14 +171,15 @@ StageBy asks calls makes came start history opened (Refusing why bytes) = opened
 StageBy asks calls makes came start history opened (Over end) = opened ≡ []
 
 -- A connection attributes each of its items to its request. Its heads are those of the requests that were taken in, in
--- order: those of its items, and the one that is open. All that was drawn was drawn for them, in order; and no moment
--- is less than the one before it, or more than the latest one that the clock told.
-pub record AttributesBy {P L : Type 0} (asks : P → List Answer → Next) (calls : L → LinkEvent → L → Type 0) (makes : ActionCall → List ℕ → P → Type 0) (came : TakenIn → Type 0) (start : Start) (history : List Event) (heads : List Head) (drawn : List Draw) (latest : ℕ) (items : List Item) (s : Shepherd P) : Type 0 where
+-- order: those of its items, and the one that is open. All that was drawn was drawn for them, in order. And no moment
+-- is less than the earliest one, which the clock told when the connection began, or than the one before it, or more
+-- than the latest one that the clock told.
+pub record AttributesBy {P L : Type 0} (asks : P → List Answer → Next) (calls : L → LinkEvent → L → Type 0) (makes : ActionCall → List ℕ → P → Type 0) (came : TakenIn → Type 0) (start : Start) (history : List Event) (heads : List Head) (drawn : List Draw) (earliest latest : ℕ) (items : List Item) (s : Shepherd P) : Type 0 where
   pub served : List (Attributed P)
   pub opened : List TakenIn
-  pub heads_are : heads ≡ heads_of (taken_in served ++ opened)
+  pub heads_are : heads ≡ taken_heads (taken_in served ++ opened)
   pub drawn_are : drawn ≡ drawn_for_all (taken_in served ++ opened)
-  pub rise : ascends (moments_of (taken_in served ++ opened) ++ latest ∷ []) ≡ true
+  pub rise : ascends (earliest ∷ (moments_of (taken_in served ++ opened) ++ latest ∷ [])) ≡ true
   pub items_are : items ≡ attributed_items served
   pub attributed : All (IsAttributed asks calls makes came start history) served
   pub is_open : StageBy asks calls makes came start history opened s.stage
@@ -190,6 +191,6 @@ pub record Service (M : Type 0) : Type 0 where
   pub maker : M
 
 -- the same of a connection of a service
-abbrev pub Attributing : {P L M R S : Type 0} → (P → List Answer → Next) → (L → LinkEvent → L → Type 0) → (M → ActionCall → List ℕ → P → Type 0) → Gives R → Looks S → Service M → Start → List Event → List Head → List Draw → ℕ → List Item → Shepherd P → Type 0
-Attributing asks calls makes gives looks service start history heads drawn latest items s =
-    AttributesBy asks calls (makes service.maker) (WasTakenIn gives looks service.key service.home) start history heads drawn latest items s
+abbrev pub Attributing : {P L M R S : Type 0} → (P → List Answer → Next) → (L → LinkEvent → L → Type 0) → (M → ActionCall → List ℕ → P → Type 0) → Gives R → Looks S → Service M → Start → List Event → List Head → List Draw → ℕ → ℕ → List Item → Shepherd P → Type 0
+Attributing asks calls makes gives looks service start history heads drawn earliest latest items s =
+    AttributesBy asks calls (makes service.maker) (WasTakenIn gives looks service.key service.home) start history heads drawn earliest latest items s

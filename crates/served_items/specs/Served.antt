@@ -36,7 +36,7 @@ use Rattle.ssm_stub.specs.Reads.{read_start}
 use Rattle.ssm_stub.specs.declared.read_call.ReadRefusal.{ReadRefusal}
 use Rattle.shepherd.specs.Accounting.{trace_in}
 use Rattle.shepherd.specs.declared.shepherd.Shepherd.{Shepherd}
-use Rattle.served_items.specs.Attributing.{Attributing, BecameBy, IsErrandOf, Service, TakenIn, WasTakenIn, drawn_for_all, facts_by, heads_of, moments_of, read_by}
+use Rattle.served_items.specs.Attributing.{Attributing, BecameBy, IsErrandOf, Service, TakenIn, WasTakenIn, drawn_for_all, facts_by, taken_heads, moments_of, read_by}
 
 -- An item is for the request that was taken in so. It has its number and its moment. What it tells of its session is
 -- what came of the read of its own cookie, and of a write under its own key and with its own nonce. And this became of
@@ -58,23 +58,23 @@ abbrev pub IsServedFor : {P L M R S : Type 0} → (P → List Answer → Next) �
 IsServedFor asks calls makes gives looks service start history t i =
     IsItemFor asks calls (makes service.maker) (WasTakenIn gives looks service.key service.home) start history t i
 
--- a request that was served: how it was taken in, and its item
-pub record Served : Type 0 where
+-- an item that was served: how its request was taken in, and the item
+pub record ServedItem : Type 0 where
   pub taken : TakenIn
   pub item : Item
 
 -- The items of a connection are for its requests, in order: the heads are theirs, and then that of the request that is
--- open; what was drawn was drawn for them, in order; and no moment is less than the one before it, or more than the
--- latest one.
-pub record AreServed {P L M R S : Type 0} (asks : P → List Answer → Next) (calls : L → LinkEvent → L → Type 0) (makes : M → ActionCall → List ℕ → P → Type 0) (gives : Gives R) (looks : Looks S) (service : Service M) (start : Start) (history : List Event) (heads : List Head) (drawn : List Draw) (latest : ℕ) (items : List Item) : Type 0 where
-  pub served : List Served
+-- open; what was drawn was drawn for them, in order; and no moment is less than the earliest one or the one before it,
+-- or more than the latest one.
+pub record AreServed {P L M R S : Type 0} (asks : P → List Answer → Next) (calls : L → LinkEvent → L → Type 0) (makes : M → ActionCall → List ℕ → P → Type 0) (gives : Gives R) (looks : Looks S) (service : Service M) (start : Start) (history : List Event) (heads : List Head) (drawn : List Draw) (earliest latest : ℕ) (items : List Item) : Type 0 where
+  pub served : List ServedItem
   pub opened : List TakenIn
   pub one_open : length opened ≤ 1
-  pub heads_are : heads ≡ heads_of (map (λ (x : Served). x.taken) served ++ opened)
-  pub drawn_are : drawn ≡ drawn_for_all (map (λ (x : Served). x.taken) served ++ opened)
-  pub items_are : items ≡ map (λ (x : Served). x.item) served
-  pub rise : ascends (map (λ (i : Item). i.moment.0) items ++ (moments_of opened ++ latest ∷ [])) ≡ true
-  pub each : All (λ (x : Served). IsServedFor asks calls makes gives looks service start history x.taken x.item) served
+  pub heads_are : heads ≡ taken_heads (map (λ (x : ServedItem). x.taken) served ++ opened)
+  pub drawn_are : drawn ≡ drawn_for_all (map (λ (x : ServedItem). x.taken) served ++ opened)
+  pub items_are : items ≡ map (λ (x : ServedItem). x.item) served
+  pub rise : ascends (earliest ∷ (map (λ (i : Item). i.moment.0) items ++ (moments_of opened ++ latest ∷ []))) ≡ true
+  pub each : All (λ (x : ServedItem). IsServedFor asks calls makes gives looks service start history x.taken x.item) served
 
 -- The value of a session that was read is what that read answered, by the cookie and the nonce; and there is none where
 -- there is no cookie.
@@ -106,7 +106,7 @@ committed_at (item.Overload place again full) = Some place
 committed_at (item.Missed place again causes) = Some place
 
 -- The request of an item that came to the container had this text and this program, made of its own call.
-pub record IsMadeOf {P : Type 0} (makes : ActionCall → List ℕ → P → Type 0) (t : TakenIn) (i : Item) (text : List ℕ) (program : P) : Type 0 where
+pub record IsOfOwnCall {P : Type 0} (makes : ActionCall → List ℕ → P → Type 0) (t : TakenIn) (i : Item) (text : List ℕ) (program : P) : Type 0 where
   pub admission : Admission
   pub arrived : t.intake.arrival ≡ Admitted admission
   pub number_is : i.request ≡ Some admission.request
@@ -120,7 +120,7 @@ pub record IsMadeOf {P : Type 0} (makes : ActionCall → List ℕ → P → Type
 pub record HasOwnEntry {P : Type 0} (asks : P → List Answer → Next) (makes : ActionCall → List ℕ → P → Type 0) (start : Start) (history : List Event) (t : TakenIn) (i : Item) : Type 0 where
   pub text : List ℕ
   pub program : P
-  pub made_of : IsMadeOf makes t i text program
+  pub made_of : IsOfOwnCall makes t i text program
   pub before : List Event
   pub entry : CommitEntry
   pub done : DoneText
@@ -135,9 +135,9 @@ pub record HasOwnEntry {P : Type 0} (asks : P → List Answer → Next) (makes :
 
 -- What a connection takes off its bytes is the next request, if one is taken: it draws these numbers, one after
 -- another, and looks at a serial number last where that is spent; and the connection attributes its items with it.
-pub record AttributesNext {P L M R S : Type 0} (asks : P → List Answer → Next) (calls : L → LinkEvent → L → Type 0) (makes : M → ActionCall → List ℕ → P → Type 0) (gives : Gives R) (looks : Looks S) (service : Service M) (start : Start) (history : List Event) (heads : List Head) (drawn : List Draw) (latest : ℕ) (items : List Item) (new : Shepherd P) (random random_after : R) (serials serials_after : S) : Type 0 where
+pub record AttributesNext {P L M R S : Type 0} (asks : P → List Answer → Next) (calls : L → LinkEvent → L → Type 0) (makes : M → ActionCall → List ℕ → P → Type 0) (gives : Gives R) (looks : Looks S) (service : Service M) (start : Start) (history : List Event) (heads : List Head) (drawn : List Draw) (earliest latest : ℕ) (items : List Item) (new : Shepherd P) (random random_after : R) (serials serials_after : S) : Type 0 where
   pub more : List Draw
   pub mid : S
   pub drew : HasDrawn looks gives serials random more mid random_after
   pub looked : (serials_after ≡ mid) ⊎ ((seen : ℕ) × looks mid seen None serials_after)
-  pub attributes : Attributing asks calls makes gives looks service start history heads (drawn ++ more) latest items new
+  pub attributes : Attributing asks calls makes gives looks service start history heads (drawn ++ more) earliest latest items new

@@ -1,7 +1,7 @@
 //! The law of what items tell of their requests. It is the contract of a function that does nothing: a caller that
 //! needs the law calls the function.
 
-ghost use Rattle.std.specs.Prelude.{◌≡◌, ◌↔◌, ◌+◌, ℕ, true, false, List, [], take, Option, Some, None};
+ghost use Rattle.std.specs.Prelude.{◌≡◌, ◌↔◌, ◌+◌, ℕ, true, false, List, [], slice_get, take, Option, Some, None};
 ghost use Rattle.boot_core.specs.declared.boot.Start.{Start};
 ghost use Rattle.container_core.specs.History.{entries_in};
 ghost use Rattle.container_core.specs.declared.history.Event.{Event};
@@ -10,6 +10,8 @@ ghost use Rattle.crash_base.specs.declared.numbers.Place.{Place};
 ghost use Rattle.crash_base.specs.declared.numbers.RequestNo.{RequestNo};
 ghost use Rattle.http_wire.specs.declared.taken.Head.{Head};
 ghost use Rattle.journal_model.specs.Requests.{commit_of};
+ghost use Rattle.journal_model.specs.declared.entry.CommitEntry.{CommitEntry};
+ghost use Rattle.journal_model.specs.declared.entry.Entry.TheVariants.{Commit};
 ghost use Rattle.outcome_items.specs.Traces.{again_in, is_outside};
 ghost use Rattle.outcome_items.specs.declared.item.Item.{Item};
 ghost use Rattle.outcome_items.specs.declared.outcome.ItemOutcome.TheVariants as item;
@@ -26,7 +28,7 @@ ghost use Rattle.request_tries.specs.Serving.{TriesValue};
 ghost use Rattle.request_visit.specs.declared.visit.Visit.{Visit};
 ghost use Rattle.request_visit.specs.declared.visit.Work.TheVariants.{Serving as ServingBy};
 ghost use Rattle.served_items.specs.Attributing.{Attributing, Service, TakenIn};
-ghost use Rattle.served_items.specs.Served.{AreServed, HasOwnEntry, IsMadeOf, IsReadGone, IsServedFor, IsValueRead, committed_at};
+ghost use Rattle.served_items.specs.Served.{AreServed, HasOwnEntry, IsOfOwnCall, IsReadGone, IsServedFor, IsValueRead, committed_at};
 ghost use Rattle.session_cookie.specs.declared.cookie.Cookie.{Cookie};
 ghost use Rattle.shepherd.specs.declared.shepherd.AskedCall.{AskedCall};
 ghost use Rattle.shepherd.specs.declared.shepherd.Shepherd.{Shepherd};
@@ -45,17 +47,18 @@ use shepherd::ProgramMaker;
 /// the container, its text and its program were made of its own call, of nobody where no session was read, and else of
 /// the user that the value of the session names. A page that no earlier call had committed has an entry of its own,
 /// under the item's number, made by that program over the rows just before it; and one that an earlier call had
-/// committed has the entry of that call, under the same number. A cookie is set under its own key and with its own
-/// nonce. The tries of the request that is open bear its number.
+/// committed has the entry of that call, under the same number: each of these names an entry of its request (`entry`).
+/// The container was held for those requests alone that came to it (`unheld`). A cookie is set under its own key and
+/// with its own nonce. The tries of the request that is open bear its number.
 pub fn items_tell_what_was_served<P: Program, L: Link, M: ProgramMaker<P>, R: Random, S: Serials>()
     ensures served { (service : Service M) (start : Start) (history : List Event) (heads : List Head)
-        (drawn : List Draw) (latest : ℕ) (items : List Item) (s : Shepherd P)
-        → Attributing P.asks L.makes M.makes R.gives S.looks service start history heads drawn latest items s
-        → AreServed P.asks L.makes M.makes R.gives S.looks service start history heads drawn latest items }
+        (drawn : List Draw) (earliest latest : ℕ) (items : List Item) (s : Shepherd P)
+        → Attributing P.asks L.makes M.makes R.gives S.looks service start history heads drawn earliest latest items s
+        → AreServed P.asks L.makes M.makes R.gives S.looks service start history heads drawn earliest latest items }
     ensures tries { (service : Service M) (start : Start) (history : List Event) (heads : List Head)
-        (drawn : List Draw) (latest : ℕ) (items : List Item) (s : Shepherd P) (v : Visit P)
+        (drawn : List Draw) (earliest latest : ℕ) (items : List Item) (s : Shepherd P) (v : Visit P)
         (call : Option AskedCall) (tries : TriesValue) (program : P)
-        → Attributing P.asks L.makes M.makes R.gives S.looks service start history heads drawn latest items s
+        → Attributing P.asks L.makes M.makes R.gives S.looks service start history heads drawn earliest latest items s
         → s.stage ≡ Serving v call → v.work ≡ ServingBy tries program → v.facts.request ≡ Some tries.request }
     ensures refused { (service : Service M) (start : Start) (history : List Event) (t : TakenIn) (i : Item)
         (why : Refusal) → IsServedFor P.asks L.makes M.makes R.gives S.looks service start history t i
@@ -96,7 +99,7 @@ pub fn items_tell_what_was_served<P: Program, L: Link, M: ProgramMaker<P>, R: Ra
         (read_refusal.Lost causes) }
     ensures call { (service : Service M) (start : Start) (history : List Event) (t : TakenIn) (i : Item)
         → IsServedFor P.asks L.makes M.makes R.gives S.looks service start history t i → is_outside i.outcome ≡ false
-        → (text : List ℕ) × (program : P) × IsMadeOf (M.makes service.maker) t i text program }
+        → (text : List ℕ) × (program : P) × IsOfOwnCall (M.makes service.maker) t i text program }
     ensures page { (service : Service M) (start : Start) (history : List Event) (t : TakenIn) (i : Item)
         → IsServedFor P.asks L.makes M.makes R.gives S.looks service start history t i
         → again_in i.outcome ≡ Some false → HasOwnEntry P.asks (M.makes service.maker) start history t i }
@@ -105,6 +108,14 @@ pub fn items_tell_what_was_served<P: Program, L: Link, M: ProgramMaker<P>, R: Ra
         → again_in i.outcome ≡ Some true
         → (place : Place) × (request : RequestNo) × (committed_at i.outcome ≡ Some place) ×
         (i.request ≡ Some request) × (commit_of (entries_in (take i.holds.held history)) request ≡ Some place) }
+    ensures entry { (service : Service M) (start : Start) (history : List Event) (t : TakenIn) (i : Item)
+        (place : Place) → IsServedFor P.asks L.makes M.makes R.gives S.looks service start history t i
+        → committed_at i.outcome ≡ Some place
+        → (e : CommitEntry) × (slice_get (entries_in (take i.holds.held history)) place.0 ≡ Some (Commit e)) ×
+        (i.request ≡ Some e.request) }
+    ensures unheld { (service : Service M) (start : Start) (history : List Event) (t : TakenIn) (i : Item)
+        → IsServedFor P.asks L.makes M.makes R.gives S.looks service start history t i
+        → (i.holds.held ≡ 0) ↔ (is_outside i.outcome ≡ true) }
     ensures cookie { (service : Service M) (start : Start) (history : List Event) (t : TakenIn) (i : Item)
         (c : Cookie) → IsServedFor P.asks L.makes M.makes R.gives S.looks service start history t i
         → i.cookie ≡ Some c

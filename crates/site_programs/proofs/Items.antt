@@ -10,13 +10,13 @@ use Rattle.request_tries.specs.declared.outcome.RequestOutcome.{RequestOutcome}
 use Rattle.request_tries.specs.declared.outcome.RequestOutcome.TheVariants.{Page}
 use Rattle.request_visit.specs.Accounts.{Became, EndsWith}
 use Rattle.request_visit.specs.declared.facts.VisitFacts.{VisitFacts}
-use Rattle.site_programs.specs.Pages.{outcome_in}
+use Rattle.site_programs.specs.Pages.{end_in}
 
 same_outcome : (a b : RequestOutcome) → Some a ≡ Some b → a ≡ b
 same_outcome a b is = cc
 
 pub ended_so : (start : Start) (history own : List Event) (errand : Errand) (facts : VisitFacts) (holds : Holds) (became : ItemOutcome) (outcome : RequestOutcome)
-    → Became start history errand facts holds own became → outcome_in became ≡ Some outcome → EndsWith start history errand facts holds outcome own
+    → Became start history errand facts holds own became → end_in became ≡ Some outcome → EndsWith start history errand facts holds outcome own
 ended_so start history own errand facts holds (item.Refused why) outcome stands is = absurd (cc)
 ended_so start history own errand facts holds (item.SerialsSpent seen) outcome stands is = absurd (cc)
 ended_so start history own errand facts holds (item.Expired now expiry) outcome stands is = absurd (cc)

@@ -26,7 +26,7 @@ use Rattle.served_items.specs.Served.{IsItemFor}
 use Rattle.shepherd.specs.Accounting.{trace_in}
 use Rattle.site_programs.proofs.Items.{ended_so}
 use Rattle.site_programs.specs.Errands.{AsksSite, IsMadeOf}
-use Rattle.site_programs.specs.Pages.{IsMeantThere, outcome_in}
+use Rattle.site_programs.specs.Pages.{IsMeantThere, end_in}
 
 -- What is so of an item of the site whose request has an entry of its own.
 abbrev pub IsMeantFor : (start : Start) (history : List Event) (t : TakenIn) (i : Item) (place : Place) → Type 0
@@ -42,7 +42,7 @@ OwnPages = (start : Start) (events : List Event) (errand : Errand) (call : Actio
 
 -- a request that came to the container was admitted, and this is so of its admission
 came_admitted : (arrival : Arrival) (So : Admission → Type 0) (became : ItemOutcome) (outcome : RequestOutcome)
-    → outcome_in became ≡ Some outcome → BecameBy arrival So became → OnAdmitted arrival So
+    → end_in became ≡ Some outcome → BecameBy arrival So became → OnAdmitted arrival So
 came_admitted arrival So (item.Refused why) outcome is b = absurd (cc)
 came_admitted arrival So (item.SerialsSpent seen) outcome is b = absurd (cc)
 came_admitted arrival So (item.Expired now expiry) outcome is b = absurd (cc)
@@ -66,7 +66,7 @@ asks_site start value errand a site e = record {
 }
 
 pub item_meant : {L : Type 0} (own : OwnPages) (calls : L → LinkEvent → L → Type 0) (came : TakenIn → Type 0) (start : Start) (history : List Event) (t : TakenIn) (i : Item) (place : Place)
-    → start.deployment ≡ site_parts → IsItemFor steps_of calls IsMadeOf came start history t i → outcome_in i.outcome ≡ Some (Page place false) → IsMeantFor start history t i place
+    → start.deployment ≡ site_parts → IsItemFor steps_of calls IsMadeOf came start history t i → end_in i.outcome ≡ Some (Page place false) → IsMeantFor start history t i place
 item_meant own calls came start history t i place site s is =
     let on = on_admitted t.intake.arrival (λ a. IsErrandOf steps_of IsMadeOf i.value s.errand a)
     (came_admitted t.intake.arrival (λ a. IsErrandOf steps_of IsMadeOf i.value s.errand a) i.outcome (Page place false) is s.became_by) in

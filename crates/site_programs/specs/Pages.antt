@@ -54,11 +54,11 @@ pub record HasNoRoomFor (start : Start) (es : List Entry) (errand : Errand) (fro
 
 -- What became of the request of an item in the container, if it came there: a page, where only its session could not be
 -- written.
-abbrev pub outcome_in : ItemOutcome → Option RequestOutcome
-outcome_in (item.Refused why) = None
-outcome_in (item.SerialsSpent seen) = None
-outcome_in (item.Expired now expiry) = None
-outcome_in (item.Lost causes) = None
-outcome_in (item.Ended outcome) = Some outcome
-outcome_in (item.Overload place again full) = Some (Page place again)
-outcome_in (item.Missed place again causes) = Some (Page place again)
+abbrev pub end_in : ItemOutcome → Option RequestOutcome
+end_in (item.Refused why) = None
+end_in (item.SerialsSpent seen) = None
+end_in (item.Expired now expiry) = None
+end_in (item.Lost causes) = None
+end_in (item.Ended outcome) = Some outcome
+end_in (item.Overload place again full) = Some (Page place again)
+end_in (item.Missed place again causes) = Some (Page place again)

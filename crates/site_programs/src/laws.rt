@@ -30,7 +30,7 @@ ghost use Rattle.request_visit.specs.Stepping.{OnServing, VisitsInside};
 ghost use Rattle.request_visit.specs.declared.facts.VisitFacts.{VisitFacts};
 ghost use Rattle.request_visit.specs.declared.visit.Visit.{Visit};
 ghost use Rattle.site_programs.specs.Errands.{AsksSite};
-ghost use Rattle.site_programs.specs.Pages.{HasNoRoomFor, HasOutcome, IsMeantThere, ShowsEntry, outcome_in};
+ghost use Rattle.site_programs.specs.Pages.{HasNoRoomFor, HasOutcome, IsMeantThere, ShowsEntry, end_in};
 
 use crate::maker::SiteMaker;
 use auction_actions::ActionProgram;
@@ -57,7 +57,7 @@ pub fn site_programs_are_accepted()
 pub fn items_tell_their_ends()
     ensures { (start : Start) (history own : List Event) (errand : Errand) (facts : VisitFacts) (holds : Holds)
         (became : ItemOutcome) (outcome : RequestOutcome) → Became start history errand facts holds own became
-        → outcome_in became ≡ Some outcome → EndsWith start history errand facts holds outcome own }
+        → end_in became ≡ Some outcome → EndsWith start history errand facts holds outcome own }
 {}
 
 /// A page is what the site means by its request's call. Its entry bears the request's number, and its text spells the

@@ -17,7 +17,7 @@ ghost use Rattle.request_tries.specs.Ends.{Errand};
 ghost use Rattle.request_tries.specs.declared.outcome.RequestOutcome.TheVariants.{Page};
 ghost use Rattle.served_items.specs.Attributing.{Service, TakenIn};
 ghost use Rattle.served_items.specs.Served.{IsServedFor};
-ghost use Rattle.site_programs.specs.Pages.{IsMeantThere, outcome_in};
+ghost use Rattle.site_programs.specs.Pages.{IsMeantThere, end_in};
 
 use crate::laws::pages_are_what_the_site_means;
 use crate::maker::SiteMaker;
@@ -35,7 +35,7 @@ pub fn items_are_what_the_site_means<L: Link, R: Random, S: Serials>()
         (place : Place) → start.deployment ≡ site_parts
         → IsServedFor steps_of L.makes ⟦<SiteMaker as ProgramMaker<ActionProgram>>⟧.makes R.gives S.looks
         service start history t i
-        → outcome_in i.outcome ≡ Some (Page place false)
+        → end_in i.outcome ≡ Some (Page place false)
         → (a : Admission) × (t.intake.arrival ≡ Admitted a)
         × (errand : Errand) × (errand.request ≡ a.request) × Spells errand.text (call_by a.call i.value)
         × IsMeantThere start.base (entries_in history) place errand (call_by a.call i.value) }

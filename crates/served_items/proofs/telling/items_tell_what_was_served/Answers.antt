@@ -1,20 +1,22 @@
-use Rattle.std.proofs.Common.{subst}
+use Rattle.std.proofs.Common.{◌∙◌, subst}
 use Rattle.outcome_items.specs.declared.outcome.ItemOutcome.{ItemOutcome}
+use Rattle.shepherd.specs.Accounting.{trace_in}
 use Rattle.served_items.specs.Attributing.{BecameBy, IsErrandOf, WasTakenIn}
 use Rattle.served_items.proofs.Arriving.{admitted_number, admitted_with, call_made, cookie_so, expired_so, lost_so, own_page, page_again, refused_arrival, refused_bare, refused_draws, refused_outcome, spent_number, spent_outcome, value_read}
+use Rattle.served_items.proofs.Placing.{held_if, named}
 use Rattle.served_items.proofs.Serving.{bear, served}
 use Rattle.served_items.proofs.telling.items_tell_what_was_served.Goals as goal
 
 pub returns-clause-served : goal.returns-clause-served
-returns-clause-served g c = λ service start history heads drawn latest items s h.
+returns-clause-served g c = λ service start history heads drawn earliest latest items s h.
     served g.P.Program.asks g.L.Link.makes g.M.ProgramMaker.makes g.R.Random.gives g.S.Serials.looks
     c.requests_account_for_their_events.ensures.item c.requests_account_for_their_sessions.ensures.item
-    service start history heads drawn latest items s h
+    service start history heads drawn earliest latest items s h
 
 pub returns-clause-tries : goal.returns-clause-tries
-returns-clause-tries g c = λ service start history heads drawn latest items s v call tries program h was is.
+returns-clause-tries g c = λ service start history heads drawn earliest latest items s v call tries program h was is.
     bear g.P.Program.asks g.L.Link.makes (g.M.ProgramMaker.makes service.maker) (WasTakenIn g.R.Random.gives g.S.Serials.looks service.key service.home)
-    start history heads drawn latest items s v call tries program h was is
+    start history heads drawn earliest latest items s v call tries program h was is
 
 pub returns-clause-refused : goal.returns-clause-refused
 returns-clause-refused g c = λ service start history t i why h. (
@@ -67,6 +69,15 @@ returns-clause-page g c = λ service start history t i h is.
 pub returns-clause-again : goal.returns-clause-again
 returns-clause-again g c = λ service start history t i h is.
     page_again g.P.Program.asks g.L.Link.makes (g.M.ProgramMaker.makes service.maker) (WasTakenIn g.R.Random.gives g.S.Serials.looks service.key service.home) start history t i h is
+
+pub returns-clause-entry : goal.returns-clause-entry
+returns-clause-entry g c = λ service start history t i place h is.
+    let there = named start history h.errand h.facts i.holds (trace_in history i) place i.outcome is h.became in
+    (there.0, there.1, h.number_is ∙ there.2)
+
+pub returns-clause-unheld : goal.returns-clause-unheld
+returns-clause-unheld g c = λ service start history t i h.
+    held_if start history h.errand h.facts i.holds (trace_in history i) i.outcome h.became
 
 pub returns-clause-cookie : goal.returns-clause-cookie
 returns-clause-cookie g c = λ service start history t i cookie h some.
