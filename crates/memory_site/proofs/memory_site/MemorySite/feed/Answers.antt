@@ -1,0 +1,11 @@
+use Rattle.std.proofs.Common.{sym, subst, arith}
+use Rattle.memory_site.specs.Going.{GoesOnAtSite}
+use Rattle.memory_site.proofs.Together.{all_with}
+use Rattle.memory_site.proofs.memory_site.MemorySite.feed.Goals as goal
+
+pub feed-requires : goal.feed-requires
+feed-requires c = subst (GoesOnAtSite c.self.inside.around.container) (sym c.index_mut.ensures.value) (c.self.invariant c.args.at c.index_mut.result.now (omega (arith, c.if-at-len.true, c.len.ensures)))
+
+pub invariant_of-self : goal.invariant_of-self
+invariant_of-self c =
+    all_with c.self.inside.around.container c.self.inside.around.container c.self.inside.shepherds.items c.args.at c.feed.new.shepherd (λ s goes. goes) c.feed.ensures.goes c.self.invariant

@@ -1,0 +1,22 @@
+use Rattle.std.proofs.Common.{ap, arith, refl, subst, sym}
+use Rattle.auction_calls.specs.declared.action.ActionCall.{ActionCall}
+use Rattle.memory_site.specs.Steps.{StepsAt, value_of}
+use Rattle.memory_site.specs.declared.steps.StepEnd.TheVariants as ends
+use Rattle.shepherd.specs.declared.shepherd.Shepherd.{Shepherd}
+use Rattle.shepherd.specs.declared.shepherd.ShepherdTurn.{ShepherdTurn}
+use Rattle.memory_site.proofs.surroundings.Surroundings.call_windows.Goals as goal
+
+pub returns-in-Ok-clause-goes : goal.returns-in-Ok-clause-goes
+returns-in-Ok-clause-goes c =
+    let limits = c.facts.ensures.limits in
+    record {
+      goes_on = c.connections_go_on.ensures.windows c.args.self.now.container c.args.shepherd.now c.step_windows.new.self c.args.self.now.windows _
+          limits.some (omega (arith, limits.enough, limits.within, limits.few)) c.in-Ok.ensures.step c.requires.goes.goes_on;
+    }
+
+pub returns-in-Err-clause-goes : goal.returns-in-Err-clause-goes
+returns-in-Err-clause-goes c = record { goes_on = c.connections_go_on.ensures.wants c.args.self.now.container c.step_windows.new.self (ap (λ (s : Shepherd ActionCall). s.wants_memory) c.in-Err.ensures.want) }
+
+pub returns-in-Ok-clause-told : goal.returns-in-Ok-clause-told
+returns-in-Ok-clause-told c = subst (λ (t : ShepherdTurn). StepsAt t (value_of c.args.self.now) c.args.shepherd.now ends.Called (record (value_of c.args.self.now) { windows = c.step_windows.new.windows }) c.step_windows.new.self)
+    (sym c.requires.turn) (refl, c.in-Ok.ensures.step, refl)

@@ -1,0 +1,100 @@
+-- What the steps of a connection do, and what is left where one is given up.
+use Rattle.std.specs.Prelude.{◌≡◌, ℕ, false, List, Option, Some, None}
+use Rattle.auction_calls.specs.declared.action.ActionCall.{ActionCall}
+use Rattle.auction_site.specs.Actions.{steps_of}
+use Rattle.container_core.specs.Container.{ContainerValue}
+use Rattle.link_memory.specs.Script.{ScriptMakes, ScriptValue, script_tally}
+use Rattle.memory_site.specs.declared.steps.StepEnd.{StepEnd}
+use Rattle.memory_site.specs.declared.steps.StepEnd.TheVariants as ends
+use Rattle.memory_site.specs.declared.surroundings.Surroundings.{Surroundings}
+use Rattle.memory_site.specs.declared.surroundings.TheConstants.{NODE, WORKER}
+use Rattle.outcome_items.specs.declared.item.Item.{Item}
+use Rattle.outside.specs.Clock.{PlainClockValue}
+use Rattle.outside.specs.Random.{PlainGives}
+use Rattle.outside.specs.Serials.{PlainLooks}
+use Rattle.request_intake.specs.declared.intake.HomeBoot.{HomeBoot}
+use Rattle.request_visit.specs.Advancing.{Advances}
+use Rattle.request_visit.specs.Stepping.{VisitsInside, VisitsWindows, counted}
+use Rattle.send_windows.specs.Windows.{WindowsValue}
+use Rattle.shepherd.specs.Shepherds.{has_item}
+use Rattle.shepherd.specs.Steps.{GivesBack, OpensStage, PutsOut, ShepherdSteps, TakesItem, TakesRequest, VisitsOutside, dropped_stage}
+use Rattle.shepherd.specs.declared.shepherd.Shepherd.{Shepherd}
+use Rattle.shepherd.specs.declared.shepherd.ShepherdTurn.{ShepherdTurn}
+use Rattle.shepherd.specs.declared.shepherd.ShepherdTurn.TheVariants as turns
+use Rattle.shepherd.specs.declared.shepherd.Stage.{Stage}
+use Rattle.site_programs.specs.Errands.{IsMadeOf}
+use Rattle.site_programs.specs.declared.maker.SiteMaker.{SiteMaker}
+
+-- surroundings, as the steps of connections see them
+pub record SurroundingsValue : Type 0 where
+  pub container : ContainerValue
+  pub windows : WindowsValue
+  pub link : ScriptValue
+  pub clock : PlainClockValue
+  pub random : ℕ
+  pub serials : ℕ
+  pub key : List ℕ
+
+-- the value of surroundings
+abbrev pub value_of : Surroundings → SurroundingsValue
+value_of a = record {
+  container = a.container;
+  windows = a.windows;
+  link = a.link;
+  clock = a.clock;
+  random = a.random;
+  serials = a.serials;
+  key = a.key;
+}
+
+-- the node and the boot by which requests are served: the boot is the container's
+abbrev pub home_in : SurroundingsValue → HomeBoot
+home_in around = record { node = NODE; boot = around.container.boot.start.boot }
+
+-- A request was taken off the bytes of a connection there.
+abbrev pub TakesThere : SurroundingsValue → Shepherd ActionCall → SurroundingsValue → Shepherd ActionCall → Type 0
+TakesThere around s after new =
+    TakesRequest (λ (clock : PlainClockValue). clock.told.0) PlainGives PlainLooks around.key (home_in around) (counted (script_tally around.link))
+    s around.clock around.random around.serials new after.clock after.random after.serials
+
+-- The step of a connection at this turn: what it tells, and what it leaves of the connection and of its surroundings,
+-- of which nothing else changes.
+abbrev pub StepsAt : ShepherdTurn → SurroundingsValue → Shepherd ActionCall → StepEnd → SurroundingsValue → Shepherd ActionCall → Type 0
+StepsAt turns.Bytes around s end after new = (end ≡ ends.Waits) × (new ≡ s) × (after ≡ around)
+StepsAt turns.Request around s end after new =
+    (end ≡ ends.Called) × TakesThere around s after new
+    × (after ≡ record around { clock = after.clock; random = after.random; serials = after.serials })
+StepsAt turns.Outside around s end after new =
+    (end ≡ ends.Called) × ShepherdSteps (λ v w. VisitsOutside ScriptMakes script_tally v around.link w after.link) s new
+    × (after ≡ record around { link = after.link })
+StepsAt turns.Windows around s end after new =
+    (end ≡ ends.Called) × ShepherdSteps (λ v w. VisitsWindows v around.windows w after.windows) s new
+    × (after ≡ record around { windows = after.windows })
+StepsAt turns.Inside around s end after new =
+    (end ≡ ends.Called) × ShepherdSteps (λ v w. VisitsInside steps_of v around.container w after.container) s new
+    × (after ≡ record around { container = after.container })
+StepsAt turns.Program around s end after new =
+    (end ≡ ends.Alone) × ((maker : SiteMaker) × OpensStage (λ (m : SiteMaker). IsMadeOf) maker WORKER s.stage new.stage)
+    × (new ≡ record s { stage = new.stage }) × (after ≡ around)
+StepsAt turns.Own around s end after new =
+    (end ≡ ends.Alone) × ShepherdSteps (λ v w. Advances around.key v v.work w) s new × (after ≡ around)
+StepsAt turns.Output around s end after new =
+    (bytes : List ℕ) × (end ≡ ends.Response bytes) × PutsOut s.stage bytes new.stage
+    × (new ≡ record s { stage = new.stage }) × (after ≡ around)
+StepsAt turns.Item around s end after new =
+    (item : Item) × (end ≡ ends.Item item) × TakesItem s.stage item new.stage
+    × (new ≡ record s { front = item.holds.front; stage = new.stage }) × (after ≡ around)
+StepsAt (turns.Ended why) around s end after new = (end ≡ ends.Ended why) × (new ≡ s) × (after ≡ around)
+
+-- The item of the request that is open, where nothing is left to be done for it.
+abbrev pub IsItemLeft : Stage ActionCall → Option Item → Type 0
+IsItemLeft stage None = has_item stage ≡ false
+IsItemLeft stage (Some item) = (after : Stage ActionCall) × TakesItem stage item after
+
+-- A connection is given up: its call is, its passes are given back, and this item is left of it. Of the surroundings
+-- only the windows change.
+pub record IsGivenUp (around : SurroundingsValue) (s : Shepherd ActionCall) (item : Option Item) (after : SurroundingsValue) : Type 0 where
+  pub stage : Stage ActionCall
+  pub back : GivesBack (dropped_stage s.stage) around.windows stage after.windows
+  pub left : IsItemLeft stage item
+  pub rest : after ≡ record around { windows = after.windows }

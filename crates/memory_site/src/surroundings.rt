@@ -1,0 +1,84 @@
+//! What connections of the site go through, and how it starts.
+
+ghost use Rattle.std.specs.Prelude.{◌≡◌, Some, IfOk, IfSome};
+ghost use Rattle.auction_rows.specs.Parts.{site_parts};
+ghost use Rattle.container_core.specs.Start.{IsStarted};
+
+use auction_actions::ActionProgram;
+use auction_rows::site_deployment;
+use container_core::{Container, JournalLimits, StartRefusal};
+use crash_base::{Moment, OutOfMemory, WorkerNo};
+use link_memory::ScriptLink;
+use outside::{MapKeeper, PlainClock, PlainRandom, PlainSerials};
+use send_windows::Windows;
+use shepherd::Shepherd;
+use site_routes::SiteRouter;
+use std::alloc::Global;
+
+/// The number of the service's node.
+pub const NODE: u16 = 1;
+
+/// The number of whoever serves.
+pub const WORKER: WorkerNo = WorkerNo(4);
+
+/// A connection of the site.
+pub type SiteShepherd = Shepherd<ActionProgram>;
+
+/// A container of the site, windows on bricks and the link to them, and all that is drawn.
+#[derive(Drop)]
+pub struct Surroundings {
+    pub container: Container<MapKeeper>,
+    pub windows: Windows,
+    pub link: ScriptLink,
+    pub clock: PlainClock,
+    pub random: PlainRandom,
+    pub serials: PlainSerials,
+    pub router: SiteRouter,
+    /// The key of the service.
+    pub key: [u8; 32],
+    ghost of_site: { container.boot.start.deployment ≡ site_parts },
+}
+
+impl Surroundings {
+    /// Those over this keeper, these windows and this link. The clock shows 0, random words go from 1 on, and serial
+    /// numbers from this one. None where the start is refused.
+    pub fn start(
+        alloc: Global,
+        keeper: MapKeeper,
+        limits: JournalLimits,
+        windows: Windows,
+        link: ScriptLink,
+        key: [u8; 32],
+        serial: u64,
+    ) -> Result<Option<Surroundings>, OutOfMemory>
+        ensures container { IfOk result (λ started. IfSome started (λ s. IsStarted site_parts limits (Some keeper.told)
+            s.container)) }
+        ensures given { IfOk result (λ started. IfSome started (λ s. (s.windows ≡ windows) × (s.link ≡ link)
+            × (s.key ≡ key))) }
+        ensures drawn { IfOk result (λ started. IfSome started (λ s. (s.clock ≡ record {
+          shown = record { 0 = 0 };
+          told = record { 0 = 0 };
+        }) × (s.random ≡ 1) × (s.serials ≡ serial))) }
+    {
+        let deployment = site_deployment(alloc)?;
+        let router = SiteRouter::new(alloc)?;
+        match Container::start(alloc, deployment, keeper, limits) {
+            Ok(container) => Ok(Some(Surroundings {
+                container,
+                windows,
+                link,
+                clock: PlainClock::new(Moment(0)),
+                random: PlainRandom::new(1),
+                serials: PlainSerials::new(serial),
+                router,
+                key,
+            })),
+            Err(fail) => match fail.refusal {
+                StartRefusal::OutOfMemory => Err(OutOfMemory),
+                StartRefusal::KeeperFailed => Ok(None),
+                StartRefusal::BadRow { id: _ } => Ok(None),
+                StartRefusal::BootsSpent => Ok(None),
+            },
+        }
+    }
+}
