@@ -1,0 +1,59 @@
+//! What requests go through: the site in memory.
+
+use container_core::JournalLimits;
+use crash_base::RowList;
+use link_memory::ScriptLink;
+use memory_site::MemorySite;
+use outside::{CallList, MapKeeper};
+use send_windows::Windows;
+use std::alloc::Global;
+use std::process::Abort;
+
+/// What is asked of the site.
+#[derive(Clone, Copy)]
+pub struct Setting {
+    /// The most entries of the journal.
+    pub entries: u64,
+    /// The number of the keeper's call that fails, if not 0.
+    pub failing: u64,
+    /// The first serial number.
+    pub serial: u64,
+}
+
+/// Room for all, no fault, and serial numbers from 0 on.
+pub const PLAIN: Setting = Setting {
+    entries: 1000,
+    failing: 0,
+    serial: 0,
+};
+
+/// A keeper of no rows, one call of which may fail.
+fn keeper_of(rt: &impl Abort, alloc: Global, failing: u64) -> MapKeeper {
+    let mut calls = CallList::new(alloc);
+    if failing > 0 {
+        calls.push(failing).expect(rt, "a call");
+    }
+    MapKeeper::new(alloc, RowList::new(alloc), calls).expect(rt, "a keeper")
+}
+
+/// The site of this setting, under a key of 32 zeros, with three bricks, of which two are to store a session.
+pub fn site_of(rt: &impl Abort, alloc: Global, setting: Setting) -> MemorySite {
+    let limits = JournalLimits {
+        entries: setting.entries,
+        bytes: 1_000_000,
+    };
+    let keeper = keeper_of(rt, alloc, setting.failing);
+    let windows = Windows::new(alloc, 3, 3, 2, true).expect(rt, "windows");
+    let link = ScriptLink::new(alloc, 3).expect(rt, "a link");
+    MemorySite::start(
+        alloc,
+        keeper,
+        limits,
+        windows,
+        link,
+        [0; 32],
+        setting.serial,
+    )
+    .expect(rt, "memory")
+    .expect(rt, "a start")
+}
