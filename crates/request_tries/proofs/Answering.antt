@@ -1,15 +1,17 @@
 -- What a request makes of the answer to its commit.
 use Rattle.std.specs.Prelude.{IfErr, IfOk, IfSome, OnErr, Result, Ok, Err}
-use Rattle.std.proofs.Common.{◌≡◌, ℕ, Bool, List, Option, Some, sym, ap, ◌∙◌, subst}
+use Rattle.std.proofs.Common.{◌≡◌, ℕ, Bool, inl, inr, List, Option, Some, sym, ap, ◌∙◌, subst}
 use Rattle.std.proofs.lemmas.Result.{IfOk-weaker}
 use Rattle.crash_base.specs.declared.memory.OutOfMemory.{OutOfMemory}
 use Rattle.crash_base.specs.declared.numbers.Place.{Place}
+use Rattle.crash_base.specs.declared.rows.RowWrite.{RowWrite}
 use Rattle.journal_model.specs.declared.entry.ActionEntry.{ActionEntry}
 use Rattle.journal_model.specs.declared.entry.DoneText.{DoneText}
 use Rattle.journal_model.specs.declared.entry.Entry.{Entry}
 use Rattle.journal_model.specs.Calls.{Call}
 use Rattle.outside.specs.Faults.{Rose}
 use Rattle.call_ticket.specs.Ticket.{TicketValue}
+use Rattle.boot_core.specs.Keeper.{TellsCause}
 use Rattle.boot_core.specs.Refusals.{CommitAnswer, commit_refusal}
 use Rattle.boot_core.specs.declared.refusals.CommitRefusal.{CommitRefusal}
 use Rattle.boot_core.specs.declared.refusals.CommitRefusal.TheVariants as commits
@@ -18,7 +20,7 @@ use Rattle.container_core.specs.Container.{ContainerValue, CommitLeaves, Refusal
 use Rattle.call_attempts.specs.Attempt.{AttemptValue}
 use Rattle.call_attempts.specs.declared.stop.Stop.{Stop}
 use Rattle.request_tries.specs.Serving.{TriesValue, closed}
-use Rattle.request_tries.specs.Steps.{AddsNothing, CauseAddsNothing, CommitsAs, CommitsTry, HearsCommit, IsStopped, KeepsHistory, front_at}
+use Rattle.request_tries.specs.Steps.{AddsNothing, CauseAddsNothing, CommitsAs, CommitsTry, HearsCommit, IsStopped, KeepsHistory, KeepsNothing, front_at}
 use Rattle.request_tries.specs.declared.outcome.Ended.{Ended}
 use Rattle.request_tries.specs.declared.outcome.HistoryFront.{HistoryFront}
 
@@ -79,6 +81,24 @@ pub may_keep : (call : Call) (action : Option ActionEntry) (answer : Result Plac
     → OnErr result (AddsNothing answer) → CommitLeaves call action answer old new → OnErr result (KeepsHistory old new)
 may_keep call action answer old new (Ok end) nothing left = tt
 may_keep call action answer old new (Err e) nothing left = keeps_history call action answer old new nothing left
+
+-- what the keeper tells after a refused commit that adds nothing
+keeps_nothing : (writes : List RowWrite) (why : CommitRefusal) (old new : ContainerValue) → CauseAddsNothing why → TellsCause why writes old.told new.told → KeepsNothing old new
+keeps_nothing writes commits.KeeperFailed old new nothing tells = absurd nothing
+keeps_nothing writes commits.OutOfMemory old new nothing (inl is) = inl is
+keeps_nothing writes commits.OutOfMemory old new nothing (inr (some, tells)) = inr tells
+keeps_nothing writes (commits.Already place) old new nothing tells = inl tells
+keeps_nothing writes (commits.Revoked s) old new nothing tells = inl tells
+keeps_nothing writes (commits.Conflict x) old new nothing tells = inl tells
+keeps_nothing writes (commits.JournalFull full) old new nothing tells = inl tells
+
+-- where memory ran out after it
+pub may_keep_nothing : (call : Call) (action : Option ActionEntry) (answer : Result Place Refused) (old new : ContainerValue) (result : Result (Option Ended) OutOfMemory)
+    → OnErr result (AddsNothing answer) → CommitLeaves call action answer old new → OnErr result (KeepsNothing old new)
+may_keep_nothing call action answer old new (Ok end) nothing left = tt
+may_keep_nothing call action (Ok place) old new (Err e) nothing left = absurd nothing
+may_keep_nothing call action (Err refused) old new (Err e) nothing left =
+    keeps_nothing call.writes refused.cause old new nothing left.1
 
 -- A request hears that its open attempt was stopped.
 pub may_stop : (old : ContainerValue) (s mid after : TriesValue) (a : AttemptValue) (ticket : TicketValue) (at : Place) (repeats : Bool) (now : HistoryFront) (stop : Stop) (result : Result (Option Ended) OutOfMemory)

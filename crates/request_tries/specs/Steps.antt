@@ -5,6 +5,8 @@ use Rattle.journal_model.specs.declared.entry.ActionEntry.{ActionEntry}
 use Rattle.journal_model.specs.declared.entry.DoneText.{DoneText}
 use Rattle.journal_model.specs.declared.entry.Entry.{Entry}
 use Rattle.outside.specs.Faults.{Rose}
+use Rattle.outside.specs.Keeper.{TellsRefusal}
+use Rattle.outside.specs.declared.keeper.KeeperFault.TheVariants as faults
 use Rattle.call_ticket.specs.declared.next.Answer.{Answer}
 use Rattle.call_ticket.specs.declared.next.Next.{Next}
 use Rattle.boot_core.specs.Boot.{BootValue}
@@ -180,6 +182,11 @@ pub record Brings (old new : ContainerValue) (asks : List Answer → Next) (s af
 -- A container has the boot and the history that it had.
 abbrev pub KeepsHistory : ContainerValue → ContainerValue → Type 0
 KeepsHistory old new = (new.boot ≡ old.boot) × (new.since ≡ old.since)
+
+-- The keeper of a container tells what it told, or what it tells once it refused a call for want of memory: it has kept
+-- nothing, or tells nothing from then on.
+abbrev pub KeepsNothing : ContainerValue → ContainerValue → Type 0
+KeepsNothing old new = (new.told ≡ old.told) ⊎ TellsRefusal faults.OutOfMemory old.told new.told
 
 -- the cause of a refused commit is no keeper that failed
 abbrev pub CauseAddsNothing : CommitRefusal → Type 0

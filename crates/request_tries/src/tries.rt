@@ -7,7 +7,7 @@ ghost use Rattle.container_core.specs.Container.{HasGrownBy, events_of};
 ghost use Rattle.container_core.specs.History.{entries_in};
 ghost use Rattle.call_attempts.specs.Attempt.{IsUnderWay, attempt_of};
 ghost use Rattle.request_tries.specs.Serving.{IsServing, closed, has_begun, unbegun, wanted_by};
-ghost use Rattle.request_tries.specs.Steps.{AddsNothing, Advances, AnswersOwn, Brings, CommitsAs, EndsTry, HearsCommit, IfDone, IsRefused, IsStopped, KeepsHistory, CauseAddsNothing, StepsAs, end_of, ended_at, from_of, front_at, outcome_by, progress_of};
+ghost use Rattle.request_tries.specs.Steps.{AddsNothing, Advances, AnswersOwn, Brings, CommitsAs, EndsTry, HearsCommit, IfDone, IsRefused, IsStopped, KeepsHistory, KeepsNothing, CauseAddsNothing, StepsAs, end_of, ended_at, from_of, front_at, outcome_by, progress_of};
 
 use crate::answers::copied_done_at;
 use crate::outcome::{
@@ -343,6 +343,7 @@ impl RequestTries {
         ensures commits { IfOk result (λ e.
             CommitsAs container.old self.old self.old.attempt done e container.new self.new) }
         ensures nothing { OnErr result (KeepsHistory container.old container.new) }
+        ensures keeper { OnErr result (KeepsNothing container.old container.new) }
         ensures held { IfSome self.new.attempt (λ a. FitsIn container.new.boot a.ticket.call) }
         ensures closed { OnOk result (self.new.attempt ≡ None) }
         ensures count { container.old.faults ≤ container.new.faults }
@@ -454,6 +455,7 @@ impl RequestTries {
             Brings container.old container.new (P.asks program.now) self.old self.new e) }
         ensures answers { IfOk result (λ e. IfSome e (AnswersOwn (events_of container.new) done)) }
         ensures nothing { OnErr result (KeepsHistory container.old container.new) }
+        ensures keeper { OnErr result (KeepsNothing container.old container.new) }
         ensures held { IfSome self.new.attempt (λ a. FitsIn container.new.boot a.ticket.call) }
         ensures closed { OnOk result (self.new.attempt ≡ None) }
         ensures count { container.old.faults ≤ container.new.faults }

@@ -3,7 +3,7 @@ use Rattle.std.proofs.Common.{Option, Some, sym, subst, ◌∙◌}
 use Rattle.journal_model.specs.declared.entry.ActionEntry.{ActionEntry}
 use Rattle.boot_core.specs.Fits.{FitsIn}
 use Rattle.call_attempts.specs.Attempt.{AttemptValue}
-use Rattle.request_tries.proofs.Answering.{may_hear, may_keep}
+use Rattle.request_tries.proofs.Answering.{may_hear, may_keep, may_keep_nothing}
 use Rattle.request_tries.proofs.tries.RequestTries.make_commit.Goals as goal
 
 pub returns-clause-commits : goal.returns-clause-commits
@@ -24,6 +24,11 @@ pub returns-clause-nothing : goal.returns-clause-nothing
 returns-clause-nothing g c =
     let action : ActionEntry = record { text = c.in_ok-text.text; done = c.args.done } in
     may_keep c.into_ticket-ticket.result.call (Some action) c.commit-answer.result c.args.container.now c.commit-answer.new.self c.hear_commit.result c.hear_commit.ensures.nothing c.commit-answer.ensures.leaves
+
+pub returns-clause-keeper : goal.returns-clause-keeper
+returns-clause-keeper g c =
+    let action : ActionEntry = record { text = c.in_ok-text.text; done = c.args.done } in
+    may_keep_nothing c.into_ticket-ticket.result.call (Some action) c.commit-answer.result c.args.container.now c.commit-answer.new.self c.hear_commit.result c.hear_commit.ensures.nothing c.commit-answer.ensures.leaves
 
 pub returns-clause-held : goal.returns-clause-held
 returns-clause-held g c =
