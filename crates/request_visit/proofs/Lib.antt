@@ -12,3 +12,4 @@ pub mod Saying
 pub mod Standing
 pub mod Telling
 pub mod Turning
+mod Unkept

@@ -7,6 +7,7 @@ ghost use Rattle.container_core.specs.Container.{HasGrownBy};
 ghost use Rattle.outcome_items.specs.Traces.{again_in_end};
 ghost use Rattle.call_ticket.specs.declared.next.Next.TheVariants as next;
 ghost use Rattle.request_tries.specs.Serving.{IsServing, wanted_by};
+ghost use Rattle.request_tries.specs.Steps.{KeepsNothing};
 ghost use Rattle.request_visit.specs.Serving.{Commits, Serves, closing_after, ready_after};
 
 use crate::facts::VisitFacts;
@@ -132,6 +133,7 @@ fn commit<K: Keeper + Drop, P: Program>(
     ensures commits { IfOk result (λ closing. Commits container.old (P.asks program.now) facts
         (option_map (λ l. l.now) lease.entry) tries.old done closing container.new tries.new) }
     ensures nothing { OnErr result (container.new.since ≡ container.old.since) }
+    ensures keeper { OnErr result (KeepsNothing container.old container.new) }
     ensures held { IfSome tries.new.attempt (λ a. FitsIn container.new.boot a.ticket.call) }
     ensures closed { OnOk result (tries.new.attempt ≡ None) }
     ensures count { container.old.faults ≤ container.new.faults }
@@ -168,6 +170,7 @@ pub fn serve<K: Keeper + Drop, P: Program>(
     ensures serves { IfOk result (λ closing. Serves container.old (P.asks program.now) facts
         (option_map (λ l. l.now) lease.entry) tries.old closing container.new tries.new) }
     ensures nothing { OnErr result (container.new.since ≡ container.old.since) }
+    ensures keeper { OnErr result (KeepsNothing container.old container.new) }
     ensures held { IfSome tries.new.attempt (λ a. FitsIn container.new.boot a.ticket.call) }
     ensures closed { IfOk result (λ closing. closing ≢ None → tries.new.attempt ≡ None) }
     ensures count { container.old.faults ≤ container.new.faults }

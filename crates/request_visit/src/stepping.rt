@@ -4,6 +4,7 @@ ghost use Rattle.std.specs.Prelude.{◌≡◌, ◌≤◌, ◌<◌, ◌^◌, ◌+
 ghost use Rattle.std.specs.Option.{option_map};
 ghost use Rattle.container_core.specs.Container.{HasGrownBy};
 ghost use Rattle.request_tries.specs.Serving.{IsServing, TriesValue};
+ghost use Rattle.request_tries.specs.Steps.{KeepsNothing};
 ghost use Rattle.send_windows.specs.declared.windows.TakeRefusal.TheVariants as refusal;
 ghost use Rattle.session_way.specs.Marks.{marks_by};
 ghost use Rattle.session_way.specs.Way.{BreaksOffOutside, IsRefused, StepsOutside, after_give_back, answer_held, held};
@@ -131,6 +132,7 @@ impl<P: Program + Drop> Work<P> {
         ensures kept { OnErr result (OnServing self.old (λ tries program.
             (after : TriesValue) × (self.new ≡ Work.Serving after program))) }
         ensures nothing { OnErr result (container.new.since ≡ container.old.since) }
+        ensures keeper { OnErr result (KeepsNothing container.old container.new) }
         ensures count { container.old.faults ≤ container.new.faults }
         ensures grown { HasGrownBy container.old container.new }
     {
@@ -220,6 +222,7 @@ impl<P: Program + Drop> Visit<P> {
         ensures holds { OnErr result (OnServing self.old.work (λ tries program.
             (after : TriesValue) × (self.new ≡ record self.old { work = Work.Serving after program }))) }
         ensures nothing { OnErr result (container.new.since ≡ container.old.since) }
+        ensures keeper { OnErr result (KeepsNothing container.old container.new) }
         ensures count { container.old.faults ≤ container.new.faults }
         ensures grown { HasGrownBy container.old container.new }
     {
