@@ -91,7 +91,7 @@ less-done key v call (Answered fate bytes) e some = absurd (cc)
 less-done key v call (Left fate) e some = absurd (over-not-own (wants v.way) e)
 
 -- one thing less is ahead, and the call is there until the program is made
-abbrev Less : {P : Type 0} → Stage P → Stage P → Type 0
+abbrev pub Less : {P : Type 0} → Stage P → Stage P → Type 0
 Less old new = (ahead new < ahead old) × HasCall new
 
 own-less : {P : Type 0} (key : List ℕ) (old : Stage P) → OnVisit old (λ (v : Visit P) (call : Option AskedCall). turn_by (visit_turn v) ≡ turns.Own)
@@ -141,7 +141,7 @@ item-less {P} s (Serving v call) some = by v.facts.close where
 item-less s (Refusing why bytes) some = absurd (omega arith)
 item-less s (Over end) some = absurd (omega arith)
 
-alone-less : {P : Type 0} (m : Making P) (s : Shepherd P) → goes_alone (turn s) ≡ true → HasCall s.stage → Less s.stage (alone m s).0.stage
+pub alone-less : {P : Type 0} (m : Making P) (s : Shepherd P) → goes_alone (turn s) ≡ true → HasCall s.stage → Less s.stage (alone m s).0.stage
 unfolding alone item_taken
 alone-less {P} m s is has = by (turn s) refl where
   by : (t : ShepherdTurn) → turn s ≡ t → Less s.stage (alone_at m t s).0.stage
@@ -156,7 +156,7 @@ alone-less {P} m s is has = by (turn s) refl where
   by turns.Item e = item-less s s.stage (stage-ahead s is)
   by (turns.Ended end) e = absurd (let same = ap goes_alone e in cc)
 
-alone-stays : {P : Type 0} (m : Making P) (s : Shepherd P) → goes_alone (turn s) ≡ false → (alone m s).0 ≡ s
+pub alone-stays : {P : Type 0} (m : Making P) (s : Shepherd P) → goes_alone (turn s) ≡ false → (alone m s).0 ≡ s
 unfolding alone
 alone-stays m s is = by (turn s) is where
   by : (t : ShepherdTurn) → goes_alone t ≡ false → (alone_at m t s).0 ≡ s

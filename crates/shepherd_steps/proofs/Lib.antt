@@ -3,10 +3,14 @@ mod Deciding
 mod GoingAlone
 mod InsideSteps
 mod Keepers
+mod OneEvent
 mod OpeningSteps
 mod OutsideSteps
+mod Owing
 mod OwnSteps
+mod SameWork
 mod Strides
 mod TakingSteps
+mod Telling
 mod WindowSteps
 mod WorldSteps

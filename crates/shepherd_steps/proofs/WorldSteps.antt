@@ -24,6 +24,7 @@ use Rattle.shepherd_steps.specs.Inside.{HasReplied, Inside, added_to, handed}
 use Rattle.shepherd_steps.specs.Outside.{outside}
 use Rattle.shepherd_steps.specs.Passes.{windows_step}
 use Rattle.shepherd_steps.specs.Alone.{gone_alone}
+use Rattle.shepherd_steps.specs.Events.{event_of}
 use Rattle.shepherd_steps.specs.Stepping.{AreFunctions, Calling, Calls, CallsContainer, CallsLink, CallsNothing, CallsOutput, CallsRequest, CallsWindows, Givens, Leaves, MakesStep, World, at_stage, event_at, alone_after, step, step_inside, steps_in, world_of}
 use Rattle.shepherd_steps.specs.Taking.{Counts, take_request}
 use Rattle.shepherd_steps.proofs.InsideSteps.{inside-so}
@@ -166,6 +167,13 @@ module _ {P L M C R S : Type 0} (makes : L → LinkEvent → L → Type 0) (open
   event-so turns.Output new bytes calls = output-so new bytes calls
   event-so turns.Item new bytes calls = nothing-so turns.Item new bytes refl calls
   event-so (turns.Ended end) new bytes calls = nothing-so (turns.Ended end) new bytes refl calls
+
+  pub event-fixed : (new : Calling P L C R S) (bytes : List ℕ) → Calls makes opens told gives looks g (turn old.connection) old new bytes
+      → Leaves words serials new bytes [] (event_of g (world_of old drawn))
+  unfolding event_of
+  event-fixed new bytes calls =
+      let seen = event-so (turn old.connection) new bytes calls in
+      record { world_is = seen.world; bytes_are = seen.bytes_are; items_are = refl; random_is = seen.random; serials_is = seen.serials_are }
 
   pub step-fixed : (new : Calling P L C R S) (bytes : List ℕ) (items : List Item) → MakesStep makes opens told gives looks g maker old new bytes items
       → Leaves words serials new bytes items (step g (world_of old drawn))

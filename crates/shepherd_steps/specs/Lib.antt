@@ -1,5 +1,6 @@
 pub mod Alone
 pub mod Deciding
+pub mod Events
 pub mod Inside
 pub mod Leaving
 pub mod Opening

@@ -20,16 +20,20 @@
 //! A connection goes on by itself, by `advance`, `open` and `take_item`, until others are to step: two such calls at
 //! most, and the connection after them is `gone_alone` (`going_alone_is_fixed`, `going_alone_ends`). One step of a
 //! connection is one event and what the connection then does by itself: `step`, over all that it may change
-//! (`steps_are_fixed`).
+//! (`steps_are_fixed`), and so is the event alone (`events_are_fixed`, `what_keepers_tell_is_fixed`). What a step is,
+//! whatever the functions say: one event, after which others are to step, and which changes what is of its turn alone
+//! (`steps_are_one_event`).
 //!
 //! What is decided of a request is taken as a function that is given, `decides`. `decided_by` is one, where the texts
 //! of cookies and of tokens are read by functions (`requests_are_decided_as_read`).
 #![tactic(auto)]
 
+mod events;
 mod laws;
 mod stepping;
 mod taking;
 
+pub use events::{events_are_fixed, steps_are_one_event, what_keepers_tell_is_fixed};
 pub use laws::{
     going_alone_ends, going_alone_is_fixed, items_are_fixed, opened_requests_are_fixed,
     own_steps_are_fixed, steps_inside_are_fixed, steps_of_windows_are_fixed,
