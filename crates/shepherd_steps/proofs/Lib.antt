@@ -1,4 +1,5 @@
 mod AloneEnds
+mod Counting
 mod Deciding
 mod GoingAlone
 mod InsideSteps

@@ -1,5 +1,5 @@
 -- A step of a connection is one event, and leaves what is not of its turn.
-use Rattle.std.proofs.Common.{◌≡◌, ◌≢◌, inl, inr, ℕ, Bool, true, false, List, [], ◌∷◌, ◌++◌, Option, Some, None, refl, sym, ap, ◌∙◌, subst}
+use Rattle.std.proofs.Common.{◌≡◌, ◌≢◌, inl, inr, ℕ, Bool, false, List, [], ◌++◌, Option, Some, None, refl, ap, ◌∙◌}
 use Rattle.boot_core.specs.Boot.{BootValue}
 use Rattle.boot_core.specs.declared.refusals.CommitRefusal.{CommitRefusal}
 use Rattle.boot_core.specs.declared.refusals.CommitRefusal.TheVariants as commits
@@ -11,7 +11,6 @@ use Rattle.call_ticket.specs.declared.next.Next.{Next}
 use Rattle.container_core.specs.Container.{ContainerValue}
 use Rattle.container_core.specs.declared.history.Event.{Event}
 use Rattle.container_core.specs.declared.history.Event.TheVariants.{Added, KeeperFailed}
-use Rattle.crash_base.specs.declared.numbers.RequestNo.{RequestNo}
 use Rattle.journal_model.specs.Calls.{Call, entry_of}
 use Rattle.journal_model.specs.declared.entry.ActionEntry.{ActionEntry}
 use Rattle.journal_model.specs.declared.entry.Entry.TheVariants.{Commit}
@@ -21,9 +20,7 @@ use Rattle.request_tries.specs.Steps.{action_of, refusal_of}
 use Rattle.request_visit.specs.declared.visit.Visit.{Visit}
 use Rattle.request_visit.specs.declared.visit.Work.{Work}
 use Rattle.request_visit.specs.declared.visit.Work.TheVariants.{Reading, Opening, Serving as ServingBy, Committed, Decided, Answered, Left}
-use Rattle.send_windows.specs.Windows.{WindowsValue}
 use Rattle.shepherd.specs.Shepherds.{turn}
-use Rattle.shepherd.specs.declared.shepherd.EndKind.{EndKind}
 use Rattle.shepherd.specs.declared.shepherd.Shepherd.{Shepherd}
 use Rattle.shepherd.specs.declared.shepherd.ShepherdTurn.{ShepherdTurn}
 use Rattle.shepherd.specs.declared.shepherd.ShepherdTurn.TheVariants as turns
@@ -31,7 +28,7 @@ use Rattle.shepherd.specs.declared.shepherd.Stage.{Stage}
 use Rattle.shepherd.specs.declared.shepherd.Stage.TheVariants.{Resting, Serving, Refusing, Over}
 use Rattle.shepherd_steps.specs.Alone.{HasCall, Making, alone, alone_at, goes_alone, gone_alone}
 use Rattle.shepherd_steps.specs.Events.{AddsOneAtMost, event_of}
-use Rattle.shepherd_steps.specs.Inside.{after_entry, came_by, inside, inside_of, since_refused, stride, stride_by, untold, with_keeper}
+use Rattle.shepherd_steps.specs.Inside.{after_entry, came_by, inside, inside_of, stride, stride_by, untold, with_keeper}
 use Rattle.shepherd_steps.specs.Stepping.{Givens, Outcome, World, alone_after, event_at, step, step_inside, steps_in}
 use Rattle.shepherd_steps.proofs.AloneEnds.{gone-alone-ends}
 

@@ -1,6 +1,5 @@
 -- After a step the call of a request is still there until its program is made, and what a connection owes is still owed.
-use Rattle.std.proofs.Common.{◌≡◌, ◌≢◌, ◌==◌, ℕ, Bool, true, false, not, if◌then◌else◌, List, Option, Some, None, Result, refl, sym, ap, ◌∙◌, subst, length}
-use Rattle.std.specs.Option.{option_and_then}
+use Rattle.std.proofs.Common.{◌≡◌, ◌≢◌, ◌==◌, ℕ, Bool, true, false, not, if◌then◌else◌, List, Option, Some, None, refl, sym, ap, ◌∙◌, subst, length}
 use Rattle.boot_core.specs.Boot.{BootValue}
 use Rattle.container_core.specs.declared.history.Event.{Event}
 use Rattle.crash_base.specs.declared.numbers.Moment.{Moment}
@@ -15,7 +14,7 @@ use Rattle.request_intake.specs.declared.intake.Arrival.{Arrival}
 use Rattle.request_intake.specs.declared.intake.Arrival.TheVariants as arrives
 use Rattle.request_visit.specs.Advancing.{departed}
 use Rattle.request_visit.specs.Stepping.{counted}
-use Rattle.request_visit.specs.Visits.{or_own, or_over, turn as visit_turn, turn_by as visit_turn_by}
+use Rattle.request_visit.specs.Visits.{or_own, turn as visit_turn, turn_by as visit_turn_by}
 use Rattle.request_visit.specs.declared.facts.VisitFacts.{VisitFacts}
 use Rattle.request_visit.specs.declared.visit.Turn.{Turn}
 use Rattle.request_visit.specs.declared.visit.Turn.TheVariants as visit
@@ -48,7 +47,7 @@ use Rattle.shepherd_steps.specs.Opening.{open_stage}
 use Rattle.shepherd_steps.specs.Outside.{outside}
 use Rattle.shepherd_steps.specs.Own.{heard_read, outcome_of_read, own, own_by, told_read}
 use Rattle.shepherd_steps.specs.Passes.{windows_step}
-use Rattle.shepherd_steps.specs.Stepping.{Givens, World, event_at, step, step_inside, steps_in}
+use Rattle.shepherd_steps.specs.Stepping.{Givens, World, event_at, step, step_inside}
 use Rattle.shepherd_steps.specs.Taking.{Counts, Service, arrives_by, take_request, takes_by}
 use Rattle.shepherd_steps.proofs.AloneEnds.{alone-less, alone-stays}
 use Rattle.shepherd_steps.proofs.GoingAlone.{turned-so}
@@ -201,7 +200,7 @@ not-own-item wanted.Nothing e = cc
 not-own-item wanted.Outside e = cc
 not-own-item wanted.Windows e = cc
 
-over-left : {P : Type 0} (w : Work P) (x : Wants) → turn_by (visit_turn_by w x) ≡ turns.Item → has_left w ≡ true
+pub over-left : {P : Type 0} (w : Work P) (x : Wants) → turn_by (visit_turn_by w x) ≡ turns.Item → has_left w ≡ true
 over-left Reading x e = absurd (not-own-item x e)
 over-left Opening x e = absurd (cc)
 over-left (ServingBy tries program) x e = absurd (cc)

@@ -1,6 +1,6 @@
 -- A step of others with a request changes neither whether its program is still to be made nor whether its response has
 -- left.
-use Rattle.std.proofs.Common.{◌≡◌, Bool, true, false, not, List, map, Option, Some, None, Result, refl, sym, ap, ◌∙◌}
+use Rattle.std.proofs.Common.{◌≡◌, Bool, true, false, not, List, map, Option, Some, None, refl, sym, ap, ◌∙◌}
 use Rattle.std.specs.Prelude.{nat_lt, if◌then◌else◌}
 use Rattle.boot_core.specs.Boot.{BootValue}
 use Rattle.call_ticket.specs.declared.next.Answer.{Answer}
@@ -9,7 +9,7 @@ use Rattle.container_core.specs.Container.{ContainerValue, events_of}
 use Rattle.container_core.specs.declared.history.Event.{Event}
 use Rattle.outside.specs.Link.{Tally}
 use Rattle.request_visit.specs.Serving.{closing_of}
-use Rattle.request_visit.specs.Stepping.{after_closing, left_so}
+use Rattle.request_visit.specs.Stepping.{left_so}
 use Rattle.request_visit.specs.Visits.{after_outcome, fate_missed, fate_written, overloaded, with_fate}
 use Rattle.request_visit.specs.declared.ready.Ready.TheVariants.{Respond, Write}
 use Rattle.request_visit.specs.declared.serving.Closed.{Closed}

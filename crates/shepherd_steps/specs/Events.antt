@@ -1,5 +1,5 @@
 -- The event of a step: what it leaves before the connection goes on by itself, and what it hands to the keeper.
-use Rattle.std.specs.Prelude.{◌≡◌, ◌⊎◌, Bool, true, false, not, List, [], ◌∷◌, ◌++◌}
+use Rattle.std.specs.Prelude.{◌≡◌, ◌⊎◌, ℕ, Bool, true, false, not, List, [], ◌∷◌, ◌++◌}
 use Rattle.boot_core.specs.Boot.{BootValue}
 use Rattle.call_ticket.specs.declared.next.Answer.{Answer}
 use Rattle.call_ticket.specs.declared.next.Next.{Next}
@@ -52,3 +52,10 @@ owes Resting = false
 owes (Serving v call) = not (has_left v.work)
 owes (Refusing why bytes) = true
 owes (Over end) = false
+
+-- how many requests are open
+abbrev pub requests_open : {P : Type 0} → Stage P → ℕ
+requests_open Resting = 0
+requests_open (Serving v call) = 1
+requests_open (Refusing why bytes) = 0
+requests_open (Over end) = 0

@@ -1,13 +1,13 @@
 //! Laws of the event of a step: that a step is one, what it leaves, and what the keeper tells of it.
 
-ghost use Rattle.std.specs.Prelude.{◌≡◌, ◌≢◌, ℕ, true, List, []};
+ghost use Rattle.std.specs.Prelude.{◌≡◌, ◌≢◌, ◌+◌, ℕ, true, List, [], length};
 ghost use Rattle.boot_core.specs.Keeper.{kept_writes};
 ghost use Rattle.outcome_items.specs.declared.item.Item.{Item};
 ghost use Rattle.shepherd.specs.Shepherds.{turn};
 ghost use Rattle.shepherd.specs.declared.shepherd.EndKind.{EndKind};
 ghost use Rattle.shepherd.specs.declared.shepherd.ShepherdTurn.TheVariants as turns;
 ghost use Rattle.shepherd_steps.specs.Alone.{HasCall};
-ghost use Rattle.shepherd_steps.specs.Events.{AddsOneAtMost, event_of, handed_at_step, owes};
+ghost use Rattle.shepherd_steps.specs.Events.{AddsOneAtMost, event_of, handed_at_step, owes, requests_open};
 ghost use Rattle.shepherd_steps.specs.Inside.{TellsReply};
 ghost use Rattle.shepherd_steps.specs.Stepping.{AreFunctions, Calling, Calls, Givens, Leaves, MakesStep, World, step, world_of};
 ghost use Rattle.shepherd_steps.specs.Taking.{Counts};
@@ -23,6 +23,7 @@ use shepherd::ProgramMaker;
 /// that ends it by itself is refused. The link, the windows, the boot with its events, and how many numbers were drawn
 /// change at their own turns alone, and one event at most joins the others. Bytes are put out at the turn of output
 /// alone, and a response that is owed is owed until then: a step that makes one and throws it away is refused.
+/// A request that is closed gives its item, so a step that drops one is refused.
 pub fn steps_are_one_event<P, L>()
     ensures rests { (g : Givens P L) (w : World P L) → HasCall (event_of g w).world.connection.stage
         → (let next = turn (step g w).world.connection in
@@ -45,6 +46,9 @@ pub fn steps_are_one_event<P, L>()
     ensures event { (g : Givens P L) (w : World P L) → AddsOneAtMost w.since (step g w).world.since }
     ensures owed { (g : Givens P L) (w : World P L) → turn w.connection ≢ turns.Output
         → owes w.connection.stage ≡ true → owes (step g w).world.connection.stage ≡ true }
+    ensures items { (g : Givens P L) (w : World P L)
+        → length (step g w).items + requests_open (step g w).world.connection.stage
+        ≡ requests_open (event_of g w).world.connection.stage }
     ensures begun { (g : Givens P L) (w : World P L) → turn w.connection ≡ turns.Request
         → owes (step g w).world.connection.stage ≡ true }
 {}

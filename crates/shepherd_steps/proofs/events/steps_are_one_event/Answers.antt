@@ -1,5 +1,6 @@
 use Rattle.std.proofs.Common.{refl}
 use Rattle.shepherd.specs.declared.shepherd.ShepherdTurn.TheVariants as turns
+use Rattle.shepherd_steps.proofs.Counting.{step-items}
 use Rattle.shepherd_steps.proofs.OneEvent.{none-happens, step-adds, step-drawn, step-inside, step-link, step-out, step-rests, step-windows}
 use Rattle.shepherd_steps.proofs.Owing.{step-begins, step-called, step-owes}
 use Rattle.shepherd_steps.proofs.events.steps_are_one_event.Goals as goal
@@ -39,3 +40,6 @@ returns-clause-owed g c = λ given w other still. step-owes given w other still
 
 pub returns-clause-begun : goal.returns-clause-begun
 returns-clause-begun g c = λ given w is. step-begins given w is
+
+pub returns-clause-items : goal.returns-clause-items
+returns-clause-items g c = λ given w. step-items given w
