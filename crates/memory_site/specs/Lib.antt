@@ -1,2 +1,4 @@
 pub mod Going
+pub mod Site
+pub mod Starting
 pub mod Steps

@@ -1,5 +1,5 @@
 -- What the steps of a connection do, and what is left where one is given up.
-use Rattle.std.specs.Prelude.{◌≡◌, ℕ, false, List, Option, Some, None}
+use Rattle.std.specs.Prelude.{◌≡◌, ℕ, false, true, List, Option, Some, None}
 use Rattle.auction_calls.specs.declared.action.ActionCall.{ActionCall}
 use Rattle.auction_site.specs.Actions.{steps_of}
 use Rattle.container_core.specs.Container.{ContainerValue}
@@ -15,13 +15,17 @@ use Rattle.outside.specs.Serials.{PlainLooks}
 use Rattle.request_intake.specs.declared.intake.HomeBoot.{HomeBoot}
 use Rattle.request_visit.specs.Advancing.{Advances}
 use Rattle.request_visit.specs.Stepping.{VisitsInside, VisitsWindows, counted}
+use Rattle.request_visit.specs.declared.visit.Work.TheVariants.{Opening}
 use Rattle.send_windows.specs.Windows.{WindowsValue}
+use Rattle.send_windows.specs.declared.windows.TakeRefusal.TheVariants as refusal
+use Rattle.session_way.specs.Way.{IsRefused}
 use Rattle.shepherd.specs.Shepherds.{has_item}
-use Rattle.shepherd.specs.Steps.{GivesBack, OpensStage, PutsOut, ShepherdSteps, TakesItem, TakesRequest, VisitsOutside, dropped_stage}
+use Rattle.shepherd.specs.Steps.{GivesBack, IsServedStill, OnVisit, OpensStage, PutsOut, ShepherdSteps, StepsVisit, TakesItem, TakesRequest, VisitsOutside, dropped_stage}
 use Rattle.shepherd.specs.declared.shepherd.Shepherd.{Shepherd}
 use Rattle.shepherd.specs.declared.shepherd.ShepherdTurn.{ShepherdTurn}
 use Rattle.shepherd.specs.declared.shepherd.ShepherdTurn.TheVariants as turns
 use Rattle.shepherd.specs.declared.shepherd.Stage.{Stage}
+use Rattle.shepherd.specs.declared.shepherd.Stage.TheVariants.{Serving}
 use Rattle.site_programs.specs.Errands.{IsMadeOf}
 use Rattle.site_programs.specs.declared.maker.SiteMaker.{SiteMaker}
 
@@ -85,6 +89,33 @@ StepsAt turns.Item around s end after new =
     (item : Item) × (end ≡ ends.Item item) × TakesItem s.stage item new.stage
     × (new ≡ record s { front = item.holds.front; stage = new.stage }) × (after ≡ around)
 StepsAt (turns.Ended why) around s end after new = (end ≡ ends.Ended why) × (new ≡ s) × (after ≡ around)
+
+-- What a step at this turn leaves of a connection and of its surroundings where memory was wanted: the connection has
+-- ended, its request is as that step of `Shepherd` says, and of the surroundings only what the turn calls may have
+-- changed; to the history of the container nothing was added.
+abbrev pub WantsAt : ShepherdTurn → SurroundingsValue → Shepherd ActionCall → SurroundingsValue → Shepherd ActionCall → Type 0
+WantsAt turns.Request around s after new =
+    (new.stage ≡ s.stage) × (new.wants_memory ≡ true)
+    × (after ≡ record around { clock = after.clock; random = after.random; serials = after.serials })
+WantsAt turns.Outside around s after new =
+    (new ≡ record s { wants_memory = true }) × (after ≡ record around { link = after.link })
+WantsAt turns.Windows around s after new =
+    StepsVisit (λ v w. IsRefused v.way around.windows w.way after.windows refusal.OutOfMemory) s.stage new.stage
+    × StepsVisit (λ v w. w ≡ record v { way = w.way }) s.stage new.stage
+    × (new ≡ record s { stage = new.stage; wants_memory = true }) × (after ≡ record around { windows = after.windows })
+WantsAt turns.Inside around s after new =
+    StepsVisit IsServedStill s.stage new.stage × (new ≡ record s { stage = new.stage; wants_memory = true })
+    × (after.container.since ≡ around.container.since) × (after ≡ record around { container = after.container })
+WantsAt turns.Program around s after new =
+    OnVisit s.stage (λ v call. new.stage ≡ Serving v None)
+    × (new ≡ record s { stage = new.stage; wants_memory = true }) × (after ≡ around)
+WantsAt turns.Own around s after new =
+    StepsVisit (λ v w. w ≡ record v { work = Opening }) s.stage new.stage
+    × (new ≡ record s { stage = new.stage; wants_memory = true }) × (after ≡ around)
+WantsAt turns.Bytes around s after new = ⊥
+WantsAt turns.Output around s after new = ⊥
+WantsAt turns.Item around s after new = ⊥
+WantsAt (turns.Ended why) around s after new = ⊥
 
 -- The item of the request that is open, where nothing is left to be done for it.
 abbrev pub IsItemLeft : Stage ActionCall → Option Item → Type 0

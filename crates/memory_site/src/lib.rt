@@ -2,7 +2,7 @@
 //! is drawn, and any connections. Tests and benches go over it.
 //!
 //! ```text
-//! let site = MemorySite::start(alloc, keeper, limits, windows, link, key, serial)?;   // None where it is refused
+//! let mut site = MemorySite::start(alloc, keeper, limits, windows, link, key, serial)?;
 //! let at = site.connect(alloc)?;
 //! site.feed(at, bytes)?;
 //! loop {
@@ -20,7 +20,8 @@
 //! a connection has ended then. So a step requires nothing.
 //!
 //! `Surroundings` is the site without its connections. What a step of one tells, and what it leaves of the connection
-//! and of its surroundings, is in `specs/Steps.antt`, as `StepsAt`.
+//! and of its surroundings, is in `specs/Steps.antt`, as `StepsAt`. Contracts see a site as its surroundings and its
+//! connections (`specs/Site.antt`): each call says what it changes, and that all else is as it was.
 #![tactic(auto)]
 
 mod happening;

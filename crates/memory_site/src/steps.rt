@@ -3,7 +3,7 @@
 ghost use Rattle.std.specs.Prelude.{◌≡◌, ◌++◌, true, IfOk, OnErr, OnOk};
 ghost use Rattle.container_core.specs.Container.{HasGrownBy};
 ghost use Rattle.memory_site.specs.Going.{GoesOnAtSite};
-ghost use Rattle.memory_site.specs.Steps.{IsGivenUp, IsItemLeft, StepsAt, value_of};
+ghost use Rattle.memory_site.specs.Steps.{IsGivenUp, IsItemLeft, StepsAt, WantsAt, value_of};
 ghost use Rattle.shepherd.specs.Shepherds.{fresh, turn};
 
 use crate::surroundings::{NODE, SiteShepherd, Surroundings, WORKER};
@@ -95,6 +95,8 @@ impl Surroundings {
         ensures told { IfOk result (λ end. StepsAt (turn shepherd.old) (value_of self.old) shepherd.old
             end (value_of self.new) shepherd.new) }
         ensures want { OnErr result (shepherd.new.wants_memory ≡ true) }
+        ensures rest { OnErr result (WantsAt (turn shepherd.old) (value_of self.old) shepherd.old
+            (value_of self.new) shepherd.new) }
     {
         connections_go_on::<ActionProgram, ScriptLink, SiteMaker>();
         taken_requests_go_on::<ActionProgram, ScriptLink, PlainClock, PlainRandom, PlainSerials>();
@@ -126,6 +128,8 @@ impl Surroundings {
         ensures told { IfOk result (λ end. StepsAt (turn shepherd.old) (value_of self.old) shepherd.old
             end (value_of self.new) shepherd.new) }
         ensures want { OnErr result (shepherd.new.wants_memory ≡ true) }
+        ensures rest { OnErr result (WantsAt (turn shepherd.old) (value_of self.old) shepherd.old
+            (value_of self.new) shepherd.new) }
     {
         connections_go_on::<ActionProgram, ScriptLink, SiteMaker>();
         match shepherd.step_outside(alloc, &mut self.link) {
@@ -146,6 +150,8 @@ impl Surroundings {
         ensures told { IfOk result (λ end. StepsAt (turn shepherd.old) (value_of self.old) shepherd.old
             end (value_of self.new) shepherd.new) }
         ensures want { OnErr result (shepherd.new.wants_memory ≡ true) }
+        ensures rest { OnErr result (WantsAt (turn shepherd.old) (value_of self.old) shepherd.old
+            (value_of self.new) shepherd.new) }
     {
         connections_go_on::<ActionProgram, ScriptLink, SiteMaker>();
         // The windows keep their limits: 1 to 16 bricks are asked.
@@ -168,6 +174,8 @@ impl Surroundings {
         ensures told { IfOk result (λ end. StepsAt (turn shepherd.old) (value_of self.old) shepherd.old
             end (value_of self.new) shepherd.new) }
         ensures want { OnErr result (shepherd.new.wants_memory ≡ true) }
+        ensures rest { OnErr result (WantsAt (turn shepherd.old) (value_of self.old) shepherd.old
+            (value_of self.new) shepherd.new) }
     {
         connections_go_on::<ActionProgram, ScriptLink, SiteMaker>();
         match shepherd.step_inside(alloc, &mut self.container) {
@@ -187,6 +195,8 @@ impl Surroundings {
         ensures told { IfOk result (λ end. StepsAt (turn shepherd.old) (value_of self.now) shepherd.old
             end (value_of self.now) shepherd.new) }
         ensures want { OnErr result (shepherd.new.wants_memory ≡ true) }
+        ensures rest { OnErr result (WantsAt (turn shepherd.old) (value_of self.now) shepherd.old
+            (value_of self.now) shepherd.new) }
     {
         connections_go_on::<ActionProgram, ScriptLink, SiteMaker>();
         site_programs_are_accepted();
@@ -203,6 +213,8 @@ impl Surroundings {
         ensures told { IfOk result (λ end. StepsAt (turn shepherd.old) (value_of self.now) shepherd.old
             end (value_of self.now) shepherd.new) }
         ensures want { OnErr result (shepherd.new.wants_memory ≡ true) }
+        ensures rest { OnErr result (WantsAt (turn shepherd.old) (value_of self.now) shepherd.old
+            (value_of self.now) shepherd.new) }
     {
         connections_go_on::<ActionProgram, ScriptLink, SiteMaker>();
         match shepherd.advance(alloc, &self.key) {
@@ -237,7 +249,7 @@ impl Surroundings {
     /// Makes the next step of a connection, and tells what came of it.
     ///
     /// # Errors
-    /// There is no memory: the connection has ended.
+    /// There is no memory: the connection has ended, and nothing else changed but what its turn calls.
     pub fn step(
         &mut self,
         alloc: Global,
@@ -249,6 +261,8 @@ impl Surroundings {
         ensures told { IfOk result (λ end. StepsAt (turn shepherd.old) (value_of self.old) shepherd.old
             end (value_of self.new) shepherd.new) }
         ensures want { OnErr result (shepherd.new.wants_memory ≡ true) }
+        ensures rest { OnErr result (WantsAt (turn shepherd.old) (value_of self.old) shepherd.old
+            (value_of self.new) shepherd.new) }
     {
         histories_grow();
         match shepherd.turn() {

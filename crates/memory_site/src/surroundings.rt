@@ -1,13 +1,16 @@
 //! What connections of the site go through, and how it starts.
 
-ghost use Rattle.std.specs.Prelude.{◌≡◌, Some, IfOk, IfSome};
+ghost use Rattle.std.specs.Prelude.{◌≡◌, Some, IfOk, IfErr};
 ghost use Rattle.auction_rows.specs.Parts.{site_parts};
 ghost use Rattle.container_core.specs.Start.{IsStarted};
+ghost use Rattle.memory_site.specs.Starting.{IsRefusedSite};
+ghost use Rattle.outside.specs.Faults.{Rose};
 
 use auction_actions::ActionProgram;
 use auction_rows::site_deployment;
-use container_core::{Container, JournalLimits, StartRefusal};
+use container_core::{Container, JournalLimits, StartFail, StartRefusal};
 use crash_base::{Moment, OutOfMemory, WorkerNo};
+use deployment::Deployment;
 use link_memory::ScriptLink;
 use outside::{MapKeeper, PlainClock, PlainRandom, PlainSerials};
 use send_windows::Windows;
@@ -39,9 +42,38 @@ pub struct Surroundings {
     ghost of_site: { container.boot.start.deployment ≡ site_parts },
 }
 
+/// What a container of the site is deployed with, and the routes of its requests.
+#[derive(Drop)]
+struct SiteParts {
+    deployment: Deployment,
+    router: SiteRouter,
+}
+
+/// Those of the site.
+fn parts_of_site(alloc: Global) -> Result<SiteParts, OutOfMemory>
+    ensures { IfOk result (λ parts. parts.deployment ≡ site_parts) }
+{
+    let deployment = site_deployment(alloc)?;
+    let router = SiteRouter::new(alloc)?;
+    Ok(SiteParts { deployment, router })
+}
+
+/// There was no memory, and the keeper was not called.
+fn uncalled(keeper: MapKeeper) -> StartFail<MapKeeper>
+    ensures { result ≡ record { refusal = StartRefusal.OutOfMemory; keeper = keeper } }
+{
+    StartFail {
+        refusal: StartRefusal::OutOfMemory,
+        keeper,
+    }
+}
+
 impl Surroundings {
     /// Those over this keeper, these windows and this link. The clock shows 0, random words go from 1 on, and serial
-    /// numbers from this one. None where the start is refused.
+    /// numbers from this one.
+    ///
+    /// # Errors
+    /// `StartRefusal` says why, and `IsRefusedSite` when: as of `Container::start`, which hands the keeper back.
     pub fn start(
         alloc: Global,
         keeper: MapKeeper,
@@ -50,20 +82,23 @@ impl Surroundings {
         link: ScriptLink,
         key: [u8; 32],
         serial: u64,
-    ) -> Result<Option<Surroundings>, OutOfMemory>
-        ensures container { IfOk result (λ started. IfSome started (λ s. IsStarted site_parts limits (Some keeper.told)
-            s.container)) }
-        ensures given { IfOk result (λ started. IfSome started (λ s. (s.windows ≡ windows) × (s.link ≡ link)
-            × (s.key ≡ key))) }
-        ensures drawn { IfOk result (λ started. IfSome started (λ s. (s.clock ≡ record {
+    ) -> Result<Surroundings, StartFail<MapKeeper>>
+        ensures container { IfOk result (λ s. IsStarted site_parts limits (Some keeper.told) s.container) }
+        ensures given { IfOk result (λ s. (s.windows ≡ windows) × (s.link ≡ link) × (s.key ≡ key)) }
+        ensures drawn { IfOk result (λ s. (s.clock ≡ record {
           shown = record { 0 = 0 };
           told = record { 0 = 0 };
-        }) × (s.random ≡ 1) × (s.serials ≡ serial))) }
+        }) × (s.random ≡ 1) × (s.serials ≡ serial)) }
+        ensures refused { IfErr result (λ fail. IsRefusedSite fail.refusal keeper fail.keeper) }
+        ensures failed { IfErr result (λ fail. fail.refusal ≡ StartRefusal.KeeperFailed
+            → Rose keeper.faults fail.keeper.faults) }
     {
-        let deployment = site_deployment(alloc)?;
-        let router = SiteRouter::new(alloc)?;
+        let SiteParts { deployment, router } = match parts_of_site(alloc) {
+            Ok(parts) => parts,
+            Err(OutOfMemory) => return Err(uncalled(keeper)),
+        };
         match Container::start(alloc, deployment, keeper, limits) {
-            Ok(container) => Ok(Some(Surroundings {
+            Ok(container) => Ok(Surroundings {
                 container,
                 windows,
                 link,
@@ -72,13 +107,8 @@ impl Surroundings {
                 serials: PlainSerials::new(serial),
                 router,
                 key,
-            })),
-            Err(fail) => match fail.refusal {
-                StartRefusal::OutOfMemory => Err(OutOfMemory),
-                StartRefusal::KeeperFailed => Ok(None),
-                StartRefusal::BadRow { id: _ } => Ok(None),
-                StartRefusal::BootsSpent => Ok(None),
-            },
+            }),
+            Err(fail) => Err(fail),
         }
     }
 }

@@ -1,7 +1,7 @@
 use Rattle.std.proofs.Common.{ap, refl, subst, sym}
 use Rattle.auction_calls.specs.declared.action.ActionCall.{ActionCall}
 use Rattle.memory_site.specs.Going.{GoesOnAtSite}
-use Rattle.memory_site.specs.Steps.{StepsAt, value_of}
+use Rattle.memory_site.specs.Steps.{StepsAt, WantsAt, value_of}
 use Rattle.memory_site.specs.declared.steps.StepEnd.TheVariants as ends
 use Rattle.shepherd.specs.declared.shepherd.Shepherd.{Shepherd}
 use Rattle.shepherd.specs.declared.shepherd.ShepherdTurn.{ShepherdTurn}
@@ -23,3 +23,7 @@ returns-in-Err-clause-goes c = record { goes_on = c.connections_go_on.ensures.wa
 pub returns-in-Ok-clause-told : goal.returns-in-Ok-clause-told
 returns-in-Ok-clause-told c = subst (λ (t : ShepherdTurn). StepsAt t (value_of c.args.self.now) c.args.shepherd.now ends.Alone (value_of c.args.self.now) c.open.new.self)
     (sym c.requires.turn) (refl, (_, c.in-Ok.ensures.stage), c.in-Ok.ensures.rest, refl)
+
+pub returns-in-Err-clause-rest : goal.returns-in-Err-clause-rest
+returns-in-Err-clause-rest c = subst (λ (t : ShepherdTurn). WantsAt t (value_of c.args.self.now) c.args.shepherd.now (value_of c.args.self.now) c.open.new.self)
+    (sym c.requires.turn) (c.in-Err.ensures.unmade, c.in-Err.ensures.want, refl)

@@ -1,6 +1,6 @@
 use Rattle.std.proofs.Common.{ℕ, refl, subst, sym}
 use Rattle.link_memory.specs.Script.{script_tally}
-use Rattle.memory_site.specs.Steps.{StepsAt, SurroundingsValue, TakesThere, value_of}
+use Rattle.memory_site.specs.Steps.{StepsAt, SurroundingsValue, TakesThere, WantsAt, value_of}
 use Rattle.memory_site.specs.declared.steps.StepEnd.TheVariants as ends
 use Rattle.memory_site.specs.declared.surroundings.TheConstants.{NODE}
 use Rattle.outside.specs.Clock.{PlainClockValue}
@@ -27,3 +27,7 @@ returns-in-Ok-clause-told c =
     subst (λ (boot : ℕ). TakesRequest (λ (clock : PlainClockValue). clock.told.0) PlainGives PlainLooks c.args.self.now.key (record { node = NODE; boot = boot }) (counted (script_tally c.args.self.now.link)) c.args.shepherd.now c.args.self.now.clock c.args.self.now.random c.args.self.now.serials c.take_request.new.self c.take_request.new.clock c.take_request.new.random c.take_request.new.serials) c.boot-boot.ensures c.in-Ok.ensures.taken in
     subst (λ (t : ShepherdTurn). StepsAt t (value_of c.args.self.now) c.args.shepherd.now ends.Called after c.take_request.new.self)
     (sym c.requires.turn) (refl, taken, refl)
+
+pub returns-in-Err-clause-rest : goal.returns-in-Err-clause-rest
+returns-in-Err-clause-rest c = subst (λ (t : ShepherdTurn). WantsAt t (value_of c.args.self.now) c.args.shepherd.now (record (value_of c.args.self.now) { clock = c.take_request.new.clock; random = c.take_request.new.random; serials = c.take_request.new.serials }) c.take_request.new.self)
+    (sym c.requires.turn) (c.in-Err.ensures.same, c.in-Err.ensures.want, refl)
