@@ -1,7 +1,7 @@
 //! The site in memory, with one connection.
 
 use crate::shop::{KEY, LEAST, cookie, rows};
-use container_core::{JournalLimits, MAX_ENTRIES, MAX_JOURNAL_BYTES};
+use container_core::{JournalLimits, MAX_ENTRIES, MAX_JOURNAL_BYTES, StartRefusal};
 use crash_base::{Moment, OutOfMemory};
 use link_memory::ScriptLink;
 use memory_site::{MemorySite, StepEnd};
@@ -52,6 +52,14 @@ impl Served {
     }
 }
 
+/// A shop that is not started is none; but want of memory is told.
+fn unstarted(why: StartRefusal) -> Result<Option<House>, OutOfMemory> {
+    match why {
+        StartRefusal::OutOfMemory => Err(OutOfMemory),
+        _ => Ok(None),
+    }
+}
+
 impl House {
     /// None where the shop is not started, or too few bricks stored the session of its client.
     pub(crate) fn start(alloc: Global) -> Result<Option<House>, OutOfMemory> {
@@ -61,8 +69,9 @@ impl House {
         let Some(cookie) = cookie(alloc, &mut link, &mut windows)? else {
             return Ok(None);
         };
-        let Some(mut site) = MemorySite::start(alloc, keeper, LIMITS, windows, link, KEY, 0)? else {
-            return Ok(None);
+        let mut site = match MemorySite::start(alloc, keeper, LIMITS, windows, link, KEY, 0) {
+            Ok(site) => site,
+            Err(fail) => return unstarted(fail.refusal),
         };
         let at = site.connect(alloc)?;
         Ok(Some(House { site, at, cookie }))

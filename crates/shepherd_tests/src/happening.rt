@@ -18,7 +18,8 @@ fn scope_of(rt: &impl Abort, word: &str) -> Scope {
 /// Reboots a group, or all.
 fn reboot(rt: &impl Abort, site: &mut MemorySite, word: &str) -> bool {
     let down = Place(site.container().journal().len());
-    site.go_down(scope_of(rt, word)) && site.come_up(down)
+    let scope = scope_of(rt, word);
+    site.go_down(scope).expect(rt, "memory") && site.come_up(down)
 }
 
 /// Makes something happen to a brick. Whether it did.
@@ -42,12 +43,13 @@ pub fn happen(rt: &impl Abort, alloc: Global, site: &mut MemorySite, line: &str)
     let (word, rest) = first_word(line);
     let happened = match word {
         "now" => site.set_clock(Moment(number(rt, rest))),
-        "down" => site.go_down(scope_of(rt, rest)),
+        "down" => site.go_down(scope_of(rt, rest)).expect(rt, "memory"),
         "up" => site.come_up(Place(number(rt, rest))),
         "reboot" => reboot(rt, site, rest),
         "call" => {
             let serial = number(rt, rest);
             site.commit_call(alloc, RequestNo { boot: 1, serial }, WorkerNo(9))
+                .expect(rt, "memory")
         }
         _ => strike(rt, site, word, rest),
     };

@@ -45,15 +45,9 @@ pub fn site_of(rt: &impl Abort, alloc: Global, setting: Setting) -> MemorySite {
     let keeper = keeper_of(rt, alloc, setting.failing);
     let windows = Windows::new(alloc, 3, 3, 2, true).expect(rt, "windows");
     let link = ScriptLink::new(alloc, 3).expect(rt, "a link");
-    MemorySite::start(
-        alloc,
-        keeper,
-        limits,
-        windows,
-        link,
-        [0; 32],
-        setting.serial,
-    )
-    .expect(rt, "memory")
-    .expect(rt, "a start")
+    let key = [0; 32];
+    match MemorySite::start(alloc, keeper, limits, windows, link, key, setting.serial) {
+        Ok(site) => site,
+        Err(_) => panic!(rt; "the start is refused"),
+    }
 }
