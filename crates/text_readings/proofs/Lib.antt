@@ -1,0 +1,5 @@
+mod CookieFields
+pub mod CookieAnswers
+mod HolderTests
+mod Numbers
+pub mod TokenAnswers

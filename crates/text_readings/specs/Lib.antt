@@ -1,0 +1,2 @@
+pub mod CookieTexts
+pub mod TokenTexts
