@@ -13,7 +13,7 @@ use Rattle.ssm_world.specs.Worlds.{WorldValue, nonce_of, new_world, is_new, afte
 use Rattle.ssm_world.proofs.Holding.{answer_cookie}
 use Rattle.ssm_world.proofs.Lists.{none_passes}
 use Rattle.ssm_world.proofs.Tests.{same_number, number_same, version_same}
-use Rattle.session_steps.specs.Promise.{SessionTurn, Does, Boots, Makes, Lead}
+use Rattle.session_steps.specs.Promise.{SessionTurn, Does, Boots, Lends, Makes, Lead}
 use Rattle.session_steps.specs.Sessions.{SessionsState, session_key, cookie_of}
 use Rattle.session_lanes.specs.Lanes.{LanesState}
 use Rattle.session_steps.proofs.Cookies.{kept_cookie, other_cookie, same_cookie}
@@ -72,6 +72,7 @@ cookie_before s turn t key cookie sound leads is = by_kind (is_write turn) refl
     writes (Does (lines.Hold brick) text) at so lead = absurd (cc)
     writes (Does (lines.Free brick how) text) at so lead = absurd (cc)
     writes (Boots number) at so lead = absurd (cc)
+    writes (Lends steps serial) at so lead = absurd (cc)
 
     by_kind : (b : Bool) → is_write turn ≡ b → (cookie_of s key ≡ Some cookie) ⊎ MadeCookie s turn t key cookie
     by_kind false kind = inl (sym (same_cookie s t key (goes.cookies kind)) ∙ is)

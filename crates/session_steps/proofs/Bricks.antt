@@ -12,9 +12,8 @@ use Rattle.ssm_world.specs.Worlds.{WorldValue, history, with_history, crashed, s
 use Rattle.ssm_world.proofs.Lists.{history_set_same}
 use Rattle.ssm_world.proofs.Tests.{same_number, number_same}
 use Rattle.session_steps.specs.Promise.{SessionTurn, Does, is_crash_of, sweep_by, Sweeps, later_of}
-use Rattle.session_lanes.proofs.Histories.{AreNew}
 use Rattle.session_lanes.proofs.LaneLists.{history_set_other}
-use Rattle.session_steps.proofs.Went.{Went, Gone, Goes, crashes_one, no_sweep, uncrashed_swept}
+use Rattle.session_steps.proofs.Went.{AreUnended, Went, Gone, Goes, crashes_one, no_sweep, uncrashed_swept}
 use Rattle.session_lanes.specs.Lane.{brick_no}
 
 -- what a change of the history of one brick leaves of the history of another, and what its own is
@@ -32,16 +31,16 @@ own_history w k x h brick g same there is =
     (ap (history w) (sym one) ∙ there, cc)
 
 -- nothing is stored by a crash or a sweep
-none_new : (w : WorldValue) → AreNew w []
-none_new w i s at = absurd (cc)
+none_stored : (w : WorldValue) → AreUnended w []
+none_stored w i s at had = absurd (cc)
 
-crash_new : (w : WorldValue) → AreNew w (happened.Crash ∷ [])
-crash_new w zero s at = absurd (cc)
-crash_new w (suc i) s at = absurd (cc)
+crash_stores : (w : WorldValue) → AreUnended w (happened.Crash ∷ [])
+crash_stores w zero s at had = absurd (cc)
+crash_stores w (suc i) s at had = absurd (cc)
 
-sweep_new : (w : WorldValue) (moment : Moment) → AreNew w (happened.Sweep moment ∷ [])
-sweep_new w moment zero s at = absurd (cc)
-sweep_new w moment (suc i) s at = absurd (cc)
+sweep_stores : (w : WorldValue) (moment : Moment) → AreUnended w (happened.Sweep moment ∷ [])
+sweep_stores w moment zero s at had = absurd (cc)
+sweep_stores w moment (suc i) s at had = absurd (cc)
 
 -- what a turn adds that crashes the brick of a number, or another
 went_crash : (now : Moment) (k brick : ℕ) (text : List ℕ) → (k == brick) ≡ true → Went now brick (Does (lines.Crash k) text ∷ []) (happened.Crash ∷ [])
@@ -103,9 +102,9 @@ goes_crash now k text w may = record {
     by : (h : List BrickEvent) → history w (brick_no k) ≡ Some h → (brick : BrickNo) (g : List BrickEvent) → (b : Bool) → (k == brick.0) ≡ b → history (with_history w (brick_no k) (happened.Crash ∷ h)) brick ≡ Some g → Gone now (turn ∷ []) w brick g
     by h at brick g true same is =
         let own = own_history w k (happened.Crash ∷ h) h brick g same at is in
-        record { earlier = h; newer = happened.Crash ∷ []; history_is = own.0; parts = own.1; went = went_crash now k brick.0 text same; new = crash_new w }
+        record { earlier = h; newer = happened.Crash ∷ []; history_is = own.0; parts = own.1; went = went_crash now k brick.0 text same; unended = crash_stores w }
     by h at brick g false apart is =
-        record { earlier = g; newer = []; history_is = other_history w k (happened.Crash ∷ h) brick g apart is; parts = refl; went = went_other now brick.0 turn apart refl; new = none_new w }
+        record { earlier = g; newer = []; history_is = other_history w k (happened.Crash ∷ h) brick g apart is; parts = refl; went = went_other now brick.0 turn apart refl; unended = none_stored w }
 
     at_limit : (h : List BrickEvent) → history w (brick_no k) ≡ Some h → (b : Bool) → b ≡ true → (brick : BrickNo) (g : List BrickEvent) → history (if b then with_history w (brick_no k) (happened.Crash ∷ h) else w) brick ≡ Some g → Gone now (turn ∷ []) w brick g
     at_limit h at true allowed brick g is = by h at brick g (k == brick.0) refl is
@@ -141,10 +140,10 @@ goes_sweep now k moment turn w sweeps = record {
           history_is = own.0;
           parts = own.1;
           went = went_sweep now moment brick.0 turn (sweeps.crash brick.0) (sweeps.sweep brick.0 ∙ ap swept_by same);
-          new = sweep_new w moment;
+          unended = sweep_stores w moment;
         }
     by h at brick g false apart is =
-        record { earlier = g; newer = []; history_is = other_history w k (happened.Sweep moment ∷ h) brick g apart is; parts = refl; went = went_other now brick.0 turn (sweeps.crash brick.0) (unswept brick apart); new = none_new w }
+        record { earlier = g; newer = []; history_is = other_history w k (happened.Sweep moment ∷ h) brick g apart is; parts = refl; went = went_other now brick.0 turn (sweeps.crash brick.0) (unswept brick apart); unended = none_stored w }
 
     absent : (brick : BrickNo) (g : List BrickEvent) → history w (brick_no k) ≡ None → history w brick ≡ Some g → (b : Bool) → (k == brick.0) ≡ b → Gone now (turn ∷ []) w brick g
     absent brick g at is true same =
@@ -153,7 +152,7 @@ goes_sweep now k moment turn w sweeps = record {
         let one : brick_no k ≡ brick = (λ l. record { 0 = number l }) in
         let clash : None ≡ Some g = sym at ∙ ap (history w) one ∙ is in
         cc)
-    absent brick g at is false apart = record { earlier = g; newer = []; history_is = is; parts = refl; went = went_other now brick.0 turn (sweeps.crash brick.0) (unswept brick apart); new = none_new w }
+    absent brick g at is false apart = record { earlier = g; newer = []; history_is = is; parts = refl; went = went_other now brick.0 turn (sweeps.crash brick.0) (unswept brick apart); unended = none_stored w }
 
     there : (o : Option (List BrickEvent)) → history w (brick_no k) ≡ o → (brick : BrickNo) (g : List BrickEvent) → history (swept w (brick_no k) moment o) brick ≡ Some g → Gone now (turn ∷ []) w brick g
     there None at brick g is = absent brick g at is (k == brick.0) refl

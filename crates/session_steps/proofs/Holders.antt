@@ -22,6 +22,7 @@ use Rattle.ssm_world.proofs.Lists.{get_front, none_passes}
 use Rattle.ssm_world.proofs.Steps.{new_history}
 use Rattle.ssm_world.proofs.Tests.{version_same}
 use Rattle.session_steps.specs.Promise.{SessionTurn, is_crash_of, crashes, later_of, swept_over}
+use Rattle.session_steps.proofs.Ended.{HasEndedCall}
 use Rattle.session_steps.proofs.Went.{Went, Gone, Goes, IsQuiet, crashes_one, no_sweep, uncrashed_swept}
 
 -- what was stored and is not in the older part of a history stands in the newer one
@@ -78,7 +79,7 @@ pub record WriteWorlds (n : ℕ) (first : Moment) (before : List SessionTurn) (n
   pub later : Goes now since ended w
   pub sound : IsSound begun
   pub new : is_new begun version ≡ true
-  pub used : is_new ended version ≡ true → ⊥
+  pub over : HasEndedCall ended version
 
 pub holder_went : (n : ℕ) (first : Moment) (before : List SessionTurn) (now : Moment) (turn : SessionTurn) (since : List SessionTurn) (begun ended w : WorldValue) (holder : Holder) (k : Kept) (g : List BrickEvent)
     → WriteWorlds n first before now turn since begun ended w k.version → Keeps ended holder k → history w holder.brick ≡ Some g → HolderWent first before now since w holder k
@@ -123,5 +124,5 @@ holder_went n first before now turn since begun ended w holder k g worlds keeps 
           (ap swept_after (after_is ∙ during.parts) ∙ during.went.greatest during.earlier
           ∙ uncrashed_swept now brick.0 turn (swept_after during.earlier) (worlds.quiet.crash brick.0) ∙ ap (later_of (swept_after during.earlier)) (worlds.quiet.sweep brick.0)
           ∙ ap swept_after older.parts ∙ older.went.greatest older.earlier ∙ ap (λ h. swept_over first brick.0 (swept_after h) before) blank);
-      others = λ i s at same. worlds.used (ap (is_new ended) (sym same) ∙ after.new i s at);
+      others = λ i s at same. after.unended i s at (worlds.over.0, worlds.over.1, worlds.over.2, worlds.over.3 ∙ sym same, worlds.over.4);
     }

@@ -1,6 +1,7 @@
 -- Each line, and each boot, leaves worlds that events made, and lanes that name replies of their bricks.
 use Rattle.std.proofs.Common.{◌≡◌, ℕ, ◌-◌, Bool, true, false, not, nat_lt, if◌then◌else◌, List, [], ◌∷◌, length, map, Option, unwrap_or, Some, None, Result, Ok, Err, sym, subst}
 use Rattle.std.specs.Prelude.{slice_get}
+use Rattle.std.specs.Option.{option_map}
 use Rattle.std.proofs.lemmas.List.Elements.{All-push}
 use Rattle.session_cookie.specs.declared.cookie.Cookie.{Cookie}
 use Rattle.scenario_text.specs.Answer.{Answer, Done, within}
@@ -19,7 +20,8 @@ use Rattle.ssm_world.specs.declared.event.WorldEvent.{WorldEvent}
 use Rattle.ssm_world.specs.declared.event.WorldEvent.TheVariants.{Write, Read, Crash, Sweep}
 use Rattle.ssm_world.specs.Worlds.{history, may_read, may_happen, is_new}
 use Rattle.session_lanes.specs.Lane.{LaneState, raised, losing, dropping, waiting, reply_made, lane_at, brick_no}
-use Rattle.session_steps.specs.Promise.{SessionTurn, Does, Boots, Makes, Lead}
+use Rattle.session_steps.specs.Lent.{after_lent}
+use Rattle.session_steps.specs.Promise.{SessionTurn, Does, Boots, Lends, Makes, Lead}
 use Rattle.session_lanes.specs.Sound.{IsReplyOf, LanesAreSound}
 use Rattle.session_steps.specs.Sessions.{SessionsState, with_store, nonce, drawn, session_key, expiry, cookie_of, write_of, read_of, spent_by, written_as, store_written, answered_write, write_line, store_read, fetch_line, cookie_line, now_line, on_lane, lose_line, mute_line, repeat_line, crash_line, sweep_line, values_line, windows_line, holds, hold_line, freed_pass, free_line, session_line}
 use Rattle.scenario_text.specs.Setup.{SetupState}
@@ -29,6 +31,7 @@ use Rattle.session_steps.specs.Texts.{overload_text}
 use Rattle.scenario_text.specs.declared.setup.BrickCounts.{BrickCounts}
 use Rattle.session_steps.specs.declared.sessions.TheConstants.{MAX_MOMENT}
 use Rattle.session_lanes.proofs.Keeping.{event_keeps, windows_keep, lane_keeps, gone_keeps, new_is_sound, made_named}
+use Rattle.session_steps.proofs.LentGone.{lent_sound}
 
 abbrev pub SoundIfAny : Option LanesState → Type 0
 SoundIfAny None = Unit {0}
@@ -166,6 +169,10 @@ line_keeps s (lines.Free brick how) sound = free_keeps s brick how sound
 pub one_turn_keeps : (s t : SessionsState) (turn : SessionTurn) → AreSound s → Makes s turn t → AreSound t
 one_turn_keeps s t (Does line text) sound leads = subst LeavesSound leads (line_keeps s line sound)
 one_turn_keeps s t (Boots number) sound leads = subst AreSound (sym leads) sound
+one_turn_keeps s t (Lends steps serial) sound leads = subst AreSound (sym leads.state_is) (lent_keeps s.store sound) where
+  lent_keeps : (o : Option LanesState) → SoundIfAny o → SoundIfAny (option_map (λ (st : LanesState). after_lent st steps) o)
+  lent_keeps None none = tt
+  lent_keeps (Some st) its = lent_sound steps st its
 
 pub lead_keeps : (s t : SessionsState) (turns : List SessionTurn) → AreSound s → Lead s turns t → AreSound t
 lead_keeps s t [] sound lead = subst AreSound (sym lead) sound

@@ -1,10 +1,10 @@
 mod Acknowledging
+mod Between
 mod Bricks
 pub mod ByRule
 mod Calls
-mod CookieBricks
-mod CookieFields
 mod Cookies
+mod Ended
 pub mod Expecting
 mod HeardPasses
 mod Holders
@@ -12,6 +12,7 @@ mod KeptCookies
 pub mod LanesKept
 mod LaneLines
 pub mod Leading
+mod LentGone
 mod LineKeeps
 mod Lines
 mod Nonces

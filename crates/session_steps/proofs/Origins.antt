@@ -14,14 +14,14 @@ use Rattle.session_steps.specs.Sessions.{SessionsState, with_store, nonce, drawn
 use Rattle.scenario_text.specs.Setup.{SetupState}
 use Rattle.session_steps.specs.Setup.{set_up}
 use Rattle.session_lanes.specs.Lanes.{LanesState}
-use Rattle.session_steps.proofs.Acknowledging.{StayLaw, MadeCookie, cookie_before, IsKept, turn_keeps, turns_keep, kept_not_new}
+use Rattle.session_steps.proofs.Acknowledging.{StayLaw, acknowledged_later, MadeCookie, cookie_before, IsKept, turn_keeps, turns_keep, kept_not_new}
 use Rattle.session_steps.proofs.ByRule.{read_by_rule}
 use Rattle.session_steps.proofs.LanesKept.{SoundIfAny, one_turn_keeps, lead_keeps, set_up_sound, all_sound}
 use Rattle.session_lanes.specs.Sound.{LanesAreSound}
 use Rattle.session_steps.proofs.Cookies.{kept_cookie, other_cookie, same_cookie}
 use Rattle.session_steps.proofs.Lines.{WriteDone, write_done, FetchDone, fetch_done}
 use Rattle.session_steps.proofs.Promised.{set_up_kept}
-use Rattle.session_steps.proofs.TurnsMade.{sound_of}
+use Rattle.session_steps.proofs.TurnsMade.{GoOn, sound_of, turns_go}
 use Rattle.session_steps.proofs.Written.{Acknowledged, Unacknowledged, write_ends}
 
 -- an acknowledged cookie may be asked for
@@ -217,3 +217,20 @@ fetched_askable stay setup boot story = made_askable kept.store.world story.cook
 
     sound : LanesAreSound kept.store
     sound = sound_of story.after_write.store kept.store kept.store_is sound_t
+
+-- the cookie of a key is acknowledged with a value
+pub key_acknowledged : StayLaw → (setup : SetupState) (boot : ℕ) (turns : List SessionTurn) (u : SessionsState) (key : ℕ) (cookie : Cookie) → Lead (set_up setup boot) turns u → cookie_of u key ≡ Some cookie
+    → (st : LanesState) × (u.store ≡ Some st) × (value : List ℕ) × IsAcknowledgedIn st.world cookie value
+key_acknowledged stay setup boot turns u key cookie leads has =
+    let kept : IsKept u key cookie = turns_keep stay turns (set_up setup boot) u (set_up_sound setup boot) (set_up_kept setup boot) leads key cookie has in
+    (kept.store, kept.store_is, kept.value, kept.acknowledged)
+
+-- what was acknowledged stays so over turns
+pub stays_acknowledged : StayLaw → (setup : SetupState) (boot : ℕ) (before turns : List SessionTurn) (s t : SessionsState) (st later : LanesState) (cookie : Cookie) (value : List ℕ) → Lead (set_up setup boot) before s → Lead s turns t
+    → s.store ≡ Some st → t.store ≡ Some later → IsAcknowledgedIn st.world cookie value → IsAcknowledgedIn later.world cookie value
+stays_acknowledged stay setup boot before turns s t st later cookie value to_s to_t store_is later_is acknowledged =
+    let sound : SoundIfAny s.store = lead_keeps (set_up setup boot) s before (set_up_sound setup boot) to_s in
+    let goes : GoOn s.moment turns s.store t.store = (turns_go turns s t sound to_t).store in
+    let between : GoOn s.moment turns (Some st) (Some later) =
+    subst (λ x. GoOn s.moment turns x (Some later)) store_is (subst (λ x. GoOn s.moment turns s.store x) later_is goes) in
+    acknowledged_later stay s.moment turns st.world later.world cookie value (sound_of s.store st store_is sound).made between acknowledged

@@ -29,7 +29,7 @@ use Rattle.session_steps.specs.Setup.{store_of, set_up}
 use Rattle.session_lanes.specs.Lanes.{LanesState}
 use Rattle.session_steps.specs.Texts.{version_text}
 use Rattle.scenario_text.specs.declared.setup.BrickCounts.{BrickCounts}
-use Rattle.session_steps.proofs.Acknowledging.{StayLaw, IsKept, AreKept, turns_keep, acknowledged_not_new, kept_not_new}
+use Rattle.session_steps.proofs.Acknowledging.{StayLaw, IsKept, AreKept, turns_keep, kept_not_new}
 use Rattle.session_steps.proofs.Cookies.{kept_cookie, same_cookie}
 use Rattle.session_steps.proofs.Holders.{HolderWent, WriteWorlds, holder_went}
 use Rattle.session_steps.proofs.Lines.{WriteDone, write_done, FetchDone, fetch_done}
@@ -41,6 +41,7 @@ use Rattle.session_steps.proofs.LanesKept.{SoundIfAny, set_up_sound, one_turn_ke
 use Rattle.session_lanes.specs.Sound.{LanesAreSound}
 use Rattle.session_lanes.proofs.Ending.{made_is_sound}
 use Rattle.session_steps.proofs.Went.{Goes, made_grows}
+use Rattle.session_steps.proofs.Ended.{HasEndedCall}
 use Rattle.session_steps.proofs.Written.{Acknowledged, Unacknowledged, write_ends}
 
 -- the bricks of a setup are a new world, and no key has a cookie
@@ -167,7 +168,7 @@ bricks_of_story stay setup boot story = record {
     later = back_t.goes;
     sound = made_is_sound back_s.store.world (sound_of s.store back_s.store back_s.store_is sound_s).made;
     new = (λ l. is_new (same_s l).world (story.version_is l)) ∙ wd.new;
-    used = λ new. acknowledged_not_new back_t.store.world story.cookie story.value story.cookie.version acknowledged new refl;
+    over = over;
   };
   acknowledged = acknowledged;
 }
@@ -222,6 +223,12 @@ bricks_of_story stay setup boot story = record {
 
     new : (n : ℕ) × (back_0.store.world ≡ new_world n)
     new = set_up_world setup.counts back_0.store back_0.store_is
+
+    over : HasEndedCall back_t.store.world story.cookie.version
+    over =
+        let one : Some a.0.later ≡ Some back_t.store = sym a.0.later_is ∙ back_t.store_is in
+        let same : a.0.later ≡ back_t.store = cc in
+        subst (λ (x : LanesState). HasEndedCall x.world story.cookie.version) same (subst (λ (c : Cookie). HasEndedCall a.0.later.world c.version) a.1 a.0.over)
 
     acknowledged : IsAcknowledged back_t.store.world story.cookie story.value
     acknowledged =

@@ -1,7 +1,8 @@
 -- What turns add to the histories of the bricks of sessions.
 use Rattle.ssm_stub.specs.Writes.{heard_passes}
-use Rattle.std.proofs.Common.{◌≡◌, ◌⊎◌, inl, inr, ℕ, ◌-◌, ◌^◌, Bool, true, false, not, if◌then◌else◌, nat_lt, List, [], ◌∷◌, length, Option, unwrap_or, Some, None, refl, sym, ap, ◌∙◌, subst}
+use Rattle.std.proofs.Common.{◌≡◌, ◌⊎◌, inl, inr, ℕ, ◌-◌, ◌^◌, ◌≤◌, Bool, true, false, not, if◌then◌else◌, nat_lt, List, [], ◌∷◌, length, Option, unwrap_or, Some, None, refl, sym, ap, ◌∙◌, subst}
 use Rattle.std.specs.Prelude.{slice_get}
+use Rattle.std.specs.Option.{option_map}
 use Rattle.crash_base.specs.declared.numbers.Moment.{Moment}
 use Rattle.crash_base.specs.declared.numbers.Version.{Version}
 use Rattle.scenario_text.specs.Answer.{Done, or_refused, refused_if, within}
@@ -17,13 +18,17 @@ use Rattle.send_windows.specs.Facts.{open_count}
 use Rattle.send_windows.specs.Passes.{unheard}
 use Rattle.send_windows.specs.declared.pass.Pass.{Pass}
 use Rattle.ssm_world.specs.declared.event.WorldEvent.TheVariants.{Crash, Sweep}
-use Rattle.ssm_world.specs.Worlds.{WorldValue, nonce_of, history, with_history, crashed, swept, may_happen}
+use Rattle.ssm_world.specs.Sound.{untold}
+use Rattle.ssm_world.specs.Worlds.{WorldValue, is_new, nonce_of, history, with_history, crashed, swept, may_happen}
+use Rattle.ssm_world.proofs.Growing.{same_nonce}
+use Rattle.ssm_world.proofs.Tests.{both}
 use Rattle.session_lanes.specs.Lane.{LaneState, raised, losing, dropping, waiting, reply_made, brick_no}
 use Rattle.session_steps.specs.Present.{presented_text}
 use Rattle.session_steps.specs.Texts.{cookie_text, values_text, windows_text}
 use Rattle.session_steps.specs.declared.sessions.TheConstants.{MAX_MOMENT}
 use Rattle.brick_store.specs.History.{all_held, incarnation_after}
-use Rattle.session_steps.specs.Promise.{SessionTurn, Does, Boots, Makes, Lead, moment_after}
+use Rattle.session_steps.specs.Lent.{LentStep, GoesLent, WasDrawn, after_lent}
+use Rattle.session_steps.specs.Promise.{SessionTurn, Does, Boots, Lends, Makes, Lead, moment_after}
 use Rattle.session_steps.specs.Sessions.{SessionsState, with_store, drawn, nonce, spent_by, write_line, fetch_line, store_read, lose_line, mute_line, repeat_line, crash_line, sweep_line, values_line, windows_line, hold_line, free_line, cookie_line, now_line, holds, with_lane_of, cookie_of, text_of_cookie, freed_pass}
 use Rattle.session_lanes.specs.Lanes.{LanesState, after_event, with_lane}
 use Rattle.session_steps.proofs.Bricks.{SweepsBrick, goes_crash, goes_sweep}
@@ -34,9 +39,12 @@ use Rattle.ssm_stub.specs.Reads.{read_start}
 use Rattle.ssm_world.specs.declared.call.Call.{Call}
 use Rattle.ssm_world.specs.declared.call.Call.TheVariants as call
 use Rattle.brick_store.specs.declared.event.BrickEvent.TheVariants as happened
+use Rattle.session_lanes.proofs.Ending.{MadeBy}
 use Rattle.session_lanes.proofs.Histories.{stores_same}
 use Rattle.session_steps.proofs.Lines.{not_false, goes_on_with, not_refused, done_state, on_a_lane, passes_of, store_after_write, IsOverload, HasAnswered, WriteDone, write_done, FetchDone, fetch_done, written_by}
-use Rattle.session_steps.proofs.Went.{IsQuiet, Goes, goes_quiet, goes_none, goes_on}
+use Rattle.session_steps.proofs.LentGone.{LentGone, LimitsLaw, lent_gone}
+use Rattle.session_steps.proofs.Ended.{new_unhad}
+use Rattle.session_steps.proofs.Went.{IsQuiet, Goes, goes_quiet, goes_stored, goes_none, goes_on, made_grows}
 
 -- turns lead from the bricks of sessions, if there are some, to others
 abbrev pub GoOn : Moment → List SessionTurn → Option LanesState → Option LanesState → Type 0
@@ -44,10 +52,6 @@ GoOn now turns None None = Unit {0}
 GoOn now turns None (Some st) = ⊥
 GoOn now turns (Some st) None = ⊥
 GoOn now turns (Some st) (Some later) = Goes now turns st.world later.world
-
--- each call of windows keeps their limits
-abbrev pub LimitsLaw : Type 0
-LimitsLaw = (windows : WindowsValue) (c : WindowCall) → KeepLimits windows → KeepLimits (after_call windows c)
 
 -- the windows of the bricks, if there are some, keep their limits
 abbrev pub KeepWindows : Option LanesState → Type 0
@@ -65,16 +69,39 @@ abbrev pub is_write : SessionTurn → Bool
 is_write (Does (lines.Write key value) text) = true
 is_write (Does line text) = false
 is_write (Boots number) = false
+is_write (Lends steps serial) = false
 
 -- a call has had this nonce
 abbrev pub HasHad : Option LanesState → Version → Type 0
 HasHad None version = ⊥
 HasHad (Some st) version = (i : ℕ) × (c : Call) × (slice_get st.world.calls i ≡ Some c) × (nonce_of c ≡ version)
 
+-- the call of a number is this
+abbrev pub CallAt : Option LanesState → ℕ → Call → Type 0
+CallAt None number c = ⊥
+CallAt (Some st) number c = slice_get st.world.calls number ≡ Some c
+
+-- each call stays as it is
+abbrev pub CallsStay : Option LanesState → Option LanesState → Type 0
+CallsStay a b = (number : ℕ) (c : Call) → CallAt a number c → CallAt b number c
+
+-- the same over a turn that is not one of connections
+abbrev pub LeavesCalls : SessionTurn → Option LanesState → Option LanesState → Type 0
+LeavesCalls (Does line text) a b = CallsStay a b
+LeavesCalls (Boots number) a b = CallsStay a b
+LeavesCalls (Lends steps serial) a b = Unit {0}
+
 -- how a turn leaves the boot and the serial that is drawn next
 abbrev pub Clock : SessionsState → SessionTurn → SessionsState → Type 0
 Clock s (Does line text) t = (t.boot ≡ s.boot) × ((t.serial ≡ s.serial) ⊎ (t.serial ≡ (drawn s).serial))
 Clock s (Boots number) t = t.boot ≡ number
+Clock s (Lends steps serial) t = (t.boot ≡ s.boot) × (t.serial ≡ serial) × (s.serial ≤ serial)
+
+-- a turn began a call with this nonce: that which was drawn next; or, where connections went on, one that was drawn
+abbrev pub IsBegun : SessionsState → SessionTurn → SessionsState → Version → Type 0
+IsBegun s (Does line text) t version = (version ≡ nonce s) × (t.serial ≡ (drawn s).serial)
+IsBegun s (Boots number) t version = (version ≡ nonce s) × (t.serial ≡ (drawn s).serial)
+IsBegun s (Lends steps serial) t version = WasDrawn s.boot serial version
 
 -- what a turn does with the bricks, the moment, the nonces and the cookies of sessions
 pub record TurnGoes (s : SessionsState) (turn : SessionTurn) (t : SessionsState) : Type 0 where
@@ -82,7 +109,8 @@ pub record TurnGoes (s : SessionsState) (turn : SessionTurn) (t : SessionsState)
   pub store : GoOn s.moment (turn ∷ []) s.store t.store
   pub windows : LimitsLaw → KeepWindows s.store → KeepWindows t.store
   pub clock : Clock s turn t
-  pub nonces : (version : Version) → HasHad t.store version → HasHad s.store version ⊎ ((version ≡ nonce s) × (t.serial ≡ (drawn s).serial))
+  pub nonces : (version : Version) → HasHad t.store version → HasHad s.store version ⊎ IsBegun s turn t version
+  pub calls : LeavesCalls turn s.store t.store
   pub cookies : is_write turn ≡ false → t.cookies ≡ s.cookies
 
 go_same : (now : Moment) (turn : SessionTurn) (o : Option LanesState) → IsQuiet now turn → GoOn now (turn ∷ []) o o
@@ -111,11 +139,34 @@ had_or_new a b st later first version a_is b_is calls had =
       | inr new ↦ inr (sym now.3 ∙ new)
     ]
 
+-- where each call stays
+leaves_all : (turn : SessionTurn) (a b : Option LanesState) → CallsStay a b → LeavesCalls turn a b
+leaves_all (Does line text) a b each = each
+leaves_all (Boots number) a b each = each
+leaves_all (Lends steps serial) a b each = tt
+
+calls_stay : (a b : Option LanesState) (st later : LanesState) → a ≡ Some st → b ≡ Some later → CallsStay (Some st) (Some later) → CallsStay a b
+calls_stay a b st later a_is b_is each number c at = subst (λ o. CallAt o number c) (sym b_is) (each number c (subst (λ o. CallAt o number c) a_is at))
+
+same_calls : (st later : LanesState) → later.world.calls ≡ st.world.calls → CallsStay (Some st) (Some later)
+same_calls st later is number c at = ap (λ cs. slice_get cs number) is ∙ at
+
+-- where a call began with a new nonce, the others stay
+others_stay : (w v : WorldValue) (first : Version) → MadeBy w v → is_new w first ≡ true → ((j : ℕ) (d : Call) → slice_get v.calls j ≡ Some d → (slice_get w.calls j ≡ Some d) ⊎ (nonce_of d ≡ first))
+    → (number : ℕ) (c : Call) → slice_get w.calls number ≡ Some c → slice_get v.calls number ≡ Some c
+others_stay w v first by new calls number c at =
+    let now : (d : Call) × (slice_get v.calls number ≡ Some d) × (untold d ≡ untold c) = (made_grows w v by).calls number c at in
+    elim (calls number now.0 now.1) [
+      | inl old ↦ now.1 ∙ sym old ∙ at
+      | inr begun ↦ absurd (new_unhad w first new (number, c, at, sym (same_nonce c now.0 now.2) ∙ begun))
+    ]
+
 -- a turn that leaves the bricks as they are
 stays : (s t : SessionsState) (turn : SessionTurn) → Clock s turn t → IsQuiet s.moment turn → t.moment ≡ moment_after s.moment turn → t.store ≡ s.store → t.cookies ≡ s.cookies → TurnGoes s turn t
 stays s t turn clock quiet moment_is store_is cookies_are = record {
   clock = clock;
   nonces = λ version had. inl (subst (λ o. HasHad o version) store_is had);
+  calls = leaves_all turn s.store t.store (λ number c at. subst (λ o. CallAt o number c) (sym store_is) at);
   moment_is = moment_is;
   windows = λ law keep. subst (λ o. KeepWindows o) (sym store_is) keep;
   cookies = λ other. cookies_are;
@@ -127,6 +178,7 @@ shifts : (s t : SessionsState) (line : SessionLine) (text : List ℕ) (st later 
 shifts s t line text st later limits quiet same_moment st_is t_is world_is = record {
   clock = (ap (λ (x : SessionsState). x.boot) t_is, inl (ap (λ (x : SessionsState). x.serial) t_is));
   nonces = λ version had. inl (had_before s.store t.store st later version st_is (ap (λ (x : SessionsState). x.store) t_is) (ap (λ (w : WorldValue). w.calls) world_is) had);
+  calls = calls_stay s.store t.store st later st_is (ap (λ (x : SessionsState). x.store) t_is) (same_calls st later (ap (λ (w : WorldValue). w.calls) world_is));
   windows = λ law keep. windows_in t.store later (ap (λ (x : SessionsState). x.store) t_is) (limits law (windows_of s.store st st_is keep));
   moment_is = ap (λ (x : SessionsState). x.moment) t_is ∙ sym same_moment;
   cookies = λ other. ap (λ (x : SessionsState). x.cookies) t_is;
@@ -171,6 +223,7 @@ write_goes s key value t text sound is = go d.by
               (subst (λ w. KeepLimits w) (sym gone.windows_are) (took law false answered.enough (windows_of s.store st d.store_is keep))));
           clock = (clock.0, inr clock.1);
           nonces = λ version had. elim (had_or_new s.store t.store st later (nonce s) version d.store_is store_is gone.calls had) [ inl old ↦ inl old | inr new ↦ inr (new, clock.1) ];
+          calls = calls_stay s.store t.store st later d.store_is store_is (others_stay st.world v.world (nonce s) gone.by d.new gone.calls);
           cookies = λ other. absurd (cc);
         }
 
@@ -184,6 +237,7 @@ write_goes s key value t text sound is = go d.by
           windows = λ law keep. windows_in t.store later (ap (λ (x : SessionsState). x.store) over.state_is) (took law true over.full (windows_of s.store st d.store_is keep));
           clock = (ap (λ (x : SessionsState). x.boot) over.state_is, inr (ap (λ (x : SessionsState). x.serial) over.state_is));
           nonces = λ version had. inl (had_before s.store t.store st later version d.store_is (ap (λ (x : SessionsState). x.store) over.state_is) refl had);
+          calls = calls_stay s.store t.store st later d.store_is (ap (λ (x : SessionsState). x.store) over.state_is) (same_calls st later refl);
           cookies = λ other. absurd (cc);
         }
     go (inr answered) =
@@ -209,6 +263,7 @@ fetch_goes s key t text sound is =
         | inl old ↦ inl old
         | inr new ↦ inr (new, ap (λ (x : SessionsState). x.serial) d.state_is)
       ];
+      calls = calls_stay s.store t.store d.store v d.store_is (ap (λ (x : SessionsState). x.store) d.state_is) (others_stay d.store.world v.world (nonce s) gone.by (both _ _ d.may).0 gone.calls);
       cookies = λ other. ap (λ (x : SessionsState). x.cookies) d.state_is;
     }
 
@@ -284,6 +339,8 @@ crash_goes s brick t text is =
       windows = λ law keep. windows_in t.store (after_event d.store (Crash (brick_no brick))) (ap (λ (x : SessionsState). x.store) same.0) (windows_of s.store d.store d.store_is keep);
       clock = (ap (λ (x : SessionsState). x.boot) same.0, inl (ap (λ (x : SessionsState). x.serial) same.0));
       nonces = λ version had. inl (had_before s.store t.store d.store (after_event d.store (Crash (brick_no brick))) version d.store_is (ap (λ (x : SessionsState). x.store) same.0) (crash_calls d.store.world brick (history d.store.world (brick_no brick))) had);
+      calls = calls_stay s.store t.store d.store (after_event d.store (Crash (brick_no brick))) d.store_is (ap (λ (x : SessionsState). x.store) same.0)
+          (same_calls d.store (after_event d.store (Crash (brick_no brick))) (crash_calls d.store.world brick (history d.store.world (brick_no brick))));
     }
 
 sweep_goes : (s : SessionsState) (brick moment : ℕ) (line : SessionLine) (t : SessionsState) (text : List ℕ) → SweepsBrick s.moment brick (record { 0 = moment }) (Does line text) → moment_after s.moment (Does line text) ≡ s.moment → sweep_line s brick moment ≡ Done t text → TurnGoes s (Does line text) t
@@ -302,6 +359,8 @@ sweep_goes s brick moment line t text sweeps same_moment is =
       windows = λ law keep. windows_in t.store (after_event d.store (Sweep (brick_no brick) at)) (ap (λ (x : SessionsState). x.store) same.0) (windows_of s.store d.store d.store_is keep);
       clock = (ap (λ (x : SessionsState). x.boot) same.0, inl (ap (λ (x : SessionsState). x.serial) same.0));
       nonces = λ version had. inl (had_before s.store t.store d.store (after_event d.store (Sweep (brick_no brick) at)) version d.store_is (ap (λ (x : SessionsState). x.store) same.0) (sweep_calls d.store.world brick at (history d.store.world (brick_no brick))) had);
+      calls = calls_stay s.store t.store d.store (after_event d.store (Sweep (brick_no brick) at)) d.store_is (ap (λ (x : SessionsState). x.store) same.0)
+          (same_calls d.store (after_event d.store (Sweep (brick_no brick) at)) (sweep_calls d.store.world brick at (history d.store.world (brick_no brick))));
     }
 
 values_goes : (s : SessionsState) (brick : ℕ) (t : SessionsState) (text : List ℕ) → values_line s brick ≡ Done t text → TurnGoes s (Does (lines.Values brick) text) t
@@ -347,6 +406,37 @@ free_goes s brick how t text is =
     let windows : WindowsValue = after_pass d.store.windows (freed_pass brick how) in
     shifts s t (lines.Free brick how) text d.store (later d.store d.lane) (λ law keep. freed_keeps law d.store.windows brick how keep) (record { crash = λ b. refl; sweep = λ b. refl }) refl d.store_is (done_state (with_store s (later d.store d.lane)) t [] text e.1).0 refl
 
+-- connections go on with the bricks
+lends_goes : (s : SessionsState) (steps : List LentStep) (serial : ℕ) (t : SessionsState) → SoundIfAny s.store → GoesLent s steps serial t → TurnGoes s (Lends steps serial) t
+lends_goes s steps serial t sound lent =
+    let store_is : t.store ≡ option_map (λ (st : LanesState). after_lent st steps) s.store = ap (λ (x : SessionsState). x.store) lent.state_is in
+    let goes = by s.store sound in
+    record {
+      moment_is = ap (λ (x : SessionsState). x.moment) lent.state_is;
+      store = subst (λ o. GoOn s.moment (turn ∷ []) s.store o) (sym store_is) goes.0;
+      windows = λ law keep. subst (λ o. KeepWindows o) (sym store_is) (goes.1 law keep);
+      clock = (ap (λ (x : SessionsState). x.boot) lent.state_is, ap (λ (x : SessionsState). x.serial) lent.state_is, lent.serials);
+      nonces = λ version had. goes.2 version (subst (λ o. HasHad o version) store_is had);
+      calls = tt;
+      cookies = λ other. ap (λ (x : SessionsState). x.cookies) lent.state_is;
+    }
+  where
+    turn : SessionTurn
+    turn = Lends steps serial
+
+    Lent : Option LanesState → Option LanesState → Type 0
+    Lent o p = GoOn s.moment (turn ∷ []) o p × (LimitsLaw → KeepWindows o → KeepWindows p) × ((version : Version) → HasHad p version → HasHad o version ⊎ WasDrawn s.boot serial version)
+
+    by : (o : Option LanesState) → SoundIfAny o → Lent o (option_map (λ (st : LanesState). after_lent st steps) o)
+    by None sound_o = (tt, λ law keep. tt, λ version had. absurd had)
+    by (Some st) sound_o =
+        let gone : LentGone s.boot serial st (after_lent st steps) = lent_gone s.boot serial steps st sound_o lent.nonces in
+        (
+          goes_stored s.moment turn st.world (after_lent st steps).world (record { crash = λ b. refl; sweep = λ b. refl }) gone.by gone.stores,
+          λ law keep. gone.windows law keep,
+          λ version had. subst (λ (x : Version). HasHad (Some st) x ⊎ WasDrawn s.boot serial x) had.3 (gone.calls had.0 had.1 had.2),
+        )
+
 -- each turn
 pub turn_goes : (s : SessionsState) (turn : SessionTurn) (t : SessionsState) → SoundIfAny s.store → Makes s turn t → TurnGoes s turn t
 turn_goes s (Does (lines.Now moment) text) t sound is = now_goes s moment t text is
@@ -365,6 +455,7 @@ turn_goes s (Does (lines.Hold brick) text) t sound is = hold_goes s brick t text
 turn_goes s (Does (lines.Free brick how) text) t sound is = free_goes s brick how t text is
 turn_goes s (Boots number) t sound is = stays s t (Boots number) (ap (λ (x : SessionsState). x.boot) is) (record { crash = λ b. refl; sweep = λ b. refl }) (ap (λ (x : SessionsState). x.moment) is) (ap (λ (x : SessionsState). x.store) is)
     (ap (λ (x : SessionsState). x.cookies) is)
+turn_goes s (Lends steps serial) t sound is = lends_goes s steps serial t sound is
 
 -- turns one after the other
 go_on_none : (now : Moment) (o : Option LanesState) → GoOn now [] o o

@@ -4,6 +4,7 @@ use Rattle.std.specs.Prelude.{slice_get}
 use Rattle.std.proofs.lemmas.List.Sums.{sum_by-append}
 use Rattle.crash_base.specs.declared.numbers.BrickNo.{BrickNo}
 use Rattle.crash_base.specs.declared.numbers.Moment.{Moment}
+use Rattle.brick_store.specs.declared.kept.Kept.{Kept}
 use Rattle.brick_store.specs.declared.event.BrickEvent.{BrickEvent}
 use Rattle.brick_store.specs.declared.event.BrickEvent.TheVariants as happened
 use Rattle.brick_store.specs.History.{incarnation_after, swept_after}
@@ -14,7 +15,8 @@ use Rattle.ssm_world.proofs.Lists.{get_front}
 use Rattle.ssm_world.proofs.Steps.{after_stays}
 use Rattle.session_steps.specs.Promise.{SessionTurn, is_crash_of, crashes, moment_after, sweep_by, Sweeps, later_of, swept_over}
 use Rattle.session_lanes.proofs.Ending.{OnlyStores, stores_incarnation, stores_swept, MadeBy, made_on}
-use Rattle.session_lanes.proofs.Histories.{AreNew, OnlyGrew, Stores, new_before}
+use Rattle.session_lanes.proofs.Histories.{AreNew, OnlyGrew, Stores}
+use Rattle.session_steps.proofs.Ended.{HasEndedCall, ended_later, new_unhad}
 
 -- Newer events of a brick are those that turns make, from this present moment on: each of its crashes, each of its
 -- sweeps at its moment, and what it stored.
@@ -24,6 +26,13 @@ pub record Went (now : Moment) (brick : ℕ) (turns : List SessionTurn) (newer :
   pub sweeps : (moment : Moment) → Sweeps now brick moment turns → (i : ℕ) × (slice_get newer i ≡ Some (happened.Sweep moment))
   pub greatest : (h : List BrickEvent) → swept_after (newer ++ h) ≡ swept_over now brick (swept_after h) turns
 
+-- No call that has ended stored any of these events' values: each has a version that is the nonce of none.
+abbrev pub AreUnended : WorldValue → List BrickEvent → Type 0
+AreUnended w newer = (i : ℕ) (s : Kept) → slice_get newer i ≡ Some (happened.Stored s) → HasEndedCall w s.version → ⊥
+
+pub new_are_unended : (w : WorldValue) (newer : List BrickEvent) → AreNew w newer → AreUnended w newer
+new_are_unended w newer new i s at had = new_unhad w s.version (new i s at) (had.0, had.1, had.2, had.3)
+
 -- a history, to which turns made these events be added
 pub record Gone (now : Moment) (turns : List SessionTurn) (w : WorldValue) (brick : BrickNo) (g : List BrickEvent) : Type 0 where
   pub earlier : List BrickEvent
@@ -31,7 +40,7 @@ pub record Gone (now : Moment) (turns : List SessionTurn) (w : WorldValue) (bric
   pub history_is : history w brick ≡ Some earlier
   pub parts : g ≡ newer ++ earlier
   pub went : Went now brick.0 turns newer
-  pub new : AreNew w newer
+  pub unended : AreUnended w newer
 
 -- Turns lead from a world to another: by events, which are those of the turns in the history of each brick.
 pub record Goes (now : Moment) (turns : List SessionTurn) (w v : WorldValue) : Type 0 where
@@ -76,20 +85,49 @@ went_quiet now brick turn newer quiet only =
       greatest = λ h. stores_swept newer h only ∙ sym (uncrashed_swept now brick turn (swept_after h) (quiet.crash brick) ∙ ap (later_of (swept_after h)) (quiet.sweep brick));
     }
 
-pub goes_quiet : (now : Moment) (turn : SessionTurn) (w v : WorldValue) → IsQuiet now turn → MadeBy w v → Stores w v → Goes now (turn ∷ []) w v
-goes_quiet now turn w v quiet by stores = record {
+-- a history, to which values were added at most that calls stored which had not ended
+pub record StoredOn (w : WorldValue) (brick : BrickNo) (g : List BrickEvent) : Type 0 where
+  pub earlier : List BrickEvent
+  pub newer : List BrickEvent
+  pub history_is : history w brick ≡ Some earlier
+  pub parts : g ≡ newer ++ earlier
+  pub only : OnlyStores newer
+  pub unended : AreUnended w newer
+
+-- each history is so
+abbrev pub StoresOn : WorldValue → WorldValue → Type 0
+StoresOn w v = (brick : BrickNo) (g : List BrickEvent) → history v brick ≡ Some g → StoredOn w brick g
+
+pub stores_on : (w v : WorldValue) → Stores w v → StoresOn w v
+stores_on w v stores brick g is =
+    let grew : OnlyGrew w brick g = stores.each brick g is in
+    record {
+      earlier = grew.earlier;
+      newer = grew.newer;
+      history_is = grew.history_is;
+      parts = grew.parts;
+      only = grew.only;
+      unended = new_are_unended w grew.newer grew.new;
+    }
+
+-- by a quiet turn
+pub goes_stored : (now : Moment) (turn : SessionTurn) (w v : WorldValue) → IsQuiet now turn → MadeBy w v → StoresOn w v → Goes now (turn ∷ []) w v
+goes_stored now turn w v quiet by stores = record {
   by = by;
   each = λ brick g is. (
-      let grew : OnlyGrew w brick g = stores.each brick g is in
+      let grew : StoredOn w brick g = stores brick g is in
       record {
         earlier = grew.earlier;
         newer = grew.newer;
         history_is = grew.history_is;
         parts = grew.parts;
         went = went_quiet now brick.0 turn grew.newer quiet grew.only;
-        new = grew.new;
+        unended = grew.unended;
       });
 }
+
+pub goes_quiet : (now : Moment) (turn : SessionTurn) (w v : WorldValue) → IsQuiet now turn → MadeBy w v → Stores w v → Goes now (turn ∷ []) w v
+goes_quiet now turn w v quiet by stores = goes_stored now turn w v quiet by (stores_on w v stores)
 
 -- no turns add nothing
 went_none : (now : Moment) (brick : ℕ) → Went now brick [] []
@@ -103,7 +141,7 @@ went_none now brick = record {
 pub goes_none : (now : Moment) (w : WorldValue) → Goes now [] w w
 goes_none now w = record {
   by = ([], refl);
-  each = λ brick g is. record { earlier = g; newer = []; history_is = is; parts = refl; went = went_none now brick.0; new = λ i s at. absurd (cc) };
+  each = λ brick g is. record { earlier = g; newer = []; history_is = is; parts = refl; went = went_none now brick.0; unended = λ i s at had. absurd (cc) };
 }
 
 -- what stands in two parts stands in one
@@ -135,6 +173,13 @@ went_on now brick turn turns newer newest first second = record {
 pub made_grows : (w v : WorldValue) → MadeBy w v → Grows w v
 made_grows w v by = subst (λ x. Grows w x) (sym by.1) (after_stays w w by.0).grows
 
+-- values that calls stored which had not ended, over two worlds
+pub unended_on : (u v : WorldValue) (newest newer : List BrickEvent) → MadeBy u v → AreUnended v newest → AreUnended u newer → AreUnended u (newest ++ newer)
+unended_on u v newest newer by second first i s at had = elim (in_front newest newer i (happened.Stored s) at) [
+  | inl new ↦ second new.0 s new.1 (ended_later u v s.version by had)
+  | inr old ↦ first old.0 s old.1 had
+]
+
 pub goes_on : (now : Moment) (turn : SessionTurn) (turns : List SessionTurn) (u v w : WorldValue) → Goes now (turn ∷ []) u v → Goes (moment_after now turn) turns v w → Goes now (turn ∷ turns) u w
 goes_on now turn turns u v w first second = record {
   by = made_on u v w first.by second.by;
@@ -147,9 +192,6 @@ goes_on now turn turns u v w first second = record {
         history_is = a.history_is;
         parts = b.parts ∙ ap (λ h. b.newer ++ h) a.parts ∙ sym (append_assoc b.newer a.newer a.earlier);
         went = went_on now brick.0 turn turns a.newer b.newer a.went b.went;
-        new = λ i s at. elim (in_front b.newer a.newer i (happened.Stored s) at) [
-          | inl new ↦ new_before u v s.version (made_grows u v first.by) (b.new new.0 s new.1)
-          | inr old ↦ a.new old.0 s old.1
-        ];
+        unended = unended_on u v b.newer a.newer first.by b.unended a.unended;
       });
 }

@@ -35,7 +35,8 @@ use Rattle.session_steps.proofs.LanesKept.{set_up_sound, all_sound}
 use Rattle.session_lanes.specs.Sound.{LanesAreSound}
 use Rattle.session_lanes.proofs.Ending.{WriteGone}
 use Rattle.session_steps.proofs.Lines.{not_false, not_refused, done_state, passes_of, store_after_write}
-use Rattle.session_steps.proofs.TurnsMade.{LimitsLaw, KeepWindows, windows_of, TurnsGo, turns_go}
+use Rattle.session_steps.proofs.LentGone.{LimitsLaw}
+use Rattle.session_steps.proofs.TurnsMade.{KeepWindows, windows_of, TurnsGo, turns_go}
 
 -- new windows keep the limits, and passes that are taken together are lawful
 abbrev pub NewLaw : Type 0

@@ -42,6 +42,7 @@ use Rattle.session_lanes.proofs.Ending.{WriteGone}
 use Rattle.session_steps.proofs.LanesKept.{SoundIfAny, one_turn_keeps}
 use Rattle.session_lanes.specs.Sound.{LanesAreSound}
 use Rattle.session_steps.proofs.TurnsMade.{sound_of}
+use Rattle.session_steps.proofs.Ended.{HasEndedCall}
 use Rattle.session_steps.proofs.Lines.{passes_of, store_after_write, HasAnswered, WriteDone, write_done, IsAcknowledgedAs, IsMissed, written_by}
 
 -- A write line was done, and its value is acknowledged with a cookie.
@@ -50,6 +51,7 @@ pub record Acknowledged (s : SessionsState) (key : ℕ) (value : List ℕ) (t : 
   pub later : LanesState
   pub later_is : t.store ≡ Some later
   pub acknowledged : IsAcknowledged later.world cookie value
+  pub over : HasEndedCall later.world cookie.version
   pub key_is : cookie.key ≡ session_key key
   pub version_is : cookie.version ≡ nonce s
   pub expiry_is : cookie.expiry ≡ expiry s
@@ -99,6 +101,7 @@ acknowledged_by s key value st t text store_is sound a ok =
         answers = answers;
         value_is = gone.ask_is ∙ (λ l. Put (sym gone.nonce_is l) (sym gone.key_is l) (sym gone.nonce_is l) (sym gone.expiry_is l) value);
       };
+      over = (n, call.Write gone.end, gone.there, ap (λ (c : Cookie). c.version) is, gone.over);
       key_is = ap (λ (c : Cookie). c.key) (sym is) ∙ gone.key_is;
       version_is = ap (λ (c : Cookie). c.version) (sym is) ∙ gone.nonce_is;
       expiry_is = ap (λ (c : Cookie). c.expiry) (sym is) ∙ gone.expiry_is;

@@ -1,4 +1,5 @@
 pub mod Kept
+pub mod Lent
 pub mod Present
 pub mod Promise
 pub mod Rule

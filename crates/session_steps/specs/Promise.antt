@@ -22,21 +22,25 @@ use Rattle.ssm_world.specs.declared.event.WorldEvent.{WorldEvent}
 use Rattle.ssm_world.specs.Claims.{WasMissed as WasMissedInWorld}
 use Rattle.ssm_world.specs.Worlds.{new_world, after, bricks_of, may_be_asked}
 use Rattle.session_lanes.specs.Lane.{LaneState, lane_at}
+use Rattle.session_steps.specs.Lent.{LentStep, GoesLent}
 use Rattle.session_steps.specs.Sessions.{SessionsState, session_line, reopened, nonce, session_key, cookie_of, expiry}
 use Rattle.scenario_text.specs.Setup.{SetupState}
 use Rattle.session_steps.specs.Setup.{set_up}
 use Rattle.session_lanes.specs.Lanes.{LanesState}
 use Rattle.session_steps.specs.Texts.{version_text, overload_text, missed_text, found_text, expired_text, lost_text}
 
--- What happens to sessions: a line about them was done and wrote this text, or the boot of this number has started.
+-- What happens to sessions: a line about them was done and wrote this text; the boot of this number has started; or
+-- connections drew serials up to one, and did this with the bricks, which were lent to them.
 pub data SessionTurn : Type 0 where
   Does : (line : SessionLine) (text : List ℕ) → SessionTurn
   Boots : (number : ℕ) → SessionTurn
+  Lends : (steps : List LentStep) (serial : ℕ) → SessionTurn
 
 -- a turn makes these sessions of others
 abbrev pub Makes : SessionsState → SessionTurn → SessionsState → Type 0
 Makes s (Does line text) t = session_line s line ≡ Done t text
 Makes s (Boots number) t = t ≡ reopened s number
+Makes s (Lends steps serial) t = GoesLent s steps serial t
 
 -- Turns lead from sessions to others, one after the other: each line was done, and wrote its text.
 abbrev pub Lead : SessionsState → List SessionTurn → SessionsState → Type 0
@@ -48,6 +52,7 @@ abbrev pub is_crash_of : ℕ → SessionTurn → Bool
 is_crash_of brick (Does (lines.Crash b) text) = b == brick
 is_crash_of brick (Does line text) = false
 is_crash_of brick (Boots number) = false
+is_crash_of brick (Lends steps serial) = false
 
 -- how often a brick crashed in turns
 abbrev pub crashes : ℕ → List SessionTurn → ℕ
@@ -58,6 +63,7 @@ abbrev pub moment_after : Moment → SessionTurn → Moment
 moment_after now (Does (lines.Now moment) text) = record { 0 = moment }
 moment_after now (Does line text) = now
 moment_after now (Boots number) = now
+moment_after now (Lends steps serial) = now
 
 -- the moment at which a turn sweeps the brick of a number, where it does
 abbrev pub sweep_by : Moment → ℕ → SessionTurn → List Moment
@@ -65,6 +71,7 @@ sweep_by now brick (Does (lines.Sweep b moment) text) =
     if b == brick then record { 0 = unwrap_or moment now.0 } ∷ [] else []
 sweep_by now brick (Does line text) = []
 sweep_by now brick (Boots number) = []
+sweep_by now brick (Lends steps serial) = []
 
 -- a turn among these, from this present moment on, sweeps the brick of a number at a moment
 abbrev pub Sweeps : Moment → ℕ → Moment → List SessionTurn → Type 0
@@ -280,6 +287,7 @@ abbrev pub BootsRise : ℕ → List SessionTurn → Type 0
 BootsRise boot [] = Unit {0}
 BootsRise boot (Does line text ∷ turns) = BootsRise boot turns
 BootsRise boot (Boots number ∷ turns) = (boot < number) × BootsRise number turns
+BootsRise boot (Lends steps serial ∷ turns) = BootsRise boot turns
 
 -- A fetch of what was written, in a scenario of this setup and boot: the turns before a write line that was
 -- acknowledged with a cookie; the turns since, after which this is still the cookie of the key; and a fetch line, which

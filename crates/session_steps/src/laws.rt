@@ -1,14 +1,24 @@
 //! What holds of the sessions of every scenario. Each law is the contract of a function that does nothing: a caller
 //! that needs the law calls the function.
 
-ghost use Rattle.std.specs.Prelude.{◌≡◌, ◌≢◌, ◌⊎◌, ◌↔◌, ◌<◌, ◌≤◌, ◌-◌, ◌^◌, ℕ, List, true, false, codes, slice_get, Some};
+ghost use Rattle.std.specs.Prelude.{◌≡◌, ◌≢◌, ◌⊎◌, ◌↔◌, ◌<◌, ◌≤◌, ◌-◌, ◌^◌, ℕ, List, true, false, codes, length, slice_get, Some};
 ghost use Rattle.scenario_text.specs.Answer.{Refused, Done};
+ghost use Rattle.crash_base.specs.declared.numbers.Version.{Version};
+ghost use Rattle.scenario_text.specs.declared.session_line.SessionLine.{SessionLine};
 ghost use Rattle.scenario_text.specs.declared.session_line.SessionLine.TheVariants as lines;
 ghost use Rattle.session_cookie.specs.declared.cookie.Cookie.{Cookie};
 ghost use Rattle.session_cookie.specs.declared.cookie.Holder.{Holder};
 ghost use Rattle.session_cookie.specs.Text.{HasForm, HasNoForm, IsTextOf, Spells, SpellsNoBytes, tag_of};
+ghost use Rattle.send_windows.specs.Calls.{Take, after_call};
+ghost use Rattle.send_windows.specs.Facts.{open_count};
+ghost use Rattle.send_windows.specs.Windows.{WindowsValue, chosen, refused, taken};
 ghost use Rattle.ssm_stub.specs.declared.cause.BrickCause.{BrickCause};
-ghost use Rattle.ssm_world.specs.Worlds.{is_new, may_be_asked, bricks_of, IsMade};
+ghost use Rattle.ssm_world.specs.declared.call.Call.{Call};
+ghost use Rattle.ssm_world.specs.declared.event.WorldEvent.{WorldEvent};
+ghost use Rattle.ssm_world.specs.Worlds.{after, is_new, may_be_asked, bricks_of, IsMade};
+ghost use Rattle.ssm_world.specs.Claims.{IsAcknowledged as IsAcknowledgedInWorld};
+ghost use Rattle.session_steps.specs.Kept.{HasSoundStore};
+ghost use Rattle.session_steps.specs.Lent.{LentStep, after_lent};
 ghost use Rattle.session_steps.specs.Present.{presented_text};
 ghost use Rattle.session_steps.specs.Promise.{SessionTurn, Lead, CanServe, FindsValue, IsLost, IsRight, IsAcknowledged, IsUnacknowledged, ComesFrom, BootsRise, FetchedWrite, IsOfWrite, fetch_of, HasCrashedOrWasUnheard, NoneSweptLate};
 ghost use Rattle.session_steps.specs.Rule.{result_by_rule};
@@ -23,7 +33,8 @@ ghost use Rattle.session_steps.specs.Texts.{version_text, found_text, expired_te
 use send_windows::{taken_passes_are_lawful, windows_keep_their_limits};
 use ssm_world::acknowledged_cookies_stay_acknowledged;
 
-/// Over all turns the bricks of a scenario, their packets and calls are a world that events made.
+/// Over all turns, of lines, of boots and of connections, the bricks of a scenario, their packets and calls are a world
+/// that events made.
 pub fn sessions_are_worlds()
     ensures { (setup : SetupState) (boot : ℕ) (turns : List SessionTurn) (t : SessionsState) (st : LanesState)
         → Lead (set_up setup boot) turns t → t.store ≡ Some st → IsMade st.world }
@@ -63,8 +74,8 @@ pub fn writes_with_new_nonces_are_done()
 
 /// While each boot that starts has a greater number than the one before, and serials are left, no call has had a nonce
 /// that is still to be drawn in this boot: neither that of the next write or fetch, nor one of a later serial, in
-/// whatever order their calls begin. The serials of each boot that starts begin at 0, and the node is 1. It refuses a
-/// rule that draws a nonce twice, and serials that go on from another boot.
+/// whatever order their calls begin, of lines and of connections. The serials of each boot that starts begin at 0, and
+/// the node is 1. It refuses a rule that draws a nonce twice, and serials that go on from another boot.
 pub fn nonces_stay_new()
     ensures new { (setup : SetupState) (boot : ℕ) (turns : List SessionTurn) (u : SessionsState) (st : LanesState) (serial : ℕ)
         → BootsRise boot turns → Lead (set_up setup boot) turns u → u.store ≡ Some st → u.serial < 2 ^ 64 - 1
@@ -72,6 +83,63 @@ pub fn nonces_stay_new()
     ensures first { (s : SessionsState) (boot : ℕ)
         → nonce (reopened s boot) ≡ record { node = 1; boot = boot; serial = 0 } }
 {}
+
+/// A line begins a call with no nonce but the one that it draws: each other nonce that was new before the line stays
+/// new, as one that a connection has drawn and with which its call is still to begin. It refuses a line that begins a
+/// call with a nonce which was drawn before.
+pub fn other_nonces_stay_new()
+    ensures { (setup : SetupState) (boot : ℕ) (turns : List SessionTurn) (s t : SessionsState) (line : SessionLine)
+        (text : List ℕ) (st later : LanesState) (other : Version)
+        → Lead (set_up setup boot) turns s → session_line s line ≡ Done t text → s.store ≡ Some st
+        → t.store ≡ Some later → is_new st.world other ≡ true → other ≢ nonce s → is_new later.world other ≡ true }
+{}
+
+/// Whatever connections do with bricks that are lent to them, they may be put back: events made their world, and each
+/// packet that a lane names is a reply of its brick.
+pub fn lent_bricks_stay_sound()
+    ensures { (st : LanesState) (steps : List LentStep)
+        → HasSoundStore (Some st) → HasSoundStore (Some (after_lent st steps)) }
+{}
+
+/// Passes that are taken of lent windows, as many as a write needs, are those of a call of the windows; and so is a
+/// refusal where fewer windows are open.
+pub fn takes_are_calls_of_windows()
+    ensures taken { (windows : WindowsValue) (first : ℕ) → windows.wq ≤ length (chosen windows first)
+        → after_call windows (Take first) ≡ taken windows (chosen windows first) }
+    ensures refused { (windows : WindowsValue) (first : ℕ) → open_count windows.facts < windows.wq
+        → after_call windows (Take first) ≡ refused windows }
+{}
+
+/// Turns lead from the bricks to later ones by events of their world, in which calls of connections may go on.
+pub fn turns_go_by_events()
+    ensures { (setup : SetupState) (boot : ℕ) (before turns : List SessionTurn) (s t : SessionsState)
+        (st later : LanesState) → Lead (set_up setup boot) before s → Lead s turns t → s.store ≡ Some st
+        → t.store ≡ Some later → (events : List WorldEvent) × (later.world ≡ after st.world events) }
+{}
+
+/// A line leaves each call that had begun as it is, as one of a connection that is under way. It refuses a line that
+/// takes a turn of such a call.
+pub fn lines_leave_calls()
+    ensures { (setup : SetupState) (boot : ℕ) (turns : List SessionTurn) (s t : SessionsState) (line : SessionLine)
+        (text : List ℕ) (st later : LanesState) (number : ℕ) (call : Call)
+        → Lead (set_up setup boot) turns s → session_line s line ≡ Done t text → s.store ≡ Some st
+        → t.store ≡ Some later → slice_get st.world.calls number ≡ Some call
+        → slice_get later.world.calls number ≡ Some call }
+{}
+
+/// What is acknowledged in the world of the bricks, by a line or by a connection, stays acknowledged over all turns.
+/// The cookie of a key is acknowledged with a value.
+pub fn sessions_keep_what_is_acknowledged()
+    ensures later { (setup : SetupState) (boot : ℕ) (before turns : List SessionTurn) (s t : SessionsState)
+        (st later : LanesState) (cookie : Cookie) (value : List ℕ)
+        → Lead (set_up setup boot) before s → Lead s turns t → s.store ≡ Some st → t.store ≡ Some later
+        → IsAcknowledgedInWorld st.world cookie value → IsAcknowledgedInWorld later.world cookie value }
+    ensures kept { (setup : SetupState) (boot : ℕ) (turns : List SessionTurn) (u : SessionsState) (key : ℕ)
+        (cookie : Cookie) → Lead (set_up setup boot) turns u → cookie_of u key ≡ Some cookie
+        → (st : LanesState) × (u.store ≡ Some st) × (value : List ℕ) × IsAcknowledgedInWorld st.world cookie value }
+{
+    acknowledged_cookies_stay_acknowledged();
+}
 
 /// A text that is presented is written as `ok` exactly where it is the text of a cookie under the key of the service,
 /// as `notbase64` exactly where it spells no bytes, as `form` exactly where it spells bytes that are no cookie's fields
@@ -107,10 +175,10 @@ pub fn fetches_with_new_nonces_are_done()
     acknowledged_cookies_stay_acknowledged();
 }
 
-/// Over every list of lines and of boots, each fetch line that is done is of a write line before it, and answers what
-/// was written: the value, in time, where a brick of the cookie can serve it; or that the cookie has expired; or that
-/// the value was lost, with the cause of each brick of the cookie. The cookie names 1 to 16 distinct bricks, and
-/// expires a lease after the write, whose line wrote the version that the cookie names.
+/// Over every list of lines, of boots and of what connections did, each fetch line that is done is of a write line
+/// before it, and answers what was written: the value, in time, where a brick of the cookie can serve it; or that the
+/// cookie has expired; or that the value was lost, with the cause of each brick of the cookie. The cookie names 1 to 16
+/// distinct bricks, and expires a lease after the write, whose line wrote the version that the cookie names.
 pub fn fetches_answer_what_was_written()
     ensures each { (setup : SetupState) (boot : ℕ) (turns : List SessionTurn) (u v : SessionsState) (key : ℕ) (text : List ℕ)
         → Lead (set_up setup boot) turns u → session_line u (lines.Fetch key) ≡ Done v text

@@ -1,6 +1,6 @@
 //! The sessions of a scenario.
 
-ghost use Rattle.std.specs.Prelude.{◌≡◌, true, [], None, IfOk, OnErr};
+ghost use Rattle.std.specs.Prelude.{◌≡◌, ◌≤◌, true, [], None, IfOk, OnErr};
 ghost use Rattle.scenario_text.specs.Answer.{KeepsRefused, answer_of};
 ghost use Rattle.scenario_text.specs.Setup.{are_counts};
 ghost use Rattle.session_lanes.specs.Lanes.{new_lanes};
@@ -30,7 +30,7 @@ pub const NODE: u16 = 1;
 /// bricks, if there are some.
 #[derive(Drop)]
 pub struct Sessions {
-    parts: Parts,
+    pub(crate) parts: Parts,
 }
 
 impl Model for Sessions {
@@ -104,6 +104,21 @@ impl Sessions {
     {
         self.parts.boot = boot;
         self.parts.serial = 0;
+    }
+
+    /// The present moment.
+    pub fn moment(&self) -> Moment
+        ensures moment { result ≡ self.now.moment }
+        ensures in_time { result.0 ≤ MAX_MOMENT }
+    {
+        self.parts.moment
+    }
+
+    /// The key of the service.
+    pub fn key(&self) -> &[u8]
+        ensures { result.now ≡ self.now.key }
+    {
+        &self.parts.key
     }
 
     /// A line about sessions. It visits each brick a few times; a write and a fetch cost what their turns do, of which
