@@ -1,9 +1,11 @@
--- What is known between turns to who lends the bricks to connections: events go on, and lines leave calls as they are.
-use Rattle.std.proofs.Common.{◌≡◌, ◌∙◌, refl, sym, ap, subst, arith, ℕ, ◌+◌, ◌<◌, ◌≤◌, ◌%◌, Bool, true, false, if◌then◌else◌, nat_lt, List, ◌++◌, filter, take, drop, length, length-append, length-take, Option, Some}
+-- What is known to who lends the bricks to connections: events go on, and lines, and what others do with the bricks,
+-- leave calls and nonces as they are.
+use Rattle.std.proofs.Common.{◌≡◌, ◌≢◌, inl, inr, All, [], ◌∷◌, map, None, ◌∙◌, refl, sym, ap, subst, arith, ℕ, ◌+◌, ◌<◌, ◌≤◌, ◌%◌, Bool, true, false, if◌then◌else◌, nat_lt, List, ◌++◌, filter, take, drop, length, length-append, length-take, Option, Some}
 use Rattle.std.specs.Prelude.{slice_get}
 use Rattle.std.proofs.lemmas.Bool.{lt-ltb, ltb-true}
 use Rattle.std.proofs.lemmas.List.{length-map, take-append-drop}
-use Rattle.std.proofs.lemmas.List.Elements.{filter-append}
+use Rattle.std.proofs.lemmas.List.Elements.{All-head, All-tail, filter-append}
+use Rattle.crash_base.specs.declared.numbers.Version.{Version}
 use Rattle.scenario_text.specs.Answer.{Done}
 use Rattle.scenario_text.specs.Setup.{SetupState}
 use Rattle.scenario_text.specs.declared.session_line.SessionLine.{SessionLine}
@@ -12,12 +14,23 @@ use Rattle.send_windows.specs.Facts.{is_open, open_count, open_passes, round_fro
 use Rattle.send_windows.specs.Passes.{unheard}
 use Rattle.send_windows.specs.Windows.{WindowsValue, chosen, refused, taken}
 use Rattle.send_windows.specs.declared.fact.WindowFact.{WindowFact}
+use Rattle.send_windows.specs.declared.pass.Pass.{Pass}
+use Rattle.ssm_stub.specs.Reads.{read_start}
+use Rattle.ssm_stub.specs.Writes.{write_start}
 use Rattle.ssm_world.specs.declared.call.Call.{Call}
-use Rattle.session_lanes.specs.Lanes.{LanesState}
-use Rattle.session_lanes.proofs.Ending.{MadeBy}
+use Rattle.ssm_world.specs.declared.call.Call.TheVariants as call
+use Rattle.ssm_world.specs.Worlds.{WorldValue, is_new, may_read, may_write, with_new_call}
+use Rattle.ssm_world.proofs.Lists.{get_front}
+use Rattle.session_lanes.specs.Lanes.{LanesState, turn_of}
+use Rattle.session_lanes.specs.Sound.{LanesAreSound}
+use Rattle.session_lanes.proofs.Ending.{MadeBy, made_is_sound, turn_keeps}
+use Rattle.session_steps.specs.Kept.{HasSoundStore}
+use Rattle.session_steps.specs.Lent.{LentStep, BeginsRead, BeginsWrite, TakesTurn, CallsWindows, HearsNone, BeginsSo, IsNoTurnOf, after_lent, after_lent_step}
 use Rattle.session_steps.specs.Promise.{SessionTurn, Does, Lead}
 use Rattle.session_steps.specs.Sessions.{SessionsState, session_line}
 use Rattle.session_steps.specs.Setup.{set_up}
+use Rattle.session_steps.proofs.Ended.{new_unhad, unhad_new}
+use Rattle.session_steps.proofs.LentGone.{LentGone, lent_gone, lent_step_sound}
 use Rattle.session_steps.proofs.LanesKept.{SoundIfAny, lead_keeps, set_up_sound}
 use Rattle.session_steps.proofs.TurnsMade.{CallAt, GoOn, TurnGoes, turn_goes, turns_go}
 
@@ -37,6 +50,42 @@ pub lines_leave : (setup : SetupState) (boot : ℕ) (turns : List SessionTurn) (
 lines_leave setup boot turns s t line text st later number c leads is store_is later_is at =
     let goes : TurnGoes s (Does line text) t = turn_goes s (Does line text) t (lead_keeps (set_up setup boot) s turns (set_up_sound setup boot) leads) is in
     subst (λ o. CallAt o number c) later_is (goes.calls number c (subst (λ o. CallAt o number c) (sym store_is) at))
+
+-- steps leave a nonce new with which none begins
+pub lent_new : (st : LanesState) (steps : List LentStep) (other : Version) → HasSoundStore (Some st) → All (BeginsSo (λ (nonce : Version). nonce ≢ other)) steps → is_new st.world other ≡ true → is_new (after_lent st steps).world other ≡ true
+lent_new st steps other sound apart new =
+    let gone : LentGone (λ (nonce : Version). nonce ≢ other) st (after_lent st steps) = lent_gone (λ (nonce : Version). nonce ≢ other) steps st (record { made = sound.0; lanes = sound.1 }) apart in
+    unhad_new (after_lent st steps).world other (λ had. elim (gone.calls had.0 had.1 had.2) [
+      | inl old ↦ new_unhad st.world other new (old.0, old.1, old.2, old.3 ∙ had.3)
+      | inr begun ↦ begun had.3
+    ])
+
+-- and a call as it is of which none is a turn
+begun_leaves : (w : WorldValue) (d : Call) (may : Bool) (number : ℕ) (c : Call) → slice_get w.calls number ≡ Some c → slice_get (if may then with_new_call w d else w).calls number ≡ Some c
+begun_leaves w d true number c at = get_front w.calls (d ∷ []) number c at
+begun_leaves w d false number c at = at
+
+step_leaves : (st : LanesState) (s : LentStep) (number : ℕ) (c : Call) → LanesAreSound st → IsNoTurnOf number s → slice_get st.world.calls number ≡ Some c → slice_get (after_lent_step st s).world.calls number ≡ Some c
+step_leaves st (BeginsRead nonce now cookie) number c sound other at = begun_leaves st.world (call.Read (read_start now nonce cookie)) (may_read st.world nonce cookie.bricks) number c at
+step_leaves st (BeginsWrite nonce key value expiry passes) number c sound other at =
+    let bricks = map (λ (pass : Pass). pass.brick) passes in
+    begun_leaves st.world (call.Write (write_start bricks st.windows.wq nonce key value expiry)) (may_write st.world nonce bricks st.windows.wq) number c at
+step_leaves st (TakesTurn n) number c sound other at = go (slice_get st.world.calls n) refl
+  where
+    go : (o : Option Call) → slice_get st.world.calls n ≡ o → slice_get (turn_of st n o).world.calls number ≡ Some c
+    go None there = at
+    go (Some d) there = (turn_keeps st n d sound.lanes (made_is_sound st.world sound.made) there).others number (λ e. other (sym e)) ∙ at
+step_leaves st (CallsWindows calls) number c sound other at = at
+step_leaves st (HearsNone brick) number c sound other at = at
+
+steps_leave : (steps : List LentStep) (st : LanesState) (number : ℕ) (c : Call) → LanesAreSound st → All (IsNoTurnOf number) steps → slice_get st.world.calls number ≡ Some c → slice_get (after_lent st steps).world.calls number ≡ Some c
+steps_leave [] st number c sound others at = at
+steps_leave (s ∷ steps) st number c sound others at =
+    steps_leave steps (after_lent_step st s) number c (lent_step_sound st s sound) (All-tail (IsNoTurnOf number) s steps others)
+    (step_leaves st s number c sound (All-head (IsNoTurnOf number) s steps others) at)
+
+pub lent_leaves : (st : LanesState) (steps : List LentStep) (number : ℕ) (c : Call) → HasSoundStore (Some st) → All (IsNoTurnOf number) steps → slice_get st.world.calls number ≡ Some c → slice_get (after_lent st steps).world.calls number ≡ Some c
+lent_leaves st steps number c sound others at = steps_leave steps st number c (record { made = sound.0; lanes = sound.1 }) others at
 
 -- no more passes are chosen than windows are open
 round_open : (at : ℕ) (facts : List WindowFact) → length (filter is_open (drop at facts ++ take at facts)) ≡ open_count facts

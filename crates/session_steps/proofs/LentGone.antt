@@ -37,7 +37,7 @@ use Rattle.session_lanes.proofs.Histories.{stores_same}
 use Rattle.session_lanes.proofs.Keeping.{step_keeps, windows_keep}
 use Rattle.session_lanes.proofs.LanesStay.{lanes_counted}
 use Rattle.session_lanes.proofs.Turning.{answered_world, turn_cases}
-use Rattle.session_steps.specs.Lent.{LentStep, BeginsRead, BeginsWrite, TakesTurn, CallsWindows, HearsNone, BeginsDrawn, WasDrawn, after_lent, after_lent_step}
+use Rattle.session_steps.specs.Lent.{LentStep, BeginsRead, BeginsWrite, TakesTurn, CallsWindows, HearsNone, BeginsSo, after_lent, after_lent_step}
 use Rattle.session_steps.proofs.Ended.{Had, HasEndedCall}
 use Rattle.session_steps.proofs.Went.{StoredOn, StoresOn, made_grows, stores_on, unended_on}
 
@@ -83,16 +83,16 @@ abbrev pub LimitsLaw : Type 0
 LimitsLaw = (windows : WindowsValue) (c : WindowCall) → KeepLimits windows → KeepLimits (after_call windows c)
 
 -- Events made the later bricks' world, and added values at most that calls stored which had not ended; the windows keep
--- their limits; and each call was there before, or has a nonce that was drawn.
-pub record LentGone (boot serial : ℕ) (st later : LanesState) : Type 0 where
+-- their limits; and each call was there before, or has a nonce of which this is so.
+pub record LentGone (So : Version → Type 0) (st later : LanesState) : Type 0 where
   pub by : MadeBy st.world later.world
   pub stores : StoresOn st.world later.world
   pub windows : LimitsLaw → KeepLimits st.windows → KeepLimits later.windows
-  pub calls : (j : ℕ) (d : Call) → slice_get later.world.calls j ≡ Some d → Had st.world (nonce_of d) ⊎ WasDrawn boot serial (nonce_of d)
+  pub calls : (j : ℕ) (d : Call) → slice_get later.world.calls j ≡ Some d → Had st.world (nonce_of d) ⊎ So (nonce_of d)
 
-module _ (boot serial : ℕ) where
+module _ (So : Version → Type 0) where
   -- where the world stays
-  gone_same : (st later : LanesState) → later.world ≡ st.world → (LimitsLaw → KeepLimits st.windows → KeepLimits later.windows) → LentGone boot serial st later
+  gone_same : (st later : LanesState) → later.world ≡ st.world → (LimitsLaw → KeepLimits st.windows → KeepLimits later.windows) → LentGone So st later
   gone_same st later same windows = record {
     by = ([], same);
     stores = stores_on st.world later.world (stores_same st.world later.world (ap (λ (w : WorldValue). w.histories) same));
@@ -105,15 +105,15 @@ module _ (boot serial : ℕ) where
   begun_histories w c true = refl
   begun_histories w c false = refl
 
-  begun_calls : (w : WorldValue) (c : Call) (may : Bool) → WasDrawn boot serial (nonce_of c) → (j : ℕ) (d : Call) → slice_get (if may then with_new_call w c else w).calls j ≡ Some d
-      → Had w (nonce_of d) ⊎ WasDrawn boot serial (nonce_of d)
+  begun_calls : (w : WorldValue) (c : Call) (may : Bool) → So (nonce_of c) → (j : ℕ) (d : Call) → slice_get (if may then with_new_call w c else w).calls j ≡ Some d
+      → Had w (nonce_of d) ⊎ So (nonce_of d)
   begun_calls w c true drawn j d at = elim (get_last w.calls c j d at) [
     | inl old ↦ inl (j, d, old, refl)
-    | inr last ↦ inr (subst (λ (x : Call). WasDrawn boot serial (nonce_of x)) last.1 drawn)
+    | inr last ↦ inr (subst (λ (x : Call). So (nonce_of x)) last.1 drawn)
   ]
   begun_calls w c false drawn j d at = inl (j, d, at, refl)
 
-  gone_begun : (st : LanesState) (e : WorldEvent) (c : Call) (may : Bool) → step st.world e ≡ (if may then with_new_call st.world c else st.world) → WasDrawn boot serial (nonce_of c) → LentGone boot serial st (after_event st e)
+  gone_begun : (st : LanesState) (e : WorldEvent) (c : Call) (may : Bool) → step st.world e ≡ (if may then with_new_call st.world c else st.world) → So (nonce_of c) → LentGone So st (after_event st e)
   gone_begun st e c may is drawn = record {
     by = (e ∷ [], refl);
     stores = stores_on st.world (step st.world e) (stores_same st.world (step st.world e) (ap (λ (w : WorldValue). w.histories) is ∙ begun_histories st.world c may));
@@ -168,7 +168,7 @@ module _ (boot serial : ℕ) where
       came = λ brick lane packet rest p wants at queue is. none_stored;
     })
 
-    turn_calls : (j : ℕ) (d : Call) → slice_get (turn_to st n (next_of c)).world.calls j ≡ Some d → Had st.world (nonce_of d) ⊎ WasDrawn boot serial (nonce_of d)
+    turn_calls : (j : ℕ) (d : Call) → slice_get (turn_to st n (next_of c)).world.calls j ≡ Some d → Had st.world (nonce_of d) ⊎ So (nonce_of d)
     turn_calls j d at = go (j == n) refl where
       later : WorldValue
       later = (turn_to st n (next_of c)).world
@@ -176,7 +176,7 @@ module _ (boot serial : ℕ) where
       kept : Keeps st n (turn_to st n (next_of c))
       kept = turn_keeps st n c sound.lanes worlds there
 
-      go : (b : Bool) → (j == n) ≡ b → Had st.world (nonce_of d) ⊎ WasDrawn boot serial (nonce_of d)
+      go : (b : Bool) → (j == n) ≡ b → Had st.world (nonce_of d) ⊎ So (nonce_of d)
       go true is =
           let now : (x : Call) × (slice_get later.calls n ≡ Some x) × (untold x ≡ untold c) = (made_grows st.world later (turn_made st n (next_of c))).calls n c there in
           let one : Some d ≡ Some now.0 = sym at ∙ ap (slice_get later.calls) (same_number j n is) ∙ now.1 in
@@ -186,7 +186,7 @@ module _ (boot serial : ℕ) where
           let differ : j ≡ n → ⊥ = λ e. (let equal : (j == n) ≡ true = ap (λ k. k == n) e ∙ number_same n in let clash : true ≡ false = sym equal ∙ apart in cc) in
           inl (j, d, sym (kept.others j differ) ∙ at, refl)
 
-    gone_turned : LentGone boot serial st (turn_to st n (next_of c))
+    gone_turned : LentGone So st (turn_to st n (next_of c))
     gone_turned = record {
       by = turn_made st n (next_of c);
       stores = turn_stores;
@@ -194,14 +194,14 @@ module _ (boot serial : ℕ) where
       calls = turn_calls;
     }
 
-  gone_turn : (st : LanesState) (n : ℕ) (o : Option Call) → LanesAreSound st → slice_get st.world.calls n ≡ o → LentGone boot serial st (turn_of st n o)
+  gone_turn : (st : LanesState) (n : ℕ) (o : Option Call) → LanesAreSound st → slice_get st.world.calls n ≡ o → LentGone So st (turn_of st n o)
   gone_turn st n None sound there = gone_same st st refl (λ law keep. keep)
   gone_turn st n (Some c) sound there = elim (ended_or (next_of c)) [
-    | inl over ↦ subst (λ x. LentGone boot serial st (turn_to st n x)) (sym over) (gone_same st st refl (λ law keep. keep))
+    | inl over ↦ subst (λ x. LentGone So st (turn_to st n x)) (sym over) (gone_same st st refl (λ law keep. keep))
     | inr more ↦ gone_turned st n c sound there more
   ]
 
-  gone_step : (st : LanesState) (s : LentStep) → LanesAreSound st → BeginsDrawn boot serial s → LentGone boot serial st (after_lent_step st s)
+  gone_step : (st : LanesState) (s : LentStep) → LanesAreSound st → BeginsSo So s → LentGone So st (after_lent_step st s)
   gone_step st (BeginsRead nonce now cookie) sound drawn =
       gone_begun st (Read nonce now cookie) (call.Read (read_start now nonce cookie)) (may_read st.world nonce cookie.bricks) refl drawn
   gone_step st (BeginsWrite nonce key value expiry passes) sound drawn =
@@ -212,7 +212,7 @@ module _ (boot serial : ℕ) where
   gone_step st (HearsNone brick) sound drawn = gone_same st (after_lent_step st (HearsNone brick)) refl (λ law keep. keep)
 
   -- one after the other
-  gone_on_lent : (st u v : LanesState) → LentGone boot serial st u → LentGone boot serial u v → LentGone boot serial st v
+  gone_on_lent : (st u v : LanesState) → LentGone So st u → LentGone So u v → LentGone So st v
   gone_on_lent st u v first second = record {
     by = made_on st.world u.world v.world first.by second.by;
     stores = λ brick g is. (
@@ -228,14 +228,14 @@ module _ (boot serial : ℕ) where
         });
     windows = λ law keep. second.windows law (first.windows law keep);
     calls = λ j d at. elim (second.calls j d at) [
-      | inl old ↦ subst (λ (x : Version). Had st.world x ⊎ WasDrawn boot serial x) old.3 (first.calls old.0 old.1 old.2)
+      | inl old ↦ subst (λ (x : Version). Had st.world x ⊎ So x) old.3 (first.calls old.0 old.1 old.2)
       | inr drawn ↦ inr drawn
     ];
   }
 
-  pub lent_gone : (steps : List LentStep) (st : LanesState) → LanesAreSound st → All (BeginsDrawn boot serial) steps → LentGone boot serial st (after_lent st steps)
+  pub lent_gone : (steps : List LentStep) (st : LanesState) → LanesAreSound st → All (BeginsSo So) steps → LentGone So st (after_lent st steps)
   lent_gone [] st sound drawn = gone_same st st refl (λ law keep. keep)
   lent_gone (s ∷ steps) st sound drawn =
       let u : LanesState = after_lent_step st s in
-      gone_on_lent st u (after_lent u steps) (gone_step st s sound (All-head (BeginsDrawn boot serial) s steps drawn))
-      (lent_gone steps u (lent_step_sound st s sound) (All-tail (BeginsDrawn boot serial) s steps drawn))
+      gone_on_lent st u (after_lent u steps) (gone_step st s sound (All-head (BeginsSo So) s steps drawn))
+      (lent_gone steps u (lent_step_sound st s sound) (All-tail (BeginsSo So) s steps drawn))

@@ -1,5 +1,5 @@
 -- The nonce that is drawn next is new while boots rise.
-use Rattle.std.proofs.Common.{◌≡◌, ◌≢◌, ◌⊎◌, inl, inr, ℕ, ◌+◌, ◌-◌, ◌^◌, ◌<◌, ◌≤◌, min, Bool, true, false, not, List, [], ◌∷◌, Option, Some, None, refl, sym, ap, ◌∙◌, subst, arith}
+use Rattle.std.proofs.Common.{◌≡◌, ◌≢◌, ◌⊎◌, inl, inr, ℕ, ◌+◌, ◌-◌, ◌^◌, ◌<◌, ◌≤◌, min, true, List, [], ◌∷◌, Option, Some, None, sym, ap, ◌∙◌, subst, arith}
 use Rattle.crash_base.specs.declared.numbers.Version.{Version}
 use Rattle.ssm_world.specs.Worlds.{is_new}
 use Rattle.session_steps.specs.Promise.{SessionTurn, Does, Boots, Lends, Lead, BootsRise}

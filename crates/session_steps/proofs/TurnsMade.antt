@@ -13,7 +13,7 @@ use Rattle.scenario_text.specs.declared.session_line.SessionLine.TheVariants as 
 use Rattle.session_cookie.specs.declared.cookie.Cookie.{Cookie}
 use Rattle.brick_store.specs.declared.event.BrickEvent.{BrickEvent}
 use Rattle.send_windows.specs.Windows.{WindowsValue, KeepLimits, taken, refused, pass_tried, after_try, after_pass}
-use Rattle.send_windows.specs.Calls.{WindowCall, TryPass, Take, Answered, Silent, Spend, after_call}
+use Rattle.send_windows.specs.Calls.{TryPass, Take, Answered, Silent, Spend}
 use Rattle.send_windows.specs.Facts.{open_count}
 use Rattle.send_windows.specs.Passes.{unheard}
 use Rattle.send_windows.specs.declared.pass.Pass.{Pass}
@@ -430,8 +430,7 @@ lends_goes s steps serial t sound lent =
     by : (o : Option LanesState) → SoundIfAny o → Lent o (option_map (λ (st : LanesState). after_lent st steps) o)
     by None sound_o = (tt, λ law keep. tt, λ version had. absurd had)
     by (Some st) sound_o =
-        let gone : LentGone s.boot serial st (after_lent st steps) = lent_gone s.boot serial steps st sound_o lent.nonces in
-        (
+        let gone : LentGone (WasDrawn s.boot serial) st (after_lent st steps) = lent_gone (WasDrawn s.boot serial) steps st sound_o lent.nonces in (
           goes_stored s.moment turn st.world (after_lent st steps).world (record { crash = λ b. refl; sweep = λ b. refl }) gone.by gone.stores,
           λ law keep. gone.windows law keep,
           λ version had. subst (λ (x : Version). HasHad (Some st) x ⊎ WasDrawn s.boot serial x) had.3 (gone.calls had.0 had.1 had.2),

@@ -4,7 +4,7 @@ use Rattle.session_cookie.specs.Cookie.{AreHolders}
 use Rattle.session_cookie.specs.declared.cookie.Cookie.{Cookie}
 use Rattle.ssm_world.specs.Worlds.{IsMade}
 use Rattle.session_lanes.specs.Sound.{LanesAreOf}
-use Rattle.session_steps.specs.Lent.{LentState}
+use Rattle.session_steps.specs.Lent.{LentSessionsState}
 use Rattle.session_steps.specs.Sessions.{SessionsState}
 use Rattle.session_lanes.specs.Lanes.{LanesState}
 use Rattle.session_steps.specs.declared.sessions.TheConstants.{MAX_MOMENT}
@@ -27,6 +27,6 @@ pub record IsSessions (s : SessionsState) : Type 0 where
   pub store : HasSoundStore s.store
 
 -- of sessions whose bricks and serials are lent, the same of what is left
-pub record IsLent (l : LentState) : Type 0 where
+pub record IsLent (l : LentSessionsState) : Type 0 where
   pub in_time : l.moment.0 ≤ MAX_MOMENT
   pub cookies : All HasHolders l.cookies

@@ -1,6 +1,6 @@
 -- Sessions whose bricks and serials are lent to connections: what is left of them, what connections do with what is
 -- lent, and how it is put back.
-use Rattle.std.specs.Prelude.{◌≡◌, ℕ, ◌<◌, ◌≤◌, All, List, [], ◌∷◌, Option, slice_get}
+use Rattle.std.specs.Prelude.{◌≡◌, ◌≢◌, ℕ, ◌<◌, ◌≤◌, All, List, [], ◌∷◌, Option, slice_get}
 use Rattle.std.specs.Option.{option_map}
 use Rattle.crash_base.specs.declared.numbers.Moment.{Moment}
 use Rattle.crash_base.specs.declared.numbers.SessionKey.{SessionKey}
@@ -13,18 +13,18 @@ use Rattle.session_steps.specs.Sessions.{SessionsState}
 
 -- Sessions whose bricks and serials are lent: the present moment, the number of the boot, the key of the service, and
 -- the cookie of each session key, by its number, if it has one.
-pub record LentState : Type 0 where
+pub record LentSessionsState : Type 0 where
   pub moment : Moment
   pub boot : ℕ
   pub key : List ℕ
   pub cookies : List (Option Cookie)
 
 -- sessions without their bricks and serials
-abbrev pub lent_out : SessionsState → LentState
+abbrev pub lent_out : SessionsState → LentSessionsState
 lent_out s = record { moment = s.moment; boot = s.boot; key = s.key; cookies = s.cookies }
 
 -- sessions to which these bricks are put back, if there are some, and the serial that is drawn next
-abbrev pub put_back : LentState → Option LanesState → ℕ → SessionsState
+abbrev pub put_back : LentSessionsState → Option LanesState → ℕ → SessionsState
 put_back lent store serial =
     record {
       moment = lent.moment;
@@ -61,17 +61,25 @@ after_lent st (step ∷ steps) = after_lent (after_lent_step st step) steps
 abbrev pub WasDrawn : ℕ → ℕ → Version → Type 0
 WasDrawn boot serial nonce = (nonce.boot ≡ boot) × (nonce.serial < serial)
 
--- the nonce with which a step begins a read or a write was drawn, if it begins one
-abbrev pub BeginsDrawn : ℕ → ℕ → LentStep → Type 0
-BeginsDrawn boot serial (BeginsRead nonce now cookie) = WasDrawn boot serial nonce
-BeginsDrawn boot serial (BeginsWrite nonce key value expiry passes) = WasDrawn boot serial nonce
-BeginsDrawn boot serial (TakesTurn call) = Unit {0}
-BeginsDrawn boot serial (CallsWindows call) = Unit {0}
-BeginsDrawn boot serial (HearsNone brick) = Unit {0}
+-- this is so of the nonce with which a step begins a read or a write, if it begins one
+abbrev pub BeginsSo : (Version → Type 0) → LentStep → Type 0
+BeginsSo So (BeginsRead nonce now cookie) = So nonce
+BeginsSo So (BeginsWrite nonce key value expiry passes) = So nonce
+BeginsSo So (TakesTurn call) = Unit {0}
+BeginsSo So (CallsWindows call) = Unit {0}
+BeginsSo So (HearsNone brick) = Unit {0}
+
+-- a step is no turn of the call of a number
+abbrev pub IsNoTurnOf : ℕ → LentStep → Type 0
+IsNoTurnOf number (BeginsRead nonce now cookie) = Unit {0}
+IsNoTurnOf number (BeginsWrite nonce key value expiry passes) = Unit {0}
+IsNoTurnOf number (TakesTurn call) = call ≢ number
+IsNoTurnOf number (CallsWindows call) = Unit {0}
+IsNoTurnOf number (HearsNone brick) = Unit {0}
 
 -- Sessions lent their bricks and serials, and had them put back: serials up to this one were drawn, these steps were
 -- done with the bricks, if there are some, and each call that began has a nonce that was drawn. All else stays.
 pub record GoesLent (s : SessionsState) (steps : List LentStep) (serial : ℕ) (t : SessionsState) : Type 0 where
   pub state_is : t ≡ put_back (lent_out s) (option_map (λ (st : LanesState). after_lent st steps) s.store) serial
   pub serials : s.serial ≤ serial
-  pub nonces : All (BeginsDrawn s.boot serial) steps
+  pub nonces : All (BeginsSo (WasDrawn s.boot serial)) steps

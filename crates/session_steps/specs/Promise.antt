@@ -113,14 +113,14 @@ abbrev pub HasLane : FetchMade → Holder → LaneState → Type 0
 HasLane fetch holder lane = lane_at fetch.lanes holder.brick.0 ≡ Some lane
 
 -- A brick was silent to a fetch: asks to it were still to be dropped, or replies of it still to be lost, and fewer than
--- 64 replies to earlier calls waited before the one that did not come.
+-- 64 replies to other calls waited before the one that did not come.
 pub record WasSilent (fetch : FetchMade) (holder : Holder) : Type 0 where
   pub lane : LaneState
   pub has_lane : HasLane fetch holder lane
   pub lost : (0 < lane.to_drop) ⊎ (0 < lane.to_lose)
   pub few : length lane.queue < MAX_STRAYS
 
--- A brick strayed to a fetch: 64 or more replies to earlier calls waited before any to the fetch.
+-- A brick strayed to a fetch: 64 or more replies to other calls waited before any to the fetch.
 pub record WasStrayed (fetch : FetchMade) (holder : Holder) : Type 0 where
   pub lane : LaneState
   pub has_lane : HasLane fetch holder lane

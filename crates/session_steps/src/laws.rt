@@ -1,7 +1,7 @@
 //! What holds of the sessions of every scenario. Each law is the contract of a function that does nothing: a caller
 //! that needs the law calls the function.
 
-ghost use Rattle.std.specs.Prelude.{◌≡◌, ◌≢◌, ◌⊎◌, ◌↔◌, ◌<◌, ◌≤◌, ◌-◌, ◌^◌, ℕ, List, true, false, codes, length, slice_get, Some};
+ghost use Rattle.std.specs.Prelude.{◌≡◌, ◌≢◌, ◌⊎◌, ◌↔◌, ◌<◌, ◌≤◌, ◌-◌, ◌^◌, ℕ, All, List, true, false, codes, length, slice_get, Some};
 ghost use Rattle.scenario_text.specs.Answer.{Refused, Done};
 ghost use Rattle.crash_base.specs.declared.numbers.Version.{Version};
 ghost use Rattle.scenario_text.specs.declared.session_line.SessionLine.{SessionLine};
@@ -18,7 +18,7 @@ ghost use Rattle.ssm_world.specs.declared.event.WorldEvent.{WorldEvent};
 ghost use Rattle.ssm_world.specs.Worlds.{after, is_new, may_be_asked, bricks_of, IsMade};
 ghost use Rattle.ssm_world.specs.Claims.{IsAcknowledged as IsAcknowledgedInWorld};
 ghost use Rattle.session_steps.specs.Kept.{HasSoundStore};
-ghost use Rattle.session_steps.specs.Lent.{LentStep, after_lent};
+ghost use Rattle.session_steps.specs.Lent.{BeginsSo, IsNoTurnOf, LentStep, after_lent};
 ghost use Rattle.session_steps.specs.Present.{presented_text};
 ghost use Rattle.session_steps.specs.Promise.{SessionTurn, Lead, CanServe, FindsValue, IsLost, IsRight, IsAcknowledged, IsUnacknowledged, ComesFrom, BootsRise, FetchedWrite, IsOfWrite, fetch_of, HasCrashedOrWasUnheard, NoneSweptLate};
 ghost use Rattle.session_steps.specs.Rule.{result_by_rule};
@@ -99,6 +99,17 @@ pub fn other_nonces_stay_new()
 pub fn lent_bricks_stay_sound()
     ensures { (st : LanesState) (steps : List LentStep)
         → HasSoundStore (Some st) → HasSoundStore (Some (after_lent st steps)) }
+{}
+
+/// What connections do with lent bricks leaves to others what is theirs: a nonce with which none of these steps begins a
+/// call stays new, and a call of which none is a turn stays as it is.
+pub fn lent_steps_leave_others()
+    ensures nonces { (st : LanesState) (steps : List LentStep) (other : Version)
+        → HasSoundStore (Some st) → All (BeginsSo (λ (nonce : Version). nonce ≢ other)) steps
+        → is_new st.world other ≡ true → is_new (after_lent st steps).world other ≡ true }
+    ensures calls { (st : LanesState) (steps : List LentStep) (number : ℕ) (call : Call)
+        → HasSoundStore (Some st) → All (IsNoTurnOf number) steps
+        → slice_get st.world.calls number ≡ Some call → slice_get (after_lent st steps).world.calls number ≡ Some call }
 {}
 
 /// Passes that are taken of lent windows, as many as a write needs, are those of a call of the windows; and so is a

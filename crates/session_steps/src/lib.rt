@@ -28,7 +28,7 @@
 //! sessions like a line (`SessionTurn`), so that the laws over turns speak of scenarios with connections, too. For a
 //! connection whose call is under way while lines are done, laws say that its call stays as it is
 //! (`lines_leave_calls`), that a nonce which it has drawn stays new (`other_nonces_stay_new`), and that all goes on by
-//! events (`turns_go_by_events`).
+//! events (`turns_go_by_events`); while other connections go on, `lent_steps_leave_others` says it.
 //!
 //! A line costs what its turns do, of which there is one for each ask and one for each reply that it hears. After more
 //! lines a write and a fetch cost more by the logarithm of their number, since their nonce is looked up among those of
@@ -47,9 +47,10 @@ mod writing;
 pub use laws::{
     cookies_come_from_writes, fetches_answer_by_the_rule, fetches_answer_what_was_written,
     fetches_lose_only_where_all_have, fetches_read_back, fetches_with_new_nonces_are_done,
-    lent_bricks_stay_sound, lines_leave_calls, nonces_stay_new, other_nonces_stay_new, presented_texts_are_told_apart,
-    sessions_are_worlds, sessions_keep_what_is_acknowledged, sessions_stand,
-    takes_are_calls_of_windows, turns_go_by_events, writes_say_whether_they_are_acknowledged, writes_with_new_nonces_are_done,
+    lent_bricks_stay_sound, lent_steps_leave_others, lines_leave_calls, nonces_stay_new,
+    other_nonces_stay_new, presented_texts_are_told_apart, sessions_are_worlds,
+    sessions_keep_what_is_acknowledged, sessions_stand, takes_are_calls_of_windows,
+    turns_go_by_events, writes_say_whether_they_are_acknowledged, writes_with_new_nonces_are_done,
 };
 pub use lending::LentSessions;
 pub use sessions::{DEFAULT_KEY_BYTES, LEASE, MAX_MOMENT, NODE, Sessions};
