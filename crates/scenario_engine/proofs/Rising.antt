@@ -20,7 +20,7 @@ use Rattle.scenario_text.specs.declared.line.Line.TheVariants as lines
 use Rattle.scenario_text.specs.declared.line.TheConstants.{MAX_LINE_BYTES}
 use Rattle.scenario_text.proofs.Leaving.{Leaves, leaves-weaker}
 use Rattle.outside.specs.Keeper.{KeeperTold}
-use Rattle.session_steps.specs.Promise.{SessionTurn, Does, Boots, BootsRise}
+use Rattle.session_steps.specs.Promise.{SessionTurn, Does, Boots, Lends, BootsRise}
 use Rattle.session_steps.specs.Sessions.{session_line}
 use Rattle.session_steps.specs.Setup.{set_up}
 use Rattle.scenario_engine.specs.Engine.{Replies, target_of, opened_target, in_head, in_boot, next_opening, reopens, line_over, line_on, step, ended_by, ends_over, ends_on, ended_boots}
@@ -38,6 +38,7 @@ abbrev pub started_in : List SessionTurn → List ℕ
 started_in [] = []
 started_in (Does line text ∷ turns) = started_in turns
 started_in (Boots n ∷ turns) = n ∷ started_in turns
+started_in (Lends steps serial ∷ turns) = started_in turns
 
 abbrev pub numbers_of : List BootValue → List ℕ
 numbers_of [] = []
@@ -47,6 +48,7 @@ started-append : (turns more : List SessionTurn) → started_in (turns ++ more) 
 started-append [] more = refl
 started-append (Does line text ∷ turns) more = started-append turns more
 started-append (Boots n ∷ turns) more = ap (λ ns. n ∷ ns) (started-append turns more)
+started-append (Lends steps serial ∷ turns) more = started-append turns more
 
 numbers-append : (bs cs : List BootValue) → numbers_of (bs ++ cs) ≡ numbers_of bs ++ numbers_of cs
 numbers-append [] cs = refl
@@ -198,6 +200,7 @@ pub boots_rise : (turns : List SessionTurn) (n : ℕ) → Rise n (started_in tur
 boots_rise [] n rise = tt
 boots_rise (Does line text ∷ turns) n rise = boots_rise turns n rise
 boots_rise (Boots m ∷ turns) n (less, rise) = (less, boots_rise turns m rise)
+boots_rise (Lends steps serial ∷ turns) n rise = boots_rise turns n rise
 
 -- a keeper that tells is given boots that rise
 pub rise_where_told : (turns : List Turn) (t u : KeeperTold) → Tells turns (Some t) (Some u) → BootsRise 0 (session_turns first turns)
