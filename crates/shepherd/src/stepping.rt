@@ -3,6 +3,7 @@
 ghost use Rattle.std.specs.Prelude.{◌≡◌, ◌≤◌, ◌<◌, ◌^◌, true, IfSome, OnErr, OnOk};
 ghost use Rattle.container_core.specs.Container.{HasGrownBy};
 ghost use Rattle.request_tries.specs.Serving.{IsServing};
+ghost use Rattle.request_tries.specs.Steps.{KeepsNothing};
 ghost use Rattle.request_visit.specs.Advancing.{Advances, cookie_in};
 ghost use Rattle.request_visit.specs.Stepping.{OnServing, VisitsInside, VisitsWindows};
 ghost use Rattle.request_visit.specs.Visits.{turn as visit_turn};
@@ -88,6 +89,7 @@ impl<P: Program + Drop> Stage<P> {
             self.old self.new) }
         ensures holds { OnErr result (StepsVisit IsServedStill self.old self.new) }
         ensures nothing { OnErr result (container.new.since ≡ container.old.since) }
+        ensures keeper { OnErr result (KeepsNothing container.old container.new) }
         ensures count { container.old.faults ≤ container.new.faults }
         ensures grown { HasGrownBy container.old container.new }
     {
@@ -205,6 +207,7 @@ impl<P: Program + Drop> Shepherd<P> {
         ensures holds { OnErr result (StepsVisit IsServedStill self.old.stage self.new.stage) }
         ensures want { OnErr result (self.new ≡ record self.old { stage = self.new.stage; wants_memory = true }) }
         ensures nothing { OnErr result (container.new.since ≡ container.old.since) }
+        ensures keeper { OnErr result (KeepsNothing container.old container.new) }
         ensures count { container.old.faults ≤ container.new.faults }
         ensures grown { HasGrownBy container.old container.new }
     {
