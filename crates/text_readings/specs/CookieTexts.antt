@@ -33,8 +33,8 @@ abbrev pub holders_in : ℕ → List ℕ → List Holder
 holders_in zero bytes = []
 holders_in (suc count) bytes = holder_in bytes ∷ holders_in count (drop HOLDER_BYTES bytes)
 
--- The cookie whose fields stand at their places in bytes: after the format number 16 bytes of the key, 2, 4 and 8 of the
--- version, 8 of the expiry, the count of the bricks, and the bricks.
+-- The cookie whose fields stand at their places in bytes: after the format number 16 bytes of the key, 2, 4 and 8 of
+-- the version, 8 of the expiry, the count of the bricks, and the bricks.
 unfoldable pub cookie_in : List ℕ → Cookie
 cookie_in bytes =
     record {
