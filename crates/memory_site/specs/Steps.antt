@@ -13,6 +13,7 @@ use Rattle.outside.specs.Clock.{PlainClockValue}
 use Rattle.outside.specs.Random.{PlainGives}
 use Rattle.outside.specs.Serials.{PlainLooks}
 use Rattle.request_intake.specs.declared.intake.HomeBoot.{HomeBoot}
+use Rattle.request_tries.specs.Steps.{KeepsNothing}
 use Rattle.request_visit.specs.Advancing.{Advances}
 use Rattle.request_visit.specs.Stepping.{VisitsInside, VisitsWindows, counted}
 use Rattle.request_visit.specs.declared.visit.Work.TheVariants.{Opening}
@@ -92,7 +93,7 @@ StepsAt (turns.Ended why) around s end after new = (end ≡ ends.Ended why) × (
 
 -- What a step at this turn leaves of a connection and of its surroundings where memory was wanted: the connection has
 -- ended, its request is as that step of `Shepherd` says, and of the surroundings only what the turn calls may have
--- changed; to the history of the container nothing was added.
+-- changed; to the history of the container nothing was added, and its keeper has kept nothing, as far as it tells.
 abbrev pub WantsAt : ShepherdTurn → SurroundingsValue → Shepherd ActionCall → SurroundingsValue → Shepherd ActionCall → Type 0
 WantsAt turns.Request around s after new =
     (new.stage ≡ s.stage) × (new.wants_memory ≡ true)
@@ -105,7 +106,8 @@ WantsAt turns.Windows around s after new =
     × (new ≡ record s { stage = new.stage; wants_memory = true }) × (after ≡ record around { windows = after.windows })
 WantsAt turns.Inside around s after new =
     StepsVisit IsServedStill s.stage new.stage × (new ≡ record s { stage = new.stage; wants_memory = true })
-    × (after.container.since ≡ around.container.since) × (after ≡ record around { container = after.container })
+    × (after.container.since ≡ around.container.since) × KeepsNothing around.container after.container
+    × (after ≡ record around { container = after.container })
 WantsAt turns.Program around s after new =
     OnVisit s.stage (λ v call. new.stage ≡ Serving v None)
     × (new ≡ record s { stage = new.stage; wants_memory = true }) × (after ≡ around)

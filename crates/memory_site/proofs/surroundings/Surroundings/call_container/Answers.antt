@@ -27,4 +27,4 @@ returns-in-Ok-clause-told c = subst (λ (t : ShepherdTurn). StepsAt t (value_of 
 
 pub returns-in-Err-clause-rest : goal.returns-in-Err-clause-rest
 returns-in-Err-clause-rest c = subst (λ (t : ShepherdTurn). WantsAt t (value_of c.args.self.now) c.args.shepherd.now (record (value_of c.args.self.now) { container = c.step_inside.new.container }) c.step_inside.new.self)
-    (sym c.requires.turn) (c.in-Err.ensures.holds, c.in-Err.ensures.want, c.in-Err.ensures.nothing, refl)
+    (sym c.requires.turn) (c.in-Err.ensures.holds, c.in-Err.ensures.want, c.in-Err.ensures.nothing, c.in-Err.ensures.keeper, refl)
