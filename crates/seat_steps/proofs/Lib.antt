@@ -1,0 +1,7 @@
+mod GoneAlone
+mod EventCalls
+mod Faults
+pub mod Functions
+mod Gone
+mod Stepping
+mod Windows

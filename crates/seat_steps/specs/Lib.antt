@@ -1,0 +1,6 @@
+pub mod Going
+pub mod Gone
+pub mod Replies
+pub mod Seats
+pub mod Stepped
+pub mod Twinned
