@@ -1,0 +1,20 @@
+//! Laws of the steps of seats: what a connection of a scenario reads and writes of its session are calls of the world
+//! of the scenario's bricks.
+//!
+//! A seat stands over bricks (`SeatStands`) where they are sound, and its twin is that of what its connection does with
+//! its session. So the laws of `lane_link` speak of it: what it reads was written, and a cookie that its write answers
+//! is acknowledged. There is no code.
+//!
+//! - `seats_stand`: behind each step of a seat, as `seat_steps` says it as a function, whatever the keeper replies.
+//! - `others_stand`: behind a step of another one; and they have no twin in common then either.
+//! - `seats_stand_meanwhile`: from its begin on, when bytes come, over lines, and where another one is given up.
+//! - `seats_lend`: what a step does with the bricks is steps of lent bricks, which `session_steps` speaks of.
+//!
+//! Two things are asked of whoever drives the seats. What a seat hears is spelled by its bytes (`SeatHears`): the
+//! contract of `Seat::step` tells it. And where a call begins, its nonce is new (`HoldsNew`): it was drawn so, and
+//! stays so by `session_lanes::nonces_stay_new`.
+#![tactic(auto)]
+
+mod laws;
+
+pub use laws::{others_stand, seats_lend, seats_stand, seats_stand_meanwhile};
