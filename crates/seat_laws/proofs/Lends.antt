@@ -49,7 +49,7 @@ way-begins st (way.Writing w) = refl
 way-begins st (way.Settling w) = refl
 way-begins st (way.Holding passes) = refl
 
-twin-begins : (o : Option Call) (twin : Option ℕ) (to : SessionWay) (st : LanesState) → (twinned_by o twin to st).store ≡ after_lent st (begin_steps o twin to)
+pub twin-begins : (o : Option Call) (twin : Option ℕ) (to : SessionWay) (st : LanesState) → (twinned_by o twin to st).store ≡ after_lent st (begin_steps o twin to)
 twin-begins None twin to st = refl
 twin-begins (Some held) None to st = way-begins st to
 twin-begins (Some held) (Some n) to st = refl

@@ -5,4 +5,5 @@ mod Hearing
 mod Lends
 mod Meanwhile
 mod Moving
+mod Sounding
 mod Twinning

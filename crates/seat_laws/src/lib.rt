@@ -9,6 +9,7 @@
 //! - `others_stand`: behind a step of another one; and they have no twin in common then either.
 //! - `seats_stand_meanwhile`: from its begin on, when bytes come, over lines, and where another one is given up.
 //! - `seats_lend`: what a step does with the bricks is steps of lent bricks, which `session_steps` speaks of.
+//! - `bricks_stay_sound`: bricks stay as events and lanes made them, also behind a seat that does not stand.
 //!
 //! Two things are asked of whoever drives the seats. What a seat hears is spelled by its bytes (`SeatHears`): the
 //! contract of `Seat::step` tells it. And where a call begins, its nonce is new (`HoldsNew`): it was drawn so, and
@@ -17,4 +18,4 @@
 
 mod laws;
 
-pub use laws::{others_stand, seats_lend, seats_stand, seats_stand_meanwhile};
+pub use laws::{bricks_stay_sound, others_stand, seats_lend, seats_stand, seats_stand_meanwhile};
