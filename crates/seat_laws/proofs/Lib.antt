@@ -1,9 +1,11 @@
 mod Alone
 mod Asking
 mod Assembling
+mod Drawing
 mod Hearing
 mod Lends
 mod Meanwhile
 mod Moving
+mod Owing
 mod Sounding
 mod Twinning

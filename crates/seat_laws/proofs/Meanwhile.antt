@@ -1,14 +1,16 @@
 -- Seats stand while others change the bricks.
-use Rattle.std.proofs.Common.{◌≡◌, ℕ, List, Option, Some, None, refl, sym, subst}
+use Rattle.std.proofs.Common.{◌≡◌, ℕ, List, Option, Some, None, slice_get, refl, sym, subst}
 use Rattle.lane_link.specs.Twins.{NoneTurns}
 use Rattle.send_windows.specs.Calls.{Spend, WindowCall, after_call}
 use Rattle.send_windows.specs.Windows.{KeepLimits, WindowsValue}
 use Rattle.send_windows.specs.declared.pass.Pass.{Pass}
 use Rattle.session_lanes.specs.Lanes.{LanesState}
+use Rattle.session_lanes.specs.Sound.{LanesAreSound}
 use Rattle.session_lanes.specs.Steps.{LanesStep, after_steps}
 use Rattle.session_way.specs.Way.{after_give_back, held}
 use Rattle.session_way.specs.declared.way.SessionWay.{SessionWay}
 use Rattle.shepherd.specs.declared.shepherd.Stage.{Stage}
+use Rattle.ssm_world.specs.declared.call.Call.{Call}
 use Rattle.auction_calls.specs.declared.action.ActionCall.{ActionCall}
 use Rattle.seat_steps.specs.Gone.{seat_gone, stage_gone}
 use Rattle.seat_steps.specs.Twinned.{way_in}
@@ -53,3 +55,11 @@ lanes-stand moves seat st steps stands limits none = record {
   by : (twin : Option ℕ) → seat.twin ≡ twin → HasTwin (way_in seat.connection.stage) twin st → HasTwin (way_in seat.connection.stage) twin (after_steps st steps)
   by None is held = held
   by (Some n) is twin = moves.stays st steps n (way_in seat.connection.stage) stands.sound twin (none n is)
+
+-- A seat stands over other lanes in which its call is as it was.
+pub calls-stand : (seat : Seat) (st later : LanesState) → SeatStands seat st → LanesAreSound later → KeepLimits later.windows
+    → ((number : ℕ) (call : Call) → seat.twin ≡ Some number → slice_get st.world.calls number ≡ Some call → slice_get later.world.calls number ≡ Some call) → SeatStands seat later
+calls-stand seat st later stands sound limits stays = record { sound = sound; limits = limits; twin = by seat.twin refl stands.twin } where
+  by : (twin : Option ℕ) → seat.twin ≡ twin → HasTwin (way_in seat.connection.stage) twin st → HasTwin (way_in seat.connection.stage) twin later
+  by None is held = held
+  by (Some n) is twin = record { held = twin.held; holds = twin.holds; there = stays n twin.held is twin.there }

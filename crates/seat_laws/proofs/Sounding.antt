@@ -2,7 +2,7 @@
 use Rattle.std.proofs.Common.{ℕ, Bool, true, false, if◌then◌else◌, List, [], ◌∷◌, Option, Some, None, sym, subst}
 use Rattle.auction_calls.specs.declared.action.ActionCall.{ActionCall}
 use Rattle.crash_base.specs.declared.numbers.BrickNo.{BrickNo}
-use Rattle.lane_link.specs.Links.{after_receive, after_send, lane_link_tally, turned, turned_by, unwanted, wants_to_hear, wants_to_send}
+use Rattle.lane_link.specs.Links.{lane_link_tally, turned, turned_by, unwanted, wants_to_hear, wants_to_send}
 use Rattle.lane_link.specs.Twins.{call_held}
 use Rattle.lane_link.specs.declared.link.LaneLink.{LaneLink}
 use Rattle.send_windows.specs.Windows.{WindowsValue}

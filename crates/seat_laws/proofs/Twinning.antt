@@ -140,13 +140,13 @@ no-twin to None st none is = refl
 no-twin to (Some n) st none is = absurd (let e : None ≡ Some is.held = sym none ∙ is.holds in cc)
 
 -- the stage of a connection whose turn is no end is at that turn
-at-turn : (s : Shepherd ActionCall) (t : ShepherdTurn) → turn s ≡ t → (turns.Ended ends.OutOfMemory ≡ t → ⊥) → stage_turn s.stage s.received s.ended ≡ t
+pub at-turn : (s : Shepherd ActionCall) (t : ShepherdTurn) → turn s ≡ t → (turns.Ended ends.OutOfMemory ≡ t → ⊥) → stage_turn s.stage s.received s.ended ≡ t
 at-turn s t is other = go s.wants_memory is where
   go : (b : Bool) → (if b then turns.Ended ends.OutOfMemory else stage_turn s.stage s.received s.ended) ≡ t → stage_turn s.stage s.received s.ended ≡ t
   go true is = absurd (other is)
   go false is = is
 
-after-way : (o : Option WriteOutcome) (v : Visit ActionCall) → (after_outcome o v).way ≡ v.way
+pub after-way : (o : Option WriteOutcome) (v : Visit ActionCall) → (after_outcome o v).way ≡ v.way
 after-way None v = refl
 after-way (Some (outcome.Written cookie)) v = refl
 after-way (Some (outcome.Missed causes)) v = refl

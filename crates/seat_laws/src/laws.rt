@@ -1,22 +1,28 @@
 //! Laws of the steps of seats. Each is the contract of a function that does nothing: a caller that needs the law calls
 //! the function.
 
-ghost use Rattle.std.specs.Prelude.{◌≡◌, ℕ, List, None, Some};
+ghost use Rattle.std.specs.Prelude.{◌≡◌, ◌⊎◌, ◌+◌, ℕ, List, None, Some, slice_get};
 ghost use Rattle.container_core.specs.Container.{ContainerValue, HasGrownBy};
-ghost use Rattle.lane_link.specs.Twins.{ByEvents, NoneTurns};
+ghost use Rattle.crash_base.specs.declared.numbers.Version.{Version};
+ghost use Rattle.lane_link.specs.Twins.{ByEvents, NoneTurns, call_held};
+ghost use Rattle.request_decisions.specs.declared.draws.DrawKind.{DrawKind};
 ghost use Rattle.send_windows.specs.Windows.{KeepLimits};
 ghost use Rattle.session_lanes.specs.Lanes.{LanesState};
 ghost use Rattle.session_lanes.specs.Sound.{LanesAreSound};
 ghost use Rattle.session_lanes.specs.Steps.{LanesStep, after_steps};
 ghost use Rattle.shepherd.specs.Shepherds.{fresh};
+ghost use Rattle.shepherd_steps.specs.Taking.{Counts, draws};
+ghost use Rattle.ssm_world.specs.Worlds.{nonce_of};
+ghost use Rattle.ssm_world.specs.declared.call.Call.{Call};
 ghost use Rattle.seat_steps.specs.Gone.{seat_gone};
 ghost use Rattle.seat_steps.specs.Going.{GoesOnAtSeat};
-ghost use Rattle.seat_steps.specs.Seats.{SeatGivens, SeatWorld, seat_step};
+ghost use Rattle.seat_steps.specs.Seats.{SeatGivens, SeatWorld, numbers_from, seat_step};
 ghost use Rattle.seat_steps.specs.Twinned.{way_in};
 ghost use Rattle.seat_steps.specs.declared.seat.Seat.{Seat};
 ghost use Rattle.session_steps.specs.Kept.{HasSoundStore};
 ghost use Rattle.session_steps.specs.Lent.{after_lent};
 ghost use Rattle.seat_laws.specs.Lending.{seat_lends};
+ghost use Rattle.seat_laws.specs.Owing.{BeginsWith, IsDrawnIn, RiseFrom, write_owed};
 ghost use Rattle.seat_laws.specs.Standing.{AreApart, SeatHears, HoldsNew, SeatStands};
 
 use auction_actions::ActionProgram;
@@ -85,7 +91,7 @@ pub fn others_stand()
 }
 
 /// A seat stands as soon as it is there, and still when bytes come or end; over calls of the lanes of which none is a
-/// turn of its twin, as lines make them; and where another seat is given up.
+/// turn of its twin; over whatever leaves its call as it was, as lines do; and where another seat is given up.
 pub fn seats_stand_meanwhile()
     ensures begins { (st : LanesState) → LanesAreSound st → KeepLimits st.windows
         → SeatStands (record { connection = fresh; twin = None }) st }
@@ -95,6 +101,11 @@ pub fn seats_stand_meanwhile()
         → KeepLimits (after_steps st steps).windows
         → ((number : ℕ) → seat.twin ≡ Some number → NoneTurns number steps)
         → SeatStands seat (after_steps st steps) }
+    ensures calls { (seat : Seat) (st later : LanesState) → SeatStands seat st → LanesAreSound later
+        → KeepLimits later.windows
+        → ((number : ℕ) (call : Call) → seat.twin ≡ Some number → slice_get st.world.calls number ≡ Some call
+        → slice_get later.world.calls number ≡ Some call)
+        → SeatStands seat later }
     ensures gone { (seat other : Seat) (st : LanesState) → SeatStands other st
         → SeatStands other (seat_gone seat st).store }
 {
@@ -124,3 +135,25 @@ pub fn bricks_stay_sound()
 {
     lent_bricks_stay_sound();
 }
+
+/// What is drawn of serial numbers lies from the one that is next up to the one that is next then, each above those
+/// before it.
+pub fn drawn_serials_rise()
+    ensures { (word serial : ℕ) (kinds : List DrawKind) (counts : Counts)
+        → RiseFrom (serial + counts.serials)
+        (serial + (draws (numbers_from word serial) kinds counts).counts.serials)
+        (draws (numbers_from word serial) kinds counts).drawn }
+{}
+
+/// The write that a seat owes behind a step, if it owes one, was owed before it, or its nonce was drawn in it. A call
+/// of a seat that stands, and goes on, begins in a step with such a nonce, and that is not owed any more then.
+pub fn owed_writes_were_drawn()
+    ensures owed { (g : SeatGivens) (seat : Seat) (w : SeatWorld) (nonce : Version)
+        → write_owed (seat_step g seat w).seat.connection.stage ≡ Some nonce
+        → (write_owed seat.connection.stage ≡ Some nonce)
+        ⊎ IsDrawnIn w (seat_step g seat w).world.serial nonce }
+    ensures begins { (g : SeatGivens) (seat : Seat) (w : SeatWorld) (container : ContainerValue) (held : Call)
+        → SeatStands seat w.store → GoesOnAtSeat container seat.connection → seat.twin ≡ None
+        → call_held (way_in (seat_step g seat w).seat.connection.stage) ≡ Some held
+        → BeginsWith g seat w (nonce_of held) }
+{}

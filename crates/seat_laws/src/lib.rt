@@ -10,12 +10,17 @@
 //! - `seats_stand_meanwhile`: from its begin on, when bytes come, over lines, and where another one is given up.
 //! - `seats_lend`: what a step does with the bricks is steps of lent bricks, which `session_steps` speaks of.
 //! - `bricks_stay_sound`: bricks stay as events and lanes made them, also behind a seat that does not stand.
+//! - `drawn_serials_rise`, `owed_writes_were_drawn`: what is drawn lies between the serial numbers that are next before
+//!   and after; and the nonce of a call that begins was drawn in that step, or was owed since the request was taken.
 //!
 //! Two things are asked of whoever drives the seats. What a seat hears is spelled by its bytes (`SeatHears`): the
-//! contract of `Seat::step` tells it. And where a call begins, its nonce is new (`HoldsNew`): it was drawn so, and
-//! stays so by `session_lanes::nonces_stay_new`.
+//! contract of `Seat::step` tells it. And where a call begins, its nonce is new (`HoldsNew`): it was drawn so
+//! (`owed_writes_were_drawn`), and stays so by `session_lanes::nonces_stay_new`.
 #![tactic(auto)]
 
 mod laws;
 
-pub use laws::{bricks_stay_sound, others_stand, seats_lend, seats_stand, seats_stand_meanwhile};
+pub use laws::{
+    bricks_stay_sound, drawn_serials_rise, others_stand, owed_writes_were_drawn, seats_lend,
+    seats_stand, seats_stand_meanwhile,
+};

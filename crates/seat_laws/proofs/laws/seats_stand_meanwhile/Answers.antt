@@ -1,5 +1,5 @@
 use Rattle.std.proofs.Common.{refl}
-use Rattle.seat_laws.proofs.Meanwhile.{gone-stands, lanes-stand, still-stands}
+use Rattle.seat_laws.proofs.Meanwhile.{calls-stand, gone-stands, lanes-stand, still-stands}
 use Rattle.seat_laws.proofs.laws.seats_stand_meanwhile.Goals as goal
 
 pub returns-clause-begins : goal.returns-clause-begins
@@ -23,3 +23,6 @@ returns-clause-gone c = gone-stands (record {
   events = c.lanes_go_by_events.ensures.steps;
   stays = c.twins_stay.ensures.steps;
 }) c.windows_keep_their_limits.ensures.call
+
+pub returns-clause-calls : goal.returns-clause-calls
+returns-clause-calls c = calls-stand
