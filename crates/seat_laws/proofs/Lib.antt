@@ -1,11 +1,14 @@
 mod Alone
 mod Asking
 mod Assembling
+mod Attempting
 mod Drawing
 mod Hearing
 mod Lends
 mod Meanwhile
 mod Moving
 mod Owing
+mod Running
+mod SeatsFit
 mod Sounding
 mod Twinning

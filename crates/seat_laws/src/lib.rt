@@ -18,8 +18,10 @@
 //! (`owed_writes_were_drawn`), and stays so by `session_lanes::nonces_stay_new`.
 #![tactic(auto)]
 
+mod fitting;
 mod laws;
 
+pub use fitting::{attempts_fit, boots_stay_sound_at_seats};
 pub use laws::{
     bricks_stay_sound, drawn_serials_rise, others_stand, owed_writes_were_drawn, seats_lend,
     seats_stand, seats_stand_meanwhile,
