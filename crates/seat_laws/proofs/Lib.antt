@@ -8,6 +8,7 @@ mod Lends
 mod Meanwhile
 mod Moving
 mod Owing
+mod Replying
 mod Running
 mod SeatsFit
 mod Sounding

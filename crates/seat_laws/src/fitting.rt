@@ -1,12 +1,13 @@
 //! Laws of what the steps of seats do with the boot. Each is the contract of a function that does nothing: a caller
 //! that needs the law calls the function.
 
-ghost use Rattle.std.specs.Prelude.{◌≡◌, None, IfSome};
+ghost use Rattle.std.specs.Prelude.{◌≡◌, Bool, [], None, IfSome};
 ghost use Rattle.auction_rows.specs.Parts.{site_parts};
 ghost use Rattle.boot_core.specs.Boot.{BootValue, HasGrown};
 ghost use Rattle.boot_core.specs.Sound.{IsSound};
 ghost use Rattle.shepherd.specs.Shepherds.{fresh};
 ghost use Rattle.seat_steps.specs.Seats.{SeatGivens, SeatWorld, seat_step};
+ghost use Rattle.seat_steps.specs.Stepped.{seat_writes};
 ghost use Rattle.seat_steps.specs.declared.seat.Seat.{Seat};
 ghost use Rattle.seat_laws.specs.Fitting.{CommitsAreOwn, CommitsAtMost, IsOwnCall, SeatFits, attempt_open};
 
@@ -58,3 +59,9 @@ pub fn boots_stay_sound_at_seats()
     orders_are_in_range();
     orders_are_exact();
 }
+
+/// Where a step of a seat hands nothing to the keeper, its reply changes nothing of what the step leaves.
+pub fn replies_matter_where_handed()
+    ensures { (g : SeatGivens) (keeps other : Bool) (seat : Seat) (w : SeatWorld) → seat_writes seat.connection w.boot ≡ []
+        → seat_step (record g { keeps = keeps }) seat w ≡ seat_step (record g { keeps = other }) seat w }
+{}

@@ -21,7 +21,7 @@
 mod fitting;
 mod laws;
 
-pub use fitting::{attempts_fit, boots_stay_sound_at_seats};
+pub use fitting::{attempts_fit, boots_stay_sound_at_seats, replies_matter_where_handed};
 pub use laws::{
     bricks_stay_sound, drawn_serials_rise, others_stand, owed_writes_were_drawn, seats_lend,
     seats_stand, seats_stand_meanwhile,
