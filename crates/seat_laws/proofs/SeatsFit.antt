@@ -1,6 +1,6 @@
 -- A seat that fits its boot fits it behind each of its steps.
 use Rattle.std.specs.Prelude.{IfSome, slice_get}
-use Rattle.std.proofs.Common.{◌≡◌, ◌⊎◌, inl, inr, ◌∙◌, ℕ, zero, suc, Bool, true, false, nat_lt, if◌then◌else◌, List, [], ◌∷◌, ◌++◌, map, Option, Some, None, Result, refl, sym, ap, subst}
+use Rattle.std.proofs.Common.{◌≡◌, ◌⊎◌, ◌↔◌, inl, inr, ◌∙◌, ℕ, zero, suc, Bool, true, false, nat_lt, if◌then◌else◌, List, [], ◌∷◌, ◌++◌, map, Option, Some, None, Result, refl, sym, ap, subst}
 use Rattle.auction_calls.specs.Calls.{is_action}
 use Rattle.auction_calls.specs.declared.action.ActionCall.{ActionCall}
 use Rattle.auction_rows.specs.Parts.{site_parts}
@@ -83,6 +83,7 @@ use Rattle.shepherd_steps.specs.Own.{heard_read, outcome_of_read, own, own_by, t
 use Rattle.shepherd_steps.specs.Passes.{goes, outcome_of, windows_by, windows_step}
 use Rattle.shepherd_steps.specs.Stepping.{World, event_at, step, step_inside, steps_in}
 use Rattle.shepherd_steps.specs.Taking.{Counts, Drawing, arrival_by, arrives_by, draws, take_request, takes_by}
+use Rattle.seat_steps.proofs.Functions.{CookieLaw, NoneLaw, TokenLaw, reads-rightly}
 use Rattle.seat_steps.specs.Replies.{lane_replies}
 use Rattle.seat_steps.specs.Seats.{SeatGivens, SeatWorld, givens_in, making_by, readings_under, seat_step, seen_by, service_in}
 use Rattle.seat_steps.specs.declared.seat.Seat.{Seat}
@@ -96,6 +97,18 @@ pub record FitLaws : Type 0 where
   pub in_range : (key : List ℕ) (boot : ℕ) (head : Head) (o : Order) → IsDecided key boot head (decided.Ordered o) → is_action o.action ≡ true
   pub exact : (key : List ℕ) (boot : ℕ) (head : Head) (o : Order) → IsDecided key boot head (decided.Ordered o) → IsOrdered key boot head o
   pub follow : FollowLaw
+
+-- the same, from the laws that tell them
+pub fit-laws : CookieLaw → NoneLaw → TokenLaw → ((key : List ℕ) (readings : Readings) (boot : ℕ) (head : Head) → ReadRightly key readings → IsDecided key boot head (decided_by readings boot head))
+    → ((key : List ℕ) (boot : ℕ) (head : Head) (o : Order) → IsDecided key boot head (decided.Ordered o) → is_action o.action ≡ true)
+    → ((key : List ℕ) (boot : ℕ) (head : Head) (o : Order) → IsDecided key boot head (decided.Ordered o) ↔ IsOrdered key boot head o) → FollowLaw → FitLaws
+fit-laws cookie none token decides in_range exact follow = record {
+  rightly = reads-rightly cookie none token;
+  decides = decides;
+  in_range = in_range;
+  exact = λ key boot head o ordered. (exact key boot head o).0 ordered;
+  follow = follow;
+}
 
 -- a sound boot stays so by a commit that it does not refuse
 abbrev pub CommitLaw : Type 0

@@ -17,14 +17,17 @@ use request_decisions::{orders_are_exact, orders_are_in_range};
 use shepherd_steps::requests_are_decided_as_read;
 use text_readings::{cookies_are_accepted_of_their_texts, tokens_are_read_once};
 
-/// A seat fits a boot of the site as soon as it is there, behind each of its own steps, whatever it hears and whatever
-/// the keeper replies, and wherever the boot has grown, as by the steps of others and by lines. So it does when bytes
-/// come or end. The call of its open attempt, if one is open, fits the boot then, and is of a request of it.
+/// A seat fits a boot of the site as soon as it is there, behind each step of its own, whatever it hears and whatever
+/// the keeper replies, behind each step of another seat that fits, and wherever the boot has grown, as by lines. So it
+/// does when bytes come or end. The call of its open attempt, if one is open, fits the boot then, and is of a request
+/// of the boot.
 pub fn attempts_fit()
     ensures begins { (boot : BootValue) → boot.start.deployment ≡ site_parts
         → SeatFits boot (record { connection = fresh; twin = None }) }
     ensures step { (g : SeatGivens) (seat : Seat) (w : SeatWorld) → SeatFits w.boot seat
         → SeatFits (seat_step g seat w).world.boot (seat_step g seat w).seat }
+    ensures others { (g : SeatGivens) (seat other : Seat) (w : SeatWorld) → SeatFits w.boot seat → SeatFits w.boot other
+        → SeatFits (seat_step g seat w).world.boot other }
     ensures meanwhile { (old new : BootValue) (seat : Seat) → HasGrown old new → SeatFits old seat → SeatFits new seat }
     ensures still { (boot : BootValue) (seat new : Seat) → new.connection.stage ≡ seat.connection.stage
         → SeatFits boot seat → SeatFits boot new }

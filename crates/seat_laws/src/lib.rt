@@ -12,6 +12,9 @@
 //! - `bricks_stay_sound`: bricks stay as events and lanes made them, also behind a seat that does not stand.
 //! - `drawn_serials_rise`, `owed_writes_were_drawn`: what is drawn lies between the serial numbers that are next before
 //!   and after; and the nonce of a call that begins was drawn in that step, or was owed since the request was taken.
+//! - `attempts_fit`, `boots_stay_sound_at_seats`: the call of the attempt that a seat's request has open fits the boot,
+//!   and is of a request of it; so a step adds at most the commit of such a call, and a sound boot stays sound.
+//! - `replies_matter_where_handed`: where a step hands nothing to the keeper, its reply changes nothing.
 //!
 //! Two things are asked of whoever drives the seats. What a seat hears is spelled by its bytes (`SeatHears`): the
 //! contract of `Seat::step` tells it. And where a call begins, its nonce is new (`HoldsNew`): it was drawn so
