@@ -1,20 +1,19 @@
 -- The call of an open attempt fits the boot behind a step in the container, and so does the one that is committed.
 use Rattle.std.specs.Prelude.{IfSome, IsSome}
-use Rattle.std.proofs.Common.{◌≡◌, ◌≢◌, ◌⊎◌, inl, inr, ◌∙◌, ◌<◌, ◌≤◌, ◌&&◌, ◌+◌, ℕ, Bool, true, false, nat_lt, if◌then◌else◌, List, [], ◌∷◌, ◌++◌, length, Option, Some, None, option_map, refl, sym, ap, subst, arith}
+use Rattle.std.proofs.Common.{◌≡◌, inl, inr, ◌∙◌, ◌<◌, ◌&&◌, ◌+◌, ℕ, Bool, true, false, nat_lt, if◌then◌else◌, List, [], ◌∷◌, ◌++◌, length, Option, Some, None, option_map, refl, sym, ap, subst, arith}
 use Rattle.auction_calls.specs.Calls.{is_action}
 use Rattle.auction_calls.specs.declared.action.ActionCall.{ActionCall}
 use Rattle.auction_rows.specs.Parts.{site_components, site_parts}
 use Rattle.auction_site.specs.Actions.{steps_of}
 use Rattle.boot_core.proofs.Fitting.{fits_entering, fits_leaving, fits_listing, fits_putting, fits_reading}
 use Rattle.boot_core.proofs.Refusing.{first_none, map_none}
-use Rattle.boot_core.specs.Boot.{BootValue, HasGrown, with_entry}
+use Rattle.boot_core.specs.Boot.{BootValue, HasGrown}
 use Rattle.boot_core.specs.Fits.{FitsIn}
 use Rattle.boot_core.specs.declared.refusals.CommitRefusal.{CommitRefusal}
 use Rattle.boot_core.specs.declared.refusals.CommitRefusal.TheVariants as commits
 use Rattle.call_attempts.proofs.UnderWay.{begins, goes_on, same_request, stays}
 use Rattle.call_attempts.specs.Attempt.{AttemptValue, Continues, IsUnderWay, rows_at_begin, stepped, stop_of_attempt, ticket_after, wanted}
-use Rattle.call_attempts.specs.Stops.{down_stops, stop_of}
-use Rattle.call_attempts.specs.declared.attempt.Stepped.{Stepped}
+use Rattle.call_attempts.specs.Stops.{stop_of}
 use Rattle.call_attempts.specs.declared.attempt.Stepped.TheVariants as coming
 use Rattle.call_attempts.specs.declared.stop.Stop.{Stop}
 use Rattle.call_attempts.specs.declared.stop.Stop.TheVariants as stops
@@ -40,15 +39,15 @@ use Rattle.journal_model.specs.declared.entry.DoneText.{DoneText}
 use Rattle.journal_model.specs.declared.entry.Entry.{Entry}
 use Rattle.journal_model.specs.declared.entry.Entry.TheVariants.{Commit}
 use Rattle.journal_model.specs.declared.stale.Stale.{Stale}
-use Rattle.request_tries.specs.Serving.{TriesValue, closed, has_begun, with_try}
+use Rattle.request_tries.specs.Serving.{TriesValue, closed, with_try}
 use Rattle.request_tries.specs.Steps.{action_of, ended_at, from_of, front_at, outcome_by, refusal_of, try_ended}
 use Rattle.request_tries.specs.declared.outcome.HistoryFront.{HistoryFront}
 use Rattle.request_tries.specs.declared.outcome.TheConstants.{MAX_TRIES}
 use Rattle.request_tries.specs.declared.outcome.TryCause.{TryCause}
 use Rattle.request_tries.specs.declared.outcome.TryCause.TheVariants as cause
-use Rattle.shepherd_steps.specs.Inside.{Course, Ends, Goes, Stride, after_commit, after_entry, after_refusal, after_stop, after_try, came_by, commits_by, stride, stride_by, with_keeper}
+use Rattle.shepherd_steps.specs.Inside.{Course, Ends, Goes, Stride, after_entry, after_refusal, after_stop, after_try, came_by, commits_by, stride, stride_by, with_keeper}
 use Rattle.seat_laws.proofs.Running.{action-runs}
-use Rattle.seat_laws.specs.Fitting.{AsksInBoot, CommitsAtMost, HasCommitted, IsOpenFor, IsOwnCall, ServesInBoot}
+use Rattle.seat_laws.specs.Fitting.{CommitsAtMost, IsOpenFor, IsOwnCall, ServesInBoot}
 
 -- a call that follows its program may make the step that is asked for next
 abbrev pub FollowLaw : Type 0

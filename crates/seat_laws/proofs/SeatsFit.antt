@@ -1,6 +1,6 @@
 -- A seat that fits its boot fits it behind each of its steps.
 use Rattle.std.specs.Prelude.{IfSome, slice_get}
-use Rattle.std.proofs.Common.{◌≡◌, ◌⊎◌, ◌↔◌, inl, inr, ◌∙◌, ℕ, zero, suc, Bool, true, false, nat_lt, if◌then◌else◌, List, [], ◌∷◌, ◌++◌, map, Option, Some, None, Result, refl, sym, ap, subst}
+use Rattle.std.proofs.Common.{◌≡◌, ◌⊎◌, ◌↔◌, inl, inr, ◌∙◌, ℕ, zero, suc, Bool, true, false, nat_lt, if◌then◌else◌, List, [], ◌∷◌, ◌++◌, map, Option, Some, None, refl, sym, ap, subst}
 use Rattle.auction_calls.specs.Calls.{is_action}
 use Rattle.auction_calls.specs.declared.action.ActionCall.{ActionCall}
 use Rattle.auction_rows.specs.Parts.{site_parts}
@@ -15,7 +15,6 @@ use Rattle.container_core.specs.Container.{ContainerValue, events_of}
 use Rattle.container_core.specs.declared.history.Event.{Event}
 use Rattle.crash_base.specs.declared.numbers.Place.{Place}
 use Rattle.crash_base.specs.declared.numbers.RequestNo.{RequestNo}
-use Rattle.deployment.specs.declared.parts.Parts.{Parts}
 use Rattle.http_wire.specs.Taking.{taken_of}
 use Rattle.http_wire.specs.declared.taken.Head.{Head}
 use Rattle.http_wire.specs.declared.taken.MethodKind.{MethodKind}
@@ -40,7 +39,7 @@ use Rattle.request_decisions.specs.declared.draws.Draw.{Draw}
 use Rattle.request_intake.specs.Intakes.{admission_of}
 use Rattle.request_intake.specs.declared.intake.Admission.{Admission}
 use Rattle.request_tries.specs.Serving.{TriesValue}
-use Rattle.request_visit.specs.Advancing.{after_leaving, departed}
+use Rattle.request_visit.specs.Advancing.{departed}
 use Rattle.request_visit.specs.Serving.{closing_of}
 use Rattle.request_visit.specs.Stepping.{after_closing, counted, left_so, shown_so}
 use Rattle.request_visit.specs.Visits.{after_outcome, fate_missed, fate_written, overloaded, with_fate}
@@ -73,11 +72,11 @@ use Rattle.shepherd.specs.declared.shepherd.ShepherdTurn.{ShepherdTurn}
 use Rattle.shepherd.specs.declared.shepherd.ShepherdTurn.TheVariants as turns
 use Rattle.shepherd.specs.declared.shepherd.Stage.{Stage}
 use Rattle.shepherd.specs.declared.shepherd.Stage.TheVariants.{Resting, Serving, Refusing, Over}
-use Rattle.shepherd_steps.specs.Alone.{Making, alone, alone_at, gone_alone, own_stage}
+use Rattle.shepherd_steps.specs.Alone.{alone, alone_at, gone_alone, own_stage}
 use Rattle.shepherd_steps.specs.Deciding.{ReadRightly, Readings, decided_by}
 use Rattle.shepherd_steps.specs.Inside.{Course, Ends, Goes, Stride, after_course, inside, inside_of, stride, untold}
 use Rattle.shepherd_steps.specs.Leaving.{item_by, item_taken, output_of}
-use Rattle.shepherd_steps.specs.Opening.{open_stage, opens}
+use Rattle.shepherd_steps.specs.Opening.{open_stage}
 use Rattle.shepherd_steps.specs.Outside.{outside}
 use Rattle.shepherd_steps.specs.Own.{heard_read, outcome_of_read, own, own_by, told_read}
 use Rattle.shepherd_steps.specs.Passes.{goes, outcome_of, windows_by, windows_step}
