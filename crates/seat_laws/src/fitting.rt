@@ -42,8 +42,8 @@ pub fn attempts_fit()
     orders_are_exact();
 }
 
-/// A step of a seat that fits leaves the boot as it was, or adds the one commit of a call that fits it, and that is of a
-/// request of it. So the boot has grown, a sound one stays sound, and each commit stays of a request of its own boot.
+/// A step of a seat that fits leaves the boot as it was, or adds the one commit of a call that fits it, and that is of
+/// a request of it. So the boot has grown, a sound one stays sound, and each commit stays of a request of its own boot.
 pub fn boots_stay_sound_at_seats()
     ensures commits { (g : SeatGivens) (seat : Seat) (w : SeatWorld) → SeatFits w.boot seat
         → CommitsAtMost w.boot (seat_step g seat w).world.boot }
