@@ -38,16 +38,20 @@ use Rattle.seat_steps.specs.Twinned.{way_in}
 abbrev pub Stays : SessionWay → SessionWay → Type 0
 Stays old new = (call_held new ≡ None) ⊎ (new ≡ old)
 
-told-stays : (o : Option ReadOutcome) (v : Visit ActionCall) → Stays v.way (told_read o v).way
+-- a way that rests, or that is as it was
+abbrev pub RestsOrStays : SessionWay → SessionWay → Type 0
+RestsOrStays old new = (new ≡ way.Resting) ⊎ (new ≡ old)
+
+told-stays : (o : Option ReadOutcome) (v : Visit ActionCall) → RestsOrStays v.way (told_read o v).way
 told-stays None v = inr refl
 told-stays (Some (read.Found lease)) v = inl refl
 told-stays (Some (read.Expired now expiry)) v = inl refl
 told-stays (Some (read.Lost causes)) v = inl refl
 
-own-stays : (key : List ℕ) (v : Visit ActionCall) → Stays v.way (own key v).way
+own-stays : (key : List ℕ) (v : Visit ActionCall) → RestsOrStays v.way (own key v).way
 unfolding own
 own-stays key v = by v.work where
-  heard : (to : SessionWay) → Stays v.way (heard_read to v).way
+  heard : (to : SessionWay) → RestsOrStays v.way (heard_read to v).way
   heard way.Resting = inr refl
   heard (way.Reading r) = told-stays (outcome_of_read r) v
   heard (way.Ordered order) = inr refl
@@ -55,7 +59,7 @@ own-stays key v = by v.work where
   heard (way.Settling w) = inr refl
   heard (way.Holding passes) = inr refl
 
-  by : (w : Work ActionCall) → Stays v.way (own_by key v w).way
+  by : (w : Work ActionCall) → RestsOrStays v.way (own_by key v w).way
   by Reading = heard v.way
   by Opening = inr refl
   by (ServingBy tries program) = inr refl
@@ -64,17 +68,17 @@ own-stays key v = by v.work where
   by (Answered fate bytes) = inr refl
   by (Left fate) = inr refl
 
-rested-none : (close : Bool) → call_held (way_in (rested close)) ≡ None
+rested-none : (close : Bool) → way_in (rested close) ≡ way.Resting
 rested-none true = refl
 rested-none false = refl
 
-own-in : (key : List ℕ) (stage : Stage ActionCall) → Stays (way_in stage) (way_in (own_stage key stage))
+own-in : (key : List ℕ) (stage : Stage ActionCall) → RestsOrStays (way_in stage) (way_in (own_stage key stage))
 own-in key Resting = inr refl
 own-in key (Serving v call) = own-stays key v
 own-in key (Refusing why bytes) = inr refl
 own-in key (Over end) = inr refl
 
-open-in : (m : Making ActionCall) (stage : Stage ActionCall) → Stays (way_in stage) (way_in (open_stage m.made m.worker stage))
+open-in : (m : Making ActionCall) (stage : Stage ActionCall) → RestsOrStays (way_in stage) (way_in (open_stage m.made m.worker stage))
 unfolding open_stage
 open-in m Resting = inr refl
 open-in m (Serving v None) = inr refl
@@ -82,19 +86,19 @@ open-in m (Serving v (Some asked)) = inr refl
 open-in m (Refusing why bytes) = inr refl
 open-in m (Over end) = inr refl
 
-item-in : (s : Shepherd ActionCall) → Stays (way_in s.stage) (way_in (item_taken s).0.stage)
+item-in : (s : Shepherd ActionCall) → RestsOrStays (way_in s.stage) (way_in (item_taken s).0.stage)
 unfolding item_taken
 item-in s = by s.stage refl where
-  by : (stage : Stage ActionCall) → s.stage ≡ stage → Stays (way_in s.stage) (way_in (item_by s stage).0.stage)
+  by : (stage : Stage ActionCall) → s.stage ≡ stage → RestsOrStays (way_in s.stage) (way_in (item_by s stage).0.stage)
   by Resting is = inr refl
   by (Serving v call) is = inl (rested-none v.facts.close)
   by (Refusing why bytes) is = inr refl
   by (Over end) is = inr refl
 
-once-in : (m : Making ActionCall) (s : Shepherd ActionCall) → Stays (way_in s.stage) (way_in (alone m s).0.stage)
+once-in : (m : Making ActionCall) (s : Shepherd ActionCall) → RestsOrStays (way_in s.stage) (way_in (alone m s).0.stage)
 unfolding alone
 once-in m s = by (turn s) where
-  by : (t : ShepherdTurn) → Stays (way_in s.stage) (way_in (alone_at m t s).0.stage)
+  by : (t : ShepherdTurn) → RestsOrStays (way_in s.stage) (way_in (alone_at m t s).0.stage)
   by turns.Bytes = inr refl
   by turns.Request = inr refl
   by turns.Outside = inr refl
@@ -106,16 +110,22 @@ once-in m s = by (turn s) where
   by turns.Item = item-in s
   by (turns.Ended end) = inr refl
 
-stays-on : (a b c : SessionWay) → Stays a b → Stays b c → Stays a c
+stays-on : (a b c : SessionWay) → RestsOrStays a b → RestsOrStays b c → RestsOrStays a c
 stays-on a b c first (inl none) = inl none
-stays-on a b c (inl none) (inr same) = inl (ap call_held same ∙ none)
+stays-on a b c (inl none) (inr same) = inl (same ∙ none)
 stays-on a b c (inr is) (inr same) = inr (same ∙ is)
 
 -- So it is until others are to step.
-pub gone-in : (m : Making ActionCall) (s : Shepherd ActionCall) → Stays (way_in s.stage) (way_in (gone_alone m s).0.stage)
+pub gone-rests : (m : Making ActionCall) (s : Shepherd ActionCall) → RestsOrStays (way_in s.stage) (way_in (gone_alone m s).0.stage)
 unfolding gone_alone
-gone-in m s =
+gone-rests m s =
     stays-on (way_in s.stage) (way_in (alone m s).0.stage) (way_in (alone m (alone m s).0).0.stage) (once-in m s) (once-in m (alone m s).0)
+
+pub gone-in : (m : Making ActionCall) (s : Shepherd ActionCall) → Stays (way_in s.stage) (way_in (gone_alone m s).0.stage)
+gone-in m s = by (gone-rests m s) where
+  by : RestsOrStays (way_in s.stage) (way_in (gone_alone m s).0.stage) → Stays (way_in s.stage) (way_in (gone_alone m s).0.stage)
+  by (inl rests) = inl (ap call_held rests)
+  by (inr same) = inr same
 
 closing-stays : (closing : Closing) (v : Visit ActionCall) → Stays v.way (after_closing closing v).way
 closing-stays closing v = by closing.closed where

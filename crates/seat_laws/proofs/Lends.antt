@@ -37,7 +37,8 @@ use Rattle.seat_laws.specs.Standing.{HasTwin, SeatHears, SeatStands}
 use Rattle.seat_laws.proofs.Hearing.{outside-holds, way-steps}
 use Rattle.seat_laws.proofs.Twinning.{OpenOutside, TurnLaw, open-outside}
 
-lent-on : (a : List LentStep) (st : LanesState) (b : List LentStep) → after_lent st (a ++ b) ≡ after_lent (after_lent st a) b
+-- bricks after steps, and then others
+pub lent-on : (a : List LentStep) (st : LanesState) (b : List LentStep) → after_lent st (a ++ b) ≡ after_lent (after_lent st a) b
 lent-on [] st b = refl
 lent-on (s ∷ a) st b = lent-on a (after_lent_step st s) b
 
@@ -54,7 +55,7 @@ twin-begins None twin to st = refl
 twin-begins (Some held) None to st = way-begins st to
 twin-begins (Some held) (Some n) to st = refl
 
-windows-lent : (v : Visit ActionCall) (to : SessionWay) (st : LanesState) → (let l : LanesState = record st { windows = (windows_by v to st.windows).1 } in l) ≡ after_lent st (window_steps to)
+pub windows-lent : (v : Visit ActionCall) (to : SessionWay) (st : LanesState) → (let l : LanesState = record st { windows = (windows_by v to st.windows).1 } in l) ≡ after_lent st (window_steps to)
 windows-lent v way.Resting st = refl
 windows-lent v (way.Reading r) st = refl
 windows-lent v (way.Ordered order) st = by (nat_lt (open_count st.windows.facts) st.windows.wq) where

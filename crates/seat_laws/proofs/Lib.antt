@@ -3,8 +3,10 @@ mod Asking
 mod Assembling
 mod Attempting
 mod Drawing
+mod Drawn
 mod Hearing
 mod Lends
+mod LentBricks
 mod Meanwhile
 mod Moving
 mod Owing

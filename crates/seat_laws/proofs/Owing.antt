@@ -97,7 +97,7 @@ use Rattle.seat_laws.proofs.Twinning.{OpenOutside, after-way, at-turn, open-outs
 use Rattle.seat_laws.proofs.Drawing.{IsBetween, all-drawn, between, differ, has, read-in, rise, write-in}
 
 -- a request still owes the write of this nonce
-abbrev Owes : Visit ActionCall → Version → Type 0
+abbrev pub Owes : Visit ActionCall → Version → Type 0
 Owes v n = owed_by v.work v.way v.facts.write ≡ Some n
 
 -- the turn of a program is that of a request that opens
@@ -336,11 +336,11 @@ leaving-owes v n = by v.work where
   by (Left fate) e = absurd (cc)
 
 -- what was drawn for an order, from no number drawn
-abbrev Drawn : SeatGivens → SeatWorld → Order → Drawing
+abbrev pub Drawn : SeatGivens → SeatWorld → Order → Drawing
 Drawn g w o = draws (service_in g w).numbers (drawn_for o) (record { words = 0; serials = 0 })
 
 -- the nonce of this kind that was drawn for an order, where it draws one
-drawn-between : (g : SeatGivens) (w : SeatWorld) (o : Order) (kind : DrawKind) → is_serial kind ≡ true → has kind (drawn_for o) ≡ true → (Drawn g w o).spent ≡ None
+pub drawn-between : (g : SeatGivens) (w : SeatWorld) (o : Order) (kind : DrawKind) → is_serial kind ≡ true → has kind (drawn_for o) ≡ true → (Drawn g w o).spent ≡ None
     → IsDrawnIn w (w.serial + (Drawn g w o).counts.serials) (nonce_of (service_in g w).home kind (Drawn g w o).drawn)
 drawn-between g w o kind serial there none =
     let all : kinds_of (Drawn g w o).drawn ≡ drawn_for o = all-drawn (service_in g w).numbers (drawn_for o) (record { words = 0; serials = 0 }) none in

@@ -14,6 +14,8 @@
 //!   and after; and the nonce of a call that begins was drawn in that step, or was owed since the request was taken.
 //! - `attempts_fit`, `boots_stay_sound_at_seats`: the call of the attempt that a seat's request has open fits the boot,
 //!   and is of a request of it; so a step adds at most the commit of such a call, and a sound boot stays sound.
+//! - `bricks_go_by_lent_steps`, `seats_begin_with_drawn_nonces`: the same of any step, by the function alone, for whoever
+//!   has no seat that stands at hand.
 //! - `replies_matter_where_handed`: where a step hands nothing to the keeper, its reply changes nothing.
 //!
 //! Two things are asked of whoever drives the seats. What a seat hears is spelled by its bytes (`SeatHears`): the
@@ -23,9 +25,11 @@
 
 mod fitting;
 mod laws;
+mod lending;
 
 pub use fitting::{attempts_fit, boots_stay_sound_at_seats, replies_matter_where_handed};
 pub use laws::{
     bricks_stay_sound, drawn_serials_rise, others_stand, owed_writes_were_drawn, seats_lend,
     seats_stand, seats_stand_meanwhile,
 };
+pub use lending::{bricks_go_by_lent_steps, seats_begin_with_drawn_nonces};
