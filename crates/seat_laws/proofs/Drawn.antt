@@ -19,7 +19,6 @@ use Rattle.lane_link.specs.Twins.{call_held}
 use Rattle.lane_link.specs.declared.link.LaneLink.{LaneLink}
 use Rattle.outcome_items.specs.declared.item.Holds.{Holds}
 use Rattle.outside.specs.declared.link.LinkCounts.{LinkCounts}
-use Rattle.request_decisions.specs.Draws.{drawn_for}
 use Rattle.request_decisions.specs.declared.decision.Decision.{Decision}
 use Rattle.request_decisions.specs.declared.decision.Decision.TheVariants as decided
 use Rattle.request_decisions.specs.declared.decision.Order.{Order}
@@ -28,10 +27,8 @@ use Rattle.request_intake.specs.Intakes.{admission_of, nonce_of}
 use Rattle.request_intake.specs.declared.intake.Admission.{Admission}
 use Rattle.request_tries.specs.Ends.{done_of}
 use Rattle.request_tries.specs.Serving.{TriesValue}
-use Rattle.request_tries.specs.declared.outcome.Ended.{Ended}
 use Rattle.request_tries.specs.declared.outcome.RequestOutcome.{RequestOutcome}
 use Rattle.request_tries.specs.declared.outcome.RequestOutcome.TheVariants as ended
-use Rattle.request_visit.specs.Advancing.{after_leaving}
 use Rattle.request_visit.specs.Ready.{ready_by, ready_of, set_in}
 use Rattle.request_visit.specs.Serving.{closed_with, holds_of}
 use Rattle.request_visit.specs.Stepping.{counted, left_so, shown_so}
