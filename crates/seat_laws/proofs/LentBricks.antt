@@ -1,6 +1,7 @@
 -- What any step of a seat leaves of the bricks is what its steps of them leave.
-use Rattle.std.proofs.Common.{◌≡◌, ◌∙◌, ◌+◌, ◌-◌, ◌≤◌, ℕ, Bool, true, false, nat_lt, if◌then◌else◌, List, [], ◌∷◌, length, Option, Some, None, refl, sym, ap, arith}
+use Rattle.std.proofs.Common.{◌≡◌, ◌∙◌, ◌+◌, ◌-◌, ◌≤◌, ◌%◌, ◌^◌, ℕ, suc, Bool, true, false, nat_lt, if◌then◌else◌, List, [], ◌∷◌, length, Option, Some, None, refl, sym, ap, arith}
 use Rattle.std.specs.Prelude.{slice_get}
+use Rattle.std.proofs.lemmas.Bool.Decides.{nat_tests}
 use Rattle.auction_calls.specs.declared.action.ActionCall.{ActionCall}
 use Rattle.auction_site.specs.Actions.{steps_of}
 use Rattle.boot_core.specs.declared.refusals.CommitRefusal.{CommitRefusal}
@@ -12,12 +13,21 @@ use Rattle.call_ticket.specs.declared.next.Next.{Next}
 use Rattle.container_core.specs.Container.{ContainerValue}
 use Rattle.crash_base.specs.declared.numbers.BrickNo.{BrickNo}
 use Rattle.journal_model.specs.declared.entry.DoneText.{DoneText}
+use Rattle.http_wire.specs.Taking.{taken_of}
+use Rattle.http_wire.specs.declared.taken.Taken.{Taken}
+use Rattle.http_wire.specs.declared.taken.Taken.TheVariants as took
 use Rattle.lane_link.specs.Links.{lane_link_tally, turned, turned_by, unwanted, wants_to_hear, wants_to_send}
 use Rattle.lane_link.specs.Twins.{call_held}
 use Rattle.lane_link.specs.declared.link.LaneLink.{LaneLink}
 use Rattle.request_visit.specs.declared.visit.Work.{Work}
 use Rattle.request_visit.specs.declared.visit.Work.TheVariants.{Reading, Opening, Serving as ServingBy, Committed, Decided, Answered, Left}
+use Rattle.outside.specs.declared.serials.TheConstants.{SERIALS_END}
+use Rattle.request_decisions.specs.Draws.{drawn_for, is_serial}
+use Rattle.request_decisions.specs.declared.decision.Decision.{Decision}
+use Rattle.request_decisions.specs.declared.decision.Decision.TheVariants as decided
+use Rattle.request_decisions.specs.declared.draws.DrawKind.{DrawKind}
 use Rattle.request_tries.specs.Serving.{TriesValue}
+use Rattle.request_visit.specs.Stepping.{counted}
 use Rattle.request_tries.specs.Steps.{refusal_of}
 use Rattle.request_visit.specs.declared.visit.Visit.{Visit}
 use Rattle.send_windows.specs.Windows.{WindowsValue}
@@ -36,6 +46,7 @@ use Rattle.shepherd_steps.specs.Inside.{came_by, commits_by, inside, inside_of, 
 use Rattle.shepherd_steps.specs.Outside.{heard_over, outside, way_outside}
 use Rattle.shepherd_steps.specs.Passes.{windows_step}
 use Rattle.shepherd_steps.specs.Stepping.{World, event_at, step, step_inside, steps_in}
+use Rattle.shepherd_steps.specs.Taking.{Counts, arrives_by, behind, draws, take_request, takes_by}
 use Rattle.ssm_frames.specs.Spelling.{encode_of}
 use Rattle.ssm_stub.specs.Reads.{read_ask, read_machine}
 use Rattle.ssm_stub.specs.Writes.{write_machine}
@@ -45,7 +56,7 @@ use Rattle.ssm_world.specs.Worlds.{next_of}
 use Rattle.ssm_world.specs.declared.call.Call.{Call}
 use Rattle.ssm_world.specs.declared.event.WorldEvent.TheVariants.{Send, Deliver}
 use Rattle.seat_steps.specs.Replies.{lane_replies}
-use Rattle.seat_steps.specs.Seats.{SeatGivens, SeatWorld, givens_in, seat_step, seen_by}
+use Rattle.seat_steps.specs.Seats.{SeatGivens, SeatWorld, givens_in, numbers_from, seat_step, seen_by, service_in}
 use Rattle.seat_steps.specs.Twinned.{way_in}
 use Rattle.seat_steps.specs.declared.seat.Seat.{Seat}
 use Rattle.seat_laws.specs.Lending.{begin_steps, window_steps}
@@ -140,6 +151,29 @@ stride-start program keeps c s (Some a) = by (came_by (wanted program a) (stop_o
   by (coming.Done done) = commits done (with_keeper (refusal_of c s a done) a.ticket.call.writes keeps)
   by (coming.Stopped stop) = refl
 
+under : (a b : ℕ) → nat_lt a b ≡ true → suc a ≤ b
+under a b is = grind (arith, nat_tests, is)
+
+none-more : (a limit : ℕ) → a ≤ limit → a + 0 ≤ limit
+none-more a limit below = omega (arith, below)
+
+-- no serial is drawn past a limit that is not before their end
+draws-end : (limit word serial : ℕ) → SERIALS_END ≤ limit → (kinds : List DrawKind) (counts : Counts) → serial + counts.serials ≤ limit → serial + (draws (numbers_from word serial) kinds counts).counts.serials ≤ limit
+draws-end limit word serial end [] counts below = below
+draws-end limit word serial end (kind ∷ kinds) counts below =
+    by (λ more. draws-end limit word serial end kinds (record counts { serials = suc counts.serials }) more) (draws-end limit word serial end kinds (record counts { words = suc counts.words }) below)
+    (is_serial kind) (nat_lt (serial + counts.serials) SERIALS_END) refl
+  where
+    by : (serial + suc counts.serials ≤ limit → serial + (draws (numbers_from word serial) kinds (record counts { serials = suc counts.serials })).counts.serials ≤ limit)
+        → serial + (draws (numbers_from word serial) kinds (record counts { words = suc counts.words })).counts.serials ≤ limit
+        → (b c : Bool) → nat_lt (serial + counts.serials) SERIALS_END ≡ c → serial + (if b then (if c
+        then behind (record { kind = kind; number = serial + counts.serials }) (draws (numbers_from word serial) kinds (record counts { serials = suc counts.serials }))
+        else record { drawn = []; spent = Some (serial + counts.serials); counts = counts })
+        else behind (record { kind = kind; number = (word + counts.words) % (2 ^ 64) }) (draws (numbers_from word serial) kinds (record counts { words = suc counts.words }))).counts.serials ≤ limit
+    by one other true true is = one (let less : suc (serial + counts.serials) ≤ SERIALS_END = under (serial + counts.serials) SERIALS_END is in omega (arith, less, end))
+    by one other true false is = below
+    by one other false c is = other
+
 module _ (g : SeatGivens) (seat : Seat) (w : SeatWorld) where
   abbrev s : Shepherd ActionCall
   s = seat.connection
@@ -210,3 +244,35 @@ module _ (g : SeatGivens) (seat : Seat) (w : SeatWorld) where
   pub start-stays : (seat_step g seat w).world.boot.start ≡ w.boot.start
   unfolding seat_step step
   start-stays = event-start (turn s)
+
+  -- No serial is drawn past a limit that is not before their end.
+  event-end : (limit : ℕ) → SERIALS_END ≤ limit → w.serial ≤ limit → (t : ShepherdTurn) → w.serial + (E t).drawn.serials ≤ limit
+  unfolding take_request
+  event-end limit end below turns.Bytes = none-more w.serial limit below
+  event-end limit end below turns.Request = by (taken_of s.received) where
+    none-yet : w.serial + 0 ≤ limit
+    none-yet = none-more w.serial limit below
+
+    decision : (d : Decision) → w.serial + (arrives_by (service_in g w) g.now d (record { words = 0; serials = 0 })).1.serials ≤ limit
+    decision (decided.Refused why) = none-yet
+    decision (decided.Ordered o) = draws-end limit w.word w.serial end (drawn_for o) (record { words = 0; serials = 0 }) none-yet
+
+    by : (t : Taken) → w.serial + (takes_by (service_in g w) (counted (lane_link_tally link-of)) g.now t s (record { words = 0; serials = 0 })).1.serials ≤ limit
+    by (took.Request head) = decision ((service_in g w).decides head)
+    by took.Bad = none-yet
+    by (took.TooLong len lines) = none-yet
+    by took.NoCoding = none-yet
+    by (took.BodyTooLong said) = none-yet
+    by took.More = none-yet
+  event-end limit end below turns.Outside = none-more w.serial limit below
+  event-end limit end below turns.Windows = none-more w.serial limit below
+  event-end limit end below turns.Inside = none-more w.serial limit below
+  event-end limit end below turns.Program = none-more w.serial limit below
+  event-end limit end below turns.Own = none-more w.serial limit below
+  event-end limit end below turns.Output = none-more w.serial limit below
+  event-end limit end below turns.Item = none-more w.serial limit below
+  event-end limit end below (turns.Ended over) = none-more w.serial limit below
+
+  pub serials-end : (limit : ℕ) → SERIALS_END ≤ limit → w.serial ≤ limit → (seat_step g seat w).world.serial ≤ limit
+  unfolding seat_step step
+  serials-end limit end below = event-end limit end below (turn s)

@@ -2,6 +2,7 @@
 //! Each is the contract of a function that does nothing: a caller that needs the law calls the function.
 
 ghost use Rattle.std.specs.Prelude.{◌≡◌, ◌≤◌, ℕ, All, List, None};
+ghost use Rattle.outside.specs.declared.serials.TheConstants.{SERIALS_END};
 ghost use Rattle.shepherd.specs.Shepherds.{fresh};
 ghost use Rattle.seat_steps.specs.Seats.{SeatGivens, SeatWorld, seat_step};
 ghost use Rattle.seat_steps.specs.declared.seat.Seat.{Seat};
@@ -10,13 +11,16 @@ ghost use Rattle.seat_laws.specs.Drawing.{SeatHasDrawn};
 ghost use Rattle.seat_laws.specs.LentSteps.{lent_steps};
 
 /// What any step of a seat leaves of the bricks is what lent bricks are after its steps of them (`lent_steps`), whatever
-/// it hears and whatever the keeper replies; the next serial never falls, and the boot stays the one that began.
+/// it hears and whatever the keeper replies; the next serial never falls,
+/// nor passes a limit that is not before the end of serials; and the boot stays the one that began.
 pub fn bricks_go_by_lent_steps()
     ensures store { (g : SeatGivens) (seat : Seat) (w : SeatWorld)
         → (seat_step g seat w).world.store ≡ after_lent w.store (lent_steps g seat w) }
     ensures serials { (g : SeatGivens) (seat : Seat) (w : SeatWorld) → w.serial ≤ (seat_step g seat w).world.serial }
     ensures boot { (g : SeatGivens) (seat : Seat) (w : SeatWorld)
         → (seat_step g seat w).world.boot.start ≡ w.boot.start }
+    ensures end { (limit : ℕ) (g : SeatGivens) (seat : Seat) (w : SeatWorld) → SERIALS_END ≤ limit
+        → w.serial ≤ limit → (seat_step g seat w).world.serial ≤ limit }
 {}
 
 /// The nonces that a seat still needs were drawn as soon as it is there, behind each step of its own, wherever more
