@@ -40,6 +40,8 @@ mod routes;
 #[cfg(test)]
 mod scenario_lines;
 #[cfg(test)]
+mod seat_lines;
+#[cfg(test)]
 mod session_lines;
 #[cfg(test)]
 mod words;

@@ -2,7 +2,7 @@
 
 use crate::words::{add_bytes, add_number, add_text, add_word, cut, expect_words, number};
 use crash_base::ComponentName;
-use scenario_text::{BootLine, CallLine, Freed, HeadLine, Line, SessionLine, read_line};
+use scenario_text::{BootLine, CallLine, Freed, HeadLine, Line, SeatLine, SessionLine, read_line};
 use std::alloc::Global;
 use std::process::Abort;
 
@@ -95,6 +95,7 @@ fn add_head_line(rt: &impl Abort, words: &mut String, line: &HeadLine) {
             add_word(rt, words, "key");
             add_bytes(rt, words, bytes.as_slice());
         }
+        HeadLine::Site => add_word(rt, words, "site"),
     }
 }
 
@@ -128,6 +129,20 @@ fn add_boot_line(rt: &impl Abort, words: &mut String, line: &BootLine) {
     }
 }
 
+/// Adds the form of a line about connections, and what its words say.
+fn add_seat_line(rt: &impl Abort, words: &mut String, line: &SeatLine) {
+    match line {
+        SeatLine::Conn(seat) => add_numbered(rt, words, "conn", *seat),
+        SeatLine::Bytes(seat, bytes) => {
+            add_numbered(rt, words, "bytes", *seat);
+            add_bytes(rt, words, bytes.as_slice());
+        }
+        SeatLine::End(seat) => add_numbered(rt, words, "end", *seat),
+        SeatLine::Step(seat) => add_numbered(rt, words, "step", *seat),
+        SeatLine::Run(seat) => add_numbered(rt, words, "run", *seat),
+    }
+}
+
 /// Adds a line: `event` where it is one, its form, and what its words say.
 fn add_line(rt: &impl Abort, words: &mut String, line: &Line) {
     if line.is_event() {
@@ -141,6 +156,7 @@ fn add_line(rt: &impl Abort, words: &mut String, line: &Line) {
         Line::Boot(line) => add_boot_line(rt, words, line),
         Line::Reopen => add_word(rt, words, "reopen"),
         Line::Session(line) => add_session_line(rt, words, line),
+        Line::Seat(line) => add_seat_line(rt, words, line),
     }
 }
 
@@ -178,6 +194,7 @@ fn given(line: &Line) -> usize {
         Line::Head(HeadLine::Key(bytes)) => bytes.as_slice().len(),
         Line::Session(SessionLine::Write(_, bytes)) => bytes.as_slice().len(),
         Line::Session(SessionLine::Present(text)) => text.len(),
+        Line::Seat(SeatLine::Bytes(_, bytes)) => bytes.as_slice().len(),
         _ => 0,
     }
 }

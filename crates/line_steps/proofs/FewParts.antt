@@ -1,7 +1,8 @@
 -- Head lines leave no more components than there are groups.
-use Rattle.std.proofs.Common.{ℕ, ◌<◌, ◌≤◌, Bool, true, false, List, [], ◌∷◌, length, arith, length-append}
+use Rattle.std.proofs.Common.{ℕ, ◌<◌, ◌≤◌, ◌==◌, ◌&&◌, Bool, true, false, List, [], ◌∷◌, length, arith, length-append}
 use Rattle.std.specs.Prelude.{nat_lt, nat_le, not, is_some}
 use Rattle.std.proofs.lemmas.Bool.Decides.{nat_tests}
+use Rattle.auction_rows.specs.Parts.{site_components, site_parts}
 use Rattle.crash_base.specs.Names.{is_component_name}
 use Rattle.crash_base.specs.declared.scope.TheConstants.{MAX_GROUPS}
 use Rattle.deployment.specs.declared.parts.ComponentPart.{ComponentPart}
@@ -13,9 +14,10 @@ use Rattle.scenario_text.specs.declared.line.Line.TheVariants as lines
 use Rattle.scenario_text.specs.declared.head_line.HeadLine.{HeadLine}
 use Rattle.scenario_text.specs.declared.head_line.HeadLine.TheVariants as heads
 use Rattle.line_steps.specs.declared.head.Head.{Head}
+use Rattle.line_steps.specs.declared.head.TheConstants.{SITE_BRICKS, SITE_MOST, SITE_LEAST}
 use Rattle.scenario_text.specs.Setup.{SetupState, bricks_step, key_step}
 use Rattle.scenario_text.specs.Answer.{Answer, Refused, Done, refused_if, within}
-use Rattle.line_steps.specs.Head.{head_step, head_line, plain, with_parts, with_setup, with_component, component_step, reference_step, owns_step, limit_step}
+use Rattle.line_steps.specs.Head.{open_step, head_step, head_line, declares, plain, with_parts, with_setup, with_site, with_component, component_step, reference_step, owns_step, limit_step, site_step}
 use Rattle.line_steps.specs.Tables.{table_of}
 use Rattle.scenario_text.proofs.Leaving.{Leaves, leaves-refused_if, leaves-or_refused, leaves-within}
 
@@ -56,18 +58,37 @@ unfolding limit_step
 few_limit head entries bytes few =
     leaves-refused_if (λ (h : Head). AreFew h.parts) (nat_lt MAX_ENTRIES entries) _ (λ low. leaves-refused_if (λ (h : Head). AreFew h.parts) (nat_lt MAX_JOURNAL_BYTES bytes) _ (λ small. few))
 
+-- the site has few components
+few_site : AreFew site_parts
+unfolding site_components
+few_site = omega arith
+
 few_setup : (head : Head) (a : Answer SetupState) → AreFew head.parts → Leaves (λ h. AreFew h.parts) (within (with_setup head) a)
 few_setup head Refused few = tt
 few_setup head (Done setup text) few = few
 
+few_with_site : (head : Head) (a : Answer SetupState) → Leaves (λ h. AreFew h.parts) (within (with_site head) a)
+few_with_site head Refused = tt
+few_with_site head (Done setup text) = few_site
+
+few_site_step : (head : Head) → Leaves (λ h. AreFew h.parts) (site_step head)
+unfolding site_step
+few_site_step head =
+    leaves-refused_if (λ (h : Head). AreFew h.parts) (not (length head.parts.components == 0)) _ (λ none. few_with_site head (bricks_step head.setup SITE_BRICKS SITE_MOST SITE_LEAST))
+
+few_open_step : (head : Head) (line : HeadLine) → AreFew head.parts → Leaves (λ h. AreFew h.parts) (open_step head line)
+few_open_step head (heads.Component name) few = few_parts head (component_step head.parts name) (few_component head.parts name)
+few_open_step head (heads.Hard from to) few = few_parts head (reference_step head.parts from to true) (few_reference head.parts from to true few)
+few_open_step head (heads.Soft from to) few = few_parts head (reference_step head.parts from to false) (few_reference head.parts from to false few)
+few_open_step head (heads.Owns name table) few = few_parts head (owns_step head.parts name table) (few_owns head.parts name table few)
+few_open_step head (heads.Limit entries bytes) few = few_limit head entries bytes few
+few_open_step head (heads.Bricks bricks most least) few = few_setup head (bricks_step head.setup bricks most least) few
+few_open_step head (heads.Key bytes) few = few_setup head (key_step head.setup bytes) few
+few_open_step head heads.Site few = few_site_step head
+
 few_head_step : (head : Head) (line : HeadLine) → AreFew head.parts → Leaves (λ h. AreFew h.parts) (head_step head line)
-few_head_step head (heads.Component name) few = few_parts head (component_step head.parts name) (few_component head.parts name)
-few_head_step head (heads.Hard from to) few = few_parts head (reference_step head.parts from to true) (few_reference head.parts from to true few)
-few_head_step head (heads.Soft from to) few = few_parts head (reference_step head.parts from to false) (few_reference head.parts from to false few)
-few_head_step head (heads.Owns name table) few = few_parts head (owns_step head.parts name table) (few_owns head.parts name table few)
-few_head_step head (heads.Limit entries bytes) few = few_limit head entries bytes few
-few_head_step head (heads.Bricks bricks most least) few = few_setup head (bricks_step head.setup bricks most least) few
-few_head_step head (heads.Key bytes) few = few_setup head (key_step head.setup bytes) few
+few_head_step head line few =
+    leaves-refused_if (λ (h : Head). AreFew h.parts) (head.site && declares line) (open_step head line) (λ allowed. few_open_step head line few)
 
 pub few_head : (head : Head) (line : Line) → AreFew head.parts → Leaves (λ h. AreFew h.parts) (head_line head line)
 few_head head lines.Pass few = few
@@ -77,3 +98,4 @@ few_head head (lines.Commit c) few = tt
 few_head head (lines.Boot line) few = tt
 few_head head lines.Reopen few = tt
 few_head head (lines.Session line) few = tt
+few_head head (lines.Seat line) few = tt

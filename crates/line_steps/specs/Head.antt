@@ -1,5 +1,6 @@
 -- Head lines, which build the parts of a deployment, set the limits of the journal, and set up sessions.
-use Rattle.std.specs.Prelude.{ℕ, nat_le, nat_lt, not, Bool, true, false, List, [], ◌∷◌, ◌++◌, length, is_some}
+use Rattle.std.specs.Prelude.{◌≡◌, ◌==◌, ◌&&◌, ℕ, nat_le, nat_lt, not, Bool, true, false, List, [], ◌∷◌, ◌++◌, length, is_some}
+use Rattle.auction_rows.specs.Parts.{site_parts}
 use Rattle.crash_base.specs.Names.{is_component_name}
 use Rattle.crash_base.specs.declared.scope.TheConstants.{MAX_GROUPS}
 use Rattle.journal_model.specs.declared.limits.TheConstants.{MAX_ENTRIES, MAX_JOURNAL_BYTES}
@@ -14,18 +15,20 @@ use Rattle.deployment.specs.declared.parts.Reference.{Reference}
 use Rattle.scenario_text.specs.Answer.{Answer, Refused, Done, refused_if, or_refused, within}
 use Rattle.line_steps.specs.Tables.{table_of}
 use Rattle.line_steps.specs.declared.head.Head.{Head}
+use Rattle.line_steps.specs.declared.head.TheConstants.{SITE_BRICKS, SITE_MOST, SITE_LEAST}
 use Rattle.scenario_text.specs.Setup.{SetupState, no_setup, bricks_step, key_step}
 
 -- no parts
 abbrev pub no_parts : Parts
 no_parts = record { components = []; references = []; tables = [] }
 
--- what there is before the first line: no parts, the greatest limits, and no bricks
+-- what there is before the first line: no parts, the greatest limits, no bricks, and no site
 abbrev pub no_head : Head
 no_head = record {
   parts = no_parts;
   limits = record { entries = MAX_ENTRIES; bytes = MAX_JOURNAL_BYTES };
   setup = no_setup;
+  site = false;
 }
 
 -- the same head with these parts
@@ -35,6 +38,10 @@ with_parts head parts = record head { parts = parts }
 -- the same head with this setup of sessions
 abbrev pub with_setup : Head → SetupState → Head
 with_setup head setup = record head { setup = setup }
+
+-- the same head with the parts of the site, and this setup of sessions
+abbrev pub with_site : Head → SetupState → Head
+with_site head setup = record head { parts = site_parts; setup = setup; site = true }
 
 -- a component with one method `call`, which may be called again
 abbrev pub plain : List ℕ → ComponentPart
@@ -88,20 +95,43 @@ limit_step head entries bytes =
     (refused_if (nat_lt MAX_JOURNAL_BYTES bytes)
     (Done (record head { limits = record { entries = entries; bytes = bytes } }) []))
 
--- a line of the head
-abbrev pub head_step : Head → HeadLine → Answer Head
-head_step head (heads.Component name) =
+-- The parts are those of the site, and so are the bricks: 3, of which a write asks 3 and needs 2. Refused where a
+-- component or bricks are there.
+unfoldable pub site_step : Head → Answer Head
+site_step head =
+    refused_if (not (length head.parts.components == 0))
+    (within (with_site head) (bricks_step head.setup SITE_BRICKS SITE_MOST SITE_LEAST))
+
+-- whether a line declares a part
+abbrev pub declares : HeadLine → Bool
+declares (heads.Component name) = true
+declares (heads.Hard from to) = true
+declares (heads.Soft from to) = true
+declares (heads.Owns name table) = true
+declares (heads.Limit entries bytes) = false
+declares (heads.Bricks bricks most least) = false
+declares (heads.Key bytes) = false
+declares heads.Site = false
+
+-- a line of the head that is not refused for the site
+abbrev pub open_step : Head → HeadLine → Answer Head
+open_step head (heads.Component name) =
     within (with_parts head) (component_step head.parts name)
-head_step head (heads.Hard from to) =
+open_step head (heads.Hard from to) =
     within (with_parts head) (reference_step head.parts from to true)
-head_step head (heads.Soft from to) =
+open_step head (heads.Soft from to) =
     within (with_parts head) (reference_step head.parts from to false)
-head_step head (heads.Owns name table) =
+open_step head (heads.Owns name table) =
     within (with_parts head) (owns_step head.parts name table)
-head_step head (heads.Limit entries bytes) = limit_step head entries bytes
-head_step head (heads.Bricks bricks most least) =
+open_step head (heads.Limit entries bytes) = limit_step head entries bytes
+open_step head (heads.Bricks bricks most least) =
     within (with_setup head) (bricks_step head.setup bricks most least)
-head_step head (heads.Key bytes) = within (with_setup head) (key_step head.setup bytes)
+open_step head (heads.Key bytes) = within (with_setup head) (key_step head.setup bytes)
+open_step head heads.Site = site_step head
+
+-- a line of the head: where the parts are those of the site, none is declared
+abbrev pub head_step : Head → HeadLine → Answer Head
+head_step head line = refused_if (head.site && declares line) (open_step head line)
 
 -- a line before the boot is started, which no event line is
 abbrev pub head_line : Head → Line → Answer Head
@@ -112,3 +142,8 @@ head_line head (lines.Commit c) = Refused
 head_line head (lines.Boot line) = Refused
 head_line head lines.Reopen = Refused
 head_line head (lines.Session line) = Refused
+head_line head (lines.Seat line) = Refused
+
+-- where the parts are said to be those of the site, they are
+abbrev pub IsOfSite : Head → Type 0
+IsOfSite head = head.site ≡ true → head.parts ≡ site_parts

@@ -1,24 +1,37 @@
 //! Head lines, which build the parts of a deployment, set the limits of the journal, and set up sessions.
 
-ghost use Rattle.std.specs.Prelude.{◌≡◌, None, IfOk, true, false};
+ghost use Rattle.std.specs.Prelude.{◌≡◌, ◌&&◌, None, IfOk, true, false};
+ghost use Rattle.auction_rows.specs.Parts.{site_parts};
 ghost use Rattle.deployment.specs.Refusals.{deploy_refusal};
 ghost use Rattle.scenario_text.specs.Answer.{KeepsRefused, answer_of, within};
-ghost use Rattle.line_steps.specs.Head.{no_head, component_step, reference_step, owns_step, limit_step, head_step, head_line};
+ghost use Rattle.line_steps.specs.Head.{no_head, component_step, reference_step, owns_step, limit_step, site_step, declares, open_step, head_step, head_line, IsOfSite};
 
+use crate::copying::parts_copied;
 use crate::tables::table_of;
+use auction_rows::site_deployment;
 use boot_core::{JournalLimits, MAX_ENTRIES, MAX_JOURNAL_BYTES};
 use crash_base::{ComponentName, ComponentNo, MAX_GROUPS, OutOfMemory, is_component_name};
 use deployment::{ComponentPart, Parts, Reference, TablePart, one_call};
 use scenario_text::{HeadLine, Line, LineAnswer, Setup};
 use std::alloc::Global;
 
-/// What head lines have said: the parts of a deployment, the limits of the journal, and the bricks and the key of
-/// sessions.
+/// How many bricks the site has.
+pub const SITE_BRICKS: u64 = 3;
+
+/// The most bricks that a write of the site asks.
+pub const SITE_MOST: u64 = 3;
+
+/// The fewest bricks that are to store what the site writes.
+pub const SITE_LEAST: u64 = 2;
+
+/// What head lines have said: the parts of a deployment, the limits of the journal, the bricks and the key of sessions,
+/// and whether the parts are those of the site.
 #[derive(Drop)]
 pub struct Head {
     pub parts: Parts,
     pub limits: JournalLimits,
     pub setup: Setup,
+    pub site: bool,
 }
 
 /// The next component.
@@ -101,6 +114,7 @@ fn limit_step(head: &mut Head, entries: u64, bytes: u64) -> LineAnswer
     ensures answer { answer_of result head.new ≡ limit_step head.old entries bytes }
     ensures refused { KeepsRefused result head.old head.new }
     ensures parts { head.new.parts ≡ head.old.parts }
+    ensures site { head.new.site ≡ head.old.site }
 {
     if entries > MAX_ENTRIES {
         return LineAnswer::Refused;
@@ -124,16 +138,68 @@ impl Head {
                 bytes: MAX_JOURNAL_BYTES,
             },
             setup: Setup::new(),
+            site: false,
         }
     }
 }
 
-/// A line of the head.
-fn head_step(alloc: Global, head: &mut Head, line: HeadLine) -> Result<LineAnswer, OutOfMemory>
+/// The parts of the site.
+fn site_parts(alloc: Global) -> Result<Parts, OutOfMemory>
+    ensures parts { IfOk result (λ parts. parts ≡ site_parts) }
+    ensures accepted { IfOk result (λ parts. deploy_refusal parts ≡ None) }
+{
+    let deployment = site_deployment(alloc)?;
+    let parts = parts_copied(alloc, deployment.parts())?;
+    Ok(parts)
+}
+
+/// The parts and the bricks are those of the site.
+#[tactic(auto, unfolding(crate::specs::Head::site_step))]
+fn site_step(alloc: Global, head: &mut Head) -> Result<LineAnswer, OutOfMemory>
     requires { deploy_refusal head.old.parts ≡ None }
-    ensures answer { IfOk result (λ a. answer_of a head.new ≡ head_step head.old line) }
+    ensures answer { IfOk result (λ a. answer_of a head.new ≡ site_step head.old) }
     ensures refused { IfOk result (λ a. KeepsRefused a head.old head.new) }
     ensures accepted { deploy_refusal head.new.parts ≡ None }
+    ensures of_site { IsOfSite head.old → IsOfSite head.new }
+{
+    if !head.parts.components.is_empty() {
+        return Ok(LineAnswer::Refused);
+    }
+    let parts = site_parts(alloc)?;
+    match head.setup.bricks_line(SITE_BRICKS, SITE_MOST, SITE_LEAST) {
+        LineAnswer::Refused => Ok(LineAnswer::Refused),
+        answer => {
+            head.parts = parts;
+            head.site = true;
+            Ok(answer)
+        }
+    }
+}
+
+/// Whether a line declares a part.
+fn declares(line: &HeadLine) -> bool
+    ensures { result ≡ declares line.now }
+{
+    match line {
+        HeadLine::Component(_) => true,
+        HeadLine::Hard(_, _) => true,
+        HeadLine::Soft(_, _) => true,
+        HeadLine::Owns(_, _) => true,
+        HeadLine::Limit(_, _) => false,
+        HeadLine::Bricks(_, _, _) => false,
+        HeadLine::Key(_) => false,
+        HeadLine::Site => false,
+    }
+}
+
+/// A line of the head, which declares no part where the parts are those of the site.
+fn open_step(alloc: Global, head: &mut Head, line: HeadLine) -> Result<LineAnswer, OutOfMemory>
+    requires accepted { deploy_refusal head.old.parts ≡ None }
+    requires open { (head.old.site && declares line) ≡ false }
+    ensures answer { IfOk result (λ a. answer_of a head.new ≡ open_step head.old line) }
+    ensures refused { IfOk result (λ a. KeepsRefused a head.old head.new) }
+    ensures accepted { deploy_refusal head.new.parts ≡ None }
+    ensures of_site { IsOfSite head.old → IsOfSite head.new }
 {
     match line {
         HeadLine::Component(name) => component_step(alloc, &mut head.parts, name),
@@ -143,7 +209,22 @@ fn head_step(alloc: Global, head: &mut Head, line: HeadLine) -> Result<LineAnswe
         HeadLine::Limit(entries, bytes) => Ok(limit_step(head, entries, bytes)),
         HeadLine::Bricks(bricks, most, least) => { Ok(head.setup.bricks_line(bricks, most, least)) }
         HeadLine::Key(key) => Ok(head.setup.key_line(key)),
+        HeadLine::Site => site_step(alloc, head),
     }
+}
+
+/// A line of the head.
+fn head_step(alloc: Global, head: &mut Head, line: HeadLine) -> Result<LineAnswer, OutOfMemory>
+    requires { deploy_refusal head.old.parts ≡ None }
+    ensures answer { IfOk result (λ a. answer_of a head.new ≡ head_step head.old line) }
+    ensures refused { IfOk result (λ a. KeepsRefused a head.old head.new) }
+    ensures accepted { deploy_refusal head.new.parts ≡ None }
+    ensures of_site { IsOfSite head.old → IsOfSite head.new }
+{
+    if head.site && declares(&line) {
+        return Ok(LineAnswer::Refused);
+    }
+    open_step(alloc, head, line)
 }
 
 /// A line before the boot is started.
@@ -152,12 +233,16 @@ pub fn head_line(alloc: Global, head: &mut Head, line: Line) -> Result<LineAnswe
     ensures answer { IfOk result (λ a. answer_of a head.new ≡ head_line head.old line) }
     ensures refused { IfOk result (λ a. KeepsRefused a head.old head.new) }
     ensures accepted { deploy_refusal head.new.parts ≡ None }
+    ensures of_site { IsOfSite head.old → IsOfSite head.new }
 {
     match line {
         Line::Pass => Ok(LineAnswer::Done),
         Line::Head(line) => head_step(alloc, head, line),
-        Line::Call(_, _) | Line::Commit(_) | Line::Boot(_) | Line::Reopen | Line::Session(_) => {
-            Ok(LineAnswer::Refused)
-        }
+        Line::Call(_, _)
+        | Line::Commit(_)
+        | Line::Boot(_)
+        | Line::Reopen
+        | Line::Session(_)
+        | Line::Seat(_) => Ok(LineAnswer::Refused),
     }
 }

@@ -5,7 +5,7 @@
 //!
 //! ```text
 //! let mut head = Head::new(alloc);
-//! head_line(alloc, &mut head, line)?;          // component, hard, soft, owns, limit
+//! head_line(alloc, &mut head, line)?;          // component, hard, soft, owns, limit, site
 //! let mut callers = Callers::new(alloc);
 //! if callers.can_begin(7) {
 //!     callers.pad(7)?;
@@ -15,19 +15,21 @@
 //! let ticket = callers.take(7);                // to be committed, or dropped
 //! ```
 //!
-//! `head_line` keeps the parts of the head such that a deployment accepts them, and `Callers` keeps the calls such that
-//! each fits its boot. A line visits its bytes and those that it writes, and what its call of the boot visits.
+//! `head_line` keeps the parts of the head such that a deployment accepts them, which are those of the site where it
+//! was named, and `Callers` keeps the calls such that each fits its boot. A line visits its bytes and those that it
+//! writes, and what its call of the boot visits.
 #![tactic(auto)]
 
 mod call_lines;
 mod callers;
+mod copying;
 mod head;
 mod tables;
 mod texts;
 
 pub use call_lines::call_line;
 pub use callers::{Caller, Callers, request_of};
-pub use head::{Head, head_line};
+pub use head::{Head, SITE_BRICKS, SITE_LEAST, SITE_MOST, head_line};
 pub use tables::{LAST_TABLE, table_of};
 pub use texts::{
     boot_text, commit_refusal_text, committed_text, down_text, journal_text, list_answer_text,

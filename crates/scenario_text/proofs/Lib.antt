@@ -10,4 +10,5 @@ pub mod WordKinds
 pub mod LineForms
 pub mod LineReads
 pub mod SessionSpelled
+pub mod SeatSpelled
 pub mod Spelled

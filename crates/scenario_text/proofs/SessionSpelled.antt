@@ -49,7 +49,7 @@ session_spelled first words line h =
 
 -- what is read, as a line
 abbrev as_line : {A : Type 0} → (A → SessionLine) → Option A → Option Line
-as_line mk o = option_map (λ s. Session s) (option_map mk o)
+as_line mk o = option_or (option_map (λ s. Session s) (option_map mk o)) None
 
 -- a line about sessions is read from its spelling
 pub session_read : (line : SessionLine) → IsSessionInRange line → IsRead (Session line)
@@ -62,7 +62,7 @@ session_read (Lose brick count) (h, k) = two_read bricks numbers (Session (Lose 
 session_read (Mute brick count) (h, k) = two_read bricks numbers (Session (Mute brick count)) (codes "mute") brick count h k (as_line (λ p. Mute p.0 p.1)) refl refl refl refl refl
 session_read (Repeat brick index) (h, k) = two_read bricks numbers (Session (Repeat brick index)) (codes "repeat") brick index h k (as_line (λ p. Repeat p.0 p.1)) refl refl refl refl refl
 session_read (Crash brick) h = one_read bricks (Session (Crash brick)) (codes "crash") brick h (as_line (λ a. Crash a)) refl refl refl refl refl
-session_read (Sweep brick None) h = one_read bricks (Session (Sweep brick None)) (codes "sweep") brick h (λ o. option_map (λ s. Session s) (option_or (option_map (λ b. Sweep b None) o) None)) refl refl refl refl refl
+session_read (Sweep brick None) h = one_read bricks (Session (Sweep brick None)) (codes "sweep") brick h (λ o. option_or (option_map (λ s. Session s) (option_or (option_map (λ b. Sweep b None) o) None)) None) refl refl refl refl refl
 session_read (Sweep brick (Some moment)) (h, k) = two_read bricks numbers (Session (Sweep brick (Some moment))) (codes "sweep") brick moment h k (as_line (λ p. Sweep p.0 (Some p.1))) refl refl refl refl refl
 session_read (Values brick) h = one_read bricks (Session (Values brick)) (codes "values") brick h (as_line (λ a. Values a)) refl refl refl refl refl
 session_read Windows h = no_read (Session Windows) (codes "windows") refl refl refl refl

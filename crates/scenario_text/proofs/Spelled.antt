@@ -11,14 +11,15 @@ use Rattle.scenario_text.specs.declared.line.TheConstants.{MAX_LINE_BYTES}
 use Rattle.scenario_text.specs.Fields.{decimal_number, caller_number, hex_bytes}
 use Rattle.scenario_text.specs.Texts.{hex_text}
 use Rattle.scenario_text.specs.Words.{words_of, four_words}
-use Rattle.scenario_text.specs.Reading.{line_of, line_of_words, head_line, event_line, call_or_other, call_line, boot_or_session, boot_line, put_line, passes, is_comment_byte}
+use Rattle.scenario_text.specs.Reading.{line_of, line_of_words, head_line, event_line, call_or_other, call_line, boot_or_other, session_or_seat, boot_line, put_line, passes, is_comment_byte}
 use Rattle.scenario_text.specs.Spelling.{Spells, IsInRange, IsHeadInRange, IsCallInRange, IsBootInRange, IsComment, spelling, words_of_line, words_of_head_line, words_of_call_line, words_of_boot_line}
 use Rattle.scenario_text.specs.FieldSpelling.{IsCaller, caller_word}
+use Rattle.scenario_text.specs.SeatReading.{seat_line}
 use Rattle.scenario_text.specs.SessionReading.{session_line}
 use Rattle.scenario_text.specs.declared.line.Line.{Line}
-use Rattle.scenario_text.specs.declared.line.Line.TheVariants.{Pass, Head, Call, Commit, Boot, Reopen, Session}
+use Rattle.scenario_text.specs.declared.line.Line.TheVariants.{Pass, Head, Call, Commit, Boot, Reopen, Session, Seat}
 use Rattle.scenario_text.specs.declared.head_line.HeadLine.{HeadLine}
-use Rattle.scenario_text.specs.declared.head_line.HeadLine.TheVariants.{Component, Hard, Soft, Owns, Limit, Bricks, Key}
+use Rattle.scenario_text.specs.declared.head_line.HeadLine.TheVariants.{Component, Hard, Soft, Owns, Limit, Bricks, Key, Site}
 use Rattle.scenario_text.specs.declared.call_line.CallLine.{CallLine}
 use Rattle.scenario_text.specs.declared.call_line.CallLine.TheVariants.{Enter, Exit, Read, List as ListLine, Put}
 use Rattle.scenario_text.specs.declared.boot_line.BootLine.{BootLine}
@@ -28,6 +29,7 @@ use Rattle.scenario_text.proofs.Splits.{words_joined}
 use Rattle.scenario_text.proofs.WordKinds.{names, numbers, callers, texts, bytes, four_are}
 use Rattle.scenario_text.proofs.LineForms.{Grammar, AreWords, same_line, form, no_form, one_form, two_form, three_form}
 use Rattle.scenario_text.proofs.LineReads.{IsRead, no_read, one_read, two_read}
+use Rattle.scenario_text.proofs.SeatSpelled.{seat_spelled, seat_read}
 use Rattle.scenario_text.proofs.SessionSpelled.{one_of, session_spelled, session_read}
 
 abbrev lines : Grammar Line
@@ -69,7 +71,8 @@ head_spelled first words line h =
     two_form heads numbers numbers (codes "limit") (λ p. Limit p.0 p.1) (λ _ r. (r, refl)) first words line _ (
     three_form heads numbers numbers numbers (codes "bricks") (λ p. Bricks p.0 p.1.0 p.1.1) (λ _ r. (r, refl)) first words line _ (
     one_form heads bytes (codes "key") (λ b. Key b) (λ _ r. (r, refl)) first words line _ (
-    λ k. cc))))))) h
+    no_form heads (codes "site") Site (tt, refl) first words line _ (
+    λ k. cc)))))))) h
 
 -- a line of a live call
 call_spelled : (first : List ℕ) (words : List (List ℕ)) (line : ℕ × CallLine) → call_line first words ≡ Some line → AreWords calls (first ∷ words) line
@@ -99,19 +102,26 @@ of_group mk words line o each h =
     let (s, e, made) = map_some mk o line h in
     same_line lines words (mk s) line made (each s e)
 
-boot_or_session_spelled : (first : List ℕ) (words : List (List ℕ)) (line : Line) → boot_or_session first words ≡ Some line → AreWords lines (first ∷ words) line
-boot_or_session_spelled first words line h = go (one_of (option_map (λ b. Boot b) (boot_line first words)) (option_map (λ s. Session s) (session_line first words)) line h)
+session_or_seat_spelled : (first : List ℕ) (words : List (List ℕ)) (line : Line) → session_or_seat first words ≡ Some line → AreWords lines (first ∷ words) line
+session_or_seat_spelled first words line h = go (one_of (option_map (λ s. Session s) (session_line first words)) (option_map (λ s. Seat s) (seat_line first words)) line h)
   where
-    go : (option_map (λ b. Boot b) (boot_line first words) ≡ Some line) ⊎ (option_map (λ s. Session s) (session_line first words) ≡ Some line) → AreWords lines (first ∷ words) line
+    go : (option_map (λ s. Session s) (session_line first words) ≡ Some line) ⊎ (option_map (λ s. Seat s) (seat_line first words) ≡ Some line) → AreWords lines (first ∷ words) line
+    go (inl k) = of_group (λ s. Session s) (first ∷ words) line (session_line first words) (session_spelled first words) k
+    go (inr k) = of_group (λ s. Seat s) (first ∷ words) line (seat_line first words) (seat_spelled first words) k
+
+boot_or_other_spelled : (first : List ℕ) (words : List (List ℕ)) (line : Line) → boot_or_other first words ≡ Some line → AreWords lines (first ∷ words) line
+boot_or_other_spelled first words line h = go (one_of (option_map (λ b. Boot b) (boot_line first words)) (session_or_seat first words) line h)
+  where
+    go : (option_map (λ b. Boot b) (boot_line first words) ≡ Some line) ⊎ (session_or_seat first words ≡ Some line) → AreWords lines (first ∷ words) line
     go (inl k) = of_group (λ b. Boot b) (first ∷ words) line (boot_line first words) (boot_spelled first words) k
-    go (inr k) = of_group (λ s. Session s) (first ∷ words) line (session_line first words) (session_spelled first words) k
+    go (inr k) = session_or_seat_spelled first words line k
 
 call_or_other_spelled : (first : List ℕ) (words : List (List ℕ)) (line : Line) → call_or_other first words ≡ Some line → AreWords lines (first ∷ words) line
-call_or_other_spelled first words line h = go (one_of (option_map (λ p. Call p.0 p.1) (call_line first words)) (boot_or_session first words) line h)
+call_or_other_spelled first words line h = go (one_of (option_map (λ p. Call p.0 p.1) (call_line first words)) (boot_or_other first words) line h)
   where
-    go : (option_map (λ p. Call p.0 p.1) (call_line first words) ≡ Some line) ⊎ (boot_or_session first words ≡ Some line) → AreWords lines (first ∷ words) line
+    go : (option_map (λ p. Call p.0 p.1) (call_line first words) ≡ Some line) ⊎ (boot_or_other first words ≡ Some line) → AreWords lines (first ∷ words) line
     go (inl k) = of_group (λ p. Call p.0 p.1) (first ∷ words) line (call_line first words) (call_spelled first words) k
-    go (inr k) = boot_or_session_spelled first words line k
+    go (inr k) = boot_or_other_spelled first words line k
 
 event_spelled : (first : List ℕ) (words : List (List ℕ)) (line : Line) → event_line first words ≡ Some line → AreWords lines (first ∷ words) line
 event_spelled first words line h =
@@ -199,6 +209,7 @@ head_read (Owns name table) (h, k) = two_read names numbers (Head (Owns name tab
 head_read (Limit entries room) (h, k) = two_read numbers numbers (Head (Limit entries room)) (codes "limit") entries room h k (as_head (λ p. Limit p.0 p.1)) refl refl refl refl refl
 head_read (Bricks bricks most least) (h, k, l) = (refl, words_joined (codes "bricks") (decimal bricks ∷ decimal most ∷ decimal least ∷ []) refl (numbers.whole bricks h, (numbers.whole most k, (numbers.whole least l, tt))), rw (numbers.read bricks h, numbers.read most k, numbers.read least l) refl)
 head_read (Key key) h = one_read bytes (Head (Key key)) (codes "key") key h (as_head (λ a. Key a)) refl refl refl refl refl
+head_read Site h = no_read (Head Site) (codes "site") refl refl refl refl
 
 -- one of a live call
 call_read : (caller : ℕ) (line : CallLine) → IsCaller caller → IsCallInRange line → IsRead (Call caller line)
@@ -227,6 +238,7 @@ spelling_read text (Commit caller) few h e = read_short text (Commit caller) few
 spelling_read text (Boot line) few h e = read_short text (Boot line) few e (boot_read line h)
 spelling_read text Reopen few h e = read_short text Reopen few e (no_read Reopen (codes "reopen") refl refl refl refl)
 spelling_read text (Session line) few h e = read_short text (Session line) few e (session_read line h)
+spelling_read text (Seat line) few h e = read_short text (Seat line) few e (seat_read line h)
 
 -- what a text spells, it is read as
 spelled_read : (text : List ℕ) (line : Line) → Spells text line → line_of text ≡ Some line

@@ -6,11 +6,12 @@ use Rattle.std.specs.Option.{option_zip}
 use Rattle.std.proofs.lemmas.Bool.{and_parts}
 use Rattle.crash_base.specs.Names.{is_name_byte}
 use Rattle.scenario_text.specs.declared.line.TheConstants.{MAX_CALLER}
+use Rattle.scenario_text.specs.declared.seat_line.TheConstants.{MAX_SEAT}
 use Rattle.scenario_text.specs.declared.session_line.TheConstants.{MAX_KEY}
 use Rattle.scenario_text.specs.declared.session_line.Freed.{Freed}
-use Rattle.scenario_text.specs.Fields.{name_of, decimal_number, brick_number, caller_number, key_number, hex_bytes, text_of, freed_of}
+use Rattle.scenario_text.specs.Fields.{name_of, decimal_number, brick_number, caller_number, key_number, seat_number, hex_bytes, text_of, freed_of}
 use Rattle.scenario_text.specs.Texts.{hex_text}
-use Rattle.scenario_text.specs.FieldSpelling.{IsName, IsNumber, IsBrick, IsCaller, IsSessionKey, IsText, AreBytes, caller_word, key_word, freed_word}
+use Rattle.scenario_text.specs.FieldSpelling.{IsName, IsNumber, IsBrick, IsCaller, IsSessionKey, IsSeat, IsText, AreBytes, caller_word, key_word, seat_word, freed_word}
 use Rattle.scenario_text.specs.Words.{one_word, two_words, three_words, four_words}
 use Rattle.scenario_text.proofs.OneWord.{number_read, number_spelled, brick_read, brick_spelled, decimal_digits, lettered_read, lettered_spelled, is_name_read, name_read, name_spelled}
 use Rattle.scenario_text.proofs.Splits.{is_whole, whole_more, digits_whole, name_whole}
@@ -41,6 +42,9 @@ caller_whole c (low, high) = whole_more 99 (decimal c) refl (number_whole c (ome
 pub key_whole : (k : ℕ) → IsSessionKey k → is_whole (key_word k) ≡ true
 key_whole k (low, high) = whole_more 107 (decimal k) refl (number_whole k (omega arith))
 
+pub seat_whole : (s : ℕ) → IsSeat s → is_whole (seat_word s) ≡ true
+seat_whole s (low, high) = whole_more 115 (decimal s) refl (number_whole s (omega arith))
+
 abbrev pub names : Kind (List ℕ)
 names = record { says = name_of; word = λ n. n; IsIn = IsName; spelled = name_spelled; read = name_read; whole = named_whole }
 
@@ -55,6 +59,9 @@ callers = record { says = caller_number; word = caller_word; IsIn = IsCaller; sp
 
 abbrev pub keys : Kind ℕ
 keys = record { says = key_number; word = key_word; IsIn = IsSessionKey; spelled = lettered_spelled 107 MAX_KEY; read = lettered_read 107 MAX_KEY (omega arith); whole = key_whole }
+
+abbrev pub seats : Kind ℕ
+seats = record { says = seat_number; word = seat_word; IsIn = IsSeat; spelled = lettered_spelled 115 MAX_SEAT; read = lettered_read 115 MAX_SEAT (omega arith); whole = seat_whole }
 
 abbrev pub texts : Kind (List ℕ)
 texts = record { says = text_of; word = λ t. t; IsIn = IsText; spelled = text_spelled; read = text_read; whole = text_whole }

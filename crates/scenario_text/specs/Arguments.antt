@@ -2,7 +2,7 @@
 use Rattle.std.specs.Prelude.{ℕ, List, Option, option_and_then}
 use Rattle.std.specs.Option.{option_zip}
 use Rattle.scenario_text.specs.declared.session_line.Freed.{Freed}
-use Rattle.scenario_text.specs.Fields.{name_of, decimal_number, brick_number, caller_number, key_number, hex_bytes, text_of, freed_of}
+use Rattle.scenario_text.specs.Fields.{name_of, decimal_number, brick_number, caller_number, key_number, seat_number, hex_bytes, text_of, freed_of}
 use Rattle.scenario_text.specs.Words.{one_word, two_words, three_words}
 
 -- the name that is the only word
@@ -86,3 +86,12 @@ three_numbers words =
     option_and_then
     (λ w. option_zip (decimal_number w.0) (option_zip (decimal_number w.1) (decimal_number w.2)))
     (three_words words)
+
+-- the connection that is the only word
+abbrev pub one_seat : List (List ℕ) → Option ℕ
+one_seat words = option_and_then seat_number (one_word words)
+
+-- two words, a connection and bytes
+abbrev pub seat_and_bytes : List (List ℕ) → Option (ℕ × List ℕ)
+seat_and_bytes words =
+    option_and_then (λ w. option_zip (seat_number w.0) (hex_bytes w.1)) (two_words words)

@@ -3,6 +3,7 @@ use Rattle.std.specs.Prelude.{◌≡◌, ◌≢◌, ℕ, ◌^◌, ◌<◌, ◌�
 use Rattle.std.specs.Fmt.{decimal}
 use Rattle.crash_base.specs.declared.names.TheConstants.{MAX_NAME_BYTES}
 use Rattle.scenario_text.specs.declared.line.TheConstants.{MAX_HEX_BYTES, MAX_CALLER}
+use Rattle.scenario_text.specs.declared.seat_line.TheConstants.{MAX_SEAT}
 use Rattle.scenario_text.specs.declared.session_line.TheConstants.{MAX_KEY}
 use Rattle.scenario_text.specs.declared.session_line.Freed.{Freed}
 use Rattle.scenario_text.specs.declared.session_line.Freed.TheVariants.{Answered, Silent}
@@ -35,6 +36,10 @@ IsCaller caller = IsWithin 1 MAX_CALLER caller
 abbrev pub IsSessionKey : ℕ → Type 0
 IsSessionKey key = IsWithin 1 MAX_KEY key
 
+-- what the number of a connection may be
+abbrev pub IsSeat : ℕ → Type 0
+IsSeat seat = IsWithin 1 MAX_SEAT seat
+
 -- what a line may give in hexadecimal
 abbrev pub AreBytes : List ℕ → Type 0
 AreBytes bytes = (length bytes ≤ MAX_HEX_BYTES) × All (λ b. b < 256) bytes
@@ -51,6 +56,10 @@ caller_word caller = 99 ∷ decimal caller
 -- a session key's word: k and its number
 abbrev pub key_word : ℕ → List ℕ
 key_word key = 107 ∷ decimal key
+
+-- a connection's word: s and its number
+abbrev pub seat_word : ℕ → List ℕ
+seat_word seat = 115 ∷ decimal seat
 
 -- the word for how a pass is spent
 abbrev pub freed_word : Freed → List ℕ

@@ -6,6 +6,7 @@ use Rattle.std.specs.Str.{bytes_eq}
 use Rattle.std.specs.List.{list_all}
 use Rattle.crash_base.specs.Names.{is_name}
 use Rattle.scenario_text.specs.declared.line.TheConstants.{MAX_HEX_BYTES, MAX_CALLER}
+use Rattle.scenario_text.specs.declared.seat_line.TheConstants.{MAX_SEAT}
 use Rattle.scenario_text.specs.declared.session_line.TheConstants.{MAX_KEY}
 use Rattle.scenario_text.specs.declared.session_line.Freed.{Freed}
 use Rattle.scenario_text.specs.declared.session_line.Freed.TheVariants.{Answered, Silent}
@@ -49,6 +50,10 @@ caller_number word = lettered_number 99 MAX_CALLER word
 -- the number of a session key, after k
 abbrev pub key_number : List ℕ → Option ℕ
 key_number word = lettered_number 107 MAX_KEY word
+
+-- the number of a connection, after s
+abbrev pub seat_number : List ℕ → Option ℕ
+seat_number word = lettered_number 115 MAX_SEAT word
 
 -- the value of a lower case hexadecimal digit
 abbrev pub hex_digit : ℕ → Option ℕ

@@ -5,6 +5,8 @@ pub mod FieldSpelling
 pub mod Fields
 pub mod Line
 pub mod Reading
+pub mod SeatReading
+pub mod SeatSpelling
 pub mod SessionReading
 pub mod SessionSpelling
 pub mod Setup

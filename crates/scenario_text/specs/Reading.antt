@@ -6,9 +6,9 @@ use Rattle.std.specs.Str.{bytes_eq}
 use Rattle.std.specs.List.{list_all}
 use Rattle.scenario_text.specs.declared.line.TheConstants.{MAX_LINE_BYTES}
 use Rattle.scenario_text.specs.declared.line.Line.{Line}
-use Rattle.scenario_text.specs.declared.line.Line.TheVariants.{Pass, Head, Call, Commit, Boot, Reopen, Session}
+use Rattle.scenario_text.specs.declared.line.Line.TheVariants.{Pass, Head, Call, Commit, Boot, Reopen, Session, Seat}
 use Rattle.scenario_text.specs.declared.head_line.HeadLine.{HeadLine}
-use Rattle.scenario_text.specs.declared.head_line.HeadLine.TheVariants.{Component, Hard, Soft, Owns, Limit, Bricks, Key}
+use Rattle.scenario_text.specs.declared.head_line.HeadLine.TheVariants.{Component, Hard, Soft, Owns, Limit, Bricks, Key, Site}
 use Rattle.scenario_text.specs.declared.call_line.CallLine.{CallLine}
 use Rattle.scenario_text.specs.declared.call_line.CallLine.TheVariants.{Enter, Exit, Read, List as ListLine, Put}
 use Rattle.scenario_text.specs.declared.boot_line.BootLine.{BootLine}
@@ -16,6 +16,7 @@ use Rattle.scenario_text.specs.declared.boot_line.BootLine.TheVariants.{Begin, D
 use Rattle.scenario_text.specs.Fields.{decimal_number, caller_number, hex_bytes}
 use Rattle.scenario_text.specs.Words.{words_of, no_words, four_words}
 use Rattle.scenario_text.specs.Arguments.{one_name, one_caller, one_bytes, one_text, two_names, two_numbers, name_and_number, caller_and_name, caller_and_number, caller_and_two_numbers, three_numbers}
+use Rattle.scenario_text.specs.SeatReading.{seat_line}
 use Rattle.scenario_text.specs.SessionReading.{session_line}
 
 -- the line of put and these words: a caller, the numbers of a table and a key, and bytes
@@ -57,21 +58,27 @@ head_line first words =
     if bytes_eq first (codes "owns") then option_map (λ p. Owns p.0 p.1) (name_and_number words) else (
     if bytes_eq first (codes "limit") then option_map (λ p. Limit p.0 p.1) (two_numbers words) else (
     if bytes_eq first (codes "bricks") then option_map (λ p. Bricks p.0 p.1.0 p.1.1) (three_numbers words) else (
-    if bytes_eq first (codes "key") then option_map (λ b. Key b) (one_bytes words) else None))))))
+    if bytes_eq first (codes "key") then option_map (λ b. Key b) (one_bytes words) else (
+    if bytes_eq first (codes "site") then option_map (λ _. Site) (no_words words) else None)))))))
 
--- the line over the boot, or else about sessions, that they spell
-abbrev pub boot_or_session : List ℕ → List (List ℕ) → Option Line
-boot_or_session first words =
+-- the line about sessions, or else about connections, that they spell
+abbrev pub session_or_seat : List ℕ → List (List ℕ) → Option Line
+session_or_seat first words =
     option_or
-    (option_map (λ b. Boot b) (boot_line first words))
     (option_map (λ s. Session s) (session_line first words))
+    (option_map (λ s. Seat s) (seat_line first words))
 
--- the line of a live call, or else over the boot or about sessions, that they spell
+-- the line over the boot, or else about sessions or connections, that they spell
+abbrev pub boot_or_other : List ℕ → List (List ℕ) → Option Line
+boot_or_other first words =
+    option_or (option_map (λ b. Boot b) (boot_line first words)) (session_or_seat first words)
+
+-- the line of a live call, or else one that is neither of the head nor of a call, that they spell
 abbrev pub call_or_other : List ℕ → List (List ℕ) → Option Line
 call_or_other first words =
     option_or
     (option_map (λ p. Call p.0 p.1) (call_line first words))
-    (boot_or_session first words)
+    (boot_or_other first words)
 
 -- the event line that they spell
 abbrev pub event_line : List ℕ → List (List ℕ) → Option Line

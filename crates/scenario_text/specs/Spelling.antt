@@ -4,15 +4,16 @@ use Rattle.std.specs.Fmt.{decimal}
 use Rattle.std.specs.List.{join_with_byte}
 use Rattle.scenario_text.specs.declared.line.TheConstants.{MAX_LINE_BYTES}
 use Rattle.scenario_text.specs.declared.line.Line.{Line}
-use Rattle.scenario_text.specs.declared.line.Line.TheVariants.{Pass, Head, Call, Commit, Boot, Reopen, Session}
+use Rattle.scenario_text.specs.declared.line.Line.TheVariants.{Pass, Head, Call, Commit, Boot, Reopen, Session, Seat}
 use Rattle.scenario_text.specs.declared.head_line.HeadLine.{HeadLine}
-use Rattle.scenario_text.specs.declared.head_line.HeadLine.TheVariants.{Component, Hard, Soft, Owns, Limit, Bricks, Key}
+use Rattle.scenario_text.specs.declared.head_line.HeadLine.TheVariants.{Component, Hard, Soft, Owns, Limit, Bricks, Key, Site}
 use Rattle.scenario_text.specs.declared.call_line.CallLine.{CallLine}
 use Rattle.scenario_text.specs.declared.call_line.CallLine.TheVariants.{Enter, Exit, Read, List as ListLine, Put}
 use Rattle.scenario_text.specs.declared.boot_line.BootLine.{BootLine}
 use Rattle.scenario_text.specs.declared.boot_line.BootLine.TheVariants.{Begin, Drop, Down, Up, Reboot, Table, Journal}
 use Rattle.scenario_text.specs.Texts.{hex_text}
 use Rattle.scenario_text.specs.FieldSpelling.{IsName, IsNumber, IsCaller, IsText, AreBytes, caller_word}
+use Rattle.scenario_text.specs.SeatSpelling.{IsSeatInRange, words_of_seat_line}
 use Rattle.scenario_text.specs.SessionSpelling.{IsSessionInRange, words_of_session_line}
 
 -- the numbers, names and bytes of a line of the head are in their ranges
@@ -24,6 +25,7 @@ IsHeadInRange (Owns name table) = IsName name × IsNumber table
 IsHeadInRange (Limit entries bytes) = IsNumber entries × IsNumber bytes
 IsHeadInRange (Bricks bricks most least) = IsNumber bricks × IsNumber most × IsNumber least
 IsHeadInRange (Key bytes) = AreBytes bytes
+IsHeadInRange Site = Unit {0}
 
 -- those of a line of a live call
 abbrev pub IsCallInRange : CallLine → Type 0
@@ -52,6 +54,7 @@ IsInRange (Commit caller) = IsCaller caller
 IsInRange (Boot line) = IsBootInRange line
 IsInRange Reopen = Unit {0}
 IsInRange (Session line) = IsSessionInRange line
+IsInRange (Seat line) = IsSeatInRange line
 
 -- the words of a line of the head
 abbrev pub words_of_head_line : HeadLine → List (List ℕ)
@@ -63,6 +66,7 @@ words_of_head_line (Limit entries bytes) = codes "limit" ∷ decimal entries ∷
 words_of_head_line (Bricks bricks most least) =
     codes "bricks" ∷ decimal bricks ∷ decimal most ∷ decimal least ∷ []
 words_of_head_line (Key bytes) = codes "key" ∷ hex_text bytes ∷ []
+words_of_head_line Site = codes "site" ∷ []
 
 -- the words of a line of a caller's live call
 abbrev pub words_of_call_line : ℕ → CallLine → List (List ℕ)
@@ -93,6 +97,7 @@ words_of_line (Commit caller) = codes "commit" ∷ caller_word caller ∷ []
 words_of_line (Boot line) = words_of_boot_line line
 words_of_line Reopen = codes "reopen" ∷ []
 words_of_line (Session line) = words_of_session_line line
+words_of_line (Seat line) = words_of_seat_line line
 
 -- its words, with one space between each two; nothing for a line that is passed over
 abbrev pub spelling : Line → List ℕ

@@ -1,11 +1,12 @@
 //! What the words after a first one say together, or None where they do not say it.
 
 ghost use Rattle.std.specs.Prelude.{◌≡◌, IfOk};
-ghost use Rattle.scenario_text.specs.Arguments.{one_name, one_number, one_caller, one_key, one_bytes, one_text, two_names, two_numbers, name_and_number, caller_and_name, caller_and_number, key_and_bytes, one_brick, brick_and_number, brick_and_freed, caller_and_two_numbers, three_numbers};
+ghost use Rattle.scenario_text.specs.Arguments.{one_name, one_number, one_caller, one_key, one_bytes, one_text, two_names, two_numbers, name_and_number, caller_and_name, caller_and_number, key_and_bytes, one_brick, brick_and_number, brick_and_freed, caller_and_two_numbers, three_numbers, one_seat, seat_and_bytes};
 ghost use Rattle.scenario_text.specs.Words.{words_after};
 
 use crate::fields::{
-    brick_number, caller_number, decimal_number, freed_of, hex_bytes, key_number, name_of, text_of,
+    brick_number, caller_number, decimal_number, freed_of, hex_bytes, key_number, name_of,
+    seat_number, text_of,
 };
 use crate::line::HexBytes;
 use crate::session_line::Freed;
@@ -171,4 +172,22 @@ pub fn three_numbers(left: &[u8]) -> Option<(u64, (u64, u64))>
 {
     let (first, second, third) = three_words(left)?;
     decimal_number(first).zip(decimal_number(second).zip(decimal_number(third)))
+}
+
+/// The connection that is the only word.
+pub fn one_seat(left: &[u8]) -> Option<u64>
+    ensures { result ≡ one_seat (words_after left.now) }
+{
+    seat_number(one_word(left)?)
+}
+
+/// Two words, a connection and bytes.
+pub fn seat_and_bytes(alloc: Global, left: &[u8]) -> Result<Option<(u64, HexBytes)>, OutOfMemory>
+    ensures { IfOk result (λ words. words ≡ seat_and_bytes (words_after left.now)) }
+{
+    let Some((seat, hex)) = two_words(left) else {
+        return Ok(None);
+    };
+    let bytes = hex_bytes(alloc, hex)?;
+    Ok(seat_number(seat).zip(bytes))
 }

@@ -3,9 +3,10 @@
 ghost use Rattle.std.specs.Prelude.{◌≡◌, ◌<◌, ◌≤◌, ◌*◌, length, IfOk, IfSome, Option};
 ghost use Rattle.std.specs.Option.{option_map};
 ghost use Rattle.std.specs.List.{list_all};
-ghost use Rattle.scenario_text.specs.Fields.{name_of, decimal_number, brick_number, lettered_number, caller_number, key_number, hex_digit, hex_byte, bytes_of_digits, hex_bytes, is_text_byte, text_of, freed_of};
+ghost use Rattle.scenario_text.specs.Fields.{name_of, decimal_number, brick_number, lettered_number, caller_number, key_number, seat_number, hex_digit, hex_byte, bytes_of_digits, hex_bytes, is_text_byte, text_of, freed_of};
 
 use crate::line::{HexBytes, MAX_CALLER, MAX_HEX_BYTES};
+use crate::seat_line::MAX_SEAT;
 use crate::session_line::{Freed, MAX_KEY};
 use crash_base::{ComponentName, OutOfMemory, WordText, is_name};
 use std::alloc::Global;
@@ -78,6 +79,13 @@ pub fn key_number(word: &[u8]) -> Option<u64>
     ensures { result ≡ key_number word.now }
 {
     lettered_number(word, b'k', MAX_KEY)
+}
+
+/// The number of a connection.
+pub fn seat_number(word: &[u8]) -> Option<u64>
+    ensures { result ≡ seat_number word.now }
+{
+    lettered_number(word, b's', MAX_SEAT)
 }
 
 /// The value of a lower case hexadecimal digit.

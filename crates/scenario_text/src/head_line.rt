@@ -20,4 +20,6 @@ pub enum HeadLine {
     Bricks(u64, u64, u64),
     /// The key of the service, under which cookies are made.
     Key(HexBytes),
+    /// Nothing: the components, the tables and the bricks are those of the site.
+    Site,
 }

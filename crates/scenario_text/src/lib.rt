@@ -46,19 +46,30 @@
 //! free 3 silent
 //! ```
 //!
+//! and one of the site, of which browsers ask over connections, as
+//!
+//! ```text
+//! site
+//! conn s1
+//! bytes s1 474554202f20485454502f312e310d0a0d0a
+//! step s1
+//! run s1
+//! end s1
+//! ```
+//!
 //! `ended_line` takes the first line that has ended off a text, and `read_line` answers which line it
 //! spells. Words are separated by single spaces. A name is 1 to 32 letters, digits or `_`; a caller
-//! is `c` and a number from 1 to 65,535 (`MAX_CALLER`), and a session key is `k` and a number from 1
-//! to 65,535 (`MAX_KEY`); numbers are decimal without leading zeros, and below 2^64, and a brick is a
-//! number from 1 on; bytes are in lower case hexadecimal, at most 4,000 (`MAX_HEX_BYTES`), and `-` where
-//! there are none. A text is any word: some bytes of ASCII, none of them a space or a carriage return. So
-//! `present` has a text, and so have `down`, `up` and `reboot`, whose text the boot is asked for. A pass
-//! is freed as `answered` or as `silent`. An empty line passes, and so does a comment: `#` and then ASCII
-//! without a carriage return. A line has at most 8,192 bytes (`MAX_LINE_BYTES`).
+//! is `c` and a number from 1 to 65,535 (`MAX_CALLER`), a session key is `k` and a number from 1 to
+//! 65,535 (`MAX_KEY`), and a connection is `s` and a number from 1 to 64 (`MAX_SEAT`); numbers are decimal without
+//! leading zeros, and below 2^64, and a brick is a number from 1 on; bytes are in lower case hexadecimal, at most 4,000
+//! (`MAX_HEX_BYTES`), and `-` where there are none. A text is any word: some bytes of ASCII, none of them a space or a
+//! carriage return. So `present` has a text, and so have `down`, `up` and `reboot`, whose text the boot is asked for. A
+//! pass is freed as `answered` or as `silent`. An empty line passes, and so does a comment: `#` and then ASCII without
+//! a carriage return. A line has at most 8,192 bytes (`MAX_LINE_BYTES`).
 //!
 //! A line is sorted when it is read, by what it acts on: the head, the live call of a caller, the boot,
-//! or the sessions. So a new form has its place in one of `HeadLine`, `CallLine`, `BootLine` and
-//! `SessionLine`, in its reading and in its spelling, and in what its group does.
+//! the sessions, or the connections. So a new form has its place in one of `HeadLine`, `CallLine`, `BootLine`,
+//! `SessionLine` and `SeatLine`, in its reading and in its spelling, and in what its group does.
 //!
 //! `read_line` is exact: it answers `line_of` of the text. `spelling_law` says that this is a line
 //! exactly where the text is the words of that line, with its numbers, names, bytes and text in
@@ -78,6 +89,8 @@ mod head_line;
 mod laws;
 mod line;
 mod reading;
+mod seat_line;
+mod seat_reading;
 mod session_line;
 mod session_reading;
 mod setup;
@@ -92,6 +105,7 @@ pub use head_line::HeadLine;
 pub use laws::{lines_law, spelling_law};
 pub use line::{HexBytes, Line, MAX_CALLER, MAX_HEX_BYTES, MAX_LINE_BYTES};
 pub use reading::read_line;
+pub use seat_line::{MAX_SEAT, SeatLine};
 pub use session_line::{Freed, MAX_KEY, SessionLine};
 pub use setup::{BrickCounts, LEAST_KEY_BYTES, MOST_KEY_BYTES, Setup};
 pub use texts::write_hex;

@@ -6,6 +6,7 @@ ghost use Rattle.scenario_text.specs.Line.{is_event};
 use crate::boot_line::BootLine;
 use crate::call_line::CallLine;
 use crate::head_line::HeadLine;
+use crate::seat_line::SeatLine;
 use crate::session_line::SessionLine;
 use crash_base::BoundedItems;
 
@@ -38,6 +39,8 @@ pub enum Line {
     Reopen,
     /// The sessions.
     Session(SessionLine),
+    /// The connections.
+    Seat(SeatLine),
 }
 
 impl Line {
@@ -47,8 +50,12 @@ impl Line {
     {
         match self {
             Line::Pass | Line::Head(_) => false,
-            Line::Call(_, _) | Line::Commit(_) | Line::Boot(_) | Line::Reopen | Line::Session(_) =>
-                true,
+            Line::Call(_, _)
+            | Line::Commit(_)
+            | Line::Boot(_)
+            | Line::Reopen
+            | Line::Session(_)
+            | Line::Seat(_) => true,
         }
     }
 }

@@ -3,7 +3,7 @@
 ghost use Rattle.std.specs.Prelude.{◌≡◌, ◌∷◌, IfOk};
 ghost use Rattle.std.specs.List.{list_all};
 ghost use Rattle.scenario_text.specs.Words.{words_after};
-ghost use Rattle.scenario_text.specs.Reading.{line_of, passes, is_comment_byte, line_from, head_line, event_line, call_or_other, call_line, boot_or_session, boot_line, put_line};
+ghost use Rattle.scenario_text.specs.Reading.{line_of, passes, is_comment_byte, line_from, head_line, event_line, call_or_other, call_line, boot_or_other, session_or_seat, boot_line, put_line};
 
 use crate::arguments::{
     caller_and_name, caller_and_number, caller_and_two_numbers, name_and_number, one_bytes,
@@ -14,6 +14,7 @@ use crate::call_line::CallLine;
 use crate::fields::{caller_number, decimal_number, hex_bytes};
 use crate::head_line::HeadLine;
 use crate::line::{Line, MAX_LINE_BYTES};
+use crate::seat_reading::seat_line;
 use crate::session_reading::session_line;
 use crate::words::{first_word, four_words, no_words};
 use crash_base::OutOfMemory;
@@ -103,28 +104,40 @@ fn head_line(alloc: Global, first: &[u8], left: &[u8]) -> Result<Option<HeadLine
         Ok(three_numbers(left).map(|(bricks, writes)| HeadLine::Bricks(bricks, writes.0, writes.1)))
     } else if first == b"key".as_slice() {
         Ok(one_bytes(alloc, left)?.map(HeadLine::Key))
+    } else if first == b"site".as_slice() {
+        Ok(no_words(left).map(|()| HeadLine::Site))
     } else {
         Ok(None)
     }
 }
 
-/// The line over the boot, or else about sessions, that they spell.
-fn boot_or_session(alloc: Global, first: &[u8], left: &[u8]) -> Result<Option<Line>, OutOfMemory>
-    ensures { IfOk result (λ line. line ≡ boot_or_session first.now (words_after left.now)) }
+/// The line about sessions, or else about connections, that they spell.
+fn session_or_seat(alloc: Global, first: &[u8], left: &[u8]) -> Result<Option<Line>, OutOfMemory>
+    ensures { IfOk result (λ line. line ≡ session_or_seat first.now (words_after left.now)) }
 {
-    match boot_line(alloc, first, left)? {
-        Some(line) => Ok(Some(Line::Boot(line))),
-        None => Ok(session_line(alloc, first, left)?.map(Line::Session)),
+    match session_line(alloc, first, left)? {
+        Some(line) => Ok(Some(Line::Session(line))),
+        None => Ok(seat_line(alloc, first, left)?.map(Line::Seat)),
     }
 }
 
-/// The line of a live call, or else over the boot or about sessions, that they spell.
+/// The line over the boot, or else about sessions or connections, that they spell.
+fn boot_or_other(alloc: Global, first: &[u8], left: &[u8]) -> Result<Option<Line>, OutOfMemory>
+    ensures { IfOk result (λ line. line ≡ boot_or_other first.now (words_after left.now)) }
+{
+    match boot_line(alloc, first, left)? {
+        Some(line) => Ok(Some(Line::Boot(line))),
+        None => session_or_seat(alloc, first, left),
+    }
+}
+
+/// The line of a live call, or else one that is neither of the head nor of a call, that they spell.
 fn call_or_other(alloc: Global, first: &[u8], left: &[u8]) -> Result<Option<Line>, OutOfMemory>
     ensures { IfOk result (λ line. line ≡ call_or_other first.now (words_after left.now)) }
 {
     match call_line(alloc, first, left)? {
         Some((caller, line)) => Ok(Some(Line::Call(caller, line))),
-        None => boot_or_session(alloc, first, left),
+        None => boot_or_other(alloc, first, left),
     }
 }
 
