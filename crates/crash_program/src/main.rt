@@ -4,6 +4,8 @@
 //! standard streams, and a keeper in memory.
 #![tactic(auto)]
 
+#[cfg(test)]
+mod command_tests;
 mod words;
 
 use crash_base::{OutOfMemory, RowList, WordText};

@@ -46,6 +46,7 @@ use Rattle.request_tries.specs.declared.outcome.TheConstants.{MAX_TRIES}
 use Rattle.request_tries.specs.declared.outcome.TryCause.{TryCause}
 use Rattle.request_tries.specs.declared.outcome.TryCause.TheVariants as cause
 use Rattle.shepherd_steps.specs.Inside.{Course, Ends, Goes, Stride, after_entry, after_refusal, after_stop, after_try, came_by, commits_by, stride, stride_by, with_keeper}
+use Rattle.seat_laws.proofs.Passing.{CourseServes}
 use Rattle.seat_laws.proofs.Running.{action-runs}
 use Rattle.seat_laws.specs.Fitting.{CommitsAtMost, IsOpenFor, IsOwnCall, ServesInBoot}
 
@@ -61,7 +62,7 @@ grown-by old new (inl same) = subst (λ (b : BootValue). HasGrown old b) (sym sa
   append-none [] = refl
   append-none (e ∷ es) = ap (λ (rest : List Entry). e ∷ rest) (append-none es)
 grown-by old new (inr has) =
-    let e : Entry = Commit (entry_of has.call has.action) in
+    let e : Entry = Commit (entry_of has.call (Some has.action)) in
     subst (λ (b : BootValue). HasGrown old b) (sym has.added) (record { start = refl; more = e ∷ []; entries = refl })
 
 -- a request that is served in a boot is so in each that has grown from it
@@ -123,8 +124,7 @@ module _ (follow : FollowLaw) (boot : BootValue) (program : ActionCall) (site : 
 
 -- what a step comes to is served in the boot then, where it is served still
 abbrev pub CourseFits : BootValue → ActionCall → Course → Type 0
-CourseFits boot program (Goes tries) = ServesInBoot boot tries program
-CourseFits boot program (Ends end) = Unit {0}
+CourseFits boot program course = CourseServes (ServesInBoot boot) program course
 
 -- A step in the container leaves this.
 pub record StrideFits (old : BootValue) (program : ActionCall) (s : Stride) : Type 0 where
@@ -153,7 +153,7 @@ refusal-fits now boot es s program at repeats (commits.JournalFull full) serves 
 refusal-fits now boot es s program at repeats commits.KeeperFailed serves = tt
 refusal-fits now boot es s program at repeats commits.OutOfMemory serves = serves
 
-unrefused : (o : Option CommitRefusal) (ws : List RowWrite) (keeps : Bool) → with_keeper o ws keeps ≡ None → o ≡ None
+pub unrefused : (o : Option CommitRefusal) (ws : List RowWrite) (keeps : Bool) → with_keeper o ws keeps ≡ None → o ≡ None
 unrefused None ws keeps free = refl
 unrefused (Some refusal) ws keeps free = absurd (cc)
 
@@ -164,7 +164,7 @@ own-call boot tries program a own opened = record { fits = opened.way.fits; own 
 commits-fit : (c : ContainerValue) (tries : TriesValue) (program : ActionCall) (a : AttemptValue) (done : DoneText) (refusal : Option CommitRefusal) → ServesInBoot c.boot tries program → IsOpenFor c.boot program tries.request a
     → (refusal ≡ None → refusal_of c tries a done ≡ None) → StrideFits c.boot program (commits_by c tries a done refusal)
 commits-fit c tries program a done None serves opened free = record {
-  commits = inr (record { call = a.ticket.call; action = action_of tries done; is_own = own-call c.boot tries program a serves.own opened; unrefused = free refl; added = refl });
+  commits = inr (record { call = a.ticket.call; action = record { text = tries.text; done = done }; is_own = own-call c.boot tries program a serves.own opened; unrefused = free refl; added = refl });
   course = tt;
 }
 commits-fit c tries program a done (Some refusal) serves opened free =

@@ -73,7 +73,8 @@ use Rattle.seat_steps.specs.Seats.{SeatGivens, SeatWorld, givens_in, making_by, 
 use Rattle.seat_steps.specs.Twinned.{value_put, way_in}
 use Rattle.seat_steps.specs.declared.seat.Seat.{Seat}
 use Rattle.seat_laws.specs.Drawing.{SeatHasDrawn, nonce_in}
-use Rattle.seat_laws.specs.Lending.{begin_steps, window_steps}
+use Rattle.seat_steps.specs.Begins.{begin_steps}
+use Rattle.seat_laws.specs.Lending.{window_steps}
 use Rattle.seat_laws.specs.LentSteps.{lent_steps, outside_steps, turn_or_silence, turn_steps, wanted_steps}
 use Rattle.seat_laws.specs.Owing.{IsDrawnIn, owed_by, write_owed}
 use Rattle.seat_laws.proofs.Alone.{RestsOrStays, gone-rests}
@@ -314,7 +315,7 @@ module _ (So : Version → Type 0) where
   windows-on (way.Settling w) rest all = All-cons (BeginsSo So) (CallsWindows (Spend (passes_spent w))) rest tt all
   windows-on (way.Holding passes) rest all = All-cons (BeginsSo So) (CallsWindows (Spend (map hushed passes))) rest tt all
 
-  turn-on : (t : ShepherdTurn) (to : SessionWay) (over : LaneLink) (rest : List LentStep) → All (BeginsSo So) rest → All (BeginsSo So) (turn_steps t to over ++ rest)
+  pub turn-on : (t : ShepherdTurn) (to : SessionWay) (over : LaneLink) (rest : List LentStep) → All (BeginsSo So) rest → All (BeginsSo So) (turn_steps t to over ++ rest)
   turn-on turns.Bytes to over rest all = all
   turn-on turns.Request to over rest all = all
   turn-on turns.Outside to over rest all = outside-on to over rest all
@@ -326,10 +327,10 @@ module _ (So : Version → Type 0) where
   turn-on turns.Item to over rest all = all
   turn-on (turns.Ended end) to over rest all = all
 
-  one-begins : (step : LentStep) → BeginsSo So step → All (BeginsSo So) (step ∷ [])
+  pub one-begins : (step : LentStep) → BeginsSo So step → All (BeginsSo So) (step ∷ [])
   one-begins step so = All-cons (BeginsSo So) step [] so (All-nil (BeginsSo So))
 
-  abbrev begin-of : WritingState → LentStep
+  abbrev pub begin-of : WritingState → LentStep
   begin-of w = BeginsWrite w.write.nonce w.write.key (value_put w.write.ask) w.write.expiry w.passes
 
   begins-on : (o : Option Call) (twin : Option ℕ) (to : SessionWay) → IfSome (nonce_in to) So → All (BeginsSo So) (begin_steps o twin to)

@@ -28,11 +28,13 @@ use Rattle.shepherd_steps.specs.Outside.{outside, way_outside}
 use Rattle.shepherd_steps.specs.Passes.{goes, windows_by, windows_step}
 use Rattle.shepherd_steps.specs.Stepping.{World, event_at, step, steps_in}
 use Rattle.ssm_world.specs.declared.call.Call.{Call}
+use Rattle.seat_steps.proofs.Begins.{twin-begins}
+use Rattle.seat_steps.specs.Begins.{begin_steps}
 use Rattle.seat_steps.specs.Replies.{HearsSpelled, lane_replies}
 use Rattle.seat_steps.specs.Seats.{SeatGivens, SeatWorld, givens_in, seat_step, seen_by}
-use Rattle.seat_steps.specs.Twinned.{begun_there, twinned_by, way_in}
+use Rattle.seat_steps.specs.Twinned.{way_in}
 use Rattle.seat_steps.specs.declared.seat.Seat.{Seat}
-use Rattle.seat_laws.specs.Lending.{begin_steps, event_steps, seat_lends, twin_steps, way_begin, window_steps}
+use Rattle.seat_laws.specs.Lending.{event_steps, seat_lends, twin_steps, window_steps}
 use Rattle.seat_laws.specs.Standing.{HasTwin, SeatHears, SeatStands}
 use Rattle.seat_laws.proofs.Hearing.{outside-holds, way-steps}
 use Rattle.seat_laws.proofs.Twinning.{OpenOutside, TurnLaw, open-outside}
@@ -41,19 +43,6 @@ use Rattle.seat_laws.proofs.Twinning.{OpenOutside, TurnLaw, open-outside}
 pub lent-on : (a : List LentStep) (st : LanesState) (b : List LentStep) → after_lent st (a ++ b) ≡ after_lent (after_lent st a) b
 lent-on [] st b = refl
 lent-on (s ∷ a) st b = lent-on a (after_lent_step st s) b
-
-way-begins : (st : LanesState) (to : SessionWay) → begun_there st to ≡ after_lent st (way_begin to)
-way-begins st way.Resting = refl
-way-begins st (way.Reading r) = refl
-way-begins st (way.Ordered order) = refl
-way-begins st (way.Writing w) = refl
-way-begins st (way.Settling w) = refl
-way-begins st (way.Holding passes) = refl
-
-pub twin-begins : (o : Option Call) (twin : Option ℕ) (to : SessionWay) (st : LanesState) → (twinned_by o twin to st).store ≡ after_lent st (begin_steps o twin to)
-twin-begins None twin to st = refl
-twin-begins (Some held) None to st = way-begins st to
-twin-begins (Some held) (Some n) to st = refl
 
 pub windows-lent : (v : Visit ActionCall) (to : SessionWay) (st : LanesState) → (let l : LanesState = record st { windows = (windows_by v to st.windows).1 } in l) ≡ after_lent st (window_steps to)
 windows-lent v way.Resting st = refl

@@ -55,13 +55,15 @@ use Rattle.ssm_stub.specs.declared.event.StubNext.TheVariants as next
 use Rattle.ssm_world.specs.Worlds.{next_of}
 use Rattle.ssm_world.specs.declared.call.Call.{Call}
 use Rattle.ssm_world.specs.declared.event.WorldEvent.TheVariants.{Send, Deliver}
+use Rattle.seat_steps.proofs.Begins.{twin-begins}
+use Rattle.seat_steps.specs.Begins.{begin_steps}
 use Rattle.seat_steps.specs.Replies.{lane_replies}
 use Rattle.seat_steps.specs.Seats.{SeatGivens, SeatWorld, givens_in, numbers_from, seat_step, seen_by, service_in}
 use Rattle.seat_steps.specs.Twinned.{way_in}
 use Rattle.seat_steps.specs.declared.seat.Seat.{Seat}
-use Rattle.seat_laws.specs.Lending.{begin_steps, window_steps}
+use Rattle.seat_laws.specs.Lending.{window_steps}
 use Rattle.seat_laws.specs.LentSteps.{lent_steps, outside_steps, turn_or_silence, turn_steps, wanted_steps}
-use Rattle.seat_laws.proofs.Lends.{lent-on, twin-begins, windows-lent}
+use Rattle.seat_laws.proofs.Lends.{lent-on, windows-lent}
 
 -- a turn of a call leaves the windows
 turn-windows : (st : LanesState) (n : ℕ) (o : Option Call) → (turn_of st n o).windows ≡ st.windows

@@ -89,6 +89,7 @@ use Rattle.seat_steps.specs.Replies.{lane_replies}
 use Rattle.seat_steps.specs.Seats.{SeatGivens, SeatWorld, givens_in, making_by, seat_step, seen_by, service_in}
 use Rattle.seat_steps.specs.Twinned.{way_in}
 use Rattle.seat_steps.specs.declared.seat.Seat.{Seat}
+use Rattle.seat_laws.specs.Ordering.{HasOrdered, OrdersOwn}
 use Rattle.seat_laws.specs.Owing.{BeginsWith, IsDrawnIn, if_ordered, owed_by, write_owed}
 use Rattle.seat_laws.specs.Standing.{HasTwin, SeatStands}
 use Rattle.seat_laws.proofs.Alone.{Stays, gone-in, inside-stays}
@@ -517,16 +518,9 @@ module _ (g : SeatGivens) (seat : Seat) (w : SeatWorld) where
     by (Answered f bytes) at x = absurd (fate (HasAnswer LaneLinkMakes (way.Ordered order)) (λ a b e. e) f x)
     by (Left f) at x = absurd (fate (SettlesWith LaneLinkMakes (way.Ordered order)) (λ a b e. e) f x)
 
-  -- what is so of the session of the request that is open, if one is
-  abbrev pub StandsOpen : Stage ActionCall → Type 0
-  StandsOpen Resting = Unit {0}
-  StandsOpen (Serving v call) = (begin : Option ReadState) × (es : List Entry) × SessionOf LaneLinkMakes begin es v.facts v.lease v.cookie v.way v.work
-  StandsOpen (Refusing why bytes) = Unit {0}
-  StandsOpen (Over end) = Unit {0}
-
   -- a write begins by its order
   way-begins : (v : Visit ActionCall) (held : Call) → call_held v.way ≡ None
-      → (begin : Option ReadState) × (es : List Entry) × SessionOf LaneLinkMakes begin es v.facts v.lease v.cookie v.way v.work
+      → ((order : WriteOrder) → v.way ≡ way.Ordered order → HasOrdered v order)
       → call_held (windows_step v w.store.windows).0.way ≡ Some held → Owes v (nonce_of_call held) × (Owes (windows_step v w.store.windows).0 (nonce_of_call held) → ⊥)
   unfolding windows_step
   way-begins v held free so = by v.way refl where
@@ -545,9 +539,9 @@ module _ (g : SeatGivens) (seat : Seat) (w : SeatWorld) where
         let is_held : call_held to ≡ Some held = sym (ap call_held (after-way (outcome_of (answer_held v.way)) (record v { way = to }))) ∙ e in
         let same : held ≡ call.Write (write_begun order windows.wq (passes_for order windows)).write = cc in
         let nonce : nonce_of_call held ≡ order.nonce = ap nonce_of_call same in
-        let session = ordered-so so.0 so.1 v order is so.2 in
-        let work : v.work ≡ Committed session.0 session.1 session.2 = session.3 in (
-          ap (λ (x : Work ActionCall). owed_by x v.way v.facts.write) work ∙ (ap (λ (x : SessionWay). if_ordered x v.facts.write) is ∙ ap (λ (n : Version). Some n) (sym (nonce ∙ session.4))),
+        let ordered : HasOrdered v order = so order is in
+        let work : v.work ≡ Committed ordered.place ordered.again ordered.shown = ordered.committed in (
+          ap (λ (x : Work ActionCall). owed_by x v.way v.facts.write) work ∙ (ap (λ (x : SessionWay). if_ordered x v.facts.write) is ∙ ap (λ (n : Version). Some n) (sym (nonce ∙ ordered.nonce))),
           (λ owed.
               let before : owed_by v.work to v.facts.write ≡ Some (nonce_of_call held) = told-owes (outcome_of (answer_held v.way)) (record v { way = to }) (nonce_of_call held) owed in
               let clash : None ≡ Some (nonce_of_call held) = sym (ap (λ (x : Work ActionCall). owed_by x to v.facts.write) work) ∙ before in
@@ -581,7 +575,7 @@ module _ (g : SeatGivens) (seat : Seat) (w : SeatWorld) where
   stays-none old new (inl none) free = none
   stays-none old new (inr same) free = ap call_held same ∙ free
 
-  event-begins : (t : ShepherdTurn) → turn s ≡ t → call_held (way_in s.stage) ≡ None → (turn s ≡ turns.Windows → StandsOpen s.stage) → Begins t
+  event-begins : (t : ShepherdTurn) → turn s ≡ t → call_held (way_in s.stage) ≡ None → (turn s ≡ turns.Windows → OrdersOwn s.stage) → Begins t
   unfolding outside inside output_of
   event-begins turns.Bytes at free so held e = none-begins turns.Bytes free held e
   event-begins turns.Request at free so held e = request-begins free held e
@@ -592,7 +586,7 @@ module _ (g : SeatGivens) (seat : Seat) (w : SeatWorld) where
     go (Refusing why bytes) wanting none = wanting
     go (Over end) wanting none = wanting
   event-begins turns.Windows at free so held e = let it = go s.stage free (so at) e in record { from = inl it.0; over = it.1 } where
-    go : (stage : Stage ActionCall) → call_held (way_in stage) ≡ None → StandsOpen stage → (let after : Stage ActionCall = (steps_in windows_step stage w.store.windows).0 in
+    go : (stage : Stage ActionCall) → call_held (way_in stage) ≡ None → OrdersOwn stage → (let after : Stage ActionCall = (steps_in windows_step stage w.store.windows).0 in
         call_held (way_in after) ≡ Some held → (write_owed stage ≡ Some (nonce_of_call held)) × (write_owed after ≢ Some (nonce_of_call held)))
     go Resting none stands e = absurd (cc)
     go (Serving v call) none stands e = way-begins v held none stands e
@@ -617,7 +611,7 @@ module _ (g : SeatGivens) (seat : Seat) (w : SeatWorld) where
   event-begins (turns.Ended end) at free so held e = none-begins (turns.Ended end) free held e
 
   -- A call that begins in a step has a nonce that was owed, or drawn in it, and that is not owed behind it.
-  step-begins : call_held (way_in s.stage) ≡ None → (turn s ≡ turns.Windows → StandsOpen s.stage) → (held : Call) → call_held (way_in (seat_step g seat w).seat.connection.stage) ≡ Some held
+  step-begins : call_held (way_in s.stage) ≡ None → (turn s ≡ turns.Windows → OrdersOwn s.stage) → (held : Call) → call_held (way_in (seat_step g seat w).seat.connection.stage) ≡ Some held
       → BeginsWith g seat w (nonce_of_call held)
   unfolding seat_step step
   step-begins free so held e = by (gone-in (making_by g) (E (turn s)).connection) where
@@ -627,12 +621,14 @@ module _ (g : SeatGivens) (seat : Seat) (w : SeatWorld) where
         let it = event-begins (turn s) refl free so held (sym (ap call_held same) ∙ e) in
         record { from = it.from; over = λ owed. it.over (gone-owes (making_by g) (E (turn s)).connection (nonce_of_call held) owed) }
 
-  -- the session stands of a request that goes on
-  open-stands : (container : ContainerValue) (stage : Stage ActionCall) → IfOpen stage (OpenGoesOn IsAccepted steps_of LaneLinkMakes container) → StandsOpen stage
-  open-stands container Resting goes = tt
-  open-stands container (Serving v call) goes = (goes.begin, entries_in (take v.holds.held (events_of container)), goes.session.so)
-  open-stands container (Refusing why bytes) goes = tt
-  open-stands container (Over end) goes = tt
+  -- a request that goes on has ordered only its own write
+  open-orders : (container : ContainerValue) (stage : Stage ActionCall) → IfOpen stage (OpenGoesOn IsAccepted steps_of LaneLinkMakes container) → OrdersOwn stage
+  open-orders container Resting goes = tt
+  open-orders container (Serving v call) goes = λ order is.
+      let session = ordered-so goes.begin (entries_in (take v.holds.held (events_of container))) v order is goes.session.so in
+      record { place = session.0; again = session.1; shown = session.2; committed = session.3; nonce = session.4 }
+  open-orders container (Refusing why bytes) goes = tt
+  open-orders container (Over end) goes = tt
 
   wants-none : turn s ≡ turns.Windows → s.wants_memory ≡ false
   wants-none = go s.wants_memory where
@@ -640,9 +636,15 @@ module _ (g : SeatGivens) (seat : Seat) (w : SeatWorld) where
     go true e = absurd (cc)
     go false e = refl
 
-  -- the same of a seat that stands and goes on
+  -- the same of a seat that stands, and has ordered only its own write
+  pub orders-begins : (held : Call) → SeatStands seat w.store → OrdersOwn s.stage → seat.twin ≡ None
+      → call_held (way_in (seat_step g seat w).seat.connection.stage) ≡ Some held → BeginsWith g seat w (nonce_of_call held)
+  orders-begins held stands orders none e =
+      step-begins (subst (λ (twin : Option ℕ). HasTwin (way_in seat.connection.stage) twin w.store) none stands.twin) (λ at. orders) held e
+
+  -- and of one that stands and goes on
   pub stands-begins : (container : ContainerValue) (held : Call) → SeatStands seat w.store → GoesOnAtSeat container seat.connection → seat.twin ≡ None
       → call_held (way_in (seat_step g seat w).seat.connection.stage) ≡ Some held → BeginsWith g seat w (nonce_of_call held)
   stands-begins container held stands goes none e =
       step-begins (subst (λ (twin : Option ℕ). HasTwin (way_in seat.connection.stage) twin w.store) none stands.twin)
-      (λ at. open-stands container s.stage (goes.goes_on (wants-none at)).opened) held e
+      (λ at. open-orders container s.stage (goes.goes_on (wants-none at)).opened) held e

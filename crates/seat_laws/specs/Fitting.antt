@@ -38,22 +38,30 @@ pub record ServesInBoot (boot : BootValue) (tries : TriesValue) (program : Actio
   pub own : tries.request.boot ≡ boot.start.boot
   pub attempt : IfSome tries.attempt (IsOpenFor boot program tries.request)
 
--- so of a request of this work, where it is served
-abbrev pub WorksInBoot : BootValue → Work ActionCall → Type 0
-WorksInBoot boot Reading = Unit {0}
-WorksInBoot boot Opening = Unit {0}
-WorksInBoot boot (ServingBy tries program) = ServesInBoot boot tries program
-WorksInBoot boot (Committed place again shown) = Unit {0}
-WorksInBoot boot (Decided became) = Unit {0}
-WorksInBoot boot (Answered fate bytes) = Unit {0}
-WorksInBoot boot (Left fate) = Unit {0}
+-- this is so of the request of this work, where it is served
+abbrev pub IfServed : (TriesValue → ActionCall → Type 0) → Work ActionCall → Type 0
+IfServed So Reading = Unit {0}
+IfServed So Opening = Unit {0}
+IfServed So (ServingBy tries program) = So tries program
+IfServed So (Committed place again shown) = Unit {0}
+IfServed So (Decided became) = Unit {0}
+IfServed So (Answered fate bytes) = Unit {0}
+IfServed So (Left fate) = Unit {0}
 
--- so of the request that is open, if one is, and of what it asks for
+-- The request that is open, if one is, asks so for what it asks for, and is served so where it is served.
+abbrev pub AsksAndServes : (AskedCall → Type 0) → (TriesValue → ActionCall → Type 0) → Stage ActionCall → Type 0
+AsksAndServes Asks Serves Resting = Unit {0}
+AsksAndServes Asks Serves (Serving v call) = IfSome call Asks × IfServed Serves v.work
+AsksAndServes Asks Serves (Refusing why bytes) = Unit {0}
+AsksAndServes Asks Serves (Over end) = Unit {0}
+
+-- a request of this work fits a boot, where it is served
+abbrev pub WorksInBoot : BootValue → Work ActionCall → Type 0
+WorksInBoot boot work = IfServed (ServesInBoot boot) work
+
+-- the request that is open fits a boot, if one is, and so does what it asks for
 abbrev pub StageFits : BootValue → Stage ActionCall → Type 0
-StageFits boot Resting = Unit {0}
-StageFits boot (Serving v call) = IfSome call (AsksInBoot boot) × WorksInBoot boot v.work
-StageFits boot (Refusing why bytes) = Unit {0}
-StageFits boot (Over end) = Unit {0}
+StageFits boot stage = AsksAndServes (AsksInBoot boot) (ServesInBoot boot) stage
 
 -- A seat fits a boot, which is of the site.
 pub record SeatFits (boot : BootValue) (seat : Seat) : Type 0 where
@@ -82,13 +90,13 @@ pub record IsOwnCall (boot : BootValue) (call : Call) : Type 0 where
   pub fits : FitsIn boot call
   pub own : call.request.boot ≡ boot.start.boot
 
--- A boot has one entry more: the commit, which it does not refuse, of such a call.
+-- A boot has one entry more: the commit of an action, which it does not refuse, of such a call.
 pub record HasCommitted (old new : BootValue) : Type 0 where
   pub call : Call
-  pub action : Option ActionEntry
+  pub action : ActionEntry
   pub is_own : IsOwnCall old call
-  pub unrefused : commit_refusal old.start.limits old.entries call action ≡ None
-  pub added : new ≡ with_entry old (Commit (entry_of call action))
+  pub unrefused : commit_refusal old.start.limits old.entries call (Some action) ≡ None
+  pub added : new ≡ with_entry old (Commit (entry_of call (Some action)))
 
 -- A boot is as it was, or has one commit more.
 abbrev pub CommitsAtMost : BootValue → BootValue → Type 0

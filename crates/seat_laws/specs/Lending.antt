@@ -3,17 +3,16 @@ use Rattle.std.specs.Prelude.{ℕ, List, [], ◌∷◌, ◌++◌, map, Option, S
 use Rattle.lane_link.specs.Twins.{call_held}
 use Rattle.send_windows.specs.Calls.{Spend, Take}
 use Rattle.send_windows.specs.Passes.{hushed}
-use Rattle.session_steps.specs.Lent.{BeginsRead, BeginsWrite, CallsWindows, LentStep, TakesTurn}
-use Rattle.session_way.specs.Reading.{cookie_asked}
-use Rattle.session_way.specs.Writing.{WritingState, passes_spent}
+use Rattle.session_steps.specs.Lent.{CallsWindows, LentStep, TakesTurn}
+use Rattle.session_way.specs.Writing.{passes_spent}
 use Rattle.session_way.specs.declared.way.SessionWay.{SessionWay}
 use Rattle.session_way.specs.declared.way.SessionWay.TheVariants as way
 use Rattle.shepherd.specs.Shepherds.{turn}
 use Rattle.shepherd.specs.declared.shepherd.ShepherdTurn.{ShepherdTurn}
 use Rattle.shepherd.specs.declared.shepherd.ShepherdTurn.TheVariants as turns
-use Rattle.ssm_world.specs.declared.call.Call.{Call}
+use Rattle.seat_steps.specs.Begins.{begin_steps}
 use Rattle.seat_steps.specs.Seats.{SeatGivens, SeatWorld, seat_step}
-use Rattle.seat_steps.specs.Twinned.{value_put, way_in}
+use Rattle.seat_steps.specs.Twinned.{way_in}
 use Rattle.seat_steps.specs.declared.seat.Seat.{Seat}
 
 -- the call of the windows that a way makes at its step of them
@@ -42,25 +41,6 @@ event_steps turns.Own twin to = []
 event_steps turns.Output twin to = []
 event_steps turns.Item twin to = []
 event_steps (turns.Ended end) twin to = []
-
--- the begin of a write as this one began
-abbrev pub write_begin : WritingState → List LentStep
-write_begin w = BeginsWrite w.write.nonce w.write.key (value_put w.write.ask) w.write.expiry w.passes ∷ []
-
--- the begin of what a way holds, if it holds something
-abbrev pub way_begin : SessionWay → List LentStep
-way_begin way.Resting = []
-way_begin (way.Reading r) = BeginsRead r.nonce r.moment (cookie_asked r) ∷ []
-way_begin (way.Ordered order) = []
-way_begin (way.Writing w) = write_begin w
-way_begin (way.Settling w) = write_begin w
-way_begin (way.Holding passes) = []
-
--- the begin of a twin, where there is none yet
-abbrev pub begin_steps : Option Call → Option ℕ → SessionWay → List LentStep
-begin_steps None twin to = []
-begin_steps (Some held) None to = way_begin to
-begin_steps (Some held) (Some number) to = []
 
 -- What a step of a seat does with the bricks of a world: what its event does, and then the begin of its twin.
 unfoldable pub seat_lends : SeatGivens → Seat → SeatWorld → List LentStep

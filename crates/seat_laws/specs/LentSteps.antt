@@ -17,7 +17,8 @@ use Rattle.ssm_stub.specs.declared.event.StubNext.TheVariants as next
 use Rattle.seat_steps.specs.Seats.{SeatGivens, SeatWorld, seat_step}
 use Rattle.seat_steps.specs.Twinned.{way_in}
 use Rattle.seat_steps.specs.declared.seat.Seat.{Seat}
-use Rattle.seat_laws.specs.Lending.{begin_steps, window_steps}
+use Rattle.seat_steps.specs.Begins.{begin_steps}
+use Rattle.seat_laws.specs.Lending.{window_steps}
 
 -- what a call of the link does, if its active call wanted this of the brick of a number: that takes a turn, if there is
 -- one; else the brick is silent to it

@@ -2,5 +2,8 @@ pub mod Drawing
 pub mod Fitting
 pub mod Lending
 pub mod LentSteps
+pub mod Ordering
 pub mod Owing
+pub mod Reads
+pub mod Spelling
 pub mod Standing

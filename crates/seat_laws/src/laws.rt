@@ -19,7 +19,6 @@ ghost use Rattle.seat_steps.specs.Going.{GoesOnAtSeat};
 ghost use Rattle.seat_steps.specs.Seats.{SeatGivens, SeatWorld, numbers_from, seat_step};
 ghost use Rattle.seat_steps.specs.Twinned.{way_in};
 ghost use Rattle.seat_steps.specs.declared.seat.Seat.{Seat};
-ghost use Rattle.session_steps.specs.Kept.{HasSoundStore};
 ghost use Rattle.session_steps.specs.Lent.{after_lent};
 ghost use Rattle.seat_laws.specs.Lending.{seat_lends};
 ghost use Rattle.seat_laws.specs.Owing.{BeginsWith, IsDrawnIn, RiseFrom, write_owed};
@@ -28,13 +27,12 @@ ghost use Rattle.seat_laws.specs.Standing.{AreApart, SeatHears, HoldsNew, SeatSt
 use auction_actions::ActionProgram;
 use lane_link::{LaneLink, lanes_go_by_events, steps_are_turns_of_twins, twins_begin, twins_stay};
 use request_decisions::cookies_are_of_the_key;
+use seat_steps::SiteMaker;
 use send_windows::{taken_passes_are_lawful, windows_keep_their_limits};
 use session_lanes::lanes_stay_sound;
-use session_steps::lent_bricks_stay_sound;
 use session_way::ways_tell_how_they_began;
 use shepherd::connections_go_on;
 use shepherd_steps::requests_are_decided_as_read;
-use site_programs::SiteMaker;
 use text_readings::{cookies_are_accepted_of_their_texts, tokens_are_read_once};
 
 /// A seat stands behind each of its steps, whatever the keeper replies: its lanes are sound, and its twin is that of
@@ -123,17 +121,6 @@ pub fn seats_lend()
         → (seat_step g seat w).world.store ≡ after_lent w.store (seat_lends g seat w) }
 {
     steps_are_turns_of_twins();
-}
-
-/// Bricks that are as events and lanes made them are so behind a step of any seat, whatever it hears and whatever the
-/// keeper replies, and where a seat is given up.
-pub fn bricks_stay_sound()
-    ensures step { (g : SeatGivens) (seat : Seat) (w : SeatWorld) → HasSoundStore (Some w.store)
-        → HasSoundStore (Some (seat_step g seat w).world.store) }
-    ensures gone { (seat : Seat) (st : LanesState) → HasSoundStore (Some st)
-        → HasSoundStore (Some (seat_gone seat st).store) }
-{
-    lent_bricks_stay_sound();
 }
 
 /// What is drawn of serial numbers lies from the one that is next up to the one that is next then, each above those

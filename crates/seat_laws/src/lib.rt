@@ -9,13 +9,21 @@
 //! - `others_stand`: behind a step of another one; and they have no twin in common then either.
 //! - `seats_stand_meanwhile`: from its begin on, when bytes come, over lines, and where another one is given up.
 //! - `seats_lend`: what a step does with the bricks is steps of lent bricks, which `session_steps` speaks of.
-//! - `bricks_stay_sound`: bricks stay as events and lanes made them, also behind a seat that does not stand.
 //! - `drawn_serials_rise`, `owed_writes_were_drawn`: what is drawn lies between the serial numbers that are next before
 //!   and after; and the nonce of a call that begins was drawn in that step, or was owed since the request was taken.
 //! - `attempts_fit`, `boots_stay_sound_at_seats`: the call of the attempt that a seat's request has open fits the boot,
 //!   and is of a request of it; so a step adds at most the commit of such a call, and a sound boot stays sound.
-//! - `bricks_go_by_lent_steps`, `seats_begin_with_drawn_nonces`: the same of any step, by the function alone, for whoever
-//!   has no seat that stands at hand.
+//!   A journal stays meant, where what a seat serves has a text that spells its call.
+//! - `seats_spell_their_calls`, `moments_stay_in_time`: it has such a text behind each step at a moment before 2^62,
+//!   and no line comes to a later one.
+//! - `bricks_go_by_lent_steps`, `seats_begin_with_drawn_nonces`: the same of any step, by the function alone, for
+//!   whoever has no seat that stands at hand.
+//! - `requests_order_their_own_writes`: the request of a seat has ordered only its own write, behind each step.
+//! - `seats_read_what_was_written`: what a seat hears of its session is the value that was acknowledged; or that it has
+//!   expired, or is lost, with the cause of each brick.
+//! - `reads_begin_behind_earlier_lanes`: a seat's read had not begun before the seat began to wait for it.
+//! - `seats_acknowledge_what_they_wrote`: a cookie that a seat's write answers is acknowledged with the value written.
+//! - `seats_miss_for_causes`: a write that a seat missed has the cause of each brick.
 //! - `replies_matter_where_handed`: where a step hands nothing to the keeper, its reply changes nothing.
 //!
 //! Two things are asked of whoever drives the seats. What a seat hears is spelled by its bytes (`SeatHears`): the
@@ -26,10 +34,20 @@
 mod fitting;
 mod laws;
 mod lending;
+mod owned_writes;
+mod reading;
 
-pub use fitting::{attempts_fit, boots_stay_sound_at_seats, replies_matter_where_handed};
+pub use fitting::{
+    attempts_fit, boots_stay_sound_at_seats, moments_stay_in_time, replies_matter_where_handed,
+    seats_spell_their_calls,
+};
 pub use laws::{
-    bricks_stay_sound, drawn_serials_rise, others_stand, owed_writes_were_drawn, seats_lend,
-    seats_stand, seats_stand_meanwhile,
+    drawn_serials_rise, others_stand, owed_writes_were_drawn, seats_lend, seats_stand,
+    seats_stand_meanwhile,
 };
 pub use lending::{bricks_go_by_lent_steps, seats_begin_with_drawn_nonces};
+pub use owned_writes::requests_order_their_own_writes;
+pub use reading::{
+    reads_begin_behind_earlier_lanes, seats_acknowledge_what_they_wrote, seats_miss_for_causes,
+    seats_read_what_was_written,
+};

@@ -1,3 +1,4 @@
+pub mod Begins
 pub mod Going
 pub mod Gone
 pub mod Replies

@@ -27,7 +27,7 @@ use Rattle.shepherd.specs.declared.shepherd.Stage.{Stage}
 use Rattle.shepherd.specs.declared.shepherd.Stage.TheVariants.{Resting, Serving, Refusing, Over}
 use Rattle.shepherd_steps.specs.Alone.{GoesAlone, goes_alone}
 use Rattle.shepherd_steps.specs.Inside.{HasReplied, TellsReply, added_to, handed, kept_in}
-use Rattle.shepherd_steps.specs.Stepping.{Calling, Calls}
+use Rattle.shepherd_steps.specs.Stepping.{Calling, Calls, Givens}
 use Rattle.site_programs.specs.Errands.{IsMadeOf}
 use Rattle.site_programs.specs.declared.maker.SiteMaker.{SiteMaker}
 use Rattle.seat_steps.specs.Replies.{HearsSpelled}
@@ -111,10 +111,14 @@ calling now s container link next = record {
   serials = next.serial;
 }
 
+-- the call at a turn was made, with programs of the site and over the lanes of a scenario
+abbrev pub CallsAt : Givens ActionCall LaneLink → ShepherdTurn → SeatCalling → SeatCalling → List ℕ → Type 0
+CallsAt g t from mid bytes = Calls LaneLinkMakes (λ (maker : SiteMaker). IsMadeOf) clock_told PlainGives PlainLooks g t from mid bytes
+
 -- The call was made that is the event at the turn of a connection, and put out these bytes; the windows are put back.
 pub record MakesEvent (g : SeatGivens) (old : Shepherd ActionCall) (container : ContainerValue) (link : LaneLink) (next : NextDraws) (bytes : List ℕ) (new : Shepherd ActionCall) (after : ContainerValue) (link_after : LaneLink) (next_after : NextDraws) : Type 0 where
   pub mid : SeatCalling
-  pub calls : Calls LaneLinkMakes (λ (maker : SiteMaker). IsMadeOf) clock_told PlainGives PlainLooks (givens_in g (world_from container link.lanes next)) (turn old) (calling g.now old container link next) mid bytes
+  pub calls : CallsAt (givens_in g (world_from container link.lanes next)) (turn old) (calling g.now old container link next) mid bytes
   pub connection_is : mid.connection ≡ new
   pub container_is : mid.container ≡ after
   pub lanes_are : link_after.lanes ≡ record (mid.link.lanes) { windows = mid.windows }

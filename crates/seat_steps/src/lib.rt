@@ -21,6 +21,8 @@
 //!   the laws of `seat_laws` take it. Where memory was wanted, nothing was added, to the history or by the
 //!   keeper; or the event was made, and the keeper replied as that tells (`BreaksOff`).
 //! - `Seat::give_up` leaves what `seat_gone` says.
+//! - Bricks stay as events and lanes made them behind a step and where a seat is given up, also of a seat that does not
+//!   stand: law `bricks_stay_sound`.
 //!
 //! Whoever drives several seats keeps of each that it goes on in its container (`GoesOnAtSeat`), as with `shepherd`.
 //!
@@ -31,9 +33,12 @@
 mod alone;
 mod events;
 mod giving_up;
+mod laws;
 mod seat;
 mod step;
 mod twins;
 
+pub use laws::bricks_stay_sound;
 pub use seat::{NODE, NextDraws, Seat, SeatShepherd};
+pub use site_programs::SiteMaker;
 pub use step::SeatStepped;

@@ -4,9 +4,9 @@
 //! into row 0, and one that is not kept leaves neither. The keeper's calls 1 and 2, 6 and 7, 10 and 11 are those of the
 //! three starts, and the others are those of the eight commits that have rows.
 
-use crate::keepers::{BackwardKeeper, ForwardKeeper, TestKeeper};
-use crate::running::{Case, SURE};
-use crate::table::expect_kept;
+use crate::command_tests::keepers::{BackwardKeeper, ForwardKeeper, TestKeeper};
+use crate::command_tests::running::{Case, SURE};
+use crate::command_tests::table::expect_kept;
 use outside::MapKeeper;
 use std::alloc::Global;
 use std::process::Abort;

@@ -4,9 +4,11 @@
 //! of the number FAILING fails; how many calls it should have had, and which rows it should hold, when a command over
 //! TEXT has ended; and what the command should have done. A row of a keeper is `T K HEX` and a semicolon.
 
-use crate::keepers::TestKeeper;
-use crate::running::{Case, Ran, SURE, run};
-use crate::words::{cut, expect_number, expect_text, lines, number, rows_of, text_of};
+use crate::command_tests::keepers::TestKeeper;
+use crate::command_tests::running::{Case, Ran, SURE, run};
+use crate::command_tests::words::{
+    cut, expect_number, expect_text, lines, number, rows_of, text_of,
+};
 use outside::MapKeeper;
 use std::alloc::Global;
 use std::process::Abort;

@@ -1,8 +1,8 @@
 //! How the outside is read and written: in pieces of every size, and with each call failing in turn.
 
-use crate::running::{Case, run};
-use crate::table::expect_ran;
-use crate::words::{cut, number, times};
+use crate::command_tests::running::{Case, run};
+use crate::command_tests::table::expect_ran;
+use crate::command_tests::words::{cut, number, times};
 use crash_base::RowList;
 use drive_engine::MAX_SCENARIO_BYTES;
 use outside::SureKeeper;

@@ -1,6 +1,6 @@
 //! Runs a command over an outside in memory and a keeper.
 
-use crate::words::{cut, lines, number};
+use crate::command_tests::words::{cut, lines, number};
 use crash_base::{InputBytes, Items, WordText};
 use drive_engine::run_command;
 use outside::{BytesSink, BytesSource, CallList, Keeper, SizeList};

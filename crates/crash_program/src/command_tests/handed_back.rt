@@ -1,9 +1,9 @@
 //! The keeper that a command hands back: as it was, where the command has no use for it, and ready for another run.
 
-use crate::keepers::{BackwardKeeper, ForwardKeeper, TestKeeper};
-use crate::running::{Case, SURE};
-use crate::table::{expect_kept, expect_rows, expect_run, keeper_of};
-use crate::words::times;
+use crate::command_tests::keepers::{BackwardKeeper, ForwardKeeper, TestKeeper};
+use crate::command_tests::running::{Case, SURE};
+use crate::command_tests::table::{expect_kept, expect_rows, expect_run, keeper_of};
+use crate::command_tests::words::times;
 use outside::MapKeeper;
 use std::alloc::Global;
 use std::process::Abort;

@@ -2,7 +2,7 @@
 
 ghost use Rattle.std.specs.Prelude.{None};
 
-use crate::running::one_call;
+use crate::command_tests::running::one_call;
 use crash_base::{OutOfMemory, RowList, RowWrite, WriteList, copied_rows};
 use outside::{CallList, Keeper, KeeperFault, MapKeeper};
 use std::alloc::Global;

@@ -1,8 +1,8 @@
 //! How the boots of a scenario start over the rows of its keeper, and when they do not.
 
-use crate::keepers::{BackwardKeeper, ForwardKeeper};
-use crate::table::{expect_driven, expect_rows};
-use crate::words::times;
+use crate::command_tests::keepers::{BackwardKeeper, ForwardKeeper};
+use crate::command_tests::table::{expect_driven, expect_rows};
+use crate::command_tests::words::times;
 use std::alloc::Global;
 use std::process::Abort;
 

@@ -1,9 +1,9 @@
 //! What commits hand to the keeper, and what is left where it fails.
 
-use crate::keepers::{BackwardKeeper, ForwardKeeper};
-use crate::running::Case;
-use crate::table::{expect_driven, expect_kept, expect_rows};
-use crate::words::cut;
+use crate::command_tests::keepers::{BackwardKeeper, ForwardKeeper};
+use crate::command_tests::running::Case;
+use crate::command_tests::table::{expect_driven, expect_kept, expect_rows};
+use crate::command_tests::words::cut;
 use outside::MapKeeper;
 use std::alloc::Global;
 use std::process::Abort;

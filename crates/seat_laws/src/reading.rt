@@ -1,0 +1,131 @@
+//! Laws of what seats read of their sessions, and of what they write. Each is the contract of a function that does
+//! nothing: a caller that needs the law calls the function.
+
+ghost use Rattle.std.specs.Prelude.{◌≡◌, ◌<◌, ◌≤◌, ℕ, List, length, None, Some, Ok, Err};
+ghost use Rattle.session_cookie.specs.declared.cookie.Cookie.{Cookie};
+ghost use Rattle.crash_base.specs.declared.numbers.Moment.{Moment};
+ghost use Rattle.lane_link.specs.Twins.{ByEvents};
+ghost use Rattle.session_lanes.specs.Lanes.{LanesState};
+ghost use Rattle.session_lanes.specs.Sound.{LanesAreSound};
+ghost use Rattle.session_way.specs.Reading.{cookie_asked};
+ghost use Rattle.session_way.specs.declared.session_read.ReadOutcome.{ReadOutcome};
+ghost use Rattle.session_way.specs.declared.session_read.ReadOutcome.TheVariants.{Expired};
+ghost use Rattle.shepherd.specs.declared.shepherd.Stage.TheVariants.{Resting};
+ghost use Rattle.session_way.specs.Way.{answer_held};
+ghost use Rattle.ssm_stub.specs.Reads.{ReadState};
+ghost use Rattle.ssm_stub.specs.declared.cause.BrickCause.{BrickCause};
+ghost use Rattle.ssm_stub.specs.declared.write_call.WriteRefusal.TheVariants.{Missed};
+ghost use Rattle.ssm_world.specs.Claims.{IsAcknowledged};
+ghost use Rattle.seat_steps.specs.Seats.{SeatGivens, SeatWorld, seat_step};
+ghost use Rattle.seat_steps.specs.Twinned.{way_in};
+ghost use Rattle.seat_steps.specs.declared.seat.Seat.{Seat};
+ghost use Rattle.seat_laws.specs.Reads.{IsFoundOrLost, MissedFor, ReadsRightly, ReadsSince, order_of, read_heard, read_under_way, value_written};
+ghost use Rattle.seat_laws.specs.Standing.{SeatHears, SeatStands};
+
+use lane_link::{lanes_go_by_events, steps_are_turns_of_twins, twins_begin, twins_stay};
+use request_decisions::cookies_are_of_the_key;
+use send_windows::{taken_passes_are_lawful, windows_keep_their_limits};
+use session_lanes::lanes_stay_sound;
+use session_way::ways_tell_how_they_began;
+use shepherd_steps::requests_are_decided_as_read;
+use ssm_world::{
+    acknowledged_cookies_stay_acknowledged, missed_writes_have_causes,
+    reads_answer_what_was_written, worlds_are_sound,
+};
+use text_readings::{cookies_are_accepted_of_their_texts, tokens_are_read_once};
+
+/// What a seat reads of its session was written. Its read is by a cookie that was acknowledged with a value in earlier
+/// lanes, from which events lead to the present, and in which the read had not begun yet. Where it hears in a step what
+/// the read came to, that is right: it found just this value, at a moment that is not past the cookie's expiry, and a
+/// brick of the cookie gave it; or it tells that the cookie has expired, where the moment is past that; or that the
+/// session is lost, where it is not, with the cause of each brick of the cookie, in its order, which the brick or this
+/// read met, whatever else happened between its turns. So within the lease it found the value, or lost it at each
+/// brick. In the step in which a request is taken nothing is heard but that its cookie has expired. The call of a read
+/// that begins in a step is the last one then, and stays the seat's until the read has ended. So another value is
+/// refused, and a cause that no brick met.
+pub fn seats_read_what_was_written()
+    ensures right { (earlier : LanesState) (g : SeatGivens) (seat : Seat) (w : SeatWorld) (r : ReadState)
+        (value : List ℕ) (outcome : ReadOutcome) → SeatStands seat w.store → SeatHears seat w.store
+        → ReadsSince earlier seat w.store r → IsAcknowledged earlier.world (cookie_asked r) value
+        → read_heard (seat_step g seat w).seat.connection.stage ≡ Some outcome
+        → ReadsRightly earlier (seat_step g seat w).world.store (order_of r) value outcome }
+    ensures in_time { (earlier : LanesState) (g : SeatGivens) (seat : Seat) (w : SeatWorld) (r : ReadState)
+        (value : List ℕ) (outcome : ReadOutcome) → SeatStands seat w.store → SeatHears seat w.store
+        → ReadsSince earlier seat w.store r → IsAcknowledged earlier.world (cookie_asked r) value
+        → read_heard (seat_step g seat w).seat.connection.stage ≡ Some outcome
+        → r.moment.0 ≤ r.expiry.0 → IsFoundOrLost value (cookie_asked r).bricks outcome }
+    ensures at_once { (g : SeatGivens) (seat : Seat) (w : SeatWorld) (outcome : ReadOutcome)
+        → seat.connection.stage ≡ Resting
+        → read_heard (seat_step g seat w).seat.connection.stage ≡ Some outcome
+        → (expiry : Moment) × (outcome ≡ Expired g.now expiry) × (expiry.0 < g.now.0) }
+    ensures begins { (g : SeatGivens) (seat : Seat) (w : SeatWorld) (number : ℕ) → SeatStands seat w.store
+        → SeatHears seat w.store → seat.twin ≡ None → (seat_step g seat w).seat.twin ≡ Some number
+        → number ≡ length w.store.world.calls }
+    ensures stays { (g : SeatGivens) (seat : Seat) (w : SeatWorld) (number other : ℕ) → seat.twin ≡ Some number
+        → (seat_step g seat w).seat.twin ≡ Some other → other ≡ number }
+{
+    acknowledged_cookies_stay_acknowledged();
+    reads_answer_what_was_written();
+    steps_are_turns_of_twins();
+    twins_stay();
+    lanes_stay_sound();
+    lanes_go_by_events();
+    taken_passes_are_lawful();
+    windows_keep_their_limits();
+    requests_are_decided_as_read();
+    cookies_are_accepted_of_their_texts();
+    tokens_are_read_once();
+    cookies_are_of_the_key();
+}
+
+/// A seat that begins to wait for a read in a step waits for one that had not begun in any lanes before that step, from
+/// which events led to it. So it does behind each later step of its own, as long as it waits, and whatever else
+/// happens, as by other seats and by lines. So a cookie that was acknowledged at any time before the seat took its
+/// request is one of which `seats_read_what_was_written` speaks.
+pub fn reads_begin_behind_earlier_lanes()
+    ensures begun { (earlier : LanesState) (g : SeatGivens) (seat : Seat) (w : SeatWorld) (r : ReadState)
+        → SeatStands seat w.store → SeatHears seat w.store → LanesAreSound earlier → ByEvents earlier w.store
+        → seat.twin ≡ None → read_under_way (seat_step g seat w).seat.connection.stage ≡ Some r
+        → ReadsSince earlier (seat_step g seat w).seat (seat_step g seat w).world.store r }
+    ensures step { (earlier : LanesState) (g : SeatGivens) (seat : Seat) (w : SeatWorld) (r after : ReadState)
+        → SeatStands seat w.store → SeatHears seat w.store → ReadsSince earlier seat w.store r
+        → read_under_way (seat_step g seat w).seat.connection.stage ≡ Some after
+        → ReadsSince earlier (seat_step g seat w).seat (seat_step g seat w).world.store after }
+    ensures meanwhile { (earlier st later : LanesState) (seat : Seat) (r : ReadState) → ByEvents st later
+        → ReadsSince earlier seat st r → ReadsSince earlier seat later r }
+{
+    steps_are_turns_of_twins();
+    twins_begin();
+    twins_stay();
+    lanes_stay_sound();
+    lanes_go_by_events();
+    taken_passes_are_lawful();
+    windows_keep_their_limits();
+    requests_are_decided_as_read();
+    cookies_are_accepted_of_their_texts();
+    tokens_are_read_once();
+    cookies_are_of_the_key();
+    ways_tell_how_they_began();
+}
+
+/// Where a seat stands, a cookie that its write answers is acknowledged in the world of the bricks with the value that
+/// the write asked them to keep. The cookie of a response is one (`IsShown` of `request_visit/specs/Advancing.antt`);
+/// and it stays so (`ssm_world::acknowledged_cookies_stay_acknowledged`), so that reads of it are right from then on.
+pub fn seats_acknowledge_what_they_wrote()
+    ensures { (seat : Seat) (st : LanesState) (cookie : Cookie) → SeatStands seat st
+        → answer_held (way_in seat.connection.stage) ≡ Some (Ok cookie)
+        → IsAcknowledged st.world cookie (value_written (way_in seat.connection.stage)) }
+{
+    worlds_are_sound();
+}
+
+/// Where a seat stands, a write of it that was missed has its causes: fewer than the bricks that had to store it told
+/// the write so, and each other brick has its cause, in the order in which they were asked, which the brick or this
+/// write met (`ssm_world::missed_writes_have_causes`). So a response that tells of causes tells of those.
+pub fn seats_miss_for_causes()
+    ensures { (seat : Seat) (st : LanesState) (causes : List BrickCause) → SeatStands seat st
+        → answer_held (way_in seat.connection.stage) ≡ Some (Err (Missed causes))
+        → MissedFor (way_in seat.connection.stage) st.world causes }
+{
+    missed_writes_have_causes();
+}
