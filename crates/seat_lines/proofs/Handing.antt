@@ -1,0 +1,285 @@
+-- What a step hands to the keeper, by what the keeper replied to it.
+use Rattle.std.proofs.Common.{◌≡◌, ◌≢◌, ◌⊎◌, ◌∙◌, inl, inr, refl, sym, ap, subst, ℕ, ◌≤◌, Bool, true, false, List, [], ◌∷◌, Option, Some, None, arith}
+use Rattle.std.proofs.lemmas.List.{append-nil}
+use Rattle.auction_calls.specs.declared.action.ActionCall.{ActionCall}
+use Rattle.auction_site.specs.Actions.{steps_of}
+use Rattle.boot_core.specs.Boot.{BootValue}
+use Rattle.boot_core.specs.declared.boot.Start.{Start}
+use Rattle.container_core.specs.Container.{ContainerValue, HasGrownBy}
+use Rattle.container_core.specs.History.{entries_in}
+use Rattle.crash_base.specs.declared.numbers.Moment.{Moment}
+use Rattle.crash_base.specs.declared.numbers.WorkerNo.{WorkerNo}
+use Rattle.crash_base.specs.declared.rows.RowWrite.{RowWrite}
+use Rattle.journal_model.specs.declared.entry.Entry.{Entry}
+use Rattle.lane_link.specs.declared.link.LaneLink.{LaneLink}
+use Rattle.outside.specs.Faults.{Rose}
+use Rattle.outside.specs.Keeper.{KeeperTold, TellsRefusal}
+use Rattle.outside.specs.declared.keeper.KeeperFault.TheVariants as faults
+use Rattle.request_tries.specs.Steps.{KeepsNothing}
+use Rattle.request_visit.specs.Stepping.{VisitsInside}
+use Rattle.request_visit.specs.declared.visit.Visit.{Visit}
+use Rattle.scenario_text.specs.Answer.{Answer, Done, KeepsRefused, Refused, answer_of}
+use Rattle.scenario_text.specs.declared.answer.LineAnswer.{LineAnswer}
+use Rattle.scenario_text.specs.declared.answer.LineAnswer.TheVariants as answers
+use Rattle.seat_steps.specs.Seats.{SeatGivens, SeatOutcome, SeatWorld, givens_in, seat_step, seen_by}
+use Rattle.seat_steps.specs.Stepped.{BreaksOff, CallsAt, HasStepped, KeeperReplied, MakesEvent, SeatCalling, calling, kept_between, seat_writes, world_from, writes_at}
+use Rattle.seat_steps.specs.declared.seat.NextDraws.{NextDraws}
+use Rattle.seat_steps.specs.declared.seat.Seat.{Seat}
+use Rattle.session_lanes.specs.Lanes.{LanesState}
+use Rattle.shepherd.specs.Shepherds.{turn}
+use Rattle.shepherd.specs.Steps.{OnVisit, StepsVisit}
+use Rattle.shepherd.specs.declared.shepherd.AskedCall.{AskedCall}
+use Rattle.shepherd.specs.declared.shepherd.Shepherd.{Shepherd}
+use Rattle.shepherd.specs.declared.shepherd.ShepherdTurn.{ShepherdTurn}
+use Rattle.shepherd.specs.declared.shepherd.ShepherdTurn.TheVariants as turns
+use Rattle.shepherd.specs.declared.shepherd.Stage.{Stage}
+use Rattle.shepherd.specs.declared.shepherd.Stage.TheVariants.{Resting, Serving, Refusing, Over}
+use Rattle.shepherd_steps.specs.Inside.{HasReplied, Inside, TellsReply, added_to, handed, inside}
+use Rattle.shepherd_steps.specs.Stepping.{World, event_at, step, step_inside, steps_in}
+use Rattle.seat_lines.specs.Handing.{AreCounted, AreHanded, AreSomeHanded, BreaksIn, Handed, HasMovedIn, TellsHanded, handed_first, writes_by}
+use Rattle.seat_lines.specs.Lines.{Place, moved, moves, place_step, step_text, steps_at, still_by, end_of, worker_of}
+
+-- what the keeper tells of its reply to one step
+told_once : (writes : List RowWrite) (keeps : Bool) (old new : Option KeeperTold) → TellsReply writes keeps old new → TellsHanded (handed_first writes keeps []) old new
+told_once [] keeps old new tells = tells
+told_once (w ∷ ws) keeps old new tells = (new, tells, refl)
+
+-- how its faults rise then
+counted_once : (writes : List RowWrite) (keeps : Bool) (old new : ℕ) → old ≤ new → (keeps ≡ false → writes ≢ [] → Rose old new) → AreCounted (handed_first writes keeps []) old new
+counted_once [] keeps old new count rose = count
+counted_once (w ∷ ws) keeps old new count rose = (new, count, λ e. rose e (λ none. absurd (cc)), omega (arith))
+
+-- a keeper that replied to one step was handed its writes
+pub handed_once : (writes : List RowWrite) (keeps : Bool) (old new : ContainerValue) → KeeperReplied keeps writes old new → old.faults ≤ new.faults → AreHanded (handed_first writes keeps []) old new
+handed_once writes keeps old new replied count = record {
+  tells = told_once writes keeps old.told new.told replied.tells;
+  counted = counted_once writes keeps old.faults new.faults count replied.failed;
+}
+
+-- nothing was handed
+pub handed_none : (c : ContainerValue) → AreHanded [] c c
+handed_none c = record { tells = refl; counted = omega (arith) }
+
+-- all was handed that is some of it
+abbrev pub all_handed : (handed : List Handed) (old new : ContainerValue) → AreHanded handed old new → AreSomeHanded handed old new
+all_handed handed old new all = record {
+  made = handed;
+  more = [];
+  begins = sym (append-nil handed);
+  between = new.told;
+  tells = all.tells;
+  last = inl refl;
+  counted = all.counted;
+}
+
+-- a keeper that kept nothing told nothing more, or was refused memory for the very first
+abbrev told_nothing : (old new : ContainerValue) → KeepsNothing old new → (new.told ≡ old.told) ⊎ ((let none : List Handed = [] in none ≡ []) × TellsRefusal faults.OutOfMemory old.told new.told)
+told_nothing old new (inl same) = inl same
+told_nothing old new (inr refusal) = inr (refl, refusal)
+
+-- the keeper has kept nothing of it
+abbrev pub nothing_kept : (handed : List Handed) (old new : ContainerValue) → KeepsNothing old new → old.faults ≤ new.faults → AreSomeHanded handed old new
+nothing_kept handed old new keeps count = record {
+  made = [];
+  more = handed;
+  begins = refl;
+  between = old.told;
+  tells = refl;
+  last = told_nothing old new keeps;
+  counted = count;
+}
+
+-- at a turn that moves, a connection comes to what its step comes to
+pub moved_at : (t : ShepherdTurn) (g : SeatGivens) (n : ℕ) (seat : Seat) (w : SeatWorld) → moves t ≡ true → steps_at t g n seat w ≡ moved t n (seat_step g seat w)
+moved_at turns.Bytes g n seat w is = absurd (cc)
+moved_at turns.Request g n seat w is = refl
+moved_at turns.Outside g n seat w is = refl
+moved_at turns.Windows g n seat w is = refl
+moved_at turns.Inside g n seat w is = refl
+moved_at turns.Program g n seat w is = refl
+moved_at turns.Own g n seat w is = refl
+moved_at turns.Output g n seat w is = refl
+moved_at turns.Item g n seat w is = refl
+moved_at (turns.Ended end) g n seat w is = absurd (cc)
+
+-- what a step in the container leaves of the boot and of its events is a function
+abbrev pub InsideLaw : Type 0
+InsideLaw = (keeps : Bool) (old new : Visit ActionCall) (container after : ContainerValue)
+    → HasReplied keeps (handed steps_of old container.boot) (added_to container.since after.since)
+    → VisitsInside steps_of old container new after
+    → (let to : Inside ActionCall = record { visit = new; boot = after.boot; since = after.since } in to) ≡ inside steps_of keeps old container.boot container.since
+
+module _ (law : InsideLaw) (g : SeatGivens) (seat : Seat) (old : ContainerValue) (lanes : LanesState) (next : NextDraws) where
+  abbrev here : SeatWorld
+  here = world_from old lanes next
+
+  abbrev from : SeatCalling
+  from = calling g.now seat.connection old (record { lanes = lanes; active = seat.twin }) next
+
+  -- a container is as an event leaves the boot and its events
+  abbrev IsAfter : ShepherdTurn → ContainerValue → Type 0
+  IsAfter t new = (let e : World ActionCall LaneLink = (event_at (givens_in g here) t (seen_by seat here)).0 in (new.boot ≡ e.boot) × (new.since ≡ e.since))
+
+  inside_is : (mid : SeatCalling) (stage : Stage ActionCall) → seat.connection.stage ≡ stage
+      → StepsVisit (λ (v x : Visit ActionCall). VisitsInside steps_of v old x mid.container) stage mid.connection.stage
+      → OnVisit stage (λ (v : Visit ActionCall) (call : Option AskedCall). HasReplied g.keeps (handed steps_of v old.boot) (added_to old.since mid.container.since))
+      → (let x = steps_in (step_inside steps_of g.keeps) stage (old.boot, old.since) in (mid.container.boot ≡ x.1.0) × (mid.container.since ≡ x.1.1))
+  inside_is mid Resting is steps replied = absurd steps
+  inside_is mid (Serving v call) is (after, visits, to) replied =
+      let same : (let i : Inside ActionCall = record { visit = after; boot = mid.container.boot; since = mid.container.since } in i) ≡ inside steps_of g.keeps v old.boot old.since =
+      law g.keeps v after old mid.container replied visits in
+      (ap (λ (i : Inside ActionCall). i.boot) same, ap (λ (i : Inside ActionCall). i.since) same)
+  inside_is mid (Refusing why bytes) is steps replied = absurd steps
+  inside_is mid (Over end) is steps replied = absurd steps
+
+  event_is : (t : ShepherdTurn) (mid : SeatCalling) (bytes : List ℕ)
+      → CallsAt (givens_in g here) t from mid bytes → IsAfter t mid.container
+  event_is turns.Bytes mid bytes calls = (ap (λ (x : SeatCalling). x.container.boot) calls.same, ap (λ (x : SeatCalling). x.container.since) calls.same)
+  event_is turns.Request mid bytes calls = (ap (λ (x : SeatCalling). x.container.boot) calls.rest, ap (λ (x : SeatCalling). x.container.since) calls.rest)
+  event_is turns.Outside mid bytes calls = (ap (λ (x : SeatCalling). x.container.boot) calls.rest, ap (λ (x : SeatCalling). x.container.since) calls.rest)
+  event_is turns.Windows mid bytes calls = (ap (λ (x : SeatCalling). x.container.boot) calls.rest, ap (λ (x : SeatCalling). x.container.since) calls.rest)
+  event_is turns.Inside mid bytes calls = inside_is mid seat.connection.stage refl calls.steps.steps calls.replies
+  event_is turns.Program mid bytes calls = (ap (λ (x : SeatCalling). x.container.boot) calls.same, ap (λ (x : SeatCalling). x.container.since) calls.same)
+  event_is turns.Own mid bytes calls = (ap (λ (x : SeatCalling). x.container.boot) calls.same, ap (λ (x : SeatCalling). x.container.since) calls.same)
+  event_is turns.Output mid bytes calls = (ap (λ (x : SeatCalling). x.container.boot) calls.rest, ap (λ (x : SeatCalling). x.container.since) calls.rest)
+  event_is turns.Item mid bytes calls = (ap (λ (x : SeatCalling). x.container.boot) calls.same, ap (λ (x : SeatCalling). x.container.since) calls.same)
+  event_is (turns.Ended end) mid bytes calls = (ap (λ (x : SeatCalling). x.container.boot) calls.same, ap (λ (x : SeatCalling). x.container.since) calls.same)
+
+  -- where the event of a step was made, the boot and its events are as the step leaves them
+  made_leaves : (bytes : List ℕ) (mid : Shepherd ActionCall) (new : ContainerValue) (link : LaneLink) (after : NextDraws)
+      → MakesEvent g seat.connection old (record { lanes = lanes; active = seat.twin }) next bytes mid new link after
+      → (new.boot ≡ (seat_step g seat here).world.boot) × (new.since ≡ (seat_step g seat here).world.since)
+  unfolding seat_step step
+  made_leaves bytes mid new link after made =
+      let at : IsAfter (turn seat.connection) made.mid.container = event_is (turn seat.connection) made.mid bytes made.calls in
+      (sym (ap (λ (c : ContainerValue). c.boot) made.container_is) ∙ at.0, sym (ap (λ (c : ContainerValue). c.since) made.container_is) ∙ at.1)
+
+-- a boot of whose events there are no more is as it was
+pub boot_stays : (old new : ContainerValue) → HasGrownBy old new → entries_in old.since ≡ old.boot.entries → entries_in new.since ≡ new.boot.entries → new.since ≡ old.since → new.boot ≡ old.boot
+boot_stays old new grown before after since =
+    ap (λ (s : Start). let b : BootValue = record { start = s; entries = new.boot.entries } in b) grown.boot.start
+    ∙ ap (λ (es : List Entry). let b : BootValue = record { start = old.boot.start; entries = es } in b) (sym after ∙ (ap entries_in since ∙ before))
+
+-- memory ran out in a step of a seat
+pub broke_in : InsideLaw → (key : List ℕ) (now : Moment) (n : ℕ) (seat : Seat) (old new : ContainerValue) (lanes : LanesState) (next after : NextDraws) → BreaksOff key now seat old lanes next new after → moves (turn seat.connection) ≡ true → (new.since ≡ old.since → new.boot ≡ old.boot) → old.faults ≤ new.faults → BreaksIn key now n (Some seat) old (world_from old lanes next) new
+unfolding place_step
+broke_in law key now n seat old new lanes next after (inl nothing) moving stays count = record {
+  keeps = true;
+  handed = nothing_kept (handed_first (seat_writes seat.connection old.boot) true []) old new nothing.keeper count;
+  added = inl (refl, stays nothing.since, nothing.since);
+}
+broke_in law key now n seat old new lanes next after (inr (bytes, mid, link, made)) moving stays count =
+    let keeps : Bool = kept_between old new in
+    let g : SeatGivens = record { key = key; worker = worker_of n; now = now; keeps = keeps } in
+    let w : SeatWorld = world_from old lanes next in
+    let o : SeatOutcome = seat_step g seat w in
+    let writes : List RowWrite = seat_writes seat.connection old.boot in
+    let event : MakesEvent g seat.connection old (record { lanes = lanes; active = seat.twin }) next bytes mid new link after = made (worker_of n) in
+    let place : Place = record { seat = Some o.seat; world = o.world } in
+    let left : (new.boot ≡ o.world.boot) × (new.since ≡ o.world.since) = made_leaves law g seat old lanes next bytes mid new link after event in
+    record {
+      keeps = keeps;
+      handed = all_handed (handed_first writes keeps []) old new (handed_once writes keeps old new event.keeper count);
+      added = inr (refl, refl, (place, step_text (turn seat.connection) n o.bytes, moved_at (turn seat.connection) g n seat w moving, left.0, left.1));
+    }
+
+-- the same, of the key and the moment that are lent
+pub breaks_lent : (key lent_key : List ℕ) (now lent_now : Moment) (n : ℕ) (seat : Option Seat) (old : ContainerValue) (w : SeatWorld) (new : ContainerValue) → key ≡ lent_key → now ≡ lent_now → BreaksIn key now n seat old w new → BreaksIn lent_key lent_now n seat old w new
+breaks_lent key lent_key now lent_now n seat old w new keys moments at =
+    subst (λ (k : List ℕ). BreaksIn k lent_now n seat old w new) keys (subst (λ (m : Moment). BreaksIn key m n seat old w new) moments at)
+
+-- the same, where the connection is not there, or nothing is handed
+pub broke_still : (key : List ℕ) (now : Moment) (n : ℕ) (seat : Option Seat) (c : ContainerValue) (w : SeatWorld) → BreaksIn key now n seat c w c
+broke_still key now n seat c w = record {
+  keeps = true;
+  handed = nothing_kept (handed_first (writes_by seat c.boot) true []) c c (inl refl) (omega (arith));
+  added = inl (refl, refl, refl);
+}
+
+-- what is done is not refused
+pub done_keeps : (a : LineAnswer) (old new : Place) (text : List ℕ) → answer_of a new ≡ Done new text → KeepsRefused a old new
+done_keeps answers.Refused old new text is = absurd (cc)
+done_keeps answers.Done old new text is = tt
+done_keeps (answers.Wrote out) old new text is = tt
+
+-- a connection that made a step at its turn came to what the function says
+pub moved_in : (key : List ℕ) (now : Moment) (n : ℕ) (seat : Seat) (old : ContainerValue) (w : SeatWorld) (new : ContainerValue) (o : SeatOutcome) (a : Answer Place) → HasStepped key (worker_of n) now seat old w new o → moves (turn seat.connection) ≡ true → old.faults ≤ new.faults → a ≡ moved (turn seat.connection) n o → HasMovedIn key now n (Some seat) old w a new
+unfolding place_step
+moved_in key now n seat old w new o a stepped moving count is =
+    let g : SeatGivens = record { key = key; worker = worker_of n; now = now; keeps = stepped.keeps } in
+    record {
+      keeps = stepped.keeps;
+      answers = is ∙ (ap (λ (x : SeatOutcome). moved (turn seat.connection) n x) stepped.step_is ∙ sym (moved_at (turn seat.connection) g n seat w moving));
+      handed = handed_once (seat_writes seat.connection old.boot) stepped.keeps old new stepped.keeper count;
+    }
+
+-- what a connection hands at a turn at which it makes no step
+no_writes : (t : ShepherdTurn) (seat : Seat) (boot : BootValue) → moves t ≡ false → turn seat.connection ≡ t → seat_writes seat.connection boot ≡ []
+unfolding seat_writes
+no_writes turns.Bytes seat boot is at = ap (λ (x : ShepherdTurn). writes_at x seat.connection.stage boot) at
+no_writes turns.Request seat boot is at = absurd (cc)
+no_writes turns.Outside seat boot is at = absurd (cc)
+no_writes turns.Windows seat boot is at = absurd (cc)
+no_writes turns.Inside seat boot is at = absurd (cc)
+no_writes turns.Program seat boot is at = absurd (cc)
+no_writes turns.Own seat boot is at = absurd (cc)
+no_writes turns.Output seat boot is at = absurd (cc)
+no_writes turns.Item seat boot is at = absurd (cc)
+no_writes (turns.Ended end) seat boot is at = ap (λ (x : ShepherdTurn). writes_at x seat.connection.stage boot) at
+
+-- a connection that is not there is refused
+pub none_moves : (key : List ℕ) (now : Moment) (n : ℕ) (c : ContainerValue) (w : SeatWorld) → HasMovedIn key now n None c w Refused c
+unfolding place_step
+none_moves key now n c w = record { keeps = true; answers = refl; handed = handed_none c }
+
+-- what a connection comes to at a turn at which it makes no step
+still_at : (t : ShepherdTurn) (g : SeatGivens) (n : ℕ) (seat : Seat) (w : SeatWorld) → moves t ≡ false → still_by (end_of t) n seat w ≡ steps_at t g n seat w
+still_at turns.Bytes g n seat w is = refl
+still_at turns.Request g n seat w is = absurd (cc)
+still_at turns.Outside g n seat w is = absurd (cc)
+still_at turns.Windows g n seat w is = absurd (cc)
+still_at turns.Inside g n seat w is = absurd (cc)
+still_at turns.Program g n seat w is = absurd (cc)
+still_at turns.Own g n seat w is = absurd (cc)
+still_at turns.Output g n seat w is = absurd (cc)
+still_at turns.Item g n seat w is = absurd (cc)
+still_at (turns.Ended end) g n seat w is = refl
+
+-- a connection makes no step at its turn, and this is what it comes to
+pub still_moves : (key : List ℕ) (now : Moment) (n : ℕ) (seat : Seat) (c : ContainerValue) (w : SeatWorld) (a : Answer Place) → moves (turn seat.connection) ≡ false → a ≡ still_by (end_of (turn seat.connection)) n seat w → HasMovedIn key now n (Some seat) c w a c
+unfolding place_step
+still_moves key now n seat c w a rests is =
+    let g : SeatGivens = record { key = key; worker = worker_of n; now = now; keeps = true } in
+    record {
+      keeps = true;
+      answers = is ∙ still_at (turn seat.connection) g n seat w rests;
+      handed = subst (λ (writes : List RowWrite). AreHanded (handed_first writes true []) c c) (sym (no_writes (turn seat.connection) seat c.boot rests refl)) (handed_none c);
+    }
+
+-- memory ran out behind a step of a seat that was made
+pub stepped_breaks : (key : List ℕ) (now : Moment) (n : ℕ) (seat : Seat) (old : ContainerValue) (w : SeatWorld) (new : ContainerValue) (o : SeatOutcome) → HasStepped key (worker_of n) now seat old w new o → moves (turn seat.connection) ≡ true → new.boot ≡ o.world.boot → new.since ≡ o.world.since → old.faults ≤ new.faults → BreaksIn key now n (Some seat) old w new
+unfolding place_step
+stepped_breaks key now n seat old w new o stepped moving boot since count =
+    let g : SeatGivens = record { key = key; worker = worker_of n; now = now; keeps = stepped.keeps } in
+    let to : SeatOutcome = seat_step g seat w in
+    let writes : List RowWrite = seat_writes seat.connection old.boot in
+    let place : Place = record { seat = Some to.seat; world = to.world } in
+    record {
+      keeps = stepped.keeps;
+      handed = all_handed (handed_first writes stepped.keeps []) old new (handed_once writes stepped.keeps old new stepped.keeper count);
+      added = inr (
+        refl,
+        refl,
+        (
+          place,
+          step_text (turn seat.connection) n to.bytes,
+          moved_at (turn seat.connection) g n seat w moving,
+          boot ∙ ap (λ (x : SeatOutcome). x.world.boot) stepped.step_is,
+          since ∙ ap (λ (x : SeatOutcome). x.world.since) stepped.step_is,
+        ),
+      );
+    }
+
+-- the same, in its place
+pub still_there : (key : List ℕ) (now : Moment) (n : ℕ) (place : Option Seat) (seat : Seat) (c : ContainerValue) (w : SeatWorld) (a : Answer Place) → place ≡ Some seat → moves (turn seat.connection) ≡ false → a ≡ still_by (end_of (turn seat.connection)) n seat w → HasMovedIn key now n place c w a c
+still_there key now n place seat c w a there rests is = subst (λ (p : Option Seat). HasMovedIn key now n p c w a c) (sym there) (still_moves key now n seat c w a rests is)

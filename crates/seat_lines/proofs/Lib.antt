@@ -1,0 +1,12 @@
+mod Answering
+pub mod GivenUp
+pub mod Going
+mod Handing
+mod Leaving
+pub mod MoreReplies
+pub mod OneSeat
+pub mod Outs
+mod Placing
+pub mod RunSteps
+pub mod SeatSteps
+pub mod Taken

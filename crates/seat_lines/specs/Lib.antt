@@ -1,0 +1,9 @@
+pub mod Changing
+pub mod Giving
+pub mod Handing
+pub mod Items
+pub mod Lines
+pub mod Runs
+pub mod Site
+pub mod Telling
+pub mod Texts

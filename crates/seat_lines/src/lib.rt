@@ -1,0 +1,39 @@
+//! What the lines of a scenario do that are about connections of browsers.
+//!
+//! A line is refused, or is done and writes its text. What each line does is defined as a function of the site before
+//! it, and of what the keeper replies to its steps, whose value is the answer: the site that the line leaves, and the
+//! text. The site is the boot with its events, the sessions, and the connections by their numbers.
+//!
+//! ```text
+//! let mut seats = Seats::new(alloc);
+//! let (sessions, answer) = seats.line(alloc, &router, &mut container, sessions, SeatLine::Conn(1));
+//! let (sessions, answer) = seats.line(alloc, &router, &mut container, sessions, SeatLine::Bytes(1, request));
+//! let (sessions, answer) = seats.line(alloc, &router, &mut container, sessions, SeatLine::Run(1));
+//! answer?                                      // s1 out 485454502f312e31..
+//! let sessions = seats.give_back(alloc, &mut container, sessions);    // before the next boot: connections are gone
+//! ```
+//!
+//! A step is one step of `seat_steps`. A run makes steps until the connection waits for bytes or is gone. It is defined
+//! over the replies of the keeper, one for each step (`specs/Runs.antt`): with as many as the run has steps it comes to
+//! an answer, and more replies change nothing.
+//!
+//! A line is refused whose number no connection has (`MAX_SEAT`), and a step or a run where the sessions have no
+//! bricks.
+//!
+//! The random words of a scenario are 1, 2, 3 and so on over all its boots, and the serials are those of its sessions,
+//! which are lent to each step and put back.
+#![tactic(auto)]
+
+mod giving;
+mod laws;
+mod lending;
+mod running;
+mod seats;
+mod stepping;
+mod texts;
+
+pub use laws::{
+    lines_are_taken, lines_change_one_connection, lines_come_to_one_answer,
+    responses_are_told_in_order, steps_are_those_of_seats,
+};
+pub use seats::{FIRST_WORD, FIRST_WORKER, Seats};

@@ -1,0 +1,274 @@
+//! One step of a connection.
+
+ghost use Rattle.std.specs.Prelude.{◌≡◌, ◌≤◌, true, false, IfOk, IfSome, OnErr, OnOk, Some};
+ghost use Rattle.auction_rows.specs.Parts.{site_parts};
+ghost use Rattle.container_core.specs.Container.{ContainerValue, HasGrownBy};
+ghost use Rattle.container_core.specs.History.{entries_in};
+ghost use Rattle.scenario_text.specs.Answer.{Done, KeepsRefused, answer_of};
+ghost use Rattle.scenario_text.specs.declared.seat_line.TheConstants.{MAX_SEAT};
+ghost use Rattle.seat_steps.specs.Going.{GoesOnAtSeat};
+ghost use Rattle.seat_steps.specs.Seats.{SeatWorld};
+ghost use Rattle.shepherd.specs.Shepherds.{turn};
+ghost use Rattle.session_steps.specs.Kept.{HasSoundStore};
+ghost use Rattle.session_steps.specs.Lent.{put_back};
+ghost use Rattle.seat_lines.specs.Handing.{BreaksIn, BreaksStep, HasMadeStep, HasMovedIn, place_from};
+ghost use Rattle.seat_lines.specs.Lines.{Place, end_of, moves, step_text, still_step};
+ghost use Rattle.seat_lines.specs.Site.{AllGoOn, IsGoingIn, site_in};
+
+use crate::lending::Lending;
+use crate::seats::{FIRST_WORKER, Seats};
+use crate::texts::{gone_text, out_text};
+use auction_actions::ActionProgram;
+use container_core::Container;
+use crash_base::{OutOfMemory, WorkerNo};
+use outside::Keeper;
+use scenario_text::LineAnswer;
+use seat_steps::{NextDraws, Seat, SeatStepped, bricks_stay_sound};
+use session_steps::LentSessions;
+use shepherd::{EndKind, ShepherdTurn};
+use shepherd_steps::steps_inside_are_fixed;
+use site_routes::SiteRouter;
+use std::alloc::Global;
+
+/// What a connection of this number writes that put out these bytes at this turn.
+fn step_text(
+    alloc: Global,
+    number: u64,
+    turn: ShepherdTurn,
+    stepped: &SeatStepped,
+) -> Result<LineAnswer, OutOfMemory>
+    ensures { IfOk result (λ a. (place : Place)
+        → answer_of a place ≡ Done place (step_text turn number stepped.now.bytes)) }
+{
+    match turn {
+        ShepherdTurn::Output => {
+            let text = out_text(alloc, number, stepped.bytes.as_slice())?;
+            Ok(LineAnswer::Wrote(text))
+        }
+        ShepherdTurn::Bytes => Ok(LineAnswer::Done),
+        ShepherdTurn::Request => Ok(LineAnswer::Done),
+        ShepherdTurn::Outside => Ok(LineAnswer::Done),
+        ShepherdTurn::Windows => Ok(LineAnswer::Done),
+        ShepherdTurn::Inside => Ok(LineAnswer::Done),
+        ShepherdTurn::Program => Ok(LineAnswer::Done),
+        ShepherdTurn::Own => Ok(LineAnswer::Done),
+        ShepherdTurn::Item => Ok(LineAnswer::Done),
+        ShepherdTurn::Ended(_) => Ok(LineAnswer::Done),
+    }
+}
+
+/// The entries of a boot are those of the events since its start. It does nothing.
+fn tell_entries<K: Keeper + Drop>(container: &Container<K>)
+    ensures { entries_in container.now.since ≡ container.now.boot.entries }
+{
+    container.as_boot();
+}
+
+/// A step of a connection that is there and has not ended, and waits for no bytes. What it writes is told by its turn.
+fn make_step<K: Keeper + Drop>(
+    alloc: Global,
+    router: &SiteRouter,
+    number: u64,
+    seat: &mut Seat,
+    word: &mut u64,
+    container: &mut Container<K>,
+    lent: &LentSessions,
+    lending: Lending,
+) -> (Lending, Result<LineAnswer, OutOfMemory>)
+    requires number { number ≤ MAX_SEAT }
+    requires site { container.old.boot.start.deployment ≡ site_parts }
+    requires goes { GoesOnAtSeat container.old seat.old.connection }
+    requires moves { moves (turn seat.old.connection) ≡ true }
+    requires sound { HasSoundStore (Some lending.lanes) }
+    ensures step { IfOk result.1 (λ a. HasMovedIn lent.now.key lent.now.moment number (Some seat.old) container.old
+        (place_from (Some seat.old) container.old lending word.old).world
+        (answer_of a (place_from (Some seat.new) container.new result.0 word.new)) container.new) }
+    ensures refused { IfOk result.1 (λ a. KeepsRefused a (place_from (Some seat.old) container.old lending word.old)
+        (place_from (Some seat.new) container.new result.0 word.new)) }
+    ensures breaks { OnErr result.1 (BreaksIn lent.now.key lent.now.moment number (Some seat.old) container.old
+        (place_from (Some seat.old) container.old lending word.old).world container.new) }
+    ensures sound { OnOk result.1 (HasSoundStore (Some result.0.lanes)) }
+    ensures goes { GoesOnAtSeat container.new seat.new.connection }
+    ensures grown { HasGrownBy container.old container.new }
+    ensures count { container.old.faults ≤ container.new.faults }
+{
+    bricks_stay_sound();
+    steps_inside_are_fixed::<ActionProgram>();
+    let Lending { lanes, serial } = lending;
+    tell_entries(container);
+    let turn = seat.turn();
+    let worker = WorkerNo(FIRST_WORKER + number as u32);
+    let mut next = NextDraws {
+        word: *word,
+        serial,
+    };
+    let (lanes, stepped) = seat.step(
+        alloc,
+        router,
+        lent.key(),
+        worker,
+        lent.moment(),
+        container,
+        lanes,
+        &mut next,
+    );
+    tell_entries(container);
+    *word = next.word;
+    let lending = Lending {
+        lanes,
+        serial: next.serial,
+    };
+    match stepped {
+        Ok(stepped) => match step_text(alloc, number, turn, &stepped) {
+            Ok(answer) => (lending, Ok(answer)),
+            Err(OutOfMemory) => (lending, Err(OutOfMemory)),
+        },
+        Err(OutOfMemory) => (lending, Err(OutOfMemory)),
+    }
+}
+
+/// Whether a connection makes a step at a turn: it waits for no bytes, and has not ended.
+fn moves(turn: ShepherdTurn) -> bool
+    ensures { result ≡ moves turn }
+{
+    match turn {
+        ShepherdTurn::Bytes => false,
+        ShepherdTurn::Request => true,
+        ShepherdTurn::Outside => true,
+        ShepherdTurn::Windows => true,
+        ShepherdTurn::Inside => true,
+        ShepherdTurn::Program => true,
+        ShepherdTurn::Own => true,
+        ShepherdTurn::Output => true,
+        ShepherdTurn::Item => true,
+        ShepherdTurn::Ended(_) => false,
+    }
+}
+
+/// How a connection has ended, by its turn, if it has.
+fn end_of(turn: ShepherdTurn) -> Option<EndKind>
+    ensures { result ≡ end_of turn }
+{
+    match turn {
+        ShepherdTurn::Bytes => None,
+        ShepherdTurn::Request => None,
+        ShepherdTurn::Outside => None,
+        ShepherdTurn::Windows => None,
+        ShepherdTurn::Inside => None,
+        ShepherdTurn::Program => None,
+        ShepherdTurn::Own => None,
+        ShepherdTurn::Output => None,
+        ShepherdTurn::Item => None,
+        ShepherdTurn::Ended(end) => Some(end),
+    }
+}
+
+/// A connection that makes no step at its turn stays, or goes where it has ended.
+fn stay_or_go(
+    alloc: Global,
+    number: u64,
+    place: &mut Option<Seat>,
+) -> Result<LineAnswer, OutOfMemory>
+    requires moves { IfSome place.old (λ seat. moves (turn seat.connection) ≡ false) }
+    ensures answer { IfOk result (λ a. (world : SeatWorld) → (let there : Place = record { seat = place.new; world = world }
+        in answer_of a there) ≡ still_step number place.old world) }
+    ensures refused { IfOk result (λ a. KeepsRefused a place.old place.new) }
+    ensures goes { (container : ContainerValue) → IsGoingIn container place.old → IsGoingIn container place.new }
+{
+    let Some(seat) = place else {
+        return Ok(LineAnswer::Refused);
+    };
+    match end_of(seat.turn()) {
+        None => Ok(LineAnswer::Done),
+        Some(end) => {
+            let text = gone_text(alloc, number, end)?;
+            *place = None;
+            Ok(LineAnswer::Wrote(text))
+        }
+    }
+}
+
+/// The step of a connection, if it is there: where it has ended, it goes.
+fn step_seat<K: Keeper + Drop>(
+    alloc: Global,
+    router: &SiteRouter,
+    number: u64,
+    place: &mut Option<Seat>,
+    word: &mut u64,
+    container: &mut Container<K>,
+    lent: &LentSessions,
+    lending: Lending,
+) -> (Lending, Result<LineAnswer, OutOfMemory>)
+    requires number { number ≤ MAX_SEAT }
+    requires site { container.old.boot.start.deployment ≡ site_parts }
+    requires goes { IsGoingIn container.old place.old }
+    requires sound { HasSoundStore (Some lending.lanes) }
+    ensures step { IfOk result.1 (λ a. HasMovedIn lent.now.key lent.now.moment number place.old container.old
+        (place_from place.old container.old lending word.old).world
+        (answer_of a (place_from place.new container.new result.0 word.new)) container.new) }
+    ensures refused { IfOk result.1 (λ a. KeepsRefused a (place_from place.old container.old lending word.old)
+        (place_from place.new container.new result.0 word.new)) }
+    ensures breaks { OnErr result.1 (BreaksIn lent.now.key lent.now.moment number place.old container.old
+        (place_from place.old container.old lending word.old).world container.new) }
+    ensures sound { OnOk result.1 (HasSoundStore (Some result.0.lanes)) }
+    ensures goes { IsGoingIn container.new place.new }
+    ensures grown { HasGrownBy container.old container.new }
+    ensures count { container.old.faults ≤ container.new.faults }
+{
+    match place {
+        None => (lending, Ok(LineAnswer::Refused)),
+        Some(seat) => {
+            if moves(seat.turn()) {
+                return make_step(alloc, router, number, seat, word, container, lent, lending);
+            }
+            let answer = stay_or_go(alloc, number, place);
+            (lending, answer)
+        }
+    }
+}
+
+impl Seats {
+    /// One step of a connection over bricks that are lent.
+    pub(crate) fn step<K: Keeper + Drop>(
+        &mut self,
+        alloc: Global,
+        router: &SiteRouter,
+        number: u64,
+        container: &mut Container<K>,
+        lent: &LentSessions,
+        lending: Lending,
+    ) -> (Lending, Result<LineAnswer, OutOfMemory>)
+        requires number { number ≤ MAX_SEAT }
+        requires site { container.old.boot.start.deployment ≡ site_parts }
+        requires goes { AllGoOn container.old self.old }
+        requires sound { HasSoundStore (Some lending.lanes) }
+        ensures step { IfOk result.1 (λ a. HasMadeStep number container.old
+            (put_back lent.now (Some lending.lanes) lending.serial) self.old (answer_of a
+            (site_in container.new (put_back lent.now (Some result.0.lanes) result.0.serial) self.new)) container.new) }
+        ensures refused { IfOk result.1 (λ a. KeepsRefused a
+            (site_in container.old (put_back lent.now (Some lending.lanes) lending.serial) self.old)
+            (site_in container.new (put_back lent.now (Some result.0.lanes) result.0.serial) self.new)) }
+        ensures breaks { OnErr result.1 (BreaksStep number container.old
+            (put_back lent.now (Some lending.lanes) lending.serial) self.old container.new) }
+        ensures sound { OnOk result.1 (HasSoundStore (Some result.0.lanes)) }
+        ensures goes { AllGoOn container.new self.new }
+        ensures grown { HasGrownBy container.old container.new }
+        ensures count { container.old.faults ≤ container.new.faults }
+    {
+        self.stay();
+        if number >= self.seats.len() as u64 {
+            return (lending, Ok(LineAnswer::Refused));
+        }
+        let place = &mut self.seats[number as usize];
+        step_seat(
+            alloc,
+            router,
+            number,
+            place,
+            &mut self.word,
+            container,
+            lent,
+            lending,
+        )
+    }
+}
