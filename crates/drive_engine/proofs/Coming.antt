@@ -1,5 +1,5 @@
 -- How far a scenario has come, one line or one piece further on.
-use Rattle.std.proofs.Common.{◌≡◌, ◌≢◌, ℕ, ◌+◌, ◌-◌, ◌<◌, ◌≤◌, inl, inr, List, [], ◌∷◌, ◌++◌, length, length-append, take, drop, All, Option, Some, None, refl, ap, sym, subst, ◌∙◌, append_assoc, append-nil, arith}
+use Rattle.std.proofs.Common.{◌≡◌, ◌≢◌, ℕ, ◌+◌, ◌-◌, ◌<◌, ◌≤◌, ◌⊎◌, inl, inr, Bool, List, [], ◌∷◌, ◌++◌, length, length-append, take, drop, All, Option, Some, None, refl, ap, sym, subst, ◌∙◌, append_assoc, append-nil, arith}
 use Rattle.std.proofs.Math.Seq.{take-add}
 use Rattle.std.proofs.lemmas.List.{length-take-le}
 use Rattle.std.proofs.lemmas.List.Elements.{All-nil, All-cons, All-append}
@@ -13,21 +13,24 @@ use Rattle.scenario_text.specs.Reading.{line_of}
 use Rattle.scenario_text.specs.declared.line.TheConstants.{MAX_LINE_BYTES}
 use Rattle.scenario_text.proofs.Cuts.{lines_fed, line_unfed, all_left}
 use Rattle.scenario_text.proofs.EndedLines.{text_of_lines-push, lines_before}
-use Rattle.scenario_engine.specs.KeeperCalls.{KeeperSeen, AreMade}
-use Rattle.scenario_engine.specs.State.{State, RefusedIn, DoneTo, UnstartedIn}
-use Rattle.scenario_engine.specs.Telling.{Does}
-use Rattle.scenario_engine.specs.Transcript.{Turn, lines_in, first, transcript, end_from, Ended, calls_from}
+use Rattle.scenario_engine.specs.Engine.{next_calls}
+use Rattle.scenario_engine.specs.KeeperCalls.{KeeperSeen, AreMade, AreSomeAsked}
+use Rattle.scenario_engine.specs.State.{State, RefusedIn, DoneTo, UnstartedIn, UnderWayIn}
+use Rattle.scenario_engine.specs.Telling.{Does, DoesPartly, BreaksOff}
+use Rattle.scenario_engine.specs.Transcript.{Turn, lines_in, first, turn_outcome, transcript, end_from, Ended, calls_from}
 use Rattle.scenario_engine.proofs.Calls.{none_made}
 use Rattle.scenario_engine.proofs.Unkept.{numbers_alone}
 use Rattle.scenario_engine.proofs.Turns.{lines_in-push, end_from-push, transcript-push, turn_done, made-push}
+use Rattle.scenario_engine.proofs.UnderWay.{next_whole}
 use Rattle.drive_engine.specs.declared.drive.TheConstants.{MAX_SCENARIO_BYTES}
 use Rattle.drive_engine.specs.declared.ending.Ending.{Ending}
 use Rattle.drive_engine.specs.declared.ending.Ending.TheVariants as endings
 use Rattle.drive_engine.specs.declared.words.Command.TheVariants.{Drive}
 use Rattle.drive_engine.specs.Command.{Runs}
-use Rattle.drive_engine.specs.Drive.{AreRead, AreReadWithFeeds, HasDone, ScenarioStands, WritesTranscript, StopsUnstarted, StopsAtLongLine, StopsAtFailedRead, StopsOutOfMemory, StopsPastLimit}
+use Rattle.drive_engine.specs.Drive.{AreRead, AreReadWithFeeds, HasDone, ScenarioStands, WritesTranscript, StopsUnstarted, StopsAtLongLine, StopsAtFailedRead, StopsOutOfMemory, StopsPastLimit, RunsOutAtLine, StandsOneMore, one_more, BreaksOffAtLine}
 use Rattle.drive_engine.specs.Exchange.{Exchange, exchange, IsRead}
 use Rattle.drive_engine.specs.Play.{PlayState, first_play, DoesLine, WritesNoText, EndsAtLine, HasCome}
+use Rattle.drive_engine.proofs.Breaking.{made_one_more}
 
 -- a keeper that was called as turns say tells so
 abbrev pub ScenariosDoStand : Type 0
@@ -129,6 +132,32 @@ ends_at_start r left left_now written old new held before after turns s t line l
   stands = law (turns ++ record { line = line; replies = d.replies } ∷ []) held after (made-push s turns line (UnstartedIn t r) held before after done short tells d);
 }
 
+-- of the step that broke off nothing was asked, or what was done stands with it
+last_stands : (x : Exchange) (s mid : State) (turns : List Turn) (turn : Turn) (keeps : Bool) (between : KeeperSeen) → ScenariosDoStand → end_from first 1 turns ≡ Ended s → length turn.line ≤ MAX_LINE_BYTES → turn_outcome s turn ≡ UnderWayIn mid → AreMade (calls_from first (turns ++ turn ∷ [])) x.keeper_before between → AreSomeAsked [] between x.keeper_after ⊎ AreMade (next_calls mid (line_of turn.line) keeps) between x.keeper_after → AreSomeAsked [] between x.keeper_after ⊎ StandsOneMore x turns turn
+last_stands x s mid turns turn keeps between law done short way whole (inl asked) = inl asked
+last_stands x s mid turns turn keeps between law done short way whole (inr made) = inr (record {
+  keeps = keeps;
+  stands = law (turns ++ one_more turn keeps ∷ []) x.keeper_before x.keeper_after (made_one_more s mid turns turn keeps x.keeper_before between x.keeper_after done short way whole made);
+})
+
+-- memory ran out in a step of a connection
+broken_off : (left left_now written new : Option (List ℕ)) (held before after : KeeperSeen) (turns : List Turn) (s : State) (line : List ℕ) → ScenariosDoStand → end_from first 1 turns ≡ Ended s → AreMade (calls_from first turns) held before → AreRead (exchange left left_now written new held after) (lines_in turns ++ line ∷ []) → length line ≤ MAX_LINE_BYTES → BreaksOff s (line_of line) before after → BreaksOffAtLine (exchange left left_now written new held after) turns s
+broken_off left left_now written new held before after turns s line law done tells read short b =
+    let turn : Turn = record { line = line; replies = b.replies } in
+    let d : Does s (line_of line) (UnderWayIn b.mid) before b.between = record { replies = b.replies; answers = sym b.comes; made = b.whole } in
+    let way : turn_outcome s turn ≡ UnderWayIn b.mid = turn_done s line (UnderWayIn b.mid) before b.between d in
+    let whole : AreMade (calls_from first (turns ++ turn ∷ [])) held b.between = made-push s turns line (UnderWayIn b.mid) held before b.between done short tells d in
+    record {
+      turn = turn;
+      mid = b.mid;
+      between = b.between;
+      read = read;
+      short = short;
+      under_way = way;
+      stands = law (turns ++ turn ∷ []) held b.between whole;
+      last = last_stands (exchange left left_now written new held after) s b.mid turns turn b.next b.between law done short way whole (next_whole b.mid (line_of line) b.next b.between after b.last);
+    }
+
 -- it ends the scenario
 ends_at_line : (e : Ending) (left left_now written old new : Option (List ℕ)) (held before after : KeeperSeen) (turns : List Turn) (s : State) (number : ℕ) (line : List ℕ) → ScenariosDoStand → end_from first 1 turns ≡ Ended s → number ≡ length turns + 1 → old ≡ appended written (transcript first turns) → AreMade (calls_from first turns) held before → HasLine (exchange left left_now written new held after) (lines_in turns) line → EndsAtLine e number s line old new before after → Runs Drive e (exchange left left_now written new held after)
 ends_at_line endings.Done left left_now written old new held before after turns s number line law done next so_far tells h ends = absurd ends
@@ -180,15 +209,22 @@ ends_at_line (endings.LineTooLong n) left left_now written old new held before a
   long = long;
   stands = law turns held after (subst (λ (o : KeeperSeen). AreMade (calls_from first turns) held o) (sym unasked) tells);
 }
-ends_at_line endings.OutOfMemory left left_now written old new held before after turns s number line law done next so_far tells h ((short, same), partly) = record {
+ends_at_line endings.OutOfMemory left left_now written old new held before after turns s number line law done next so_far tells h ((short, same), ends) = record {
   before = turns;
   state = s;
   between = before;
   read = record { rest = line ++ h.rest; taken = h.taken; plain = h.plain; within = omega (arith, h.within, length-append (text_of_lines (lines_in turns)) line) };
   done = has_done left left_now written old new held after turns s done so_far same;
   stands = law turns held before tells;
-  last = inr (record { line = line; read = h.read; short = short; partly = partly; rows = numbers_alone s (line_of line) before after partly });
+  last = inr (last_of ends);
 }
+  where
+    x : Exchange
+    x = exchange left left_now written new held after
+
+    last_of : DoesPartly s (line_of line) before after ⊎ BreaksOff s (line_of line) before after → RunsOutAtLine x (lines_in turns) s before ⊎ BreaksOffAtLine x turns s
+    last_of (inl partly) = inl (record { line = line; read = h.read; short = short; partly = partly; rows = numbers_alone s (line_of line) before after partly })
+    last_of (inr broken) = inr (broken_off left left_now written new held before after turns s line law done tells h.read short broken)
 ends_at_line endings.DescriptorsRefused left left_now written old new held before after turns s number line law done next so_far tells h ends = absurd ends
 ends_at_line endings.BootsSpent left left_now written old new held before after turns s number line law done next so_far tells h (none, (t, d)) = (refl, ends_at_start causes.BootsSpent left left_now written old new held before after turns s t line law done so_far tells h none d)
 ends_at_line endings.ScenarioTooLong left left_now written old new held before after turns s number line law done next so_far tells h ends = absurd ends

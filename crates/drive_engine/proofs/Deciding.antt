@@ -14,7 +14,7 @@ use Rattle.scenario_text.proofs.Cuts.{lines_fed, line_unfed}
 use Rattle.scenario_text.proofs.EndedLines.{cut_of, cut_before, cut_after, lines_cut, FirstHas}
 use Rattle.scenario_engine.specs.KeeperCalls.{KeeperCall, TellsCalls}
 use Rattle.scenario_engine.specs.State.{State}
-use Rattle.scenario_engine.specs.Transcript.{Turn, lines_in, first, End, Ended, RefusedAt, TooLong, Unstarted, end_from, calls_from}
+use Rattle.scenario_engine.specs.Transcript.{Turn, lines_in, first, End, Ended, RefusedAt, TooLong, Unstarted, UnderWay, end_from, calls_from}
 use Rattle.scenario_engine.proofs.Turns.{lines_in-push, no_replies, turns_of, lines_in-more, end_from-more, calls_from-more, Stops, end_from-stopped, calls_from-stopped, end_from-refused, end_from-unstarted, end_from-long, calls_from-long}
 use Rattle.drive_engine.specs.declared.drive.TheConstants.{MAX_SCENARIO_BYTES}
 use Rattle.drive_engine.specs.declared.groups.TheConstants.{MAX_DESCRIPTOR_BYTES}
@@ -46,14 +46,15 @@ same_status (Ended s) bytes h = absurd h
 same_status (RefusedAt s n) bytes h = refl
 same_status (TooLong s n) bytes h = refl
 same_status (Unstarted s r) bytes h = refl
+same_status (UnderWay s n) bytes h = refl
 
 -- calls that are the same tell the same
 tells_same : (calls others : List KeeperCall) (old new : Option KeeperTold) → others ≡ calls → TellsCalls calls old new → TellsCalls others old new
 tells_same calls others old new same tells = let P : List KeeperCall → Type 0 = λ cs. TellsCalls cs old new in subst P (sym same) tells
 
 -- Turns whose lines are within the limit stop a scenario, whatever comes after them.
-called_by_turns : (text tail : List ℕ) (turns : List Turn) (old new : Option KeeperTold) → text ≡ text_of_lines (lines_in turns) ++ tail → All IsOneLine (lines_in turns) → length (text_of_lines (lines_in turns)) ≤ MAX_SCENARIO_BYTES → Stops (end_from first 1 turns) → TellsCalls (calls_from first turns) old new → IsCalledFor Drive text old new (status_of_end (end_from first 1 turns))
-called_by_turns text tail turns old new is plain within stops tells = elim (cases_lt MAX_SCENARIO_BYTES (length text)) [
+called_by_turns : (text tail : List ℕ) (turns : List Turn) (old new : Option KeeperTold) → text ≡ text_of_lines (lines_in turns) ++ tail → All IsOneLine (lines_in turns) → length (text_of_lines (lines_in turns)) ≤ MAX_SCENARIO_BYTES → Stops (end_from first 1 turns) → TellsCalls (calls_from first turns) old new → (n : ℕ) → Some n ≡ status_of_end (end_from first 1 turns) → IsCalledFor Drive text old new n
+called_by_turns text tail turns old new is plain within stops tells n calls = elim (cases_lt MAX_SCENARIO_BYTES (length text)) [
   | inr short ↦ (
       let more = turns_of (lines_of tail) in
       record {
@@ -61,7 +62,7 @@ called_by_turns text tail turns old new is plain within stops tells = elim (case
         calls = inl (record {
           short = short;
           lines = lines_in-more turns (lines_of tail) ∙ sym (ap lines_of is ∙ lines_fed (lines_in turns) tail plain);
-          called = ap status_of_end (sym (end_from-stopped first 1 turns more stops));
+          called = calls ∙ ap status_of_end (sym (end_from-stopped first 1 turns more stops));
         });
         told = tells_same (calls_from first turns) (calls_from first (turns ++ more)) old new (calls_from-stopped first 1 turns more stops) tells;
       })
@@ -78,47 +79,46 @@ called_by_turns text tail turns old new is plain within stops tells = elim (case
           long = long;
           part = h.1;
           cut = subst (λ ls. IsCut (take MAX_SCENARIO_BYTES text) ls h.1) (sym (lines_in-more turns h.0)) (subst (λ t. IsCut t (lines_in turns ++ h.0) h.1) (sym head) (cut_before (lines_in turns) h.0 (take room tail) h.1 plain h.2));
-          called = sym (ap (λ e. status_past_limit e (length h.1)) (end_from-stopped first 1 turns more stops) ∙ same_status (end_from first 1 turns) (length h.1) stops);
+          called = calls ∙ sym (ap (λ e. status_past_limit e (length h.1)) (end_from-stopped first 1 turns more stops) ∙ same_status (end_from first 1 turns) (length h.1) stops);
         });
         told = tells_same (calls_from first turns) (calls_from first (turns ++ more)) old new (calls_from-stopped first 1 turns more stops) tells;
       })
 ]
 
 -- turns whose lines were read stop a scenario
-decided_at_turns : (x : Exchange) (text : List ℕ) (turns : List Turn) → x.left_before ≡ Some text → AreRead x (lines_in turns) → Stops (end_from first 1 turns) → TellsCalls (calls_from first turns) x.keeper_before.told x.keeper_after.told → IsCalledFor Drive text x.keeper_before.told x.keeper_after.told (status_of_end (end_from first 1 turns))
-decided_at_turns x text turns is read stops tells = go read
+decided_at_turns : (x : Exchange) (text : List ℕ) (turns : List Turn) → x.left_before ≡ Some text → AreRead x (lines_in turns) → Stops (end_from first 1 turns) → TellsCalls (calls_from first turns) x.keeper_before.told x.keeper_after.told → (n : ℕ) → Some n ≡ status_of_end (end_from first 1 turns) → IsCalledFor Drive text x.keeper_before.told x.keeper_after.told n
+decided_at_turns x text turns is read stops tells n calls = go read
   where
-    go : AreRead x (lines_in turns) → IsCalledFor Drive text x.keeper_before.told x.keeper_after.told (status_of_end (end_from first 1 turns))
+    go : AreRead x (lines_in turns) → IsCalledFor Drive text x.keeper_before.told x.keeper_after.told n
     go (inl r) =
         let fed = text_of_lines (lines_in turns) in
         let t = told (fed ++ r.rest) text x.left_before x.left_after r.taken is in
-        called_by_turns text (r.rest ++ t.0) turns x.keeper_before.told x.keeper_after.told (t.2 ∙ append_assoc fed r.rest t.0) r.plain r.within stops tells
+        called_by_turns text (r.rest ++ t.0) turns x.keeper_before.told x.keeper_after.told (t.2 ∙ append_assoc fed r.rest t.0) r.plain r.within stops tells n calls
     go (inr r) =
         let whole = told_whole x MAX_SCENARIO_BYTES text r.text is r.read in
         record {
           turns = turns;
-          calls = inl (record { short = omega (arith, r.read.short, ap length whole); lines = r.cut ∙ ap lines_of (sym whole); called = refl });
+          calls = inl (record { short = omega (arith, r.read.short, ap length whole); lines = r.cut ∙ ap lines_of (sym whole); called = calls });
           told = tells;
         }
 
 -- a turn after turns that were done stops a scenario
-decided_at_turn : (x : Exchange) (text : List ℕ) (before : List Turn) (turn : Turn) (s : State) (e : End) → x.left_before ≡ Some text → AreRead x (lines_in before ++ turn.line ∷ []) → HasDone x before s → end_from s (1 + length before) (turn ∷ []) ≡ e → Stops e → ScenarioStands (before ++ turn ∷ []) x.keeper_before x.keeper_after → IsCalledFor Drive text x.keeper_before.told x.keeper_after.told (status_of_end e)
-decided_at_turn x text before turn s e is read done ends stops keeper =
+decided_at_turn : (x : Exchange) (text : List ℕ) (before : List Turn) (turn : Turn) (s : State) (e : End) → x.left_before ≡ Some text → AreRead x (lines_in before ++ turn.line ∷ []) → HasDone x before s → end_from s (1 + length before) (turn ∷ []) ≡ e → Stops e → ScenarioStands (before ++ turn ∷ []) x.keeper_before x.keeper_after → (n : ℕ) → Some n ≡ status_of_end e → IsCalledFor Drive text x.keeper_before.told x.keeper_after.told n
+decided_at_turn x text before turn s e is read done ends stops keeper n calls =
     let all = before ++ turn ∷ [] in
     let whole : end_from first 1 all ≡ e = end_from-more first s 1 before (turn ∷ []) done.done ∙ ends in
-    subst (λ (e : End). IsCalledFor Drive text x.keeper_before.told x.keeper_after.told (status_of_end e)) whole
-    (decided_at_turns x text all is (subst (λ ls. AreRead x ls) (sym (lines_in-push before turn)) read) (subst Stops (sym whole) stops) keeper.calls)
+    decided_at_turns x text all is (subst (λ ls. AreRead x ls) (sym (lines_in-push before turn)) read) (subst Stops (sym whole) stops) keeper.calls n (calls ∙ ap status_of_end (sym whole))
 
 -- a line was refused
 decided_at_line : (x : Exchange) (text : List ℕ) (n : ℕ) → x.left_before ≡ Some text → StopsAtLine n x → IsCalledFor Drive text x.keeper_before.told x.keeper_after.told 3
-decided_at_line x text n is h = decided_at_turn x text h.before h.turn h.state (RefusedAt h.after (1 + length h.before)) is h.read h.done (end_from-refused h.state h.after (1 + length h.before) h.turn h.short h.refused) tt h.stands
+decided_at_line x text n is h = decided_at_turn x text h.before h.turn h.state (RefusedAt h.after (1 + length h.before)) is h.read h.done (end_from-refused h.state h.after (1 + length h.before) h.turn h.short h.refused) tt h.stands 3 refl
 
 -- a boot was not started
 decided_at_start : (x : Exchange) (text : List ℕ) (r : UnstartedCause) → x.left_before ≡ Some text → StopsUnstarted r x → IsCalledFor Drive text x.keeper_before.told x.keeper_after.told (status_of_unstarted r)
-decided_at_start x text r is h = decided_at_turn x text h.before h.turn h.state (Unstarted h.after r) is h.read h.done (end_from-unstarted h.state h.after (1 + length h.before) h.turn r h.short h.unstarted) tt h.stands
+decided_at_start x text r is h = decided_at_turn x text h.before h.turn h.state (Unstarted h.after r) is h.read h.done (end_from-unstarted h.state h.after (1 + length h.before) h.turn r h.short h.unstarted) tt h.stands (status_of_unstarted r) refl
 
 -- lines whose first, or else what follows them, is too long
-long_within : (s : State) (n k : ℕ) (lines : List (List ℕ)) (part : List ℕ) → MAX_LINE_BYTES < k → IsOneLine part → FirstHas k lines part → (status_of_end (end_from s n (turns_of (lines ++ lines_of part))) ≡ 8) × (calls_from s (turns_of (lines ++ lines_of part)) ≡ [])
+long_within : (s : State) (n k : ℕ) (lines : List (List ℕ)) (part : List ℕ) → MAX_LINE_BYTES < k → IsOneLine part → FirstHas k lines part → (status_of_end (end_from s n (turns_of (lines ++ lines_of part))) ≡ Some 8) × (calls_from s (turns_of (lines ++ lines_of part)) ≡ [])
 long_within s n k [] part long one has =
     let some : part ≢ [] = λ none. let empty : length part ≡ 0 = ap length none in absurd (omega (arith, has)) in
     let alone = line_unfed part one some in
@@ -131,8 +131,8 @@ long_within s n k (line ∷ lines) part long one has =
     let more = turns_of (lines ++ lines_of part) in
     (ap status_of_end (end_from-long s n turn more (omega (arith, has))), calls_from-long s turn more (omega (arith, has)))
 
-long_past : (s : State) (n k : ℕ) (lines : List (List ℕ)) (part : List ℕ) → MAX_LINE_BYTES < k → FirstHas k lines part → (status_past_limit (end_from s n (turns_of lines)) (length part) ≡ 8) × (calls_from s (turns_of lines) ≡ [])
-long_past s n k [] part long has = let test : nat_lt MAX_LINE_BYTES (length part) ≡ true = grind (arith, nat_tests, has) in (ap (λ b. cond b 8 12) test, refl)
+long_past : (s : State) (n k : ℕ) (lines : List (List ℕ)) (part : List ℕ) → MAX_LINE_BYTES < k → FirstHas k lines part → (status_past_limit (end_from s n (turns_of lines)) (length part) ≡ Some 8) × (calls_from s (turns_of lines) ≡ [])
+long_past s n k [] part long has = let test : nat_lt MAX_LINE_BYTES (length part) ≡ true = grind (arith, nat_tests, has) in (ap (λ b. cond b (Some 8) (Some 12)) test, refl)
 long_past s n k (line ∷ lines) part long has =
     let turn : Turn = record { line = line; replies = no_replies } in
     (ap (λ e. status_past_limit e (length part)) (end_from-long s n turn (turns_of lines) (omega (arith, has))), calls_from-long s turn (turns_of lines) (omega (arith, has)))
@@ -205,7 +205,7 @@ decided_past_limit x text is h =
         long = more_than h.more h.past (length text) (length t.0) (size ∙ ap (λ n. n + (length h.more + length t.0)) h.whole);
         part = h.part;
         cut = subst (λ t. IsCut t (lines_in h.turns) h.part) (sym head) h.cut;
-        called = sym (ap (λ e. status_past_limit e (length h.part)) h.done.done ∙ ap (λ b. cond b 8 12) test);
+        called = sym (ap (λ e. status_past_limit e (length h.part)) h.done.done ∙ ap (λ b. cond b (Some 8) (Some 12)) test);
       });
       told = h.stands.calls;
     }

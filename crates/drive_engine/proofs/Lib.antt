@@ -1,3 +1,4 @@
+pub mod Breaking
 pub mod Calling
 pub mod Coming
 pub mod Deciding

@@ -7,7 +7,7 @@ use Rattle.outside.specs.Keeper.{KeeperTold}
 use Rattle.scenario_text.specs.Cutting.{lines_of, IsCut}
 use Rattle.scenario_text.specs.declared.line.TheConstants.{MAX_LINE_BYTES}
 use Rattle.scenario_engine.specs.KeeperCalls.{TellsCalls}
-use Rattle.scenario_engine.specs.Transcript.{Turn, lines_in, End, Ended, RefusedAt, TooLong, Unstarted, first, end_from, calls_from}
+use Rattle.scenario_engine.specs.Transcript.{Turn, lines_in, End, Ended, RefusedAt, TooLong, Unstarted, UnderWay, first, end_from, calls_from}
 use Rattle.drive_engine.specs.declared.drive.TheConstants.{MAX_SCENARIO_BYTES}
 use Rattle.drive_engine.specs.declared.groups.TheConstants.{MAX_DESCRIPTOR_BYTES}
 use Rattle.drive_engine.specs.declared.ending.Ending.{Ending}
@@ -75,27 +75,29 @@ status_of_unstarted causes.KeeperFailed = 6
 status_of_unstarted (causes.BadRow id) = 7
 status_of_unstarted causes.BootsSpent = 11
 
--- the status that the end of a scenario calls for
-abbrev pub status_of_end : End → ℕ
-status_of_end (Ended state) = 0
-status_of_end (RefusedAt state n) = 3
-status_of_end (TooLong state n) = 8
-status_of_end (Unstarted state cause) = status_of_unstarted cause
+-- the status that the end of a scenario calls for; none, where a line is under way
+abbrev pub status_of_end : End → Option ℕ
+status_of_end (Ended state) = Some 0
+status_of_end (RefusedAt state n) = Some 3
+status_of_end (TooLong state n) = Some 8
+status_of_end (Unstarted state cause) = Some (status_of_unstarted cause)
+status_of_end (UnderWay state n) = None
 
 -- the status of a scenario that goes on past the limit, by the end of its lines within it and the bytes of the next
--- line
-abbrev pub status_past_limit : End → ℕ → ℕ
-status_past_limit (Ended state) bytes = if nat_lt MAX_LINE_BYTES bytes then 8 else 12
-status_past_limit (RefusedAt state n) bytes = 3
-status_past_limit (TooLong state n) bytes = 8
-status_past_limit (Unstarted state cause) bytes = status_of_unstarted cause
+-- line; none, where a line is under way
+abbrev pub status_past_limit : End → ℕ → Option ℕ
+status_past_limit (Ended state) bytes = if nat_lt MAX_LINE_BYTES bytes then Some 8 else Some 12
+status_past_limit (RefusedAt state n) bytes = Some 3
+status_past_limit (TooLong state n) bytes = Some 8
+status_past_limit (Unstarted state cause) bytes = Some (status_of_unstarted cause)
+status_past_limit (UnderWay state n) bytes = None
 
 -- A scenario has no more bytes than one may have; these are its lines with what the keeper replies, which call for this
 -- status.
 pub record CallsWithinLimit (text : List ℕ) (turns : List Turn) (status : ℕ) : Type 0 where
   pub short : length text ≤ MAX_SCENARIO_BYTES
   pub lines : lines_in turns ≡ lines_of text
-  pub called : status ≡ status_of_end (end_from first 1 turns)
+  pub called : Some status ≡ status_of_end (end_from first 1 turns)
 
 -- A scenario has more bytes than one may have; these are its lines that end within the limit with what the keeper
 -- replies, which call for this status.
@@ -103,7 +105,7 @@ pub record CallsPastLimit (text : List ℕ) (turns : List Turn) (status : ℕ) :
   pub long : MAX_SCENARIO_BYTES < length text
   pub part : List ℕ
   pub cut : IsCut (take MAX_SCENARIO_BYTES text) (lines_in turns) part
-  pub called : status ≡ status_past_limit (end_from first 1 turns) (length part)
+  pub called : Some status ≡ status_past_limit (end_from first 1 turns) (length part)
 
 -- the status that a descriptor text calls for, which describes a deployment or is refused
 abbrev pub DescriptorsCallFor : List ℕ → ℕ → Type 0

@@ -1,5 +1,5 @@
 -- What is read, written and asked of the keeper until a scenario ends.
-use Rattle.std.specs.Prelude.{◌≡◌, ◌≢◌, ℕ, ◌+◌, ◌<◌, ◌≤◌, ◌⊎◌, List, [], ◌∷◌, ◌++◌, length, All}
+use Rattle.std.specs.Prelude.{◌≡◌, ◌≢◌, ℕ, ◌+◌, ◌<◌, ◌≤◌, ◌⊎◌, Bool, List, [], ◌∷◌, ◌++◌, length, All}
 use mathlib.Core.List.{IsPrefix}
 use Rattle.outside.specs.Source.{prepended}
 use Rattle.boot_core.specs.Sound.{IsSound}
@@ -9,10 +9,11 @@ use Rattle.crash_base.specs.declared.row_id.RowId.{RowId}
 use Rattle.scenario_text.specs.Cutting.{lines_of, text_of_lines, IsOneLine, IsCut}
 use Rattle.scenario_text.specs.Reading.{line_of}
 use Rattle.scenario_text.specs.declared.line.TheConstants.{MAX_LINE_BYTES}
-use Rattle.scenario_engine.specs.KeeperCalls.{KeeperSeen, TellsCalls, AreCounted}
+use Rattle.scenario_engine.specs.Engine.{with_reply}
+use Rattle.scenario_engine.specs.KeeperCalls.{KeeperSeen, TellsCalls, AreCounted, AreSomeAsked}
 use Rattle.scenario_engine.specs.Sessions.{HasSessions}
-use Rattle.scenario_engine.specs.Sound.{CommitsUnrebooted, RunsSerially, CommitsOwnRequests}
-use Rattle.scenario_engine.specs.State.{State, RefusedIn, DoneTo, UnstartedIn}
+use Rattle.scenario_engine.specs.Sound.{CommitsUnrebooted, RunsSerially, CommitsOwnRequests, CommitsAsMeant}
+use Rattle.scenario_engine.specs.State.{State, RefusedIn, DoneTo, UnstartedIn, UnderWayIn}
 use Rattle.scenario_engine.specs.Telling.{DoesPartly, HoldsRowsButNumber}
 use Rattle.scenario_engine.specs.Told.{Tells}
 use Rattle.scenario_engine.specs.Transcript.{Turn, lines_in, first, Ended, end_from, turn_outcome, transcript, calls_from, boots_from}
@@ -44,8 +45,9 @@ pub record HasDone (x : Exchange) (turns : List Turn) (state : State) : Type 0 w
 -- What turns did stands: the keeper was called as they say and holds the rows that they leave; its count of faults rose
 -- where it failed at a call, as that of a commit which was told `keeper failed`, also where it does not tell; each boot
 -- is sound; no commit comes after a reboot of a group that its call entered; each journal is a serial execution of its
--- calls; each commit is of a request of its own boot; and each fetch answers what was written, or says why it does not.
--- A turn that ended the scenario is the last of them, since it may have called the keeper, too.
+-- calls; each commit is of a request of its own boot; each commit of an action wrote and answered what the site means
+-- by the action; and each fetch answers what was written, or says why it does not. A turn that ended the scenario is
+-- the last of them, since it may have called the keeper, too.
 pub record ScenarioStands (turns : List Turn) (old new : KeeperSeen) : Type 0 where
   pub calls : TellsCalls (calls_from first turns) old.told new.told
   pub told : Tells turns old.told new.told
@@ -54,6 +56,7 @@ pub record ScenarioStands (turns : List Turn) (old new : KeeperSeen) : Type 0 wh
   pub unrebooted : All CommitsUnrebooted (boots_from first turns)
   pub serial : All RunsSerially (boots_from first turns)
   pub own : All CommitsOwnRequests (boots_from first turns)
+  pub meant : All CommitsAsMeant (boots_from first turns)
   pub sessions : HasSessions turns
 
 -- A scenario was read and came to its end, and its transcript was written.
@@ -147,8 +150,35 @@ pub record RunsOutAtLine (x : Exchange) (lines : List (List ℕ)) (state : State
   pub partly : DoesPartly state (line_of line) between x.keeper_after
   pub rows : HoldsRowsButNumber between.told x.keeper_after.told
 
+-- the same turn, where the keeper replied so to one step more
+abbrev pub one_more : Turn → Bool → Turn
+one_more turn keeps = record turn { replies = with_reply turn.replies keeps }
+
+-- What these turns did stands with one step more of the last, to which the keeper replied.
+pub record StandsOneMore (x : Exchange) (before : List Turn) (turn : Turn) : Type 0 where
+  pub keeps : Bool
+  pub stands : ScenarioStands (before ++ one_more turn keeps ∷ []) x.keeper_before x.keeper_after
+
+-- A line was read to its end after these turns, and memory ran out in a step of a connection that it made. What the
+-- turns and the whole steps before that one did stands. Of that step the keeper was asked nothing, or had no memory
+-- itself; or it replied, so that it may have kept a commit, and what was done up to then stands, too.
+pub record BreaksOffAtLine (x : Exchange) (before : List Turn) (state : State) : Type 0 where
+  pub turn : Turn
+  pub mid : State
+  pub between : KeeperSeen
+  pub read : AreRead x (lines_in before ++ turn.line ∷ [])
+  pub short : length turn.line ≤ MAX_LINE_BYTES
+  pub under_way : turn_outcome state turn ≡ UnderWayIn mid
+  pub stands : ScenarioStands (before ++ turn ∷ []) x.keeper_before between
+  pub last : AreSomeAsked [] between x.keeper_after ⊎ StandsOneMore x before turn
+
+-- The keeper was not called after these turns, which left it so; or memory ran out while the next line was done.
+abbrev pub EndsPartly : Exchange → List Turn → State → KeeperSeen → Type 0
+EndsPartly x before state between =
+    (x.keeper_after ≡ between) ⊎ (RunsOutAtLine x (lines_in before) state between ⊎ BreaksOffAtLine x before state)
+
 -- Memory ran out after these lines were read and done. The keeper was called for these lines alone, or for a part of
--- the next one, too.
+-- the next one, too: for no commit of it, but for those of whole steps of a connection, and of the step that broke off.
 pub record StopsOutOfMemory (x : Exchange) : Type 0 where
   pub before : List Turn
   pub state : State
@@ -156,7 +186,7 @@ pub record StopsOutOfMemory (x : Exchange) : Type 0 where
   pub read : AreReadWithFeeds x (lines_in before)
   pub done : HasDone x before state
   pub stands : ScenarioStands before x.keeper_before between
-  pub last : (x.keeper_after ≡ between) ⊎ RunsOutAtLine x (lines_in before) state between
+  pub last : EndsPartly x before state between
 
 -- There is no memory for the numbers of a report: that of a line which was refused or is too long, or those of a bad
 -- row.

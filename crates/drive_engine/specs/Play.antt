@@ -9,7 +9,7 @@ use Rattle.scenario_text.specs.declared.line.TheConstants.{MAX_LINE_BYTES}
 use Rattle.scenario_engine.specs.declared.failure.LineFailure.TheVariants as failures
 use Rattle.scenario_engine.specs.KeeperCalls.{KeeperSeen, AreMade}
 use Rattle.scenario_engine.specs.State.{State, RefusedIn, DoneTo}
-use Rattle.scenario_engine.specs.Telling.{Does, DoesPartly, Ends}
+use Rattle.scenario_engine.specs.Telling.{Does, Ends}
 use Rattle.scenario_engine.specs.Transcript.{Turn, lines_in, first, Ended, end_from, transcript, calls_from}
 use Rattle.drive_engine.specs.declared.drive.TheConstants.{MAX_SCENARIO_BYTES}
 use Rattle.drive_engine.specs.declared.ending.Ending.{Ending}
@@ -60,7 +60,7 @@ EndsAtLine (endings.BadRow id) number s line old new before after =
 EndsAtLine (endings.LineTooLong n) number s line old new before after =
     (n ≡ number) × (MAX_LINE_BYTES < length line) × (new ≡ old) × (after ≡ before)
 EndsAtLine endings.OutOfMemory number s line old new before after =
-    WritesNoText line old new × DoesPartly s (line_of line) before after
+    WritesNoText line old new × Ends failures.OutOfMemory s (line_of line) before after
 EndsAtLine endings.DescriptorsRefused number s line old new before after = ⊥
 EndsAtLine endings.BootsSpent number s line old new before after =
     WritesNoText line old new × Ends (failures.Unstarted causes.BootsSpent) s (line_of line) before after

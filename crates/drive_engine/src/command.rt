@@ -181,7 +181,8 @@ fn run_words<S: Source, T: Sink, K: Keeper + Drop>(
 /// `drive` reads piece by piece, and does each line as soon as it was read to its end. So at 3 to 9, 11 and 12
 /// the lines before were done, and their transcript was written. The keeper, where it tells, holds what these lines
 /// left; but a line that was refused (3), was not written whole (5), needs a boot that was not started (6, 7, 11) or
-/// ran out of memory (9) may have handed it the number of a boot, and at 5 also the rows of a commit.
+/// ran out of memory (9) may have handed it the number of a boot; at 5 also the rows of the commits of that line, and
+/// at 9 those of the commits that the steps of a connection made by then.
 ///
 /// How it ended is reported on `errors`, except at 0.
 pub fn run_command<S: Source, T: Sink, E: Sink, K: Keeper + Drop>(
@@ -267,7 +268,9 @@ pub fn run_command<S: Source, T: Sink, E: Sink, K: Keeper + Drop>(
         × AppendsOrFails (E.written errors.old) (E.written errors.new)
         (E.faults errors.old) (E.faults errors.new) (long_line_report n) }
 
-    // At 9 the transcript of the lines that were done was written, or for groups nothing.
+    // At 9 the transcript of the lines that were done was written, or for groups nothing. What they did stands, and
+    // so do the steps of a connection that the next line had made by then, also one whose commit the keeper had just
+    // kept.
     ensures out_of_memory { result.0 ≡ 9
         → IfSome (command_of words.now) (λ command. EndsOutOfMemory command
         (exchange (S.left input.old) (S.left input.new) (T.written out.old) (T.written out.new)

@@ -3,15 +3,15 @@
 
 ghost use Rattle.std.specs.Prelude.{◌≡◌, ℕ, List};
 ghost use Rattle.scenario_engine.specs.KeeperCalls.{KeeperSeen, AreMade};
-ghost use Rattle.scenario_engine.specs.Transcript.{Turn, lines_in, first, calls_from};
+ghost use Rattle.scenario_engine.specs.Transcript.{Turn, lines_in, first, calls_from, end_from, IsAnswered};
 ghost use Rattle.drive_engine.specs.declared.words.Command.{Command};
 ghost use Rattle.drive_engine.specs.Command.{CallsFor};
 ghost use Rattle.drive_engine.specs.Drive.{ScenarioStands};
 
 use descriptor_text::texts_have_an_answer;
 use scenario_engine::{
-    boots_are_sound, commits_are_of_their_boot, keepers_tell, no_turns_break_the_order,
-    no_turns_commit_after_a_reboot, scenarios_have_sessions,
+    boots_are_sound, commits_are_of_their_boot, journals_are_meant, keepers_tell,
+    no_turns_break_the_order, no_turns_commit_after_a_reboot, scenarios_have_sessions,
 };
 
 /// Whatever the turns, what they did stands where the keeper was called as they say.
@@ -24,14 +24,16 @@ pub(crate) fn scenarios_stand()
     no_turns_commit_after_a_reboot();
     no_turns_break_the_order();
     commits_are_of_their_boot();
+    journals_are_meant();
     scenarios_have_sessions();
 }
 
-/// A text has lines, and calls for a status whatever the keeper replies to each of them. So each text has one of the
+/// A text has lines, and calls for a status whatever the keeper replies to each of them, where its replies are as many
+/// as the steps of connections: no line is under way. So each text has one of the
 /// ends that the status's clauses describe.
 pub fn texts_call_for_a_status()
     ensures { (command : Command) (text : List ℕ) → (lines : List (List ℕ))
-        × ((turns : List Turn) → lines_in turns ≡ lines
+        × ((turns : List Turn) → lines_in turns ≡ lines → IsAnswered (end_from first 1 turns)
         → (status : ℕ) × CallsFor command text turns status) }
 {
     texts_have_an_answer();

@@ -10,14 +10,14 @@ use Rattle.scenario_engine.specs.KeeperCalls.{KeeperCall, Gave, Kept, Failed, Ke
 
 -- a count that rose, and did not fall before or after
 
-rose_later : (a b c : ℕ) → Rose a b → a ≤ b → b ≤ c → Rose a c
+pub rose_later : (a b c : ℕ) → Rose a b → a ≤ b → b ≤ c → Rose a c
 rose_later a b c (inl less) ab bc = inl (omega arith)
 rose_later a b c (inr last) ab bc = elim (cases_lt a c) [
   | inl less ↦ inl less
   | inr more ↦ inr (omega (arith, last))
 ]
 
-rose_before : (a b c : ℕ) → Rose b c → a ≤ b → Rose a c
+pub rose_before : (a b c : ℕ) → Rose b c → a ≤ b → Rose a c
 rose_before a b c (inl less) ab = inl (omega arith)
 rose_before a b c (inr last) ab = inr last
 

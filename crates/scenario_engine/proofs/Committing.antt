@@ -14,6 +14,7 @@ use Rattle.container_core.specs.Container.{ContainerValue, RefusalLeaves}
 use Rattle.container_core.specs.declared.history.Event.{Event}
 use Rattle.journal_model.specs.Calls.{Call}
 use Rattle.scenario_text.specs.Answer.{Answer, Done}
+use Rattle.seat_lines.specs.Site.{SeatsState}
 use Rattle.session_steps.specs.Sessions.{SessionsState}
 use Rattle.line_steps.specs.Callers.{caller_at, ended}
 use Rattle.line_steps.specs.Texts.{commit_refusal_text}
@@ -145,12 +146,12 @@ left_of (commits.JournalFull full) call old new leaves = (ap (λ (k : ContainerV
 pub asked_of : (cause : CommitRefusal) (call : Call) (k n : ContainerValue) → RefusalLeaves cause call k n × TellsCause cause call.writes k.told n.told → k.faults ≤ n.faults → (cause ≡ commits.KeeperFailed → Rose k.faults n.faults) → IsAsked cause call.writes (seen k.told k.faults) (seen n.told n.faults)
 asked_of cause call k n leaves count failed = record { told = leaves.1; count = count; failed = failed }
 
-pub refused_in : (k n : ContainerValue) (callers taken : List Caller) (sessions : SessionsState) (caller : ℕ) (ticket : TicketValue) (cause : CommitRefusal) (text : List ℕ) → caller_at callers caller ≡ Live ticket → cause ≢ commits.OutOfMemory → IsCause (commit_refusal k.boot.start.limits k.boot.entries ticket.call None) cause → RefusalLeaves cause ticket.call k n × TellsCause cause ticket.call.writes k.told n.told → k.faults ≤ n.faults → (cause ≡ commits.KeeperFailed → Rose k.faults n.faults) → taken ≡ ended callers caller → text ≡ commit_refusal_text caller cause → Commits (run_of k callers sessions) caller (Done (run_of n taken sessions) text) (seen k.told k.faults) (seen n.told n.faults)
-refused_in k n callers taken sessions caller ticket cause text live memory is leaves count failed took wrote =
-    let r = run_of k callers sessions in
+pub refused_in : (k n : ContainerValue) (callers taken : List Caller) (sessions : SessionsState) (seats : SeatsState) (site : Bool) (caller : ℕ) (ticket : TicketValue) (cause : CommitRefusal) (text : List ℕ) → caller_at callers caller ≡ Live ticket → cause ≢ commits.OutOfMemory → IsCause (commit_refusal k.boot.start.limits k.boot.entries ticket.call None) cause → RefusalLeaves cause ticket.call k n × TellsCause cause ticket.call.writes k.told n.told → k.faults ≤ n.faults → (cause ≡ commits.KeeperFailed → Rose k.faults n.faults) → taken ≡ ended callers caller → text ≡ commit_refusal_text caller cause → Commits (run_of k callers sessions seats site) caller (Done (run_of n taken sessions seats site) text) (seen k.told k.faults) (seen n.told n.faults)
+refused_in k n callers taken sessions seats site caller ticket cause text live memory is leaves count failed took wrote =
+    let r = run_of k callers sessions seats site in
     let left = left_of cause ticket.call k n leaves.0 in
-    let over : BootValue → List Event → List Caller → RunningState = λ boot since cs. record { boot = boot; since = since; callers = cs; sessions = sessions } in
-    let answers : Done (run_of n taken sessions) text ≡ commit_ends r caller ticket (Some cause) =
+    let over : BootValue → List Event → List Caller → RunningState = λ boot since cs. record { boot = boot; since = since; callers = cs; sessions = sessions; seats = seats; site = site } in
+    let answers : Done (run_of n taken sessions seats site) text ≡ commit_ends r caller ticket (Some cause) =
     ap (λ (b : BootValue). Done (over b n.since taken) text) left.0
     ∙ ap (λ (es : List Event). Done (over k.boot es taken) text) left.1
     ∙ ap (λ (cs : List Caller). Done (over k.boot (since_refused k.since ticket.call.request cause) cs) text) took

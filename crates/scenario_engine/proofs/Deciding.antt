@@ -1,8 +1,8 @@
 -- The lines of turns, the keeper's rows and which of its calls fail decide all that the turns do.
-use Rattle.std.proofs.Common.{◌≡◌, ℕ, ◌+◌, ◌-◌, ◌^◌, ◌<◌, ◌≤◌, Bool, true, false, if◌then◌else◌, inl, inr, List, [], ◌∷◌, ◌++◌, length, Option, Some, None, All, refl, sym, ap, ◌∙◌, subst, arith, append_assoc, append-nil}
+use Rattle.std.proofs.Common.{◌≡◌, ℕ, ◌+◌, ◌-◌, ◌^◌, ◌<◌, ◌≤◌, Bool, true, false, cond, if◌then◌else◌, inl, inr, ◌⊎◌, is_some, List, [], ◌∷◌, ◌++◌, length, Option, Some, None, All, refl, sym, ap, ◌∙◌, subst, arith, append_assoc, append-nil}
 use Rattle.std.specs.Prelude.{nat_lt}
 use Rattle.std.proofs.lemmas.List.{append_cancel_left}
-use Rattle.std.proofs.lemmas.List.Elements.{All-nil, All-cons, All-head}
+use Rattle.std.proofs.lemmas.List.Elements.{All-nil, All-cons, All-head, All-append, All-weaker}
 use Rattle.crash_base.specs.declared.row_id.RowId.{RowId}
 use Rattle.crash_base.specs.declared.rows.RowWrite.{RowWrite}
 use Rattle.deployment.specs.declared.parts.Parts.{Parts}
@@ -14,7 +14,7 @@ use Rattle.boot_core.specs.declared.refusals.CommitRefusal.{CommitRefusal}
 use Rattle.boot_core.specs.declared.refusals.CommitRefusal.TheVariants as commits
 use Rattle.scenario_engine.specs.declared.failure.UnstartedCause.TheVariants as causes
 use Rattle.container_core.specs.Start.{first_bad, last_boot, boot_row, start_over}
-use Rattle.scenario_text.specs.Answer.{within}
+use Rattle.scenario_text.specs.Answer.{Answer, Refused, Done, within}
 use Rattle.scenario_text.specs.declared.line.Line.{Line}
 use Rattle.scenario_text.specs.declared.line.Line.TheVariants as lines
 use Rattle.scenario_text.specs.declared.line.TheConstants.{MAX_LINE_BYTES}
@@ -25,13 +25,23 @@ use Rattle.line_steps.specs.declared.callers.Caller.TheVariants.{Absent, Live}
 use Rattle.line_steps.specs.Callers.{caller_at, call_step}
 use Rattle.line_steps.specs.Head.{head_line}
 use Rattle.session_steps.specs.Sessions.{session_line}
-use Rattle.scenario_engine.specs.Engine.{Replies, Target, TheHead, TheBoot, TheUnstarted, opened_target, target_of, target_calls, in_head, in_boot, next_opening, reopens, line_over, line_on, step, calls_over, calls_on, line_calls}
+use Rattle.scenario_engine.specs.Engine.{Replies, first_keeps, Target, TheHead, TheBoot, TheUnstarted, opened_target, target_of, target_calls, in_head, next_opening, reopens, line_over, line_on, step, calls_over, calls_on, line_calls}
+use Rattle.scenario_engine.specs.Seats.{in_boot, by_replies, seat_over, handed_calls, seat_calls}
+use Rattle.scenario_text.specs.declared.seat_line.SeatLine.{SeatLine}
+use Rattle.scenario_text.specs.declared.seat_line.SeatLine.TheVariants as seats
+use Rattle.scenario_text.proofs.Leaving.{Leaves}
+use Rattle.seat_lines.specs.Handing.{Handed, handed_first, line_hands, run_hands, writes_by}
+use Rattle.seat_lines.specs.Lines.{is_beyond, step_line}
+use Rattle.seat_lines.specs.Runs.{can_run, rests, run_from, run_line, seat_line}
+use Rattle.seat_lines.specs.Site.{SiteState, seat_at}
+use Rattle.scenario_engine.proofs.SeatChanges.{HasStep, ReplyLaw, changed_step, unasked_step}
+use Rattle.scenario_engine.proofs.SeatRows.{is_done, hands_on, first_calls, step_done, there_where, no_hands, near_of, bricks_of, done_alike}
 use Rattle.scenario_engine.specs.KeeperCalls.{KeeperCall, Gave, Kept, Failed, apply_calls, TellsCalls}
 use Rattle.scenario_engine.specs.Opening.{StartReplies, Opened, UnstartedBoot, is_spent, opening, opening_of, opening_over, calls_over_rows, start_calls, start_calls_of}
 use Rattle.scenario_engine.specs.Running.{commit_ends, with_keeper, boot_refusal, keep_calls, caller_commits, caller_calls, commit_step, with_callers, with_sessions, commit_calls, boot_line}
-use Rattle.scenario_engine.specs.State.{RunningState, State, Heading, Running, Outcome, RefusedIn, DoneTo, UnstartedIn}
-use Rattle.scenario_engine.specs.Transcript.{Turn, lines_in, first, answer_to, turn_outcome, calls_to, turn_calls, calls_from, transcript, End, end_from, Ended, RefusedAt, TooLong, Unstarted}
-use Rattle.scenario_engine.proofs.Telling.{none_after}
+use Rattle.scenario_engine.specs.State.{RunningState, State, Heading, Running, Outcome, RefusedIn, DoneTo, UnstartedIn, UnderWayIn, site_of}
+use Rattle.scenario_engine.specs.Transcript.{Turn, lines_in, first, answer_to, turn_outcome, calls_to, turn_calls, calls_from, transcript, End, end_from, Ended, RefusedAt, TooLong, Unstarted, UnderWay, IsAnswered}
+use Rattle.scenario_engine.proofs.TellingCalls.{none_after}
 
 -- the last value of a count of calls
 abbrev pub LAST_COUNT : ℕ
@@ -103,27 +113,56 @@ has_failed (call ∷ calls) n v a low told =
     let next : n < counted (after call v).calls = omega (arith, one, low) in
     failed_more call n v a low (has_failed calls n (after call v) a next (after_first call calls v a told))
 
+-- One keeper failed at the calls at which the other did, and then at calls of greater numbers than the other has made.
+pub record FailsAlike (a b : KeeperTold) : Type 0 where
+  pub more : List ℕ
+  pub is : a.failed ≡ b.failed ++ more
+  pub later : All (λ k. b.calls < k) more
+
+fails_same : (a b : KeeperTold) → a.failed ≡ b.failed → FailsAlike a b
+fails_same a b same = record { more = []; is = same ∙ sym (append-nil b.failed); later = All-nil (λ k. b.calls < k) }
+
 -- a call that failed for one keeper, and not for the other, tells them apart
-clash : (v w a b : KeeperTold) (calls others : List KeeperCall) → w.failed ≡ v.failed → w.calls ≡ counted v.calls → counted v.calls < LAST_COUNT
-    → TellsCalls calls (Some (after Failed v)) (Some a) → TellsCalls others (Some w) (Some b) → a.failed ≡ b.failed → ⊥
-clash v w a b calls others left number few one two same =
-    let k : ℕ = counted v.calls in
-    let next : k < counted w.calls = omega (arith, number, few) in
-    let ones : HasFailed 0 (after Failed v) a = has_failed calls 0 (after Failed v) a (omega arith) one in
-    let twos : HasFailed k w b = has_failed others k w b next two in
-    let whole : v.failed ++ k ∷ ones.numbers ≡ v.failed ++ twos.numbers =
-    sym (append_assoc v.failed (k ∷ []) ones.numbers) ∙ sym ones.is ∙ same ∙ twos.is ∙ ap (λ xs. xs ++ twos.numbers) left in
-    let ends : k ∷ ones.numbers ≡ twos.numbers = append_cancel_left v.failed (k ∷ ones.numbers) twos.numbers whole in
+clash : (k : ℕ) (before ones twos : List ℕ) → before ++ k ∷ ones ≡ before ++ twos → All (λ j. k < j) twos → ⊥
+clash k before ones twos whole later =
+    let ends : k ∷ ones ≡ twos = append_cancel_left before (k ∷ ones) twos whole in
     let P : List ℕ → Type 0 = λ xs. All (λ j. k < j) xs in
-    let below : k < k = All-head (λ j. k < j) k ones.numbers (subst P (sym ends) twos.later) in
+    let below : k < k = All-head (λ j. k < j) k ones (subst P (sym ends) later) in
     omega (arith, below)
 
--- calls of two keepers that tell the same before, and the same failed calls after
-record Twins (calls others : List KeeperCall) (v a b : KeeperTold) : Type 0 where
-  left : TellsCalls calls (Some v) (Some a)
-  right : TellsCalls others (Some v) (Some b)
-  failed : a.failed ≡ b.failed
-  few : a.calls < LAST_COUNT
+clash_left : (v w a b : KeeperTold) (calls others : List KeeperCall) → w.failed ≡ v.failed → w.calls ≡ counted v.calls → counted v.calls < LAST_COUNT
+    → TellsCalls calls (Some (after Failed v)) (Some a) → TellsCalls others (Some w) (Some b) → FailsAlike a b → ⊥
+clash_left v w a b calls others left number few one two alike =
+    let k : ℕ = counted v.calls in
+    let next : k < counted w.calls = omega (arith, number, few) in
+    let low : w.calls ≤ LAST_COUNT = omega (arith, number, few) in
+    let count : w.calls ≤ b.calls = counts_up others w b low two in
+    let least : k ≤ b.calls = omega (arith, number, count) in
+    let ones : HasFailed 0 (after Failed v) a = has_failed calls 0 (after Failed v) a (omega arith) one in
+    let twos : HasFailed k w b = has_failed others k w b next two in
+    let whole : v.failed ++ k ∷ ones.numbers ≡ v.failed ++ (twos.numbers ++ alike.more) =
+    sym (append_assoc v.failed (k ∷ []) ones.numbers) ∙ sym ones.is ∙ alike.is ∙ ap (λ xs. xs ++ alike.more) (twos.is ∙ ap (λ xs. xs ++ twos.numbers) left) ∙ append_assoc v.failed twos.numbers alike.more in
+    let past : All (λ j. k < j) alike.more = All-weaker (λ j. b.calls < j) (λ j. k < j) (λ j less. omega (arith, less, least)) alike.more alike.later in
+    clash k v.failed ones.numbers (twos.numbers ++ alike.more) whole (All-append (λ j. k < j) twos.numbers alike.more twos.later past)
+
+clash_right : (v w a b : KeeperTold) (calls others : List KeeperCall) → w.failed ≡ v.failed → w.calls ≡ counted v.calls → counted v.calls < LAST_COUNT
+    → TellsCalls calls (Some w) (Some a) → TellsCalls others (Some (after Failed v)) (Some b) → FailsAlike a b → ⊥
+clash_right v w a b calls others left number few two one alike =
+    let k : ℕ = counted v.calls in
+    let next : k < counted w.calls = omega (arith, number, few) in
+    let ones : HasFailed 0 (after Failed v) b = has_failed others 0 (after Failed v) b (omega arith) one in
+    let twos : HasFailed k w a = has_failed calls k w a next two in
+    let rest : List ℕ = ones.numbers ++ alike.more in
+    let whole : v.failed ++ k ∷ rest ≡ v.failed ++ twos.numbers =
+    sym (append_assoc v.failed (k ∷ []) rest) ∙ sym (append_assoc (v.failed ++ k ∷ []) ones.numbers alike.more) ∙ ap (λ xs. xs ++ alike.more) (sym ones.is) ∙ sym alike.is ∙ twos.is ∙ ap (λ xs. xs ++ twos.numbers) left in
+    clash k v.failed rest twos.numbers whole twos.later
+
+-- calls of two keepers that tell the same before, and the same failed calls after, of which one may have made more
+pub record Twins (calls others : List KeeperCall) (v a b : KeeperTold) : Type 0 where
+  pub left : TellsCalls calls (Some v) (Some a)
+  pub right : TellsCalls others (Some v) (Some b)
+  pub failed : FailsAlike a b
+  pub few : a.calls < LAST_COUNT
 
 few_calls : (call : KeeperCall) (calls others : List KeeperCall) (v a b : KeeperTold) → Twins (call ∷ calls) others v a b → counted v.calls < LAST_COUNT
 few_calls call calls others v a b twins =
@@ -139,16 +178,16 @@ has_lost Failed = true
 
 lost_left : (call : KeeperCall) (calls others : List KeeperCall) (v a b : KeeperTold) → Twins (Failed ∷ calls) (call ∷ others) v a b → has_lost call ≡ true
 lost_left (Gave rows) calls others v a b twins =
-    absurd (clash v (after (Gave rows) v) a b calls others refl refl (few_calls Failed calls (Gave rows ∷ others) v a b twins) (after_first Failed calls v a twins.left) (after_first (Gave rows) others v b twins.right) twins.failed)
+    absurd (clash_left v (after (Gave rows) v) a b calls others refl refl (few_calls Failed calls (Gave rows ∷ others) v a b twins) (after_first Failed calls v a twins.left) (after_first (Gave rows) others v b twins.right) twins.failed)
 lost_left (Kept ws) calls others v a b twins =
-    absurd (clash v (after (Kept ws) v) a b calls others refl refl (few_calls Failed calls (Kept ws ∷ others) v a b twins) (after_first Failed calls v a twins.left) (after_first (Kept ws) others v b twins.right) twins.failed)
+    absurd (clash_left v (after (Kept ws) v) a b calls others refl refl (few_calls Failed calls (Kept ws ∷ others) v a b twins) (after_first Failed calls v a twins.left) (after_first (Kept ws) others v b twins.right) twins.failed)
 lost_left Failed calls others v a b twins = refl
 
 lost_right : (call : KeeperCall) (calls others : List KeeperCall) (v a b : KeeperTold) → Twins (call ∷ calls) (Failed ∷ others) v a b → has_lost call ≡ true
 lost_right (Gave rows) calls others v a b twins =
-    absurd (clash v (after (Gave rows) v) b a others calls refl refl (few_calls (Gave rows) calls (Failed ∷ others) v a b twins) (after_first Failed others v b twins.right) (after_first (Gave rows) calls v a twins.left) (sym twins.failed))
+    absurd (clash_right v (after (Gave rows) v) a b calls others refl refl (few_calls (Gave rows) calls (Failed ∷ others) v a b twins) (after_first (Gave rows) calls v a twins.left) (after_first Failed others v b twins.right) twins.failed)
 lost_right (Kept ws) calls others v a b twins =
-    absurd (clash v (after (Kept ws) v) b a others calls refl refl (few_calls (Kept ws) calls (Failed ∷ others) v a b twins) (after_first Failed others v b twins.right) (after_first (Kept ws) calls v a twins.left) (sym twins.failed))
+    absurd (clash_right v (after (Kept ws) v) a b calls others refl refl (few_calls (Kept ws) calls (Failed ∷ others) v a b twins) (after_first (Kept ws) calls v a twins.left) (after_first Failed others v b twins.right) twins.failed)
 lost_right Failed calls others v a b twins = refl
 
 twins_next : (call : KeeperCall) (calls others : List KeeperCall) (v a b : KeeperTold) → Twins (call ∷ calls) (call ∷ others) v a b → Twins calls others (after call v) a b
@@ -160,10 +199,10 @@ twins_next call calls others v a b twins = record {
 }
 
 -- what two keepers make of the same is the same, and they go on as twins
-record Decided {X : Type 0} (x y : X) (calls others : List KeeperCall) (a b : KeeperTold) : Type 0 where
-  same : x ≡ y
-  told : KeeperTold
-  twins : Twins calls others told a b
+pub record Decided {X : Type 0} (x y : X) (calls others : List KeeperCall) (a b : KeeperTold) : Type 0 where
+  pub same : x ≡ y
+  pub told : KeeperTold
+  pub twins : Twins calls others told a b
 
 decided_as : {X Y : Type 0} (f : X → Y) (x y : X) (calls others : List KeeperCall) (a b : KeeperTold) → Decided x y calls others a b → Decided (f x) (f y) calls others a b
 decided_as f x y calls others a b decided = record { same = ap f decided.same; told = decided.told; twins = decided.twins }
@@ -265,44 +304,7 @@ commit_decided : (r : RunningState) (n : ℕ) (keeps other : Bool) (calls others
 unfolding commit_calls commit_step
 commit_decided r n keeps other calls others v a b twins = caller_decided r n keeps other (caller_at r.callers n) calls others v a b twins
 
--- a turn
-
-boot_decided : (r : RunningState) (line : Line) (replies other : Replies) (calls others : List KeeperCall) (v a b : KeeperTold)
-    → Twins (calls_over r line replies ++ calls) (calls_over r line other ++ others) v a b
-    → Decided (line_over r line replies) (line_over r line other) calls others a b
-boot_decided r lines.Pass replies other calls others v a b twins = undecided (DoneTo (Running r) []) calls others v a b twins
-boot_decided r (lines.Head line) replies other calls others v a b twins = undecided (RefusedIn (Running r)) calls others v a b twins
-boot_decided r (lines.Call n line) replies other calls others v a b twins =
-    undecided (in_boot r (within (with_callers r) (call_step r.boot r.callers n line))) calls others v a b twins
-boot_decided r (lines.Boot line) replies other calls others v a b twins =
-    undecided (in_boot r (boot_line r line)) calls others v a b twins
-boot_decided r (lines.Session line) replies other calls others v a b twins =
-    undecided (in_boot r (within (with_sessions r) (session_line r.sessions line))) calls others v a b twins
-boot_decided r (lines.Commit n) replies other calls others v a b twins =
-    decided_as (in_boot r) (commit_step r n replies.keeps) (commit_step r n other.keeps) calls others a b
-    (commit_decided r n replies.keeps other.keeps calls others v a b twins)
-boot_decided r lines.Reopen replies other calls others v a b twins =
-    decided_as (reopens r) (next_opening r replies.again) (next_opening r other.again) calls others a b
-    (start_decided r.boot.start.deployment r.boot.start.limits replies.again other.again calls others v a b twins)
-
-line_decided : (target : Target) (line : Line) (replies other : Replies) (calls others : List KeeperCall) (v a b : KeeperTold)
-    → Twins (calls_on target line replies ++ calls) (calls_on target line other ++ others) v a b
-    → Decided (line_on target line replies) (line_on target line other) calls others a b
-line_decided (TheHead head) line replies other calls others v a b twins =
-    undecided (in_head head (head_line head line)) calls others v a b twins
-line_decided (TheBoot r) line replies other calls others v a b twins = boot_decided r line replies other calls others v a b twins
-line_decided (TheUnstarted head refusal) line replies other calls others v a b twins =
-    undecided (UnstartedIn (Heading head) refusal) calls others v a b twins
-
--- on the targets that were reached
-reached_decided : (target reached : Target) (line : Line) (replies other : Replies) (calls others : List KeeperCall) (a b : KeeperTold)
-    → Decided target reached (calls_on target line replies ++ calls) (calls_on reached line other ++ others) a b
-    → Decided (line_on target line replies) (line_on reached line other) calls others a b
-reached_decided target reached line replies other calls others a b decided =
-    let P : Target → Type 0 = λ there. Twins (calls_on target line replies ++ calls) (calls_on there line other ++ others) decided.told a b
-    → Decided (line_on target line replies) (line_on there line other) calls others a b in
-    let here : P target = line_decided target line replies other calls others decided.told a b in
-    subst P decided.same here decided.twins
+-- calls in three parts
 
 joined_twins : (xs ys zs us vs ws : List KeeperCall) (v a b : KeeperTold) → Twins ((xs ++ ys) ++ zs) ((us ++ vs) ++ ws) v a b → Twins (xs ++ (ys ++ zs)) (us ++ (vs ++ ws)) v a b
 joined_twins xs ys zs us vs ws v a b twins =
@@ -315,44 +317,47 @@ joined_twins xs ys zs us vs ws v a b twins =
       few = twins.few;
     }
 
-step_decided : (s : State) (line : Line) (replies other : Replies) (calls others : List KeeperCall) (v a b : KeeperTold)
-    → Twins (line_calls s line replies ++ calls) (line_calls s line other ++ others) v a b
-    → Decided (step s line replies) (step s line other) calls others a b
-unfolding line_calls step
-step_decided s line replies other calls others v a b twins =
-    let event = is_event line in
-    let target : Target = target_of s event replies.first in
-    let reached : Target = target_of s event other.first in
-    reached_decided target reached line replies other calls others a b
-    (target_decided s event replies.first other.first (calls_on target line replies ++ calls) (calls_on reached line other ++ others) v a b
-    (joined_twins (target_calls s event replies.first) (calls_on target line replies) calls (target_calls s event other.first) (calls_on reached line other) others v a b twins))
+-- a line about connections
 
-answer_decided : (s : State) (o : Option Line) (replies other : Replies) (calls others : List KeeperCall) (v a b : KeeperTold)
-    → Twins (calls_to s o replies ++ calls) (calls_to s o other ++ others) v a b
-    → Decided (answer_to s o replies) (answer_to s o other) calls others a b
-answer_decided s None replies other calls others v a b twins = undecided (RefusedIn s) calls others v a b twins
-answer_decided s (Some line) replies other calls others v a b twins = step_decided s line replies other calls others v a b twins
+-- an outcome is none of a line under way
+abbrev pub IsThere : Outcome → Type 0
+IsThere (RefusedIn t) = Unit {0}
+IsThere (DoneTo t text) = Unit {0}
+IsThere (UnstartedIn t cause) = Unit {0}
+IsThere (UnderWayIn t) = ⊥
+
+-- what two keepers reply that are handed the same: the same, where something is handed
+record Handled (writes : List RowWrite) (keeps other : Bool) (calls others : List KeeperCall) (a b : KeeperTold) : Type 0 where
+  same : (writes ≡ []) ⊎ (keeps ≡ other)
+  told : KeeperTold
+  twins : Twins calls others told a b
+
+handed_decided : (ws : List RowWrite) (keeps other : Bool) (calls others : List KeeperCall) (v a b : KeeperTold)
+    → Twins (keep_calls None ws keeps ++ calls) (keep_calls None ws other ++ others) v a b → Handled ws keeps other calls others a b
+handed_decided [] keeps other calls others v a b twins = record { same = inl refl; told = v; twins = twins }
+handed_decided (w ∷ ws) keeps other calls others v a b twins =
+    let d = apply_decided (w ∷ ws) keeps other calls others v a b twins in record { same = inr d.same; told = d.told; twins = d.twins }
+
+first_decided : (ws : List RowWrite) (keeps other : Bool) (hs ks : List Handed) (calls others : List KeeperCall) (v a b : KeeperTold)
+    → Twins (handed_calls (handed_first ws keeps hs) ++ calls) (handed_calls (handed_first ws other ks) ++ others) v a b → Handled ws keeps other (handed_calls hs ++ calls) (handed_calls ks ++ others) a b
+first_decided ws keeps other hs ks calls others v a b twins =
+    let P : List KeeperCall → Type 0 = λ cs. Twins (cs ++ calls) (handed_calls (handed_first ws other ks) ++ others) v a b in
+    let Q : List KeeperCall → Type 0 = λ cs. Twins ((keep_calls None ws keeps ++ handed_calls hs) ++ calls) (cs ++ others) v a b in
+    handed_decided ws keeps other (handed_calls hs ++ calls) (handed_calls ks ++ others) v a b
+    (joined_twins (keep_calls None ws keeps) (handed_calls hs) calls (keep_calls None ws other) (handed_calls ks) others v a b (subst Q (first_calls ws other ks) (subst P (first_calls ws keeps hs) twins)))
+
+abbrev hands_of : SiteState → ℕ → Bool → Answer SiteState → List Handed
+hands_of s n keeps x = elim x [ Refused ↦ [] | Done t out ↦ handed_first (writes_by (seat_at s.seats.seats n) s.boot) keeps [] ]
+
+abbrev runs_on : List ℕ → ℕ → List Bool → Answer SiteState → Option (Answer SiteState)
+runs_on text n more x = elim x [ Refused ↦ Some Refused | Done t out ↦ run_from t (text ++ out) n more ]
+
+abbrev more_hands : ℕ → List Bool → Answer SiteState → List Handed
+more_hands n more x = elim x [ Refused ↦ [] | Done t out ↦ run_hands t n more ]
 
 -- the same line, with other replies
-abbrev replied : Turn → Replies → Turn
+abbrev pub replied : Turn → Replies → Turn
 replied turn other = record { line = turn.line; replies = other }
-
-turn_decided : (s : State) (turn : Turn) (other : Replies) (calls others : List KeeperCall) (v a b : KeeperTold)
-    → Twins (turn_calls s turn ++ calls) (turn_calls s (replied turn other) ++ others) v a b
-    → Decided (turn_outcome s turn) (turn_outcome s (replied turn other)) calls others a b
-unfolding turn_calls turn_outcome
-turn_decided s turn other calls others v a b twins = answer_decided s (line_of turn.line) turn.replies other calls others v a b twins
-
--- all turns
-
--- a line that is too long spells none
-long_spells_none : (text : List ℕ) → nat_lt MAX_LINE_BYTES (length text) ≡ true → line_of text ≡ None
-unfolding line_of
-long_spells_none text long = rw long refl
-
-long_outcome : (s : State) (turn : Turn) → nat_lt MAX_LINE_BYTES (length turn.line) ≡ true → turn_outcome s turn ≡ RefusedIn s
-unfolding turn_outcome
-long_outcome s turn long = ap (λ o. answer_to s o turn.replies) (long_spells_none turn.line long)
 
 -- two lists of turns have written the same, and ended the same, and so have their keepers
 record AreAlike (text written : List ℕ) (end ending : End) (a b : KeeperTold) : Type 0 where
@@ -363,93 +368,309 @@ record AreAlike (text written : List ℕ) (end ending : End) (a b : KeeperTold) 
 abbrev Alike : State → ℕ → List Turn → List Turn → KeeperTold → KeeperTold → Type 0
 Alike s n turns others a b = AreAlike (transcript s turns) (transcript s others) (end_from s n turns) (end_from s n others) a b
 
-ended_alike : (text : List ℕ) (end : End) (v a b : KeeperTold) → Twins [] [] v a b → AreAlike text text end end a b
-ended_alike text end v a b twins = record {
-  texts = refl;
-  ends = refl;
-  told = none_made v a twins.left ∙ sym (none_made v b twins.right);
-}
+module _ (unasked : ReplyLaw) where
+  same_step : (s : SiteState) (n : ℕ) (keeps other : Bool) → (writes_by (seat_at s.seats.seats n) s.boot ≡ []) ⊎ (keeps ≡ other) → step_line s n keeps ≡ step_line s n other
+  same_step s n keeps other (inl none) = unasked_step unasked s n keeps other none
+  same_step s n keeps other (inr is) = ap (λ (k : Bool). step_line s n k) is
 
--- after the first turn of each list, both of which are of the same line
-next_alike : (s : State) (n : ℕ) (turn : Turn) (other : Replies) (turns others : List Turn) (v a b : KeeperTold)
-    → ((t : State) (w : KeeperTold) → Twins (calls_from t turns) (calls_from t others) w a b → Alike t (n + 1) turns others a b)
-    → Twins (calls_from s (turn ∷ turns)) (calls_from s (replied turn other ∷ others)) v a b → Alike s n (turn ∷ turns) (replied turn other ∷ others) a b
-next_alike s n turn other turns others v a b later twins =
-    go (nat_lt MAX_LINE_BYTES (length turn.line)) refl twins
-  where
-    calls_after : List Turn → Outcome → List KeeperCall
-    calls_after more outcome = elim outcome [
-      | RefusedIn t ↦ []
-      | DoneTo t text ↦ calls_from t more
-      | UnstartedIn t refusal ↦ []
-    ]
+  -- what a step hands by its answer, and what a run comes to and hands behind it
 
-    text_after : List Turn → Outcome → List ℕ
-    text_after more outcome = elim outcome [
-      | RefusedIn t ↦ []
-      | DoneTo t text ↦ text ++ transcript t more
-      | UnstartedIn t refusal ↦ []
-    ]
+  -- one step
 
-    end_after : List Turn → Outcome → End
-    end_after more outcome = elim outcome [
-      | RefusedIn t ↦ RefusedAt t n
-      | DoneTo t text ↦ end_from t (n + 1) more
-      | UnstartedIn t refusal ↦ Unstarted t refusal
-    ]
+  step_decided_by : (s : SiteState) (n : ℕ) (keeps other : Bool) (x y : Answer SiteState) → step_line s n keeps ≡ x → step_line s n other ≡ y → (calls others : List KeeperCall) (v a b : KeeperTold)
+      → Twins (handed_calls (hands_of s n keeps x) ++ calls) (handed_calls (hands_of s n other y) ++ others) v a b → Decided x y calls others a b
+  step_decided_by s n keeps other Refused Refused ix iy calls others v a b twins = undecided Refused calls others v a b twins
+  step_decided_by s n keeps other Refused (Done u out) ix iy calls others v a b twins =
+      let one : is_done (step_line s n keeps) ≡ false = ap is_done ix in
+      let two : is_done (step_line s n other) ≡ true = ap is_done iy in
+      let both : is_done (step_line s n keeps) ≡ is_done (step_line s n other) = done_alike s n keeps other in absurd (cc)
+  step_decided_by s n keeps other (Done t out) Refused ix iy calls others v a b twins =
+      let one : is_done (step_line s n keeps) ≡ true = ap is_done ix in
+      let two : is_done (step_line s n other) ≡ false = ap is_done iy in
+      let both : is_done (step_line s n keeps) ≡ is_done (step_line s n other) = done_alike s n keeps other in absurd (cc)
+  step_decided_by s n keeps other (Done t out) (Done u text) ix iy calls others v a b twins =
+      let ws = writes_by (seat_at s.seats.seats n) s.boot in
+      let d = first_decided ws keeps other [] [] calls others v a b twins in
+      record { same = sym ix ∙ same_step s n keeps other d.same ∙ iy; told = d.told; twins = d.twins }
 
-    short : (outcome : Outcome) (w : KeeperTold) → Twins (calls_after turns outcome) (calls_after others outcome) w a b
-        → AreAlike (text_after turns outcome) (text_after others outcome) (end_after turns outcome) (end_after others outcome) a b
-    short (RefusedIn t) w both = ended_alike [] (RefusedAt t n) w a b both
-    short (DoneTo t text) w both =
-        let rest : Alike t (n + 1) turns others a b = later t w both in
-        record { texts = ap (λ more. text ++ more) rest.texts; ends = rest.ends; told = rest.told }
-    short (UnstartedIn t refusal) w both = ended_alike [] (Unstarted t refusal) w a b both
+  -- a run
 
-    reached : (one two : Outcome) → Decided one two (calls_after turns one) (calls_after others two) a b
-        → AreAlike (text_after turns one) (text_after others two) (end_after turns one) (end_after others two) a b
-    reached one two decided =
-        let P : Outcome → Type 0 = λ o. Twins (calls_after turns one) (calls_after others o) decided.told a b
-        → AreAlike (text_after turns one) (text_after others o) (end_after turns one) (end_after others o) a b in
-        let here : P one = short one decided.told in
-        subst P decided.same here decided.twins
+  run_decided : (s : SiteState) (text : List ℕ) (n : ℕ) (replies other : List Bool) (calls others : List KeeperCall) (v a b : KeeperTold) → is_beyond n ≡ false → is_some s.sessions.store ≡ true
+      → is_some (run_from s text n replies) ≡ true → is_some (run_from s text n other) ≡ true
+      → Twins (handed_calls (run_hands s n replies) ++ calls) (handed_calls (run_hands s n other) ++ others) v a b → Decided (run_from s text n replies) (run_from s text n other) calls others a b
+  run_decided s text n [] [] calls others v a b near bricks hx hy twins = undecided (run_from s text n []) calls others v a b twins
+  run_decided s text n [] (o ∷ rest) calls others v a b near bricks hx hy twins = go (rests (seat_at s.seats.seats n)) hx twins
+    where
+      go : (r : Bool) → is_some (cond r (Some (Done s text)) None) ≡ true → Twins calls (handed_calls (hands_on s n o rest r (step_line s n o)) ++ others) v a b
+          → Decided (cond r (Some (Done s text)) None) (cond r (Some (Done s text)) (runs_on text n rest (step_line s n o))) calls others a b
+      go true hx twins = undecided (Some (Done s text)) calls others v a b twins
+      go false hx twins = absurd (cc)
+  run_decided s text n (k ∷ more) [] calls others v a b near bricks hx hy twins = go (rests (seat_at s.seats.seats n)) hy twins
+    where
+      go : (r : Bool) → is_some (cond r (Some (Done s text)) None) ≡ true → Twins (handed_calls (hands_on s n k more r (step_line s n k)) ++ calls) others v a b
+          → Decided (cond r (Some (Done s text)) (runs_on text n more (step_line s n k))) (cond r (Some (Done s text)) None) calls others a b
+      go true hy twins = undecided (Some (Done s text)) calls others v a b twins
+      go false hy twins = absurd (cc)
+  run_decided s text n (k ∷ more) (o ∷ rest) calls others v a b near bricks hx hy twins =
+      go (λ t out w. run_decided t (text ++ out) n more rest calls others w a b near) (rests (seat_at s.seats.seats n)) refl (step_line s n k) refl (step_line s n o) refl (changed_step s n k) hx hy twins
+    where
+      Later : Type 0
+      Later = (t : SiteState) (out : List ℕ) (w : KeeperTold) → is_some t.sessions.store ≡ true → is_some (run_from t (text ++ out) n more) ≡ true → is_some (run_from t (text ++ out) n rest) ≡ true
+          → Twins (handed_calls (run_hands t n more) ++ calls) (handed_calls (run_hands t n rest) ++ others) w a b → Decided (run_from t (text ++ out) n more) (run_from t (text ++ out) n rest) calls others a b
 
-    go : (long : Bool) → nat_lt MAX_LINE_BYTES (length turn.line) ≡ long
-        → Twins (if long then [] else (turn_calls s turn ++ calls_after turns (turn_outcome s turn))) (if long then [] else (turn_calls s (replied turn other) ++ calls_after others (turn_outcome s (replied turn other)))) v a b
-        → AreAlike (text_after turns (turn_outcome s turn)) (text_after others (turn_outcome s (replied turn other)))
-        (if long then TooLong s n else end_after turns (turn_outcome s turn)) (if long then TooLong s n else end_after others (turn_outcome s (replied turn other))) a b
-    go true is both =
-        let one : turn_outcome s turn ≡ RefusedIn s = long_outcome s turn is in
-        let two : turn_outcome s (replied turn other) ≡ RefusedIn s = long_outcome s (replied turn other) is in
-        rw (one, two) (ended_alike [] (TooLong s n) v a b both)
-    go false is both =
-        reached (turn_outcome s turn) (turn_outcome s (replied turn other))
-        (turn_decided s turn other (calls_after turns (turn_outcome s turn)) (calls_after others (turn_outcome s (replied turn other))) v a b both)
+      never : (keeps : Bool) → rests (seat_at s.seats.seats n) ≡ false → step_line s n keeps ≡ Refused → ⊥
+      never keeps here is =
+          let done : is_done (step_line s n keeps) ≡ true = step_done s n keeps near bricks (there_where (seat_at s.seats.seats n) here) in
+          let none : is_done (step_line s n keeps) ≡ false = ap is_done is in absurd (cc)
 
-heads_same : (x y : List ℕ) (xs ys : List (List ℕ)) → x ∷ xs ≡ y ∷ ys → x ≡ y
-heads_same x y xs ys same = cc
+      go : Later → (r : Bool) → rests (seat_at s.seats.seats n) ≡ r → (x : Answer SiteState) → step_line s n k ≡ x → (y : Answer SiteState) → step_line s n o ≡ y → Leaves (HasStep s n k) x
+          → is_some (cond r (Some (Done s text)) (runs_on text n more x)) ≡ true → is_some (cond r (Some (Done s text)) (runs_on text n rest y)) ≡ true
+          → Twins (handed_calls (hands_on s n k more r x) ++ calls) (handed_calls (hands_on s n o rest r y) ++ others) v a b
+          → Decided (cond r (Some (Done s text)) (runs_on text n more x)) (cond r (Some (Done s text)) (runs_on text n rest y)) calls others a b
+      go later true here x ix y iy h hx hy twins = undecided (Some (Done s text)) calls others v a b twins
+      go later false here Refused ix y iy h hx hy twins = absurd (never k here ix)
+      go later false here (Done t out) ix Refused iy h hx hy twins = absurd (never o here iy)
+      go later false here (Done t out) ix (Done u wrote) iy h hx hy twins =
+          let ws = writes_by (seat_at s.seats.seats n) s.boot in
+          let d = first_decided ws k o (run_hands t n more) (run_hands u n rest) calls others v a b twins in
+          let same : Done t out ≡ Done u wrote = sym ix ∙ same_step s n k o d.same ∙ iy in
+          let P : Answer SiteState → Type 0 = λ y. is_some (runs_on text n rest y) ≡ true → Twins (handed_calls (run_hands t n more) ++ calls) (handed_calls (more_hands n rest y) ++ others) d.told a b
+          → Decided (run_from t (text ++ out) n more) (runs_on text n rest y) calls others a b in
+          let here_too : P (Done t out) = λ hy tw. later t out d.told h.bricks hx hy tw in
+          subst P same here_too hy d.twins
 
-tails_same : (x y : List ℕ) (xs ys : List (List ℕ)) → x ∷ xs ≡ y ∷ ys → xs ≡ ys
-tails_same x y xs ys same = cc
+  run_line_decided : (s : SiteState) (n : ℕ) (replies other : List Bool) (calls others : List KeeperCall) (v a b : KeeperTold) → is_some (run_line s n replies) ≡ true → is_some (run_line s n other) ≡ true
+      → Twins (handed_calls (run_hands s n replies) ++ calls) (handed_calls (run_hands s n other) ++ others) v a b → Decided (run_line s n replies) (run_line s n other) calls others a b
+  unfolding run_line
+  run_line_decided s n replies other calls others v a b hx hy twins = go (can_run s n) refl hx hy
+    where
+      go : (can : Bool) → can_run s n ≡ can → is_some (cond can (run_from s [] n replies) (Some Refused)) ≡ true → is_some (cond can (run_from s [] n other) (Some Refused)) ≡ true
+          → Decided (cond can (run_from s [] n replies) (Some Refused)) (cond can (run_from s [] n other) (Some Refused)) calls others a b
+      go true can hx hy =
+          run_decided s [] n replies other calls others v a b (near_of (is_beyond n) (is_some s.sessions.store) (is_some (seat_at s.seats.seats n)) can)
+          (bricks_of (is_beyond n) (is_some s.sessions.store) (is_some (seat_at s.seats.seats n)) can) hx hy twins
+      go false none hx hy =
+          let P : List Handed → Type 0 = λ hs. Twins (handed_calls hs ++ calls) (handed_calls (run_hands s n other) ++ others) v a b in
+          let Q : List Handed → Type 0 = λ hs. Twins calls (handed_calls hs ++ others) v a b in
+          undecided (Some Refused) calls others v a b (subst Q (no_hands s n other none) (subst P (no_hands s n replies none) twins))
 
-alike : (s : State) (n : ℕ) (turns others : List Turn) (v a b : KeeperTold) → lines_in turns ≡ lines_in others
-    → Twins (calls_from s turns) (calls_from s others) v a b → Alike s n turns others a b
-alike s n [] [] v a b same twins = ended_alike [] (Ended s) v a b twins
-alike s n [] (other ∷ others) v a b same twins = absurd (cc)
-alike s n (turn ∷ turns) [] v a b same twins = absurd (cc)
-alike s n (turn ∷ turns) (other ∷ others) v a b same twins =
-    let P : List ℕ → Type 0 = λ line. Twins (calls_from s (turn ∷ turns)) (calls_from s (record { line = line; replies = other.replies } ∷ others)) v a b
-    → Alike s n (turn ∷ turns) (record { line = line; replies = other.replies } ∷ others) a b in
-    let line : turn.line ≡ other.line = heads_same turn.line other.line (lines_in turns) (lines_in others) same in
-    let rest : lines_in turns ≡ lines_in others = tails_same turn.line other.line (lines_in turns) (lines_in others) same in
-    let here : P turn.line = next_alike s n turn other.replies turns others v a b (λ t w both. alike t (n + 1) turns others w a b rest both) in
-    subst P line here twins
+  -- a line about connections over a boot
 
-pub turns_decide : (turns others : List Turn) (t a b : KeeperTold) → lines_in turns ≡ lines_in others
-    → TellsCalls (calls_from first turns) (Some t) (Some a) → TellsCalls (calls_from first others) (Some t) (Some b)
-    → a.failed ≡ b.failed → a.calls < 2 ^ 64 - 1
-    → (transcript first turns ≡ transcript first others) × (end_from first 1 turns ≡ end_from first 1 others) × (a ≡ b)
-turns_decide turns others t a b same left right failed few =
-    let both : Alike first 1 turns others a b =
-    alike first 1 turns others t a b same (record { left = left; right = right; failed = failed; few = few }) in
-    (both.texts, both.ends, both.told)
+  there_of : (r : RunningState) (line : SeatLine) (replies : List Bool) (o : Option (Answer SiteState)) → IsThere (by_replies r line replies o) → is_some o ≡ true
+  there_of r line replies None there = absurd there
+  there_of r line replies (Some x) there = refl
+
+  -- one that is answered is by its answer alone
+  by_answer : (r : RunningState) (line : SeatLine) (replies other : List Bool) (o : Option (Answer SiteState)) → is_some o ≡ true → by_replies r line replies o ≡ by_replies r line other o
+  by_answer r line replies other None there = absurd (cc)
+  by_answer r line replies other (Some x) there = refl
+
+  line_decided_by : (r : RunningState) (line : SeatLine) (replies other : List Bool) (calls others : List KeeperCall) (v a b : KeeperTold)
+      → is_some (seat_line (site_of r) line replies) ≡ true → is_some (seat_line (site_of r) line other) ≡ true
+      → Twins (handed_calls (line_hands (site_of r) line replies) ++ calls) (handed_calls (line_hands (site_of r) line other) ++ others) v a b
+      → Decided (seat_line (site_of r) line replies) (seat_line (site_of r) line other) calls others a b
+  line_decided_by r (seats.Conn n) replies other calls others v a b hx hy twins = undecided _ calls others v a b twins
+  line_decided_by r (seats.Bytes n bytes) replies other calls others v a b hx hy twins = undecided _ calls others v a b twins
+  line_decided_by r (seats.End n) replies other calls others v a b hx hy twins = undecided _ calls others v a b twins
+  line_decided_by r (seats.Step n) [] other calls others v a b hx hy twins = absurd (cc)
+  line_decided_by r (seats.Step n) (k ∷ more) [] calls others v a b hx hy twins = absurd (cc)
+  line_decided_by r (seats.Step n) (k ∷ more) (o ∷ rest) calls others v a b hx hy twins =
+      decided_as (λ (x : Answer SiteState). Some x) (step_line (site_of r) n k) (step_line (site_of r) n o) calls others a b
+      (step_decided_by (site_of r) n k o (step_line (site_of r) n k) (step_line (site_of r) n o) refl refl calls others v a b twins)
+  line_decided_by r (seats.Run n) replies other calls others v a b hx hy twins = run_line_decided (site_of r) n replies other calls others v a b hx hy twins
+
+  seat_decided : (r : RunningState) (line : SeatLine) (replies other : List Bool) (calls others : List KeeperCall) (v a b : KeeperTold) → IsThere (seat_over r line replies) → IsThere (seat_over r line other)
+      → Twins (seat_calls r line replies ++ calls) (seat_calls r line other ++ others) v a b → Decided (seat_over r line replies) (seat_over r line other) calls others a b
+  unfolding seat_over seat_calls
+  seat_decided r line replies other calls others v a b hx hy twins = go r.site hx hy twins
+    where
+      go : (site : Bool) → IsThere (cond site (by_replies r line replies (seat_line (site_of r) line replies)) (RefusedIn (Running r))) → IsThere (cond site (by_replies r line other (seat_line (site_of r) line other)) (RefusedIn (Running r)))
+          → Twins (cond site (handed_calls (line_hands (site_of r) line replies)) [] ++ calls) (cond site (handed_calls (line_hands (site_of r) line other)) [] ++ others) v a b
+          → Decided (cond site (by_replies r line replies (seat_line (site_of r) line replies)) (RefusedIn (Running r))) (cond site (by_replies r line other (seat_line (site_of r) line other)) (RefusedIn (Running r))) calls others a b
+      go false hx hy twins = undecided (RefusedIn (Running r)) calls others v a b twins
+      go true hx hy twins =
+          let x : is_some (seat_line (site_of r) line replies) ≡ true = there_of r line replies (seat_line (site_of r) line replies) hx in
+          let y : is_some (seat_line (site_of r) line other) ≡ true = there_of r line other (seat_line (site_of r) line other) hy in
+          let d = line_decided_by r line replies other calls others v a b x y twins in
+          record {
+            same = ap (λ (o : Option (Answer SiteState)). by_replies r line replies o) d.same ∙ by_answer r line replies other (seat_line (site_of r) line other) y;
+            told = d.told;
+            twins = d.twins;
+          }
+
+  -- a turn
+
+  boot_decided : (r : RunningState) (line : Line) (replies other : Replies) (calls others : List KeeperCall) (v a b : KeeperTold)
+      → IsThere (line_over r line replies) → IsThere (line_over r line other) → Twins (calls_over r line replies ++ calls) (calls_over r line other ++ others) v a b
+      → Decided (line_over r line replies) (line_over r line other) calls others a b
+  boot_decided r lines.Pass replies other calls others v a b hx hy twins = undecided (DoneTo (Running r) []) calls others v a b twins
+  boot_decided r (lines.Head line) replies other calls others v a b hx hy twins = undecided (RefusedIn (Running r)) calls others v a b twins
+  boot_decided r (lines.Call n line) replies other calls others v a b hx hy twins =
+      undecided (in_boot r (within (with_callers r) (call_step r.boot r.callers n line))) calls others v a b twins
+  boot_decided r (lines.Boot line) replies other calls others v a b hx hy twins =
+      undecided (in_boot r (boot_line r line)) calls others v a b twins
+  boot_decided r (lines.Session line) replies other calls others v a b hx hy twins =
+      undecided (in_boot r (within (with_sessions r) (session_line r.sessions line))) calls others v a b twins
+  boot_decided r (lines.Commit n) replies other calls others v a b hx hy twins =
+      decided_as (in_boot r) (commit_step r n (first_keeps replies.keeps)) (commit_step r n (first_keeps other.keeps)) calls others a b
+      (commit_decided r n (first_keeps replies.keeps) (first_keeps other.keeps) calls others v a b twins)
+  boot_decided r (lines.Seat line) replies other calls others v a b hx hy twins = seat_decided r line replies.keeps other.keeps calls others v a b hx hy twins
+  boot_decided r lines.Reopen replies other calls others v a b hx hy twins =
+      decided_as (reopens r) (next_opening r replies.again) (next_opening r other.again) calls others a b
+      (start_decided r.boot.start.deployment r.boot.start.limits replies.again other.again calls others v a b twins)
+
+  line_decided : (target : Target) (line : Line) (replies other : Replies) (calls others : List KeeperCall) (v a b : KeeperTold)
+      → IsThere (line_on target line replies) → IsThere (line_on target line other) → Twins (calls_on target line replies ++ calls) (calls_on target line other ++ others) v a b
+      → Decided (line_on target line replies) (line_on target line other) calls others a b
+  line_decided (TheHead head) line replies other calls others v a b hx hy twins =
+      undecided (in_head head (head_line head line)) calls others v a b twins
+  line_decided (TheBoot r) line replies other calls others v a b hx hy twins = boot_decided r line replies other calls others v a b hx hy twins
+  line_decided (TheUnstarted head refusal) line replies other calls others v a b hx hy twins =
+      undecided (UnstartedIn (Heading head) refusal) calls others v a b twins
+
+  -- on the targets that were reached
+  reached_decided : (target reached : Target) (line : Line) (replies other : Replies) (calls others : List KeeperCall) (a b : KeeperTold)
+      → IsThere (line_on target line replies) → IsThere (line_on reached line other) → Decided target reached (calls_on target line replies ++ calls) (calls_on reached line other ++ others) a b
+      → Decided (line_on target line replies) (line_on reached line other) calls others a b
+  reached_decided target reached line replies other calls others a b hx hy decided =
+      let P : Target → Type 0 = λ there. IsThere (line_on there line other) → Twins (calls_on target line replies ++ calls) (calls_on there line other ++ others) decided.told a b
+      → Decided (line_on target line replies) (line_on there line other) calls others a b in
+      let here : P target = λ hy. line_decided target line replies other calls others decided.told a b hx hy in
+      subst P decided.same here hy decided.twins
+
+  step_decided : (s : State) (line : Line) (replies other : Replies) (calls others : List KeeperCall) (v a b : KeeperTold)
+      → IsThere (step s line replies) → IsThere (step s line other) → Twins (line_calls s line replies ++ calls) (line_calls s line other ++ others) v a b
+      → Decided (step s line replies) (step s line other) calls others a b
+  unfolding line_calls step
+  step_decided s line replies other calls others v a b hx hy twins =
+      let event = is_event line in
+      let target : Target = target_of s event replies.first in
+      let reached : Target = target_of s event other.first in
+      reached_decided target reached line replies other calls others a b hx hy
+      (target_decided s event replies.first other.first (calls_on target line replies ++ calls) (calls_on reached line other ++ others) v a b
+      (joined_twins (target_calls s event replies.first) (calls_on target line replies) calls (target_calls s event other.first) (calls_on reached line other) others v a b twins))
+
+  answer_decided : (s : State) (o : Option Line) (replies other : Replies) (calls others : List KeeperCall) (v a b : KeeperTold)
+      → IsThere (answer_to s o replies) → IsThere (answer_to s o other) → Twins (calls_to s o replies ++ calls) (calls_to s o other ++ others) v a b
+      → Decided (answer_to s o replies) (answer_to s o other) calls others a b
+  answer_decided s None replies other calls others v a b hx hy twins = undecided (RefusedIn s) calls others v a b twins
+  answer_decided s (Some line) replies other calls others v a b hx hy twins = step_decided s line replies other calls others v a b hx hy twins
+
+  pub turn_decided : (s : State) (turn : Turn) (other : Replies) (calls others : List KeeperCall) (v a b : KeeperTold)
+      → IsThere (turn_outcome s turn) → IsThere (turn_outcome s (replied turn other)) → Twins (turn_calls s turn ++ calls) (turn_calls s (replied turn other) ++ others) v a b
+      → Decided (turn_outcome s turn) (turn_outcome s (replied turn other)) calls others a b
+  unfolding turn_calls turn_outcome
+  turn_decided s turn other calls others v a b hx hy twins = answer_decided s (line_of turn.line) turn.replies other calls others v a b hx hy twins
+
+  -- all turns
+
+  -- a line that is too long spells none
+  long_spells_none : (text : List ℕ) → nat_lt MAX_LINE_BYTES (length text) ≡ true → line_of text ≡ None
+  unfolding line_of
+  long_spells_none text long = rw long refl
+
+  pub long_outcome : (s : State) (turn : Turn) → nat_lt MAX_LINE_BYTES (length turn.line) ≡ true → turn_outcome s turn ≡ RefusedIn s
+  unfolding turn_outcome
+  long_outcome s turn long = ap (λ o. answer_to s o turn.replies) (long_spells_none turn.line long)
+
+  ended_alike : (text : List ℕ) (end : End) (v a b : KeeperTold) → Twins [] [] v a b → AreAlike text text end end a b
+  ended_alike text end v a b twins = record {
+    texts = refl;
+    ends = refl;
+    told = none_made v a twins.left ∙ sym (none_made v b twins.right);
+  }
+
+  -- after the first turn of each list, both of which are of the same line
+  next_alike : (s : State) (n : ℕ) (turn : Turn) (other : Replies) (turns others : List Turn) (v a b : KeeperTold)
+      → ((t : State) (w : KeeperTold) → IsAnswered (end_from t (n + 1) turns) → IsAnswered (end_from t (n + 1) others) → Twins (calls_from t turns) (calls_from t others) w a b → Alike t (n + 1) turns others a b)
+      → IsAnswered (end_from s n (turn ∷ turns)) → IsAnswered (end_from s n (replied turn other ∷ others)) → Twins (calls_from s (turn ∷ turns)) (calls_from s (replied turn other ∷ others)) v a b → Alike s n (turn ∷ turns) (replied turn other ∷ others) a b
+  next_alike s n turn other turns others v a b later hx hy twins =
+      go (nat_lt MAX_LINE_BYTES (length turn.line)) refl hx hy twins
+    where
+      calls_after : List Turn → Outcome → List KeeperCall
+      calls_after more outcome = elim outcome [
+        | RefusedIn t ↦ []
+        | DoneTo t text ↦ calls_from t more
+        | UnstartedIn t refusal ↦ []
+        | UnderWayIn t ↦ []
+      ]
+
+      text_after : List Turn → Outcome → List ℕ
+      text_after more outcome = elim outcome [
+        | RefusedIn t ↦ []
+        | DoneTo t text ↦ text ++ transcript t more
+        | UnstartedIn t refusal ↦ []
+        | UnderWayIn t ↦ []
+      ]
+
+      end_after : List Turn → Outcome → End
+      end_after more outcome = elim outcome [
+        | RefusedIn t ↦ RefusedAt t n
+        | DoneTo t text ↦ end_from t (n + 1) more
+        | UnstartedIn t refusal ↦ Unstarted t refusal
+        | UnderWayIn t ↦ UnderWay t n
+      ]
+
+      short : (outcome : Outcome) (w : KeeperTold) → IsAnswered (end_after turns outcome) → IsAnswered (end_after others outcome) → Twins (calls_after turns outcome) (calls_after others outcome) w a b
+          → AreAlike (text_after turns outcome) (text_after others outcome) (end_after turns outcome) (end_after others outcome) a b
+      short (RefusedIn t) w hx hy both = ended_alike [] (RefusedAt t n) w a b both
+      short (DoneTo t text) w hx hy both =
+          let rest : Alike t (n + 1) turns others a b = later t w hx hy both in
+          record { texts = ap (λ more. text ++ more) rest.texts; ends = rest.ends; told = rest.told }
+      short (UnstartedIn t refusal) w hx hy both = ended_alike [] (Unstarted t refusal) w a b both
+      short (UnderWayIn t) w hx hy both = absurd hx
+
+      is_there : (more : List Turn) (outcome : Outcome) → IsAnswered (end_after more outcome) → IsThere outcome
+      is_there more (RefusedIn t) h = tt
+      is_there more (DoneTo t text) h = tt
+      is_there more (UnstartedIn t refusal) h = tt
+      is_there more (UnderWayIn t) h = h
+
+      reached : (one two : Outcome) → IsAnswered (end_after turns one) → IsAnswered (end_after others two) → Decided one two (calls_after turns one) (calls_after others two) a b
+          → AreAlike (text_after turns one) (text_after others two) (end_after turns one) (end_after others two) a b
+      reached one two hx hy decided =
+          let P : Outcome → Type 0 = λ o. IsAnswered (end_after others o) → Twins (calls_after turns one) (calls_after others o) decided.told a b
+          → AreAlike (text_after turns one) (text_after others o) (end_after turns one) (end_after others o) a b in
+          let here : P one = λ hy. short one decided.told hx hy in
+          subst P decided.same here hy decided.twins
+
+      go : (long : Bool) → nat_lt MAX_LINE_BYTES (length turn.line) ≡ long
+          → IsAnswered (if long then TooLong s n else end_after turns (turn_outcome s turn)) → IsAnswered (if long then TooLong s n else end_after others (turn_outcome s (replied turn other)))
+          → Twins (if long then [] else (turn_calls s turn ++ calls_after turns (turn_outcome s turn))) (if long then [] else (turn_calls s (replied turn other) ++ calls_after others (turn_outcome s (replied turn other)))) v a b
+          → AreAlike (text_after turns (turn_outcome s turn)) (text_after others (turn_outcome s (replied turn other)))
+          (if long then TooLong s n else end_after turns (turn_outcome s turn)) (if long then TooLong s n else end_after others (turn_outcome s (replied turn other))) a b
+      go true is hx hy both =
+          let one : turn_outcome s turn ≡ RefusedIn s = long_outcome s turn is in
+          let two : turn_outcome s (replied turn other) ≡ RefusedIn s = long_outcome s (replied turn other) is in
+          rw (one, two) (ended_alike [] (TooLong s n) v a b both)
+      go false is hx hy both =
+          reached (turn_outcome s turn) (turn_outcome s (replied turn other)) hx hy
+          (turn_decided s turn other (calls_after turns (turn_outcome s turn)) (calls_after others (turn_outcome s (replied turn other))) v a b (is_there turns (turn_outcome s turn) hx) (is_there others (turn_outcome s (replied turn other)) hy) both)
+
+  pub heads_same : (x y : List ℕ) (xs ys : List (List ℕ)) → x ∷ xs ≡ y ∷ ys → x ≡ y
+  heads_same x y xs ys same = cc
+
+  pub tails_same : (x y : List ℕ) (xs ys : List (List ℕ)) → x ∷ xs ≡ y ∷ ys → xs ≡ ys
+  tails_same x y xs ys same = cc
+
+  alike : (s : State) (n : ℕ) (turns others : List Turn) (v a b : KeeperTold) → lines_in turns ≡ lines_in others
+      → IsAnswered (end_from s n turns) → IsAnswered (end_from s n others) → Twins (calls_from s turns) (calls_from s others) v a b → Alike s n turns others a b
+  alike s n [] [] v a b same hx hy twins = ended_alike [] (Ended s) v a b twins
+  alike s n [] (other ∷ others) v a b same hx hy twins = absurd (cc)
+  alike s n (turn ∷ turns) [] v a b same hx hy twins = absurd (cc)
+  alike s n (turn ∷ turns) (other ∷ others) v a b same hx hy twins =
+      let P : List ℕ → Type 0 = λ line. IsAnswered (end_from s n (record { line = line; replies = other.replies } ∷ others)) → Twins (calls_from s (turn ∷ turns)) (calls_from s (record { line = line; replies = other.replies } ∷ others)) v a b
+      → Alike s n (turn ∷ turns) (record { line = line; replies = other.replies } ∷ others) a b in
+      let line : turn.line ≡ other.line = heads_same turn.line other.line (lines_in turns) (lines_in others) same in
+      let rest : lines_in turns ≡ lines_in others = tails_same turn.line other.line (lines_in turns) (lines_in others) same in
+      let here : P turn.line = next_alike s n turn other.replies turns others v a b (λ t w hx hy both. alike t (n + 1) turns others w a b rest hx hy both) hx in
+      subst P line here hy twins
+
+  pub turns_decide : (turns others : List Turn) (t a b : KeeperTold) → lines_in turns ≡ lines_in others → IsAnswered (end_from first 1 turns) → IsAnswered (end_from first 1 others)
+      → TellsCalls (calls_from first turns) (Some t) (Some a) → TellsCalls (calls_from first others) (Some t) (Some b)
+      → a.failed ≡ b.failed → a.calls < 2 ^ 64 - 1
+      → (transcript first turns ≡ transcript first others) × (end_from first 1 turns ≡ end_from first 1 others) × (a ≡ b)
+  turns_decide turns others t a b same hx hy left right failed few =
+      let both : Alike first 1 turns others a b =
+      alike first 1 turns others t a b same hx hy (record { left = left; right = right; failed = fails_same a b failed; few = few }) in
+      (both.texts, both.ends, both.told)

@@ -21,19 +21,23 @@ use Rattle.scenario_text.specs.Answer.{Answer, Refused, Done, within}
 use Rattle.line_steps.specs.Callers.{call_step}
 use Rattle.line_steps.specs.Head.{head_line}
 use Rattle.scenario_text.proofs.Leaving.{Leaves}
-use Rattle.scenario_engine.specs.Engine.{Replies, Target, TheHead, TheBoot, TheUnstarted, opened_target, target_of, in_head, in_boot, next_opening, reopens, line_over, line_on, step, ended_by, ends_over, ends_on, ended_boots}
+use Rattle.scenario_engine.specs.Engine.{Replies, first_keeps, Target, TheHead, TheBoot, TheUnstarted, opened_target, target_of, in_head, next_opening, reopens, line_over, line_on, step, ended_by, ends_over, ends_on, ended_boots}
+use Rattle.scenario_engine.specs.Seats.{in_boot, seat_over}
+use Rattle.scenario_text.specs.declared.seat_line.SeatLine.{SeatLine}
+use Rattle.seat_lines.specs.Site.{no_seats}
 use Rattle.scenario_engine.specs.Opening.{StartReplies, Opening, Opened, UnstartedBoot, opening}
 use Rattle.session_steps.specs.Sessions.{session_line}
 use Rattle.session_steps.specs.Setup.{set_up}
-use Rattle.scenario_engine.specs.Running.{started, with_callers, with_sessions, commit_step, boot_line}
-use Rattle.scenario_engine.specs.State.{RunningState, State, Heading, Running, Outcome, RefusedIn, DoneTo, UnstartedIn}
-use Rattle.scenario_engine.specs.Transcript.{Turn, answer_to, turn_outcome, ends_to, turn_ends, boots_in, boots_from, end_from, last_state, RefusedAt, TooLong, Unstarted}
+use Rattle.scenario_engine.specs.Running.{started, reopened_over, with_callers, with_sessions, commit_step, boot_line}
+use Rattle.scenario_engine.specs.State.{RunningState, State, Heading, Running, Outcome, RefusedIn, DoneTo, UnstartedIn, UnderWayIn}
+use Rattle.scenario_engine.specs.Transcript.{Turn, answer_to, turn_outcome, ends_to, turn_ends, boots_in, boots_from, end_from, last_state, RefusedAt, TooLong, Unstarted, UnderWay}
 
 -- what an outcome leaves is so
 abbrev pub LeavesTo : (State → Type 0) → Outcome → Type 0
 LeavesTo P (RefusedIn s) = P s
 LeavesTo P (DoneTo s text) = P s
 LeavesTo P (UnstartedIn s refusal) = P s
+LeavesTo P (UnderWayIn s) = P s
 
 -- a put of a whole line
 abbrev pub IsShortLine : Line → Type 0
@@ -52,22 +56,23 @@ short_line : (line : Line) → IsInRange line → IsShortLine line
 short_line (lines.Call c line) range = short_call line range.1
 short_line _ range = tt
 
--- Each line keeps what holds of a head, and of a boot with its callers; and a boot that starts has it.
-pub record Keeps (H : Head → Type 0) (R : RunningState → Type 0) : Type 0 where
-  pub heads : (head : Head) (line : Line) → H head → Leaves H (head_line head line)
-  pub opens : (head : Head) (replies : StartReplies) (start : Start) → H head → opening head.parts head.limits replies ≡ Opened start → R (started (set_up head.setup 0) start)
-  pub reopens : (r : RunningState) (replies : StartReplies) (start : Start) → R r → next_opening r replies ≡ Opened start → R (started r.sessions start)
-  pub commits : (r : RunningState) (n : ℕ) (keeps : Bool) → R r → Leaves R (commit_step r n keeps)
-  pub calls : (r : RunningState) (n : ℕ) (line : CallLine) → IsShortCall line → R r → Leaves R (within (with_callers r) (call_step r.boot r.callers n line))
-  pub boots : (r : RunningState) (line : BootLine) → R r → Leaves R (boot_line r line)
-  pub sessions : (r : RunningState) (line : SessionLine) → R r → Leaves R (within (with_sessions r) (session_line r.sessions line))
-
 -- it holds of the head or the boot of a state
 abbrev pub HoldsIn : (Head → Type 0) → (RunningState → Type 0) → State → Type 0
 HoldsIn H R (Heading head) = H head
 HoldsIn H R (Running r) = R r
 
--- and of what a line is done to
+-- Each line keeps what holds of a head, and of a boot with its callers; and a boot that starts has it.
+pub record Keeps (H : Head → Type 0) (R : RunningState → Type 0) : Type 0 where
+  pub heads : (head : Head) (line : Line) → H head → Leaves H (head_line head line)
+  pub opens : (head : Head) (replies : StartReplies) (start : Start) → H head → opening head.parts head.limits replies ≡ Opened start → R (started (set_up head.setup 0) no_seats head.site start)
+  pub reopens : (r : RunningState) (replies : StartReplies) (start : Start) → R r → next_opening r replies ≡ Opened start → R (reopened_over r start)
+  pub commits : (r : RunningState) (n : ℕ) (keeps : Bool) → R r → Leaves R (commit_step r n keeps)
+  pub calls : (r : RunningState) (n : ℕ) (line : CallLine) → IsShortCall line → R r → Leaves R (within (with_callers r) (call_step r.boot r.callers n line))
+  pub boots : (r : RunningState) (line : BootLine) → R r → Leaves R (boot_line r line)
+  pub sessions : (r : RunningState) (line : SessionLine) → R r → Leaves R (within (with_sessions r) (session_line r.sessions line))
+  pub seats : (r : RunningState) (line : SeatLine) (replies : List Bool) → R r → LeavesTo (HoldsIn H R) (seat_over r line replies)
+
+-- it holds of what a line is done to
 abbrev HoldsOf : (Head → Type 0) → (RunningState → Type 0) → Target → Type 0
 HoldsOf H R (TheHead head) = H head
 HoldsOf H R (TheBoot r) = R r
@@ -101,12 +106,13 @@ module _ (H : Head → Type 0) (R : RunningState → Type 0) (B : BootValue → 
   kept_line_over r (lines.Call n line) replies short holds =
       kept_in_boot r (within (with_callers r) (call_step r.boot r.callers n line)) holds (keeps.calls r n line short holds)
   kept_line_over r (lines.Commit n) replies short holds =
-      kept_in_boot r (commit_step r n replies.keeps) holds (keeps.commits r n replies.keeps holds)
+      kept_in_boot r (commit_step r n (first_keeps replies.keeps)) holds (keeps.commits r n (first_keeps replies.keeps) holds)
   kept_line_over r (lines.Boot line) replies short holds = kept_in_boot r (boot_line r line) holds (keeps.boots r line holds)
   kept_line_over r lines.Reopen replies short holds =
       kept_reopens r replies.again (next_opening r replies.again) refl holds
   kept_line_over r (lines.Session line) replies short holds =
       kept_in_boot r (within (with_sessions r) (session_line r.sessions line)) holds (keeps.sessions r line holds)
+  kept_line_over r (lines.Seat line) replies short holds = keeps.seats r line replies.keeps holds
 
   kept_line_on : (target : Target) (line : Line) (replies : Replies) → IsShortLine line → HoldsOf H R target → LeavesTo (HoldsIn H R) (line_on target line replies)
   kept_line_on (TheHead head) line replies short holds = kept_in_head head (head_line head line) holds (keeps.heads head line holds)
@@ -141,6 +147,7 @@ module _ (H : Head → Type 0) (R : RunningState → Type 0) (B : BootValue → 
   kept_ends_over r (lines.Boot line) replies holds = All-nil B
   kept_ends_over r lines.Reopen replies holds = kept_ended_by r (next_opening r replies.again) holds
   kept_ends_over r (lines.Session line) replies holds = All-nil B
+  kept_ends_over r (lines.Seat line) replies holds = All-nil B
 
   kept_ends_on : (target : Target) (line : Line) (replies : Replies) → HoldsOf H R target → All B (ends_on target line replies)
   kept_ends_on (TheHead head) line replies holds = All-nil B
@@ -175,11 +182,13 @@ module _ (H : Head → Type 0) (R : RunningState → Type 0) (B : BootValue → 
         | RefusedIn t ↦ RefusedAt t n
         | DoneTo t text ↦ end_from t (n + 1) turns
         | UnstartedIn t refusal ↦ Unstarted t refusal
+        | UnderWayIn t ↦ UnderWay t n
       ])))
       go true o left later = holds
       go false (RefusedIn t) left later = left
       go false (DoneTo t text) left later = later t left
       go false (UnstartedIn t refusal) left later = left
+      go false (UnderWayIn t) left later = left
 
   pub kept_boots : (s : State) (turns : List Turn) → HoldsIn H R s → All B (boots_from s turns)
   kept_boots s [] holds = kept_boots_in s holds
@@ -193,11 +202,13 @@ module _ (H : Head → Type 0) (R : RunningState → Type 0) (B : BootValue → 
         | RefusedIn t ↦ boots_in t
         | DoneTo t text ↦ boots_from t turns
         | UnstartedIn t refusal ↦ boots_in t
+        | UnderWayIn t ↦ boots_in t
       ])))
       go true o left later = kept_boots_in s holds
       go false (RefusedIn t) left later = ends (boots_in t) (kept_boots_in t left)
       go false (DoneTo t text) left later = ends (boots_from t turns) (later t left)
       go false (UnstartedIn t refusal) left later = ends (boots_in t) (kept_boots_in t left)
+      go false (UnderWayIn t) left later = ends (boots_in t) (kept_boots_in t left)
 
   pub kept_at_end : (s : State) (n : ℕ) (turns : List Turn) → HoldsIn H R s → All B (boots_in (last_state (end_from s n turns)))
   kept_at_end s n turns holds = kept_boots_in (last_state (end_from s n turns)) (kept_ending s n turns holds)

@@ -1,15 +1,33 @@
+pub mod BricksKept
 pub mod Calls
 pub mod Committing
 pub mod Deciding
+pub mod Giving
+pub mod Going
+pub mod Handing
 pub mod Keeping
 mod Leading
+pub mod Meant
 pub mod Numbering
+pub mod OfSite
 pub mod Rebooting
 pub mod Requesting
+pub mod SeatChanges
+pub mod SeatRows
+pub mod SeatsFit
+mod SeatsHold
+pub mod SeatsLead
+pub mod SeatsStand
+pub mod SessionSerials
 pub mod Soundness
+mod Standing
 pub mod Starting
 pub mod Stepping
 pub mod Telling
+pub mod TellingCalls
 pub mod Turns
 pub mod Unkept
 pub mod Rising
+pub mod UnderWay
+pub mod Unhanded
+pub mod Beginning

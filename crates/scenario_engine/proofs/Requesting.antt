@@ -1,11 +1,13 @@
 -- Each commit of a boot is of a request of its own.
-use Rattle.std.proofs.Common.{◌≡◌, ℕ, ◌+◌, ◌-◌, Bool, inl, inr, List, [], length, Option, Some, None, refl, sym, subst}
+use Rattle.std.proofs.Common.{◌≡◌, ℕ, ◌+◌, ◌-◌, Bool, true, inl, inr, List, [], length, Option, Some, None, refl, sym, ◌∙◌, subst}
 use Rattle.std.specs.Prelude.{◌==◌, not, All, replicate, slice_set}
 use Rattle.std.proofs.lemmas.Bool.{cases_lt}
 use Rattle.std.proofs.lemmas.List.{get_or_past}
 use Rattle.std.proofs.lemmas.List.Elements.{All-nil, All-append, All-push, All-replicate, All-set}
+use Rattle.auction_rows.specs.Parts.{site_parts}
 use Rattle.call_ticket.specs.Ticket.{TicketValue, ticket_kept, ticket_left}
 use Rattle.crash_base.specs.declared.scope.Scope.{Scope}
+use Rattle.deployment.specs.declared.parts.Parts.{Parts}
 use Rattle.deployment.specs.Groups.{group_of}
 use Rattle.deployment.specs.Parts.{component_no, named}
 use Rattle.journal_model.specs.declared.entry.Entry.{Entry}
@@ -13,7 +15,8 @@ use Rattle.journal_model.specs.declared.entry.Entry.TheVariants.{Commit, Down, U
 use Rattle.journal_model.specs.Calls.{entry_of, seen, listed}
 use Rattle.journal_model.specs.Reboots.{undone_of}
 use Rattle.journal_model.proofs.Places.{all_there}
-use Rattle.boot_core.specs.Boot.{BootValue}
+use Rattle.boot_core.specs.Boot.{BootValue, new_boot}
+use Rattle.boot_core.specs.declared.boot.Start.{Start}
 use Rattle.call_ticket.specs.Access.{may_enter}
 use Rattle.boot_core.specs.Refusals.{enter_refusal, exit_refusal, read_refusal, list_refusal, put_refusal, reboot_refusal}
 use Rattle.boot_core.specs.Steps.{ticket_entered, ticket_has_read, ticket_has_listed}
@@ -30,16 +33,26 @@ use Rattle.session_steps.specs.Sessions.{SessionsState, session_line}
 use Rattle.scenario_text.specs.Answer.{Answer, Refused, Done, refused_if, or_refused, within}
 use Rattle.line_steps.specs.CallLines.{step_answer, row, row_id, rows_then, enter_step, exit_step, read_step, list_step, put_step, call_line}
 use Rattle.line_steps.specs.Callers.{caller_at, padded, can_begin, new_ticket, caller_line, begin_step, call_step, ended}
-use Rattle.line_steps.specs.Head.{head_line}
+use Rattle.line_steps.specs.Head.{IsOfSite, no_head}
 use Rattle.line_steps.specs.Tables.{table_of}
 use Rattle.line_steps.specs.Texts.{row_answer_text, list_answer_text}
 use Rattle.line_steps.proofs.Stepping.{is_outside}
-use Rattle.scenario_text.proofs.Leaving.{Leaves, leaves-refused_if, leaves-or_refused, leaves-within, leaves-weaker, leaves-nothing}
-use Rattle.scenario_engine.specs.Running.{with_callers, with_sessions, with_boot_entry, commit_ends, with_keeper, boot_refusal, caller_commits, caller_drops, commit_step, drop_step, scope_of, goes_down, reboots, down_step, up_step, reboot_step, table_step, journal_step, boot_line}
+use Rattle.scenario_text.proofs.Leaving.{Leaves, leaves-refused_if, leaves-or_refused, leaves-within, leaves-weaker}
+use Rattle.seat_laws.specs.Fitting.{CommitsAtMost, SeatFits}
+use Rattle.seat_lines.specs.Giving.{sessions_given_back}
+use Rattle.seat_steps.specs.Seats.{SeatGivens, SeatWorld, seat_step}
+use Rattle.seat_steps.specs.declared.seat.Seat.{Seat}
+use Rattle.scenario_text.specs.declared.seat_line.SeatLine.{SeatLine}
+use Rattle.session_steps.specs.Setup.{set_up}
+use Rattle.scenario_engine.specs.Opening.{Opening}
+use Rattle.scenario_engine.specs.Seats.{seat_over}
+use Rattle.scenario_engine.specs.Running.{started, with_callers, with_sessions, with_boot_entry, commit_ends, with_keeper, boot_refusal, caller_commits, caller_drops, commit_step, drop_step, scope_of, goes_down, reboots, down_step, up_step, reboot_step, table_step, journal_step, boot_line}
 use Rattle.scenario_engine.specs.Sound.{CommitsOwnRequests}
 use Rattle.scenario_engine.specs.State.{RunningState}
 use Rattle.scenario_engine.specs.Transcript.{Turn, first, boots_from}
-use Rattle.scenario_engine.proofs.Keeping.{Keeps, kept_boots}
+use Rattle.scenario_engine.proofs.Keeping.{HoldsIn, Keeps, LeavesTo, kept_boots}
+use Rattle.scenario_engine.proofs.OfSite.{OpensOver, of_head, opens_over}
+use Rattle.scenario_engine.proofs.SeatsFit.{IfFits, SeatLaws, SeatsFit, fits_entry, fits_seat}
 
 -- the call of a ticket makes a request of this boot
 abbrev IsOwn : ℕ → TicketValue → Type 0
@@ -55,10 +68,11 @@ OwnEntry boot (Commit e) = e.request.boot ≡ boot
 OwnEntry boot (Down s) = Unit {0}
 OwnEntry boot (Up s) = Unit {0}
 
--- so do the entries of a boot, and its callers
+-- so do the entries of a boot, and its callers; at the site each connection fits the boot
 record IsOwnRun (r : RunningState) : Type 0 where
   entries : All (OwnEntry r.boot.start.boot) r.boot.entries
   callers : All (OwnCaller r.boot.start.boot) r.callers
+  seats : r.site ≡ true → SeatsFit r.boot r.seats.seats
 
 -- one call
 
@@ -143,7 +157,7 @@ own_at boot callers n all = elim (cases_lt n (length callers)) [
 own_callers : (r : RunningState) (a : Answer (List Caller)) → IsOwnRun r → Leaves (All (OwnCaller r.boot.start.boot)) a → Leaves IsOwnRun (within (with_callers r) a)
 own_callers r a run h =
     leaves-within IsOwnRun (with_callers r) a
-    (leaves-weaker (All (OwnCaller r.boot.start.boot)) (λ callers. IsOwnRun (with_callers r callers)) a (λ callers own. record { entries = run.entries; callers = own }) h)
+    (leaves-weaker (All (OwnCaller r.boot.start.boot)) (λ callers. IsOwnRun (with_callers r callers)) a (λ callers own. record { entries = run.entries; callers = own; seats = run.seats }) h)
 
 own_begin : (r : RunningState) (n : ℕ) → IsOwnRun r → Leaves IsOwnRun (within (with_callers r) (begin_step r.boot r.callers n))
 unfolding begin_step
@@ -167,27 +181,31 @@ own_call r n line run =
 
 -- a caller's call ends
 own_ended : (r : RunningState) (n : ℕ) → IsOwnRun r → IsOwnRun (with_callers r (ended r.callers n))
-own_ended r n run = record { entries = run.entries; callers = All-set (OwnCaller r.boot.start.boot) r.callers n Absent tt run.callers }
+own_ended r n run = record { entries = run.entries; callers = All-set (OwnCaller r.boot.start.boot) r.callers n Absent tt run.callers; seats = run.seats }
 
 -- the journal has one entry more
-own_entry : (r : RunningState) (e : Entry) → OwnEntry r.boot.start.boot e → IsOwnRun r → IsOwnRun (with_boot_entry r e)
-own_entry r e own run = record { entries = All-push (OwnEntry r.boot.start.boot) r.boot.entries e run.entries own; callers = run.callers }
+own_entry : (seats : SeatLaws) (r : RunningState) (e : Entry) → OwnEntry r.boot.start.boot e → IsOwnRun r → IsOwnRun (with_boot_entry r e)
+own_entry seats r e own run = record {
+  entries = All-push (OwnEntry r.boot.start.boot) r.boot.entries e run.entries own;
+  callers = run.callers;
+  seats = λ is. fits_entry seats r.boot e r.seats.seats (run.seats is);
+}
 
 -- commits
 
-own_commit_ends : (r : RunningState) (n : ℕ) (ticket : TicketValue) (refusal : Option CommitRefusal) → IsOwn r.boot.start.boot ticket → IsOwnRun r → Leaves IsOwnRun (commit_ends r n ticket refusal)
-own_commit_ends r n ticket None own run =
-    own_entry (with_callers r (ended r.callers n)) (Commit (entry_of ticket.call None)) own (own_ended r n run)
-own_commit_ends r n ticket (Some refusal) own run = record { entries = run.entries; callers = All-set (OwnCaller r.boot.start.boot) r.callers n Absent tt run.callers }
+own_commit_ends : (seats : SeatLaws) (r : RunningState) (n : ℕ) (ticket : TicketValue) (refusal : Option CommitRefusal) → IsOwn r.boot.start.boot ticket → IsOwnRun r → Leaves IsOwnRun (commit_ends r n ticket refusal)
+own_commit_ends seats r n ticket None own run =
+    own_entry seats (with_callers r (ended r.callers n)) (Commit (entry_of ticket.call None)) own (own_ended r n run)
+own_commit_ends seats r n ticket (Some refusal) own run = record { entries = run.entries; callers = All-set (OwnCaller r.boot.start.boot) r.callers n Absent tt run.callers; seats = run.seats }
 
-own_caller_commits : (r : RunningState) (n : ℕ) (keeps : Bool) (caller : Caller) → OwnCaller r.boot.start.boot caller → IsOwnRun r → Leaves IsOwnRun (caller_commits r n keeps caller)
-own_caller_commits r n keeps Absent own run = tt
-own_caller_commits r n keeps (Live ticket) own run =
-    own_commit_ends r n ticket (with_keeper (boot_refusal r ticket) ticket.call.writes keeps) own run
+own_caller_commits : (seats : SeatLaws) (r : RunningState) (n : ℕ) (keeps : Bool) (caller : Caller) → OwnCaller r.boot.start.boot caller → IsOwnRun r → Leaves IsOwnRun (caller_commits r n keeps caller)
+own_caller_commits seats r n keeps Absent own run = tt
+own_caller_commits seats r n keeps (Live ticket) own run =
+    own_commit_ends seats r n ticket (with_keeper (boot_refusal r ticket) ticket.call.writes keeps) own run
 
-own_commit : (r : RunningState) (n : ℕ) (keeps : Bool) → IsOwnRun r → Leaves IsOwnRun (commit_step r n keeps)
+own_commit : (seats : SeatLaws) (r : RunningState) (n : ℕ) (keeps : Bool) → IsOwnRun r → Leaves IsOwnRun (commit_step r n keeps)
 unfolding commit_step
-own_commit r n keeps run = own_caller_commits r n keeps (caller_at r.callers n) (own_at r.boot.start.boot r.callers n run.callers) run
+own_commit seats r n keeps run = own_caller_commits seats r n keeps (caller_at r.callers n) (own_at r.boot.start.boot r.callers n run.callers) run
 
 own_caller_drops : (r : RunningState) (n : ℕ) (caller : Caller) → IsOwnRun r → Leaves IsOwnRun (caller_drops r n caller)
 own_caller_drops r n Absent run = tt
@@ -199,61 +217,99 @@ own_drop r n run = own_caller_drops r n (caller_at r.callers n) run
 
 -- reboots
 
-own_goes_down : (r : RunningState) (s : Scope) (refusal : Option RebootRefusal) → IsOwnRun r → Leaves IsOwnRun (goes_down r s refusal)
-own_goes_down r s None run = own_entry r (Down s) tt run
-own_goes_down r s (Some refusal) run = run
+own_goes_down : (seats : SeatLaws) (r : RunningState) (s : Scope) (refusal : Option RebootRefusal) → IsOwnRun r → Leaves IsOwnRun (goes_down r s refusal)
+own_goes_down seats r s None run = own_entry seats r (Down s) tt run
+own_goes_down seats r s (Some refusal) run = run
 
-own_down : (r : RunningState) (name : List ℕ) → IsOwnRun r → Leaves IsOwnRun (down_step r name)
+own_down : (seats : SeatLaws) (r : RunningState) (name : List ℕ) → IsOwnRun r → Leaves IsOwnRun (down_step r name)
 unfolding down_step
-own_down r name run =
+own_down seats r name run =
     leaves-or_refused IsOwnRun (scope_of r.boot.start.deployment name) _ (λ s known.
-    own_goes_down r s (reboot_refusal r.boot.start.limits r.boot.entries s) run)
+    own_goes_down seats r s (reboot_refusal r.boot.start.limits r.boot.entries s) run)
 
-own_up : (r : RunningState) (name : List ℕ) → IsOwnRun r → Leaves IsOwnRun (up_step r name)
+own_up : (seats : SeatLaws) (r : RunningState) (name : List ℕ) → IsOwnRun r → Leaves IsOwnRun (up_step r name)
 unfolding up_step
-own_up r name run =
+own_up seats r name run =
     leaves-or_refused IsOwnRun (scope_of r.boot.start.deployment name) _ (λ s known.
-    leaves-or_refused IsOwnRun (undone_of r.boot.entries s) _ (λ place found. own_entry r (Up s) tt run))
+    leaves-or_refused IsOwnRun (undone_of r.boot.entries s) _ (λ place found. own_entry seats r (Up s) tt run))
 
-own_reboots : (r : RunningState) (s : Scope) (refusal : Option RebootRefusal) → IsOwnRun r → Leaves IsOwnRun (reboots r s refusal)
-own_reboots r s None run = own_entry (with_boot_entry r (Down s)) (Up s) tt (own_entry r (Down s) tt run)
-own_reboots r s (Some refusal) run = run
+own_reboots : (seats : SeatLaws) (r : RunningState) (s : Scope) (refusal : Option RebootRefusal) → IsOwnRun r → Leaves IsOwnRun (reboots r s refusal)
+own_reboots seats r s None run = own_entry seats (with_boot_entry r (Down s)) (Up s) tt (own_entry seats r (Down s) tt run)
+own_reboots seats r s (Some refusal) run = run
 
-own_reboot : (r : RunningState) (name : List ℕ) → IsOwnRun r → Leaves IsOwnRun (reboot_step r name)
+own_reboot : (seats : SeatLaws) (r : RunningState) (name : List ℕ) → IsOwnRun r → Leaves IsOwnRun (reboot_step r name)
 unfolding reboot_step
-own_reboot r name run =
+own_reboot seats r name run =
     leaves-or_refused IsOwnRun (scope_of r.boot.start.deployment name) _ (λ s known.
-    own_reboots r s (reboot_refusal r.boot.start.limits r.boot.entries s) run)
+    own_reboots seats r s (reboot_refusal r.boot.start.limits r.boot.entries s) run)
 
 own_session : (r : RunningState) (a : Answer SessionsState) → IsOwnRun r → Leaves IsOwnRun (within (with_sessions r) a)
 own_session r Refused run = tt
-own_session r (Done sessions text) run = record { entries = run.entries; callers = run.callers }
+own_session r (Done sessions text) run = record { entries = run.entries; callers = run.callers; seats = run.seats }
 
-own_boot : (r : RunningState) (line : BootLine) → IsOwnRun r → Leaves IsOwnRun (boot_line r line)
+own_boot : (seats : SeatLaws) (r : RunningState) (line : BootLine) → IsOwnRun r → Leaves IsOwnRun (boot_line r line)
 unfolding table_step journal_step
-own_boot r (boots.Begin c) run = own_begin r c run
-own_boot r (boots.Drop c) run = own_drop r c run
-own_boot r (boots.Down name) run = own_down r name run
-own_boot r (boots.Up name) run = own_up r name run
-own_boot r (boots.Reboot name) run = own_reboot r name run
-own_boot r boots.Table run = run
-own_boot r boots.Journal run = run
+own_boot seats r (boots.Begin c) run = own_begin r c run
+own_boot seats r (boots.Drop c) run = own_drop r c run
+own_boot seats r (boots.Down name) run = own_down seats r name run
+own_boot seats r (boots.Up name) run = own_up seats r name run
+own_boot seats r (boots.Reboot name) run = own_reboot seats r name run
+own_boot seats r boots.Table run = run
+own_boot seats r boots.Journal run = run
+
+-- a boot that was just started over these parts has no entry yet, no caller and no connection
+own_started : (sessions : SessionsState) (word : ℕ) (site : Bool) (start : Start) (parts : Parts) → (site ≡ true → parts ≡ site_parts) → start.deployment ≡ parts
+    → IsOwnRun (started sessions (record { seats = []; word = word }) site start)
+own_started sessions word site start parts its over = record {
+  entries = All-nil (OwnEntry start.boot);
+  callers = All-nil (OwnCaller start.boot);
+  seats = λ is. record { of_site = over ∙ its is; fits = All-nil (IfFits (new_boot start)) };
+}
+
+-- what each step of a connection that fits keeps, over these callers
+abbrev OwnWith : List Caller → BootValue → Type 0
+OwnWith callers b = All (OwnEntry b.start.boot) b.entries × All (OwnCaller b.start.boot) callers
+
+own_at_seats : (seats : SeatLaws) (callers : List Caller) (g : SeatGivens) (seat : Seat) (w : SeatWorld) → SeatFits w.boot seat → OwnWith callers w.boot → OwnWith callers (seat_step g seat w).world.boot
+own_at_seats seats callers g seat w fits run = go (seat_step g seat w).world.boot (seats.commits g seat w fits)
+  where
+    go : (now : BootValue) → CommitsAtMost w.boot now → OwnWith callers now
+    go now (inl same) = subst (OwnWith callers) (sym same) run
+    go now (inr commit) =
+        let e : Entry = Commit (entry_of commit.call (Some commit.action)) in
+        subst (OwnWith callers) (sym commit.added) (All-push (OwnEntry w.boot.start.boot) w.boot.entries e run.0 commit.is_own.own, run.1)
+
+own_seats : (seats : SeatLaws) (r : RunningState) (line : SeatLine) (replies : List Bool) → IsOwnRun r → LeavesTo (HoldsIn IsOfSite IsOwnRun) (seat_over r line replies)
+own_seats seats r line replies run =
+    let P : BootValue → Type 0 = OwnWith r.callers in
+    fits_seat seats P (own_at_seats seats r.callers) IsOfSite IsOwnRun r run
+    (λ v h. record { entries = h.0.0; callers = h.0.1; seats = λ is. h.1 }) line replies
+    (λ is. ((run.entries, run.callers), run.seats is))
 
 -- all turns
 
-own_keeps : Keeps (λ head. Unit {0}) IsOwnRun
-own_keeps = record {
-  heads = (λ head line h. leaves-nothing (head_line head line));
-  opens = (λ head replies start h opened. record { entries = All-nil (OwnEntry start.boot); callers = All-nil (OwnCaller start.boot) });
-  reopens = (λ r replies start run opened. record { entries = All-nil (OwnEntry start.boot); callers = All-nil (OwnCaller start.boot) });
-  commits = own_commit;
+own_keeps : SeatLaws → Keeps IsOfSite IsOwnRun
+own_keeps seats = record {
+  heads = of_head;
+  opens = (λ head replies start h opened.
+      let P : Opening → Type 0 = OpensOver head.parts in
+      own_started (set_up head.setup 0) 1 head.site start head.parts h (subst P opened (opens_over head.parts head.limits replies)));
+  reopens = (λ r replies start run opened.
+      let P : Opening → Type 0 = OpensOver r.boot.start.deployment in
+      own_started (sessions_given_back r.seats.seats r.sessions) r.seats.word r.site start r.boot.start.deployment (λ is. (run.seats is).of_site)
+      (subst P opened (opens_over r.boot.start.deployment r.boot.start.limits replies)));
+  commits = own_commit seats;
   calls = (λ r n line short run. own_call r n line run);
-  boots = own_boot;
+  boots = own_boot seats;
   sessions = (λ r line run. own_session r (session_line r.sessions line) run);
+  seats = own_seats seats;
 }
 
 commits_own : (r : RunningState) → IsOwnRun r → CommitsOwnRequests r.boot
 commits_own r run = λ place e there. all_there (OwnEntry r.boot.start.boot) r.boot.entries place (Commit e) run.entries there
 
-pub own_in_all : (turns : List Turn) → All CommitsOwnRequests (boots_from first turns)
-own_in_all turns = kept_boots (λ head. Unit {0}) IsOwnRun CommitsOwnRequests own_keeps commits_own first turns tt
+first_of_site : IsOfSite no_head
+first_of_site = λ is. absurd (cc)
+
+pub own_in_all : (seats : SeatLaws) (turns : List Turn) → All CommitsOwnRequests (boots_from first turns)
+own_in_all seats turns = kept_boots IsOfSite IsOwnRun CommitsOwnRequests (own_keeps seats) commits_own first turns first_of_site

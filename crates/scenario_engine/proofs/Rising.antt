@@ -21,13 +21,21 @@ use Rattle.scenario_text.specs.declared.line.TheConstants.{MAX_LINE_BYTES}
 use Rattle.scenario_text.proofs.Leaving.{Leaves, leaves-weaker}
 use Rattle.outside.specs.Keeper.{KeeperTold}
 use Rattle.session_steps.specs.Promise.{SessionTurn, Does, Boots, Lends, BootsRise}
+use Rattle.session_steps.specs.Lent.{LentStep}
 use Rattle.session_steps.specs.Sessions.{session_line}
 use Rattle.session_steps.specs.Setup.{set_up}
-use Rattle.scenario_engine.specs.Engine.{Replies, target_of, opened_target, in_head, in_boot, next_opening, reopens, line_over, line_on, step, ended_by, ends_over, ends_on, ended_boots}
+use Rattle.scenario_engine.specs.Engine.{Replies, first_keeps, target_of, opened_target, in_head, next_opening, reopens, line_over, line_on, step, ended_by, ends_over, ends_on, ended_boots}
+use Rattle.scenario_engine.specs.Seats.{in_boot, seat_over}
+use Rattle.scenario_text.specs.declared.seat_line.SeatLine.{SeatLine}
+use Rattle.scenario_text.specs.declared.seat_line.SeatLine.TheVariants as seats
+use Rattle.scenario_engine.specs.Lending.{give_lends, line_lends}
+use Rattle.seat_lines.specs.Site.{no_seats}
+use Rattle.scenario_engine.proofs.Keeping.{LeavesTo}
+use Rattle.scenario_engine.proofs.SeatRows.{BootIn, kept_seat, start_changed}
 use Rattle.scenario_engine.specs.Opening.{Opening, Opened, UnstartedBoot, opening}
-use Rattle.scenario_engine.specs.Running.{started, commit_ends, with_keeper, boot_refusal, caller_commits, with_callers, with_sessions, commit_step, boot_line}
-use Rattle.scenario_engine.specs.Sessions.{turns_by, first_start, starts_by, starts_on, turns_to, turn_on_sessions, session_turns}
-use Rattle.scenario_engine.specs.State.{RunningState, State, Heading, Running, Outcome, RefusedIn, DoneTo, UnstartedIn}
+use Rattle.scenario_engine.specs.Running.{started, reopened_over, commit_ends, with_keeper, boot_refusal, caller_commits, with_callers, with_sessions, commit_step, boot_line}
+use Rattle.scenario_engine.specs.Sessions.{lent_if_any, lent_in, seat_turns, start_turns, turns_over, turns_by, first_start, starts_by, starts_on, turns_to, turn_on_sessions, session_turns}
+use Rattle.scenario_engine.specs.State.{RunningState, State, Heading, Running, Outcome, RefusedIn, DoneTo, UnstartedIn, UnderWayIn, site_of}
 use Rattle.scenario_engine.specs.Told.{IsOver, Follows, AreChained, Tells}
 use Rattle.scenario_engine.specs.Transcript.{Turn, first, answer_to, turn_outcome, ends_to, turn_ends, boots_in, boots_from}
 use Rattle.scenario_engine.proofs.Telling.{HasSameRows, rows_called, rows_boot, rows_session}
@@ -79,35 +87,72 @@ abbrev Counts : State → List BootValue → List SessionTurn → (State → Lis
 Counts s ends starts turns (RefusedIn t) = numbers_of ends ++ numbers_of (boots_in t) ≡ numbers_of (boots_in s) ++ started_in starts
 Counts s ends starts turns (DoneTo t text) = numbers_of ends ++ numbers_of (boots_in t) ≡ numbers_of (boots_in s) ++ started_in (turns t text)
 Counts s ends starts turns (UnstartedIn t refusal) = numbers_of ends ++ numbers_of (boots_in t) ≡ numbers_of (boots_in s) ++ started_in starts
+Counts s ends starts turns (UnderWayIn t) = numbers_of ends ++ numbers_of (boots_in t) ≡ numbers_of (boots_in s) ++ started_in (turns t [])
 
-counts_same : (r : RunningState) (line : Line) (a : Answer RunningState) → ((t : State) (text : List ℕ) → started_in (turns_by line t text) ≡ []) → Leaves (HasSameStart r) a → Counts (Running r) [] [] (turns_by line) (in_boot r a)
-counts_same r line Refused none same = refl
-counts_same r line (Done q text) none same =
+counts_same : (r : RunningState) (line : Line) (replies : Replies) (a : Answer RunningState) → ((t : State) (text : List ℕ) → started_in (turns_over r line replies t text) ≡ []) → Leaves (HasSameStart r) a → Counts (Running r) [] [] (turns_over r line replies) (in_boot r a)
+counts_same r line replies Refused none same = refl
+counts_same r line replies (Done q text) none same =
     ap (λ (s : Start). s.boot ∷ []) same ∙ ap (λ ns. r.boot.start.boot ∷ ns) (sym (none (Running q) text))
 
-counts_reopen : (r : RunningState) (how : Opening) → Counts (Running r) (ended_by r how) [] (turns_by lines.Reopen) (reopens r how)
-counts_reopen r (Opened start) = refl
-counts_reopen r (UnstartedBoot refusal) = refl
+-- what connections do starts no boot
 
-counts_over : (r : RunningState) (line : Line) (replies : Replies) → Counts (Running r) (ends_over r line replies) [] (turns_by line) (line_over r line replies)
+started_if_any : (steps : List LentStep) (serial : ℕ) (more : List SessionTurn) → started_in (lent_if_any steps serial ++ more) ≡ started_in more
+started_if_any [] serial more = refl
+started_if_any (step ∷ steps) serial more = refl
+
+started_lent : (steps : List LentStep) (t : State) → started_in (lent_in steps t) ≡ []
+started_lent steps (Heading head) = refl
+started_lent steps (Running r) = refl
+
+started_seat : (r : RunningState) (line : SeatLine) (replies : List Bool) (t : State) → started_in (seat_turns r line replies t) ≡ []
+started_seat r (seats.Conn n) replies t = refl
+started_seat r (seats.Bytes n bytes) replies t = refl
+started_seat r (seats.End n) replies t = refl
+started_seat r (seats.Step n) replies t = started_lent (line_lends (site_of r) (seats.Step n) replies) t
+started_seat r (seats.Run n) replies t = started_lent (line_lends (site_of r) (seats.Run n) replies) t
+
+-- a line about connections leaves a boot of the same start
+
+abbrev HasStart : RunningState → BootValue → Type 0
+HasStart r b = b.start ≡ r.boot.start
+
+one_boot : (r : RunningState) (t : State) → BootIn (HasStart r) t → numbers_of (boots_in t) ≡ r.boot.start.boot ∷ []
+one_boot r (Heading head) so = absurd so
+one_boot r (Running q) so = ap (λ (s : Start). s.boot ∷ []) so
+
+counts_seat : (r : RunningState) (line : SeatLine) (replies : Replies) (o : Outcome) → LeavesTo (BootIn (HasStart r)) o → Counts (Running r) [] [] (turns_over r (lines.Seat line) replies) o
+counts_seat r line replies (RefusedIn t) leaves = one_boot r t leaves
+counts_seat r line replies (DoneTo t text) leaves = one_boot r t leaves ∙ ap (λ ns. r.boot.start.boot ∷ ns) (sym (started_seat r line replies.keeps t))
+counts_seat r line replies (UnstartedIn t refusal) leaves = one_boot r t leaves
+counts_seat r line replies (UnderWayIn t) leaves = one_boot r t leaves ∙ ap (λ ns. r.boot.start.boot ∷ ns) (sym (started_seat r line replies.keeps t))
+
+counts_reopen : (r : RunningState) (replies : Replies) (how : Opening) → Counts (Running r) (ended_by r how) [] (turns_over r lines.Reopen replies) (reopens r how)
+counts_reopen r replies (Opened start) =
+    let t : State = Running (reopened_over r start) in
+    ap (λ ns. r.boot.start.boot ∷ ns) (sym (started_if_any (give_lends r.seats.seats) r.sessions.serial (start_turns t)))
+counts_reopen r replies (UnstartedBoot refusal) = refl
+
+counts_over : (r : RunningState) (line : Line) (replies : Replies) → Counts (Running r) (ends_over r line replies) [] (turns_over r line replies) (line_over r line replies)
 counts_over r lines.Pass replies = refl
 counts_over r (lines.Head line) replies = refl
 counts_over r (lines.Call c line) replies =
     let a : Answer RunningState = within (with_callers r) (call_step r.boot r.callers c line) in
-    counts_same r (lines.Call c line) a (λ t text. refl) (start_kept r a (rows_called r (call_step r.boot r.callers c line)))
-counts_over r (lines.Commit c) replies = counts_same r (lines.Commit c) (commit_step r c replies.keeps) (λ t text. refl) (start_commit r c replies.keeps)
+    counts_same r (lines.Call c line) replies a (λ t text. refl) (start_kept r a (rows_called r (call_step r.boot r.callers c line)))
+counts_over r (lines.Commit c) replies = counts_same r (lines.Commit c) replies (commit_step r c (first_keeps replies.keeps)) (λ t text. refl) (start_commit r c (first_keeps replies.keeps))
 counts_over r (lines.Boot line) replies =
-    counts_same r (lines.Boot line) (boot_line r line) (λ t text. refl) (start_kept r (boot_line r line) (rows_boot r line))
-counts_over r lines.Reopen replies = counts_reopen r (next_opening r replies.again)
+    counts_same r (lines.Boot line) replies (boot_line r line) (λ t text. refl) (start_kept r (boot_line r line) (rows_boot r line))
+counts_over r lines.Reopen replies = counts_reopen r replies (next_opening r replies.again)
 counts_over r (lines.Session line) replies =
     let a : Answer RunningState = within (with_sessions r) (session_line r.sessions line) in
-    counts_same r (lines.Session line) a (λ t text. refl) (start_kept r a (rows_session r (session_line r.sessions line)))
+    counts_same r (lines.Session line) replies a (λ t text. refl) (start_kept r a (rows_session r (session_line r.sessions line)))
+counts_over r (lines.Seat line) replies =
+    counts_seat r line replies (seat_over r line replies.keeps) (kept_seat (HasStart r) (λ old new writes keeps change is. start_changed r.boot old new writes keeps change is) r line replies.keeps refl)
 
-counts_in_head : (head : Head) (line : Line) → Counts (Heading head) [] [] (turns_by line) (in_head head (head_line head line))
+counts_in_head : (head : Head) (line : Line) → Counts (Heading head) [] [] (λ t text. []) (in_head head (head_line head line))
 counts_in_head head lines.Pass = refl
 counts_in_head head (lines.Head line) = go (head_step head line)
   where
-    go : (a : Answer Head) → Counts (Heading head) [] [] (turns_by (lines.Head line)) (in_head head a)
+    go : (a : Answer Head) → Counts (Heading head) [] [] (λ t text. []) (in_head head a)
     go Refused = refl
     go (Done next text) = refl
 counts_in_head head (lines.Call c line) = refl
@@ -115,28 +160,30 @@ counts_in_head head (lines.Commit c) = refl
 counts_in_head head (lines.Boot line) = refl
 counts_in_head head lines.Reopen = refl
 counts_in_head head (lines.Session line) = refl
+counts_in_head head (lines.Seat line) = refl
 
 -- a line that starts the first boot before it is done
-counts_first : (head : Head) (start : Start) (line : Line) (ends : List BootValue) (o : Outcome) → Counts (Running (started (set_up head.setup 0) start)) ends [] (turns_by line) o
-    → Counts (Heading head) ends (Boots start.boot ∷ []) (λ t text. Boots start.boot ∷ turns_by line t text) o
-counts_first head start line ends (RefusedIn t) counts = counts
-counts_first head start line ends (DoneTo t text) counts = counts
-counts_first head start line ends (UnstartedIn t refusal) counts = counts
+counts_first : (head : Head) (start : Start) (turns : State → List ℕ → List SessionTurn) (ends : List BootValue) (o : Outcome) → Counts (Running (started (set_up head.setup 0) no_seats head.site start)) ends [] turns o
+    → Counts (Heading head) ends (Boots start.boot ∷ []) (λ t text. Boots start.boot ∷ turns t text) o
+counts_first head start turns ends (RefusedIn t) counts = counts
+counts_first head start turns ends (DoneTo t text) counts = counts
+counts_first head start turns ends (UnstartedIn t refusal) counts = counts
+counts_first head start turns ends (UnderWayIn t) counts = counts
 
 counts_opened : (head : Head) (how : Opening) (line : Line) (replies : Replies)
-    → Counts (Heading head) (ends_on (opened_target head how) line replies) (first_start (Heading head) (opened_target head how)) (λ t text. first_start (Heading head) (opened_target head how) ++ turns_by line t text) (line_on (opened_target head how) line replies)
+    → Counts (Heading head) (ends_on (opened_target head how) line replies) (first_start (Heading head) (opened_target head how)) (λ t text. first_start (Heading head) (opened_target head how) ++ turns_by (opened_target head how) line replies t text) (line_on (opened_target head how) line replies)
 counts_opened head (Opened start) line replies =
-    let r : RunningState = started (set_up head.setup 0) start in
-    counts_first head start line (ends_over r line replies) (line_over r line replies) (counts_over r line replies)
+    let r : RunningState = started (set_up head.setup 0) no_seats head.site start in
+    counts_first head start (turns_over r line replies) (ends_over r line replies) (line_over r line replies) (counts_over r line replies)
 counts_opened head (UnstartedBoot refusal) line replies = refl
 
 counts_step : (s : State) (line : Line) (replies : Replies)
-    → Counts s (ended_boots s line replies) (first_start s (target_of s (is_event line) replies.first)) (λ t text. first_start s (target_of s (is_event line) replies.first) ++ turns_by line t text) (step s line replies)
+    → Counts s (ended_boots s line replies) (first_start s (target_of s (is_event line) replies.first)) (λ t text. first_start s (target_of s (is_event line) replies.first) ++ turns_by (target_of s (is_event line) replies.first) line replies t text) (step s line replies)
 unfolding step ended_boots
 counts_step (Running r) line replies = counts_over r line replies
 counts_step (Heading head) line replies = go (is_event line)
   where
-    go : (event : Bool) → Counts (Heading head) (ends_on (target_of (Heading head) event replies.first) line replies) (first_start (Heading head) (target_of (Heading head) event replies.first)) (λ t text. first_start (Heading head) (target_of (Heading head) event replies.first) ++ turns_by line t text) (line_on (target_of (Heading head) event replies.first) line replies)
+    go : (event : Bool) → Counts (Heading head) (ends_on (target_of (Heading head) event replies.first) line replies) (first_start (Heading head) (target_of (Heading head) event replies.first)) (λ t text. first_start (Heading head) (target_of (Heading head) event replies.first) ++ turns_by (target_of (Heading head) event replies.first) line replies t text) (line_on (target_of (Heading head) event replies.first) line replies)
     go false = counts_in_head head line
     go true = counts_opened head (opening head.parts head.limits replies.first) line replies
 
@@ -171,15 +218,18 @@ counts_all s (turn ∷ turns) =
           | RefusedIn t ↦ boots_in t
           | DoneTo t text ↦ boots_from t turns
           | UnstartedIn t refusal ↦ boots_in t
+          | UnderWayIn t ↦ boots_in t
         ]))) ≡ numbers_of (boots_in s) ++ started_in (if long then [] else (elim o [
           | RefusedIn t ↦ starts_on s turn
           | DoneTo t text ↦ turn_on_sessions s turn t text ++ session_turns t turns
           | UnstartedIn t refusal ↦ starts_on s turn
+          | UnderWayIn t ↦ turn_on_sessions s turn t []
         ]))
     go true o here later = sym (append-nil (numbers_of (boots_in s)))
     go false (RefusedIn t) here later = numbers-append (turn_ends s turn) (boots_in t) ∙ here
     go false (DoneTo t text) here later = counts_more s t (turn_ends s turn) (boots_from t turns) (turn_on_sessions s turn t text) (session_turns t turns) here (later t)
     go false (UnstartedIn t refusal) here later = numbers-append (turn_ends s turn) (boots_in t) ∙ here
+    go false (UnderWayIn t) here later = numbers-append (turn_ends s turn) (boots_in t) ∙ here
 
 -- each number is greater than the one before
 abbrev pub Rise : ℕ → List ℕ → Type 0

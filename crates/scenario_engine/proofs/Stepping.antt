@@ -1,5 +1,5 @@
 -- What parts of a line show of the whole line.
-use Rattle.std.proofs.Common.{◌≡◌, ℕ, Bool, true, false, List, [], Option, Some, None, Result, Ok, Err, IfOk, MatchResult, refl, sym, ap, ◌∙◌, subst, string_bytes}
+use Rattle.std.proofs.Common.{◌≡◌, ℕ, Bool, true, false, inl, inr, List, [], ◌∷◌, Option, Some, None, Result, Ok, Err, IfOk, MatchResult, refl, sym, ap, ◌∙◌, subst, string_bytes}
 use Rattle.crash_base.specs.declared.memory.OutOfMemory.{OutOfMemory}
 use Rattle.boot_core.specs.declared.boot.Start.{Start}
 use Rattle.scenario_text.specs.Answer.{Answer, KeepsRefused, answer_of}
@@ -14,14 +14,17 @@ use Rattle.scenario_text.specs.declared.line.Line.TheVariants as lines
 use Rattle.scenario_text.specs.Line.{is_event}
 use Rattle.scenario_engine.specs.declared.failure.LineFailure.{LineFailure}
 use Rattle.scenario_engine.specs.declared.failure.LineFailure.TheVariants as failures
-use Rattle.scenario_engine.specs.Engine.{Replies, Target, TheHead, TheBoot, TheUnstarted, target_in, is_heading, opened_target, target_of, target_calls, in_head, in_boot, reopens, line_over, line_on, calls_over, calls_on, step, line_calls}
+use Rattle.scenario_engine.specs.Engine.{Replies, Target, TheHead, TheBoot, TheUnstarted, target_in, is_heading, opened_target, target_of, target_calls, in_head, reopens, line_over, line_on, calls_over, calls_on, step, line_calls, next_calls}
+use Rattle.scenario_engine.specs.Seats.{in_boot}
+use Rattle.scenario_text.specs.declared.seat_line.SeatLine.{SeatLine}
+use Rattle.seat_lines.specs.Site.{no_seats}
 use Rattle.scenario_engine.specs.KeeperCalls.{KeeperSeen, AreMade, AreSomeMade}
 use Rattle.scenario_engine.specs.Opening.{StartReplies, Opened, start_calls}
 use Rattle.session_steps.specs.Setup.{set_up}
-use Rattle.scenario_engine.specs.Running.{started}
+use Rattle.scenario_engine.specs.Running.{started, reopened_over}
 use Rattle.scenario_engine.specs.Transcript.{calls_to}
 use Rattle.scenario_engine.specs.State.{RunningState, RunningValue, EngineValue, State, Heading, Running, Outcome, RefusedIn, DoneTo, UnstartedIn}
-use Rattle.scenario_engine.specs.Telling.{Opens, FailsToOpen, Commits, CommitsPartly, Reaches, FailsToReach, DoesOn, DoesPartlyOn, AnswersOn, EndsOn, Does, DoesPartly, Answers, Ends}
+use Rattle.scenario_engine.specs.Telling.{Opens, FailsToOpen, Commits, CommitsPartly, AnswersSeat, BreaksSeat, EndsSeat, Reaches, FailsToReach, DoesOn, DoesPartlyOn, BreaksOffOn, AnswersOn, EndsOn, Does, DoesPartly, BreaksOff, Answers, Ends}
 use Rattle.scenario_engine.proofs.Calls.{none_made, none_of, all_made, then_made, then_some, some_first}
 
 -- replies that nobody asks for
@@ -29,7 +32,7 @@ abbrev no_start : StartReplies
 no_start = record { rows = None; keeps = true }
 
 abbrev no_replies : Replies
-no_replies = record { first = no_start; again = no_start; keeps = false }
+no_replies = record { first = no_start; again = no_start; keeps = [] }
 
 -- a state that has a boot, or whose line is no event line, needs no start
 pub reached : (s : State) (k : KeeperSeen) → Reaches s false (target_in s) k k
@@ -39,7 +42,7 @@ reached (Running r) k = record { replies = no_start; is = refl; made = none_made
 pub reached_running : (r : RunningState) (k : KeeperSeen) → Reaches (Running r) true (TheBoot r) k k
 reached_running r k = record { replies = no_start; is = refl; made = none_made k }
 
-pub reached_opened : (head : Head) (start : Start) (old new : KeeperSeen) → Opens head.parts head.limits (Opened start) old new → Reaches (Heading head) true (TheBoot (started (set_up head.setup 0) start)) old new
+pub reached_opened : (head : Head) (start : Start) (old new : KeeperSeen) → Opens head.parts head.limits (Opened start) old new → Reaches (Heading head) true (TheBoot (started (set_up head.setup 0) no_seats head.site start)) old new
 reached_opened head start old new h = record {
   replies = h.replies;
   is = ap (λ o. opened_target head o) h.opens;
@@ -83,24 +86,24 @@ head_refused r line k = record { replies = no_replies; answers = refl; made = no
 
 -- replies to a commit
 abbrev to_commit : Bool → Replies
-to_commit keeps = record { first = no_start; again = no_start; keeps = keeps }
+to_commit keeps = record { first = no_start; again = no_start; keeps = keeps ∷ [] }
 
 pub committed : (a : LineAnswer) (r next : RunningState) (caller : ℕ) (old new : KeeperSeen) → Commits r caller (answer_of a next) old new → KeepsRefused a r next → AnswersOn a (Running next) (TheBoot r) (lines.Commit caller) old new
 committed a r next caller old new h kept = over_boot a (lines.Commit caller) r next (to_commit h.keeps) _ old new refl h.made h.answers kept
 
 pub commit_partly : (r : RunningState) (caller : ℕ) (old new : KeeperSeen) → CommitsPartly r caller old new → DoesPartlyOn (TheBoot r) (lines.Commit caller) old new
-commit_partly r caller old new h = record { replies = to_commit false; unkept = refl; made = h }
+commit_partly r caller old new h = record { replies = no_replies; unkept = refl; made = h }
 
 -- replies to a `reopen`
 abbrev to_reopen : StartReplies → Replies
-to_reopen again = record { first = no_start; again = again; keeps = false }
+to_reopen again = record { first = no_start; again = again; keeps = [] }
 
-pub reopened : (r next : RunningState) (start : Start) (text : List ℕ) (old new : KeeperSeen) → next ≡ started r.sessions start → Opens r.boot.start.deployment r.boot.start.limits (Opened start) old new → text ≡ boot_text next.boot.start.boot → DoesOn (TheBoot r) lines.Reopen (DoneTo (Running next) text) old new
+pub reopened : (r next : RunningState) (start : Start) (text : List ℕ) (old new : KeeperSeen) → next ≡ reopened_over r start → Opens r.boot.start.deployment r.boot.start.limits (Opened start) old new → text ≡ boot_text next.boot.start.boot → DoesOn (TheBoot r) lines.Reopen (DoneTo (Running next) text) old new
 reopened r next start text old new is h wrote =
     let P : RunningState → Type 0 = λ n. text ≡ boot_text n.boot.start.boot → DoesOn (TheBoot r) lines.Reopen (DoneTo (Running n) text) old new in
     subst P (sym is) (λ w. record {
       replies = to_reopen h.replies;
-      answers = ap (DoneTo (Running (started r.sessions start))) w ∙ ap (reopens r) h.opens;
+      answers = ap (DoneTo (Running (reopened_over r start))) w ∙ ap (reopens r) h.opens;
       made = h.made;
     }) wrote
 
@@ -112,7 +115,7 @@ pub reopen_ends : (r : RunningState) (failure : LineFailure) (old new : KeeperSe
 reopen_ends r (failures.Unstarted cause) old new h =
     (Running r, record { replies = to_reopen h.replies; answers = ap (reopens r) h.opens; made = h.made })
 reopen_ends r failures.OutOfMemory old new h =
-    record { replies = to_reopen h.replies; unkept = refl; made = h.made }
+    inl (record { replies = to_reopen h.replies; unkept = refl; made = h.made })
 
 -- the replies to a line, by those to its start and those to the rest
 abbrev both : StartReplies → Replies → Replies
@@ -131,6 +134,7 @@ same_line (TheBoot r) line first rest = go line
     go (lines.Boot line) = refl
     go lines.Reopen = refl
     go (lines.Session line) = refl
+    go (lines.Seat line) = refl
 
 same_calls : (target : Target) (line : Line) (first : StartReplies) (rest : Replies) → calls_on target line rest ≡ calls_on target line (both first rest)
 same_calls (TheHead head) line first rest = refl
@@ -145,6 +149,7 @@ same_calls (TheBoot r) line first rest = go line
     go (lines.Boot line) = refl
     go lines.Reopen = refl
     go (lines.Session line) = refl
+    go (lines.Seat line) = refl
 
 -- a line, by what it is done to
 does : (s : State) (line : Line) (target : Target) (outcome : Outcome) (old between new : KeeperSeen) → Reaches s (is_event line) target old between → DoesOn target line outcome between new → Does s (Some line) outcome old new
@@ -171,6 +176,22 @@ does_partly s line target old between new reach h =
       made = then_some first _ old between new reach.made (subst (λ cs. AreSomeMade cs between new) calls h.made);
     }
 
+does_break : (s : State) (line : Line) (target : Target) (old between new : KeeperSeen) → Reaches s (is_event line) target old between → BreaksOffOn target line between new → BreaksOff s (Some line) old new
+unfolding step line_calls
+does_break s line target old between new reach h =
+    let replies : Replies = both reach.replies h.replies in
+    let first = target_calls s (is_event line) reach.replies in
+    let calls : calls_on target line h.replies ≡ calls_on (target_of s (is_event line) reach.replies) line replies = same_calls target line reach.replies h.replies ∙ ap (λ t. calls_on t line replies) reach.is in
+    record {
+      replies = replies;
+      mid = h.mid;
+      comes = sym (same_line target line reach.replies h.replies ∙ ap (λ t. line_on t line replies) reach.is) ∙ h.comes;
+      between = h.between;
+      whole = then_made first _ old between h.between reach.made (subst (λ cs. AreMade cs between h.between) calls h.whole);
+      next = h.next;
+      last = h.last;
+    }
+
 pub does_line : (a : LineAnswer) (s after : State) (line : Line) (target : Target) (old between new : KeeperSeen) → Reaches s (is_event line) target old between → AnswersOn a after target line between new → Answers a after s (Some line) old new
 does_line answers.Refused s after line target old between new reach h = does s line target (RefusedIn after) old between new reach h
 does_line answers.Done s after line target old between new reach h = does s line target (DoneTo after []) old between new reach h
@@ -178,7 +199,8 @@ does_line (answers.Wrote text) s after line target old between new reach h = doe
 
 pub ends_line : (failure : LineFailure) (s : State) (line : Line) (target : Target) (old between new : KeeperSeen) → Reaches s (is_event line) target old between → EndsOn failure target line between new → Ends failure s (Some line) old new
 ends_line (failures.Unstarted cause) s line target old between new reach (state, h) = (state, does s line target (UnstartedIn state cause) old between new reach h)
-ends_line failures.OutOfMemory s line target old between new reach h = does_partly s line target old between new reach h
+ends_line failures.OutOfMemory s line target old between new reach (inl h) = inl (does_partly s line target old between new reach h)
+ends_line failures.OutOfMemory s line target old between new reach (inr h) = inr (does_break s line target old between new reach h)
 
 -- a line that has nothing to be done to
 pub ends_before : (failure : LineFailure) (s : State) (line : Line) (old new : KeeperSeen) → FailsToReach failure s (is_event line) old new → Ends failure s (Some line) old new
@@ -187,7 +209,7 @@ ends_before (failures.Unstarted cause) s line old new (head, h) =
     (Heading head, does s line (TheUnstarted head cause) (UnstartedIn (Heading head) cause) old new new h (record { replies = no_replies; answers = refl; made = none_made new }))
 ends_before failures.OutOfMemory s line old new h =
     let replies : Replies = both h.replies no_replies in
-    record { replies = replies; unkept = refl; made = some_first (target_calls s (is_event line) h.replies) _ old new h.made }
+    inl (record { replies = replies; unkept = refl; made = some_first (target_calls s (is_event line) h.replies) _ old new h.made })
 
 -- a head over a keeper, and a boot with its keeper
 
@@ -214,7 +236,7 @@ line_done (Err failure) v w after line reach h = ends_line failure v.state line 
 
 -- a boot that was started, or not
 
-pub started_so : (v : EngineValue) (head : Head) (k : KeeperSeen) (r : RunningValue) (start : Start) → heading head k ≡ v → r.running ≡ started (set_up head.setup 0) start → Opens head.parts head.limits (Opened start) k r.keeper → Reaches v.state true (TheBoot r.running) v.keeper r.keeper
+pub started_so : (v : EngineValue) (head : Head) (k : KeeperSeen) (r : RunningValue) (start : Start) → heading head k ≡ v → r.running ≡ started (set_up head.setup 0) no_seats head.site start → Opens head.parts head.limits (Opened start) k r.keeper → Reaches v.state true (TheBoot r.running) v.keeper r.keeper
 started_so v head k r start is so opens =
     let P : EngineValue → Type 0 = λ v. Reaches v.state true (TheBoot r.running) v.keeper r.keeper in
     let Q : RunningState → Type 0 = λ s. Reaches (Heading head) true (TheBoot s) k r.keeper in
@@ -231,8 +253,8 @@ started_already v r is =
     subst P is (reached_running r.running r.keeper)
 
 -- a text for which memory ran out before it was read
-pub unread : (s : State) (line : Option Line) (k : KeeperSeen) → DoesPartly s line k k
-unread s line k = record { replies = no_replies; unkept = refl; made = none_of (calls_to s line no_replies) k }
+pub unread : (s : State) (line : Option Line) (k : KeeperSeen) → Ends failures.OutOfMemory s line k k
+unread s line k = inl (record { replies = no_replies; unkept = refl; made = none_of (calls_to s line no_replies) k })
 
 -- a line for which memory ran out before the keeper was called
 pub uncalled : (target : Target) (line : Line) (k : KeeperSeen) → DoesPartlyOn target line k k
@@ -248,7 +270,48 @@ PartEnded part after v line = MatchResult part (λ a. AnswersOn a after.state (t
 
 pub part_ended : (part : Result LineAnswer OutOfMemory) (result : Result LineAnswer LineFailure) (after v : EngineValue) (line : Line) → MatchResult part (λ a. result ≡ Ok a) (λ none. result ≡ Err failures.OutOfMemory) → PartEnded part after v line → LineEnded result after v line
 part_ended (Ok a) result after v line is h = subst (λ r. LineEnded r after v line) (sym is) h
-part_ended (Err e) result after v line is h = subst (λ r. LineEnded r after v line) (sym is) h
+part_ended (Err e) result after v line is h = subst (λ r. LineEnded r after v line) (sym is) (inl h)
+
+-- how a line about connections ended
+abbrev pub SeatEnded : Result LineAnswer OutOfMemory → RunningValue → RunningValue → SeatLine → Type 0
+SeatEnded part next r line = MatchResult part (λ a. AnswersSeat r.running line (answer_of a next.running) r.keeper next.keeper) (λ none. EndsSeat r.running line r.keeper next.keeper)
+
+-- replies to the steps of a connection
+abbrev to_seat : List Bool → Replies
+to_seat keeps = record { first = no_start; again = no_start; keeps = keeps }
+
+seat_done : (a : LineAnswer) (line : SeatLine) (r next : RunningState) (old new : KeeperSeen) → AnswersSeat r line (answer_of a next) old new → KeepsRefused a r next → AnswersOn a (Running next) (TheBoot r) (lines.Seat line) old new
+seat_done answers.Refused line r next old new h kept = record { replies = to_seat h.keeps; answers = ap (λ s. RefusedIn (Running s)) kept ∙ h.answers; made = h.made }
+seat_done answers.Done line r next old new h kept = record { replies = to_seat h.keeps; answers = h.answers; made = h.made }
+seat_done (answers.Wrote text) line r next old new h kept = record { replies = to_seat h.keeps; answers = h.answers; made = h.made }
+
+-- memory ran out and nothing was handed to the keeper
+nothing_made : (target : Target) (line : Line) (old new : KeeperSeen) → AreMade [] old new → DoesPartlyOn target line old new
+nothing_made target line old new h = record {
+  replies = no_replies;
+  unkept = refl;
+  made = record {
+    made = [];
+    more = calls_on target line no_replies;
+    begins = refl;
+    between = new.told;
+    told = h.told;
+    last = inl refl;
+    counted = h.counted;
+  };
+}
+
+broken_seat : (line : SeatLine) (r : RunningState) (old new : KeeperSeen) → BreaksSeat r line old new → BreaksOffOn (TheBoot r) (lines.Seat line) old new
+unfolding next_calls
+broken_seat line r old new h = record { replies = to_seat h.keeps; mid = Running h.mid; comes = h.comes; between = h.between; whole = h.whole; next = h.next; last = h.last }
+
+seat_broken : (line : SeatLine) (r : RunningState) (old new : KeeperSeen) → EndsSeat r line old new → EndsOn failures.OutOfMemory (TheBoot r) (lines.Seat line) old new
+seat_broken line r old new (inl none) = inl (nothing_made (TheBoot r) (lines.Seat line) old new none)
+seat_broken line r old new (inr h) = inr (broken_seat line r old new h)
+
+pub seat_ended : (part : Result LineAnswer OutOfMemory) (result : Result LineAnswer LineFailure) (next r : RunningValue) (line : SeatLine) → MatchResult part (λ a. result ≡ Ok a) (λ none. result ≡ Err failures.OutOfMemory) → SeatEnded part next r line → IfOk part (λ a. KeepsRefused a r.running next.running) → LineEnded result (in_run next) (in_run r) (lines.Seat line)
+seat_ended (Ok a) result next r line is h kept = subst (λ o. LineEnded o (in_run next) (in_run r) (lines.Seat line)) (sym is) (seat_done a line r.running next.running r.keeper next.keeper h kept)
+seat_ended (Err e) result next r line is h kept = subst (λ o. LineEnded o (in_run next) (in_run r) (lines.Seat line)) (sym is) (seat_broken line r.running r.keeper next.keeper h)
 
 pub head_ended : (part : Result LineAnswer OutOfMemory) (line : Line) (head next : Head) (k : KeeperSeen) → IfOk part (λ a. answer_of a next ≡ head_line head line) → IfOk part (λ a. KeepsRefused a head next) → PartEnded part (heading next k) (heading head k) line
 head_ended (Ok a) line head next k is kept = in_the_head a line head next k is kept

@@ -1,5 +1,5 @@
 -- What turns leave of a keeper that tells.
-use Rattle.std.proofs.Common.{◌≡◌, ℕ, ◌+◌, ◌<◌, arith, Bool, true, false, if◌then◌else◌, inl, inr, List, [], ◌∷◌, ◌++◌, length, Option, Some, None, refl, sym, ap, ◌∙◌, subst}
+use Rattle.std.proofs.Common.{◌≡◌, ℕ, ◌+◌, ◌<◌, arith, Bool, true, false, if◌then◌else◌, List, [], ◌∷◌, ◌++◌, length, Option, Some, None, refl, sym, ap, ◌∙◌, subst}
 use Rattle.std.specs.Prelude.{nat_le, nat_lt, IfSome, All}
 use Rattle.std.proofs.lemmas.Bool.Decides.{nat_tests}
 use Rattle.crash_base.specs.declared.row_id.RowId.{RowId}
@@ -40,59 +40,18 @@ use Rattle.session_steps.specs.Sessions.{SessionsState, session_line}
 use Rattle.line_steps.specs.Callers.{caller_at, begin_step, call_step}
 use Rattle.line_steps.specs.Head.{head_line}
 use Rattle.scenario_text.proofs.Leaving.{Leaves, leaves-or_refused, leaves-within, leaves-weaker, leaves-nothing}
-use Rattle.scenario_engine.specs.Engine.{Replies, Target, TheHead, TheBoot, TheUnstarted, opened_target, target_of, target_calls, in_head, in_boot, next_opening, reopens, line_over, line_on, step, calls_over, calls_on, line_calls, ended_by, ends_over, ends_on, ended_boots}
-use Rattle.scenario_engine.specs.KeeperCalls.{KeeperCall, Gave, Kept, Failed, apply_calls, TellsCall, TellsCalls}
+use Rattle.scenario_engine.specs.Engine.{Replies, first_keeps, Target, TheHead, TheBoot, TheUnstarted, opened_target, target_of, target_calls, in_head, next_opening, reopens, line_over, line_on, step, calls_over, calls_on, line_calls, ended_by, ends_over, ends_on, ended_boots}
+use Rattle.scenario_engine.specs.Seats.{in_boot, seat_over}
+use Rattle.scenario_engine.specs.KeeperCalls.{apply_calls, TellsCalls}
 use Rattle.scenario_engine.specs.Opening.{StartReplies, Opening, Opened, UnstartedBoot, is_spent, opening, opening_of, opening_over, calls_over_rows, start_calls, start_calls_of}
 use Rattle.scenario_engine.specs.Running.{with_callers, with_sessions, with_boot_entry, commit_ends, with_keeper, boot_refusal, keep_calls, caller_commits, caller_calls, caller_drops, commit_step, commit_calls, drop_step, scope_of, goes_down, reboots, down_step, up_step, reboot_step, table_step, journal_step, boot_line}
-use Rattle.scenario_engine.specs.State.{RunningState, State, Heading, Running, Outcome, RefusedIn, DoneTo, UnstartedIn}
+use Rattle.scenario_engine.specs.State.{RunningState, State, Heading, Running, Outcome, RefusedIn, DoneTo, UnstartedIn, UnderWayIn}
 use Rattle.scenario_engine.specs.Told.{HoldsStateRows, IsOver, IsChained, Tells}
-use Rattle.scenario_engine.specs.Transcript.{Turn, first, answer_to, turn_outcome, calls_to, turn_calls, ends_to, turn_ends, calls_from, boots_in, boots_from, end_from, last_state, RefusedAt, TooLong, Unstarted}
+use Rattle.scenario_engine.specs.Transcript.{Turn, first, answer_to, turn_outcome, calls_to, turn_calls, ends_to, turn_ends, calls_from, boots_in, boots_from, end_from, last_state, RefusedAt, TooLong, Unstarted, UnderWay}
 use Rattle.scenario_engine.proofs.Numbering.{GoesOn, AreLinked, chained_over}
 use Rattle.scenario_engine.proofs.Keeping.{LeavesTo}
-
--- calls in two parts
-
--- the keeper tells between the two parts
-record Between (calls more : List KeeperCall) (old new : Option KeeperTold) : Type 0 where
-  between : Option KeeperTold
-  before : TellsCalls calls old between
-  after : TellsCalls more between new
-
-tells-split : (calls more : List KeeperCall) (old new : Option KeeperTold) → TellsCalls (calls ++ more) old new → Between calls more old new
-tells-split [] more old new told = record { between = old; before = refl; after = told }
-tells-split (call ∷ calls) more old new told =
-    let rest : Between calls more told.0 new = tells-split calls more told.0 new told.2 in
-    record { between = rest.between; before = (told.0, told.1, rest.before); after = rest.after }
-
--- a keeper that has stopped telling never tells again
-
-none_after_call : (call : KeeperCall) (new : Option KeeperTold) → TellsCall call None new → new ≡ None
-none_after_call (Gave rows) new told = told.1
-none_after_call (Kept writes) new told = told
-none_after_call Failed new (inl is) = is
-none_after_call Failed new (inr is) = is
-
-pub none_after : (calls : List KeeperCall) (new : Option KeeperTold) → TellsCalls calls None new → new ≡ None
-none_after [] new told = told
-none_after (call ∷ calls) new told =
-    let P : Option KeeperTold → Type 0 = λ o. TellsCalls calls o new in
-    none_after calls new (subst P (none_after_call call told.0 told.1) told.2)
-
--- a keeper that tells after calls told between their two parts
-pub record Halves (calls more : List KeeperCall) (t u : KeeperTold) : Type 0 where
-  pub half : KeeperTold
-  pub before : TellsCalls calls (Some t) (Some half)
-  pub after : TellsCalls more (Some half) (Some u)
-
-pub halves : (calls more : List KeeperCall) (t u : KeeperTold) → TellsCalls (calls ++ more) (Some t) (Some u) → Halves calls more t u
-halves calls more t u told = go whole.between whole.before whole.after
-  where
-    whole : Between calls more (Some t) (Some u)
-    whole = tells-split calls more (Some t) (Some u) told
-
-    go : (o : Option KeeperTold) → TellsCalls calls (Some t) o → TellsCalls more o (Some u) → Halves calls more t u
-    go (Some half) before after = record { half = half; before = before; after = after }
-    go None before after = absurd (cc (none_after more (Some u) after))
+use Rattle.scenario_engine.proofs.SeatRows.{HoldsIn, left_seat}
+use Rattle.scenario_engine.proofs.TellingCalls.{none_after, Halves, halves, rows_told, rows_failed}
 
 -- what a start leaves
 
@@ -107,15 +66,6 @@ record OpensOver (parts : Parts) (limits : JournalLimits) (t u : KeeperTold) (st
 abbrev StartLeaves : Parts → JournalLimits → KeeperTold → KeeperTold → Opening → Type 0
 StartLeaves parts limits t u (Opened start) = OpensOver parts limits t u start
 StartLeaves parts limits t u (UnstartedBoot refusal) = u.rows ≡ t.rows
-
-abbrev rows_told : Option KeeperTold → List RowWrite
-rows_told None = []
-rows_told (Some t) = t.rows
-
--- a call that failed leaves the rows
-rows_failed : (t u : KeeperTold) → TellsCalls (Failed ∷ []) (Some t) (Some u) → u.rows ≡ t.rows
-rows_failed t u (between, inl is, same) = ap rows_told same ∙ ap rows_told is
-rows_failed t u (between, inr is, same) = absurd (cc)
 
 above : (n m : ℕ) → nat_le n m ≡ false → m < n
 above n m less = grind (arith, nat_tests)
@@ -359,6 +309,18 @@ left_reopened held P t u r (Opened start) holds leaves =
     (holds.0, (next, leaves.rows))
 left_reopened held P t u r (UnstartedBoot refusal) holds leaves = (holds.0, leaves ∙ holds.1)
 
+-- a line about connections
+
+left_boot : (held : List RowWrite) (P : Start → Type 0) (u : KeeperTold) (r : RunningState) (s : State) → P r.boot.start → HoldsIn r.boot u s → IsAt held P u s
+left_boot held P u r (Heading head) so rows = absurd rows
+left_boot held P u r (Running q) so rows = (subst P (sym rows.start) so, rows.rows)
+
+left_in_site : (held : List RowWrite) (P : Start → Type 0) (u : KeeperTold) (r : RunningState) (o : Outcome) → P r.boot.start → LeavesTo (HoldsIn r.boot u) o → IsLeft held u o P
+left_in_site held P u r (RefusedIn s) so rows = left_boot held P u r s so rows
+left_in_site held P u r (DoneTo s text) so rows = left_boot held P u r s so rows
+left_in_site held P u r (UnstartedIn s refusal) so rows = left_boot held P u r s so rows
+left_in_site held P u r (UnderWayIn s) so rows = left_boot held P u r s so rows
+
 left_over : (held : List RowWrite) (P : Start → Type 0) (t u : KeeperTold) (r : RunningState) (line : Line) (replies : Replies) → HoldsBoot P t r.boot
     → TellsCalls (calls_over r line replies) (Some t) (Some u)
     → AreLinkedTo P (ends_over r line replies) (IsLeft held u (line_over r line replies))
@@ -373,8 +335,10 @@ left_over held P t u r (lines.Boot line) replies holds told =
 left_over held P t u r (lines.Session line) replies holds told =
     left_in_boot held P t u r (within (with_sessions r) (session_line r.sessions line)) holds (ap rows_told told) (rows_session r (session_line r.sessions line))
 left_over held P t u r (lines.Commit n) replies holds told =
-    left_by_commit held P t u r (commit_step r n replies.keeps) holds (commit_refused r n replies.keeps t u told)
-    (holds_commit_step r n replies.keeps t u holds.1 told)
+    left_by_commit held P t u r (commit_step r n (first_keeps replies.keeps)) holds (commit_refused r n (first_keeps replies.keeps) t u told)
+    (holds_commit_step r n (first_keeps replies.keeps) t u holds.1 told)
+left_over held P t u r (lines.Seat line) replies holds told =
+    left_in_site held P u r (seat_over r line replies.keeps) holds.0 (left_seat r line replies.keeps t u holds.1 told)
 left_over held P t u r lines.Reopen replies holds told =
     left_reopened held P t u r (next_opening r replies.again) holds
     (start_leaves r.boot.start.deployment r.boot.start.limits replies.again t u told)
@@ -440,11 +404,13 @@ linked_all held P t u s (turn ∷ turns) at told =
           | RefusedIn t ↦ []
           | DoneTo t text ↦ calls_from t turns
           | UnstartedIn t refusal ↦ []
+          | UnderWayIn t ↦ []
         ]))) (Some t) (Some u)
         → AreLinked P (if long then boots_in s else (turn_ends s turn ++ (elim o [
           | RefusedIn t ↦ boots_in t
           | DoneTo t text ↦ boots_from t turns
           | UnstartedIn t refusal ↦ boots_in t
+          | UnderWayIn t ↦ boots_in t
         ])))
     go true o one all told = linked_in held P t s at
     go false (RefusedIn next) one all told =
@@ -458,6 +424,10 @@ linked_all held P t u s (turn ∷ turns) at told =
     go false (UnstartedIn next refusal) one all told =
         let two : Halves (turn_calls s turn) [] t u = halves (turn_calls s turn) [] t u told in
         linked-append P (turn_ends s turn) (boots_in next) (IsLeft held two.half (UnstartedIn next refusal)) (one two.half two.before)
+        (λ later there. linked_in held later two.half next there)
+    go false (UnderWayIn next) one all told =
+        let two : Halves (turn_calls s turn) [] t u = halves (turn_calls s turn) [] t u told in
+        linked-append P (turn_ends s turn) (boots_in next) (IsLeft held two.half (UnderWayIn next)) (one two.half two.before)
         (λ later there. linked_in held later two.half next there)
 
 -- the rows that are held at the end
@@ -493,11 +463,13 @@ held_all held P t u s n (turn ∷ turns) at told =
           | RefusedIn t ↦ []
           | DoneTo t text ↦ calls_from t turns
           | UnstartedIn t refusal ↦ []
+          | UnderWayIn t ↦ []
         ]))) (Some t) (Some u)
         → HoldsAtEnd held u (last_state (if long then TooLong s n else (elim o [
           | RefusedIn t ↦ RefusedAt t n
           | DoneTo t text ↦ end_from t (n + 1) turns
           | UnstartedIn t refusal ↦ Unstarted t refusal
+          | UnderWayIn t ↦ UnderWay t n
         ])))
     go true o one all told = held_at held P u s (same_told (λ v. IsAt held P v s) t u told at)
     go false (RefusedIn next) one all told = ends (RefusedIn next) next one (λ later v there. there) told
@@ -506,6 +478,7 @@ held_all held P t u s n (turn ∷ turns) at told =
         linked_left P (turn_ends s turn) (IsLeft held two.half (DoneTo next text)) (HoldsAtEnd held u (last_state (end_from next (n + 1) turns))) (one two.half two.before)
         (λ later there. all later two.half next there two.after)
     go false (UnstartedIn next refusal) one all told = ends (UnstartedIn next refusal) next one (λ later v there. there) told
+    go false (UnderWayIn next) one all told = ends (UnderWayIn next) next one (λ later v there. there) told
 
 -- the rows at the end, of a keeper that tells or not
 

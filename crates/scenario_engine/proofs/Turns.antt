@@ -7,9 +7,9 @@ use Rattle.scenario_text.specs.Reading.{line_of}
 use Rattle.scenario_text.specs.declared.line.TheConstants.{MAX_LINE_BYTES}
 use Rattle.scenario_engine.specs.Engine.{Replies}
 use Rattle.scenario_engine.specs.KeeperCalls.{KeeperCall, KeeperSeen, AreMade}
-use Rattle.scenario_engine.specs.State.{State, Outcome, RefusedIn, DoneTo, UnstartedIn}
+use Rattle.scenario_engine.specs.State.{State, Outcome, RefusedIn, DoneTo, UnstartedIn, UnderWayIn}
 use Rattle.scenario_engine.specs.Telling.{Does}
-use Rattle.scenario_engine.specs.Transcript.{Turn, lines_in, first, turn_outcome, turn_calls, transcript, End, Ended, RefusedAt, TooLong, Unstarted, end_from, calls_from}
+use Rattle.scenario_engine.specs.Transcript.{Turn, lines_in, first, turn_outcome, turn_calls, transcript, End, Ended, RefusedAt, TooLong, Unstarted, UnderWay, end_from, calls_from}
 use Rattle.scenario_engine.proofs.Calls.{then_made}
 
 -- the lines of turns, and of one more
@@ -18,7 +18,7 @@ lines_in-push turns turn = map-append (λ (t : Turn). t.line) turns (turn ∷ []
 
 -- a keeper that gives no rows and keeps no writes
 abbrev pub no_replies : Replies
-no_replies = record { first = record { rows = None; keeps = false }; again = record { rows = None; keeps = false }; keeps = false }
+no_replies = record { first = record { rows = None; keeps = false }; again = record { rows = None; keeps = false }; keeps = [] }
 
 -- turns of these lines, over such a keeper
 abbrev pub turns_of : List (List ℕ) → List Turn
@@ -41,33 +41,36 @@ end_from-more s t n [] more h =
     ap (λ u. end_from u n more) same ∙ ap (λ m. end_from t m more) none
 end_from-more s t n (turn ∷ turns) more h = go (nat_lt MAX_LINE_BYTES (length turn.line)) (turn_outcome s turn) (λ u k. end_from-more u t (n + 1) turns more k) h
   where
-    go : (long : Bool) (o : Outcome) → ((u : State) → end_from u (n + 1) turns ≡ Ended t → end_from u (n + 1) (turns ++ more) ≡ end_from t (n + 1 + length turns) more) → cond long (TooLong s n) (elim o [ RefusedIn u ↦ RefusedAt u n | DoneTo u text ↦ end_from u (n + 1) turns | UnstartedIn u r ↦ Unstarted u r ]) ≡ Ended t → cond long (TooLong s n) (elim o [ RefusedIn u ↦ RefusedAt u n | DoneTo u text ↦ end_from u (n + 1) (turns ++ more) | UnstartedIn u r ↦ Unstarted u r ]) ≡ end_from t (n + suc (length turns)) more
+    go : (long : Bool) (o : Outcome) → ((u : State) → end_from u (n + 1) turns ≡ Ended t → end_from u (n + 1) (turns ++ more) ≡ end_from t (n + 1 + length turns) more) → cond long (TooLong s n) (elim o [ RefusedIn u ↦ RefusedAt u n | DoneTo u text ↦ end_from u (n + 1) turns | UnstartedIn u r ↦ Unstarted u r | UnderWayIn u ↦ UnderWay u n ]) ≡ Ended t → cond long (TooLong s n) (elim o [ RefusedIn u ↦ RefusedAt u n | DoneTo u text ↦ end_from u (n + 1) (turns ++ more) | UnstartedIn u r ↦ Unstarted u r | UnderWayIn u ↦ UnderWay u n ]) ≡ end_from t (n + suc (length turns)) more
     go true o later k = cc
     go false (RefusedIn u) later k = cc
     go false (DoneTo u text) later k = let next : n + 1 + length turns ≡ n + suc (length turns) = omega arith in later u k ∙ ap (λ m. end_from t m more) next
     go false (UnstartedIn u r) later k = cc
+    go false (UnderWayIn u) later k = cc
 
 -- what they write
 pub transcript-more : (s t : State) (n : ℕ) (turns more : List Turn) → end_from s n turns ≡ Ended t → transcript s (turns ++ more) ≡ transcript s turns ++ transcript t more
 transcript-more s t n [] more h = let same : s ≡ t = cc in ap (λ u. transcript u more) same
 transcript-more s t n (turn ∷ turns) more h = go (nat_lt MAX_LINE_BYTES (length turn.line)) (turn_outcome s turn) (λ u k. transcript-more u t (n + 1) turns more k) h
   where
-    go : (long : Bool) (o : Outcome) → ((u : State) → end_from u (n + 1) turns ≡ Ended t → transcript u (turns ++ more) ≡ transcript u turns ++ transcript t more) → cond long (TooLong s n) (elim o [ RefusedIn u ↦ RefusedAt u n | DoneTo u text ↦ end_from u (n + 1) turns | UnstartedIn u r ↦ Unstarted u r ]) ≡ Ended t → elim o [ RefusedIn u ↦ [] | DoneTo u text ↦ text ++ transcript u (turns ++ more) | UnstartedIn u r ↦ [] ] ≡ elim o [ RefusedIn u ↦ [] | DoneTo u text ↦ text ++ transcript u turns | UnstartedIn u r ↦ [] ] ++ transcript t more
+    go : (long : Bool) (o : Outcome) → ((u : State) → end_from u (n + 1) turns ≡ Ended t → transcript u (turns ++ more) ≡ transcript u turns ++ transcript t more) → cond long (TooLong s n) (elim o [ RefusedIn u ↦ RefusedAt u n | DoneTo u text ↦ end_from u (n + 1) turns | UnstartedIn u r ↦ Unstarted u r | UnderWayIn u ↦ UnderWay u n ]) ≡ Ended t → elim o [ RefusedIn u ↦ [] | DoneTo u text ↦ text ++ transcript u (turns ++ more) | UnstartedIn u r ↦ [] | UnderWayIn u ↦ [] ] ≡ elim o [ RefusedIn u ↦ [] | DoneTo u text ↦ text ++ transcript u turns | UnstartedIn u r ↦ [] | UnderWayIn u ↦ [] ] ++ transcript t more
     go true o later k = cc
     go false (RefusedIn u) later k = cc
     go false (DoneTo u text) later k = ap (λ r. text ++ r) (later u k) ∙ sym (append_assoc text (transcript u turns) (transcript t more))
     go false (UnstartedIn u r) later k = cc
+    go false (UnderWayIn u) later k = cc
 
 -- and their calls of the keeper
 pub calls_from-more : (s t : State) (n : ℕ) (turns more : List Turn) → end_from s n turns ≡ Ended t → calls_from s (turns ++ more) ≡ calls_from s turns ++ calls_from t more
 calls_from-more s t n [] more h = let same : s ≡ t = cc in ap (λ u. calls_from u more) same
 calls_from-more s t n (turn ∷ turns) more h = go (nat_lt MAX_LINE_BYTES (length turn.line)) (turn_outcome s turn) (λ u k. calls_from-more u t (n + 1) turns more k) h
   where
-    go : (long : Bool) (o : Outcome) → ((u : State) → end_from u (n + 1) turns ≡ Ended t → calls_from u (turns ++ more) ≡ calls_from u turns ++ calls_from t more) → cond long (TooLong s n) (elim o [ RefusedIn u ↦ RefusedAt u n | DoneTo u text ↦ end_from u (n + 1) turns | UnstartedIn u r ↦ Unstarted u r ]) ≡ Ended t → cond long [] (turn_calls s turn ++ elim o [ RefusedIn u ↦ [] | DoneTo u text ↦ calls_from u (turns ++ more) | UnstartedIn u r ↦ [] ]) ≡ cond long [] (turn_calls s turn ++ elim o [ RefusedIn u ↦ [] | DoneTo u text ↦ calls_from u turns | UnstartedIn u r ↦ [] ]) ++ calls_from t more
+    go : (long : Bool) (o : Outcome) → ((u : State) → end_from u (n + 1) turns ≡ Ended t → calls_from u (turns ++ more) ≡ calls_from u turns ++ calls_from t more) → cond long (TooLong s n) (elim o [ RefusedIn u ↦ RefusedAt u n | DoneTo u text ↦ end_from u (n + 1) turns | UnstartedIn u r ↦ Unstarted u r | UnderWayIn u ↦ UnderWay u n ]) ≡ Ended t → cond long [] (turn_calls s turn ++ elim o [ RefusedIn u ↦ [] | DoneTo u text ↦ calls_from u (turns ++ more) | UnstartedIn u r ↦ [] | UnderWayIn u ↦ [] ]) ≡ cond long [] (turn_calls s turn ++ elim o [ RefusedIn u ↦ [] | DoneTo u text ↦ calls_from u turns | UnstartedIn u r ↦ [] | UnderWayIn u ↦ [] ]) ++ calls_from t more
     go true o later k = cc
     go false (RefusedIn u) later k = cc
     go false (DoneTo u text) later k = ap (λ r. turn_calls s turn ++ r) (later u k) ∙ sym (append_assoc (turn_calls s turn) (calls_from u turns) (calls_from t more))
     go false (UnstartedIn u r) later k = cc
+    go false (UnderWayIn u) later k = cc
 
 -- a scenario has ended before all turns were done, or at the last one
 abbrev pub Stops : End → Type 0
@@ -75,28 +78,31 @@ Stops (Ended s) = ⊥
 Stops (RefusedAt s n) = Unit {0}
 Stops (TooLong s n) = Unit {0}
 Stops (Unstarted s r) = Unit {0}
+Stops (UnderWay s n) = Unit {0}
 
 -- then further turns change nothing: not how it ends
 pub end_from-stopped : (s : State) (n : ℕ) (turns more : List Turn) → Stops (end_from s n turns) → end_from s n (turns ++ more) ≡ end_from s n turns
 end_from-stopped s n [] more h = absurd h
 end_from-stopped s n (turn ∷ turns) more h = go (nat_lt MAX_LINE_BYTES (length turn.line)) (turn_outcome s turn) (λ u k. end_from-stopped u (n + 1) turns more k) h
   where
-    go : (long : Bool) (o : Outcome) → ((u : State) → Stops (end_from u (n + 1) turns) → end_from u (n + 1) (turns ++ more) ≡ end_from u (n + 1) turns) → Stops (cond long (TooLong s n) (elim o [ RefusedIn u ↦ RefusedAt u n | DoneTo u text ↦ end_from u (n + 1) turns | UnstartedIn u r ↦ Unstarted u r ])) → cond long (TooLong s n) (elim o [ RefusedIn u ↦ RefusedAt u n | DoneTo u text ↦ end_from u (n + 1) (turns ++ more) | UnstartedIn u r ↦ Unstarted u r ]) ≡ cond long (TooLong s n) (elim o [ RefusedIn u ↦ RefusedAt u n | DoneTo u text ↦ end_from u (n + 1) turns | UnstartedIn u r ↦ Unstarted u r ])
+    go : (long : Bool) (o : Outcome) → ((u : State) → Stops (end_from u (n + 1) turns) → end_from u (n + 1) (turns ++ more) ≡ end_from u (n + 1) turns) → Stops (cond long (TooLong s n) (elim o [ RefusedIn u ↦ RefusedAt u n | DoneTo u text ↦ end_from u (n + 1) turns | UnstartedIn u r ↦ Unstarted u r | UnderWayIn u ↦ UnderWay u n ])) → cond long (TooLong s n) (elim o [ RefusedIn u ↦ RefusedAt u n | DoneTo u text ↦ end_from u (n + 1) (turns ++ more) | UnstartedIn u r ↦ Unstarted u r | UnderWayIn u ↦ UnderWay u n ]) ≡ cond long (TooLong s n) (elim o [ RefusedIn u ↦ RefusedAt u n | DoneTo u text ↦ end_from u (n + 1) turns | UnstartedIn u r ↦ Unstarted u r | UnderWayIn u ↦ UnderWay u n ])
     go true o later k = refl
     go false (RefusedIn u) later k = refl
     go false (DoneTo u text) later k = later u k
     go false (UnstartedIn u r) later k = refl
+    go false (UnderWayIn u) later k = refl
 
 -- and not what it asks of the keeper
 pub calls_from-stopped : (s : State) (n : ℕ) (turns more : List Turn) → Stops (end_from s n turns) → calls_from s (turns ++ more) ≡ calls_from s turns
 calls_from-stopped s n [] more h = absurd h
 calls_from-stopped s n (turn ∷ turns) more h = go (nat_lt MAX_LINE_BYTES (length turn.line)) (turn_outcome s turn) (λ u k. calls_from-stopped u (n + 1) turns more k) h
   where
-    go : (long : Bool) (o : Outcome) → ((u : State) → Stops (end_from u (n + 1) turns) → calls_from u (turns ++ more) ≡ calls_from u turns) → Stops (cond long (TooLong s n) (elim o [ RefusedIn u ↦ RefusedAt u n | DoneTo u text ↦ end_from u (n + 1) turns | UnstartedIn u r ↦ Unstarted u r ])) → cond long [] (turn_calls s turn ++ elim o [ RefusedIn u ↦ [] | DoneTo u text ↦ calls_from u (turns ++ more) | UnstartedIn u r ↦ [] ]) ≡ cond long [] (turn_calls s turn ++ elim o [ RefusedIn u ↦ [] | DoneTo u text ↦ calls_from u turns | UnstartedIn u r ↦ [] ])
+    go : (long : Bool) (o : Outcome) → ((u : State) → Stops (end_from u (n + 1) turns) → calls_from u (turns ++ more) ≡ calls_from u turns) → Stops (cond long (TooLong s n) (elim o [ RefusedIn u ↦ RefusedAt u n | DoneTo u text ↦ end_from u (n + 1) turns | UnstartedIn u r ↦ Unstarted u r | UnderWayIn u ↦ UnderWay u n ])) → cond long [] (turn_calls s turn ++ elim o [ RefusedIn u ↦ [] | DoneTo u text ↦ calls_from u (turns ++ more) | UnstartedIn u r ↦ [] | UnderWayIn u ↦ [] ]) ≡ cond long [] (turn_calls s turn ++ elim o [ RefusedIn u ↦ [] | DoneTo u text ↦ calls_from u turns | UnstartedIn u r ↦ [] | UnderWayIn u ↦ [] ])
     go true o later k = refl
     go false (RefusedIn u) later k = refl
     go false (DoneTo u text) later k = ap (λ r. turn_calls s turn ++ r) (later u k)
     go false (UnstartedIn u r) later k = refl
+    go false (UnderWayIn u) later k = refl
 
 short_test : (line : List ℕ) → length line ≤ MAX_LINE_BYTES → nat_lt MAX_LINE_BYTES (length line) ≡ false
 short_test line short = grind (arith, nat_tests)
@@ -109,7 +115,7 @@ pub end_from-done : (s t : State) (n : ℕ) (turn : Turn) (text : List ℕ) → 
 end_from-done s t n turn text short done = rw (short_test turn.line short, done) refl
 
 pub transcript-done : (s t : State) (turn : Turn) (text : List ℕ) → turn_outcome s turn ≡ DoneTo t text → transcript s (turn ∷ []) ≡ text
-transcript-done s t turn text done = ap (λ (o : Outcome). elim o [ RefusedIn u ↦ [] | DoneTo u w ↦ w ++ [] | UnstartedIn u r ↦ [] ]) done ∙ append-nil text
+transcript-done s t turn text done = ap (λ (o : Outcome). elim o [ RefusedIn u ↦ [] | DoneTo u w ↦ w ++ [] | UnstartedIn u r ↦ [] | UnderWayIn u ↦ [] ]) done ∙ append-nil text
 
 -- a turn that is refused
 pub end_from-refused : (s t : State) (n : ℕ) (turn : Turn) → length turn.line ≤ MAX_LINE_BYTES → turn_outcome s turn ≡ RefusedIn t → end_from s n (turn ∷ []) ≡ RefusedAt t n
@@ -118,6 +124,10 @@ end_from-refused s t n turn short refused = rw (short_test turn.line short, refu
 -- a turn that needs a boot which was not started
 pub end_from-unstarted : (s t : State) (n : ℕ) (turn : Turn) (r : UnstartedCause) → length turn.line ≤ MAX_LINE_BYTES → turn_outcome s turn ≡ UnstartedIn t r → end_from s n (turn ∷ []) ≡ Unstarted t r
 end_from-unstarted s t n turn r short refused = rw (short_test turn.line short, refused) refl
+
+-- a turn that is under way
+pub end_from-under_way : (s t : State) (n : ℕ) (turn : Turn) → length turn.line ≤ MAX_LINE_BYTES → turn_outcome s turn ≡ UnderWayIn t → end_from s n (turn ∷ []) ≡ UnderWay t n
+end_from-under_way s t n turn short under = rw (short_test turn.line short, under) refl
 
 -- a turn whose line is too long
 pub end_from-long : (s : State) (n : ℕ) (turn : Turn) (more : List Turn) → MAX_LINE_BYTES < length turn.line → end_from s n (turn ∷ more) ≡ TooLong s n
@@ -128,12 +138,13 @@ calls_from-long s turn more long = rw (long_test turn.line long) refl
 
 -- the calls of the keeper that one turn makes, however it ends
 pub calls_from-turn : (s : State) (turn : Turn) → length turn.line ≤ MAX_LINE_BYTES → calls_from s (turn ∷ []) ≡ turn_calls s turn
-calls_from-turn s turn short = ap (λ b. cond b [] (turn_calls s turn ++ elim (turn_outcome s turn) [ RefusedIn u ↦ [] | DoneTo u w ↦ [] | UnstartedIn u r ↦ [] ])) (short_test turn.line short) ∙ go (turn_outcome s turn)
+calls_from-turn s turn short = ap (λ b. cond b [] (turn_calls s turn ++ elim (turn_outcome s turn) [ RefusedIn u ↦ [] | DoneTo u w ↦ [] | UnstartedIn u r ↦ [] | UnderWayIn u ↦ [] ])) (short_test turn.line short) ∙ go (turn_outcome s turn)
   where
-    go : (o : Outcome) → turn_calls s turn ++ elim o [ RefusedIn u ↦ [] | DoneTo u w ↦ [] | UnstartedIn u r ↦ [] ] ≡ turn_calls s turn
+    go : (o : Outcome) → turn_calls s turn ++ elim o [ RefusedIn u ↦ [] | DoneTo u w ↦ [] | UnstartedIn u r ↦ [] | UnderWayIn u ↦ [] ] ≡ turn_calls s turn
     go (RefusedIn u) = append-nil (turn_calls s turn)
     go (DoneTo u w) = append-nil (turn_calls s turn)
     go (UnstartedIn u r) = append-nil (turn_calls s turn)
+    go (UnderWayIn u) = append-nil (turn_calls s turn)
 
 -- turns that were done, and one more that is done
 pub end_from-push : (s t : State) (turns : List Turn) (turn : Turn) (text : List ℕ) → end_from first 1 turns ≡ Ended s → length turn.line ≤ MAX_LINE_BYTES → turn_outcome s turn ≡ DoneTo t text → end_from first 1 (turns ++ turn ∷ []) ≡ Ended t

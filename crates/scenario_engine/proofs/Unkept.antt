@@ -12,14 +12,18 @@ use Rattle.line_steps.specs.Callers.{caller_at}
 use Rattle.line_steps.specs.declared.callers.Caller.{Caller}
 use Rattle.line_steps.specs.declared.callers.Caller.TheVariants.{Live, Absent}
 use Rattle.scenario_text.specs.declared.line.Line.{Line}
+use Rattle.scenario_text.specs.declared.seat_line.SeatLine.{SeatLine}
+use Rattle.scenario_text.specs.declared.seat_line.SeatLine.TheVariants as seats
+use Rattle.seat_lines.specs.Handing.{line_hands}
 use Rattle.scenario_text.specs.Line.{is_event}
 use Rattle.scenario_text.specs.declared.line.Line.TheVariants as lines
-use Rattle.scenario_engine.specs.Engine.{Replies, Target, TheHead, TheBoot, TheUnstarted, target_of, target_calls, calls_over, calls_on, line_calls}
+use Rattle.scenario_engine.specs.Engine.{Replies, first_keeps, Target, TheHead, TheBoot, TheUnstarted, target_of, target_calls, calls_over, calls_on, line_calls}
 use Rattle.scenario_engine.specs.KeeperCalls.{KeeperCall, Gave, Kept, Failed, KeeperSeen, TellsCalls, apply_calls}
 use Rattle.scenario_engine.specs.Opening.{StartReplies, is_spent, start_calls_of}
 use Rattle.scenario_engine.specs.Opening as opening
 use Rattle.scenario_engine.specs.Running.{keep_calls, caller_calls, boot_refusal, commit_calls}
-use Rattle.scenario_engine.specs.State.{RunningState, State, Heading, Running}
+use Rattle.scenario_engine.specs.State.{RunningState, State, Heading, Running, site_of}
+use Rattle.scenario_engine.specs.Seats.{handed_calls, seat_calls}
 use Rattle.scenario_engine.specs.Telling.{DoesPartly, HoldsRowsButNumber}
 use Rattle.scenario_engine.specs.Transcript.{calls_to}
 
@@ -71,16 +75,30 @@ commit_unkept r caller = go (caller_at r.callers caller)
     go Absent = tt
     go (Live ticket) = keep (boot_refusal r ticket) ticket.call.writes
 
-over_boot : (r : RunningState) (line : Line) (replies : Replies) → replies.keeps ≡ false → AreOfNumber (calls_over r line replies)
+-- a line about connections, without replies
+seat_unkept : (r : RunningState) (line : SeatLine) → AreOfNumber (seat_calls r line [])
+unfolding seat_calls
+seat_unkept r line = go r.site line
+  where
+    go : (site : Bool) (line : SeatLine) → AreOfNumber (cond site (handed_calls (line_hands (site_of r) line [])) [])
+    go false line = tt
+    go true (seats.Conn n) = tt
+    go true (seats.Bytes n bytes) = tt
+    go true (seats.End n) = tt
+    go true (seats.Step n) = tt
+    go true (seats.Run n) = tt
+
+over_boot : (r : RunningState) (line : Line) (replies : Replies) → replies.keeps ≡ [] → AreOfNumber (calls_over r line replies)
 over_boot r lines.Pass replies unkept = tt
 over_boot r (lines.Head line) replies unkept = tt
 over_boot r (lines.Call caller line) replies unkept = tt
 over_boot r (lines.Boot line) replies unkept = tt
 over_boot r (lines.Session line) replies unkept = tt
-over_boot r (lines.Commit caller) replies unkept = subst (λ (k : Bool). AreOfNumber (commit_calls r caller k)) (sym unkept) (commit_unkept r caller)
+over_boot r (lines.Commit caller) replies unkept = subst (λ (keeps : List Bool). AreOfNumber (commit_calls r caller (first_keeps keeps))) (sym unkept) (commit_unkept r caller)
+over_boot r (lines.Seat line) replies unkept = subst (λ (keeps : List Bool). AreOfNumber (seat_calls r line keeps)) (sym unkept) (seat_unkept r line)
 over_boot r lines.Reopen replies unkept = start_of replies.again.rows replies.again.keeps
 
-on_target : (target : Target) (line : Line) (replies : Replies) → replies.keeps ≡ false → AreOfNumber (calls_on target line replies)
+on_target : (target : Target) (line : Line) (replies : Replies) → replies.keeps ≡ [] → AreOfNumber (calls_on target line replies)
 on_target (TheHead head) line replies unkept = tt
 on_target (TheBoot r) line replies unkept = over_boot r line replies unkept
 on_target (TheUnstarted head refusal) line replies unkept = tt
@@ -90,7 +108,7 @@ until_target (Running r) event replies = tt
 until_target (Heading head) false replies = tt
 until_target (Heading head) true replies = start_of replies.rows replies.keeps
 
-of_line : (s : State) (o : Option Line) (replies : Replies) → replies.keeps ≡ false → AreOfNumber (calls_to s o replies)
+of_line : (s : State) (o : Option Line) (replies : Replies) → replies.keeps ≡ [] → AreOfNumber (calls_to s o replies)
 unfolding line_calls
 of_line s None replies unkept = tt
 of_line s (Some line) replies unkept = of_both (target_calls s (is_event line) replies.first) _ (until_target s (is_event line) replies.first) (on_target (target_of s (is_event line) replies.first) line replies unkept)

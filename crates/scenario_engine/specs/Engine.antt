@@ -1,5 +1,5 @@
 -- What a line does to the state of a scenario, and what it asks of the keeper.
-use Rattle.std.specs.Prelude.{◌≡◌, ℕ, Bool, true, false, List, [], ◌∷◌, ◌++◌, Option, None}
+use Rattle.std.specs.Prelude.{◌≡◌, ℕ, Bool, true, false, List, [], ◌∷◌, ◌++◌, Option, Some, None}
 use Rattle.boot_core.specs.Boot.{BootValue}
 use Rattle.scenario_engine.specs.declared.failure.UnstartedCause.{UnstartedCause}
 use Rattle.deployment.specs.Refusals.{deploy_refusal}
@@ -7,7 +7,7 @@ use Rattle.outside.specs.Keeper.{KeeperTold}
 use Rattle.line_steps.specs.declared.head.Head.{Head}
 use Rattle.scenario_text.specs.Answer.{Answer, Refused, Done, within}
 use Rattle.line_steps.specs.Callers.{call_step}
-use Rattle.line_steps.specs.Head.{no_head, head_line}
+use Rattle.line_steps.specs.Head.{no_head, head_line, IsOfSite}
 use Rattle.line_steps.specs.Texts.{boot_text}
 use Rattle.scenario_text.specs.declared.line.Line.{Line}
 use Rattle.scenario_text.specs.declared.line.Line.TheVariants as lines
@@ -18,15 +18,27 @@ use Rattle.scenario_engine.specs.declared.engine.Stage.{Stage}
 use Rattle.scenario_engine.specs.declared.engine.Stage.TheVariants as stages
 use Rattle.scenario_engine.specs.KeeperCalls.{KeeperCall, seen}
 use Rattle.scenario_engine.specs.Opening.{StartReplies, Opening, Opened, UnstartedBoot, opening, start_calls}
-use Rattle.scenario_engine.specs.Running.{started, with_callers, with_sessions, commit_step, commit_calls, boot_line}
+use Rattle.scenario_engine.specs.Running.{started, reopened_over, with_callers, with_sessions, commit_step, commit_calls, boot_line}
+use Rattle.scenario_engine.specs.Seats.{in_boot, seat_over, seat_calls, next_calls_over}
 use Rattle.scenario_engine.specs.State.{RunningState, EngineValue, State, Heading, Running, Outcome, RefusedIn, DoneTo, UnstartedIn}
+use Rattle.seat_lines.specs.Site.{no_seats}
 
 -- What the keeper replies while one line is done: to the start that the first event line makes, to the start that a
--- `reopen` makes, and whether it keeps the writes of a commit. A line asks only for some of it.
+-- `reopen` makes, and whether it keeps what it is handed: by a commit, for which the first such reply counts, or by the
+-- steps of a connection, one after the other. A line asks only for some of it.
 pub record Replies : Type 0 where
   pub first : StartReplies
   pub again : StartReplies
-  pub keeps : Bool
+  pub keeps : List Bool
+
+-- the same replies, and one more to what the keeper is handed
+abbrev pub with_reply : Replies → Bool → Replies
+with_reply replies keeps = record replies { keeps = replies.keeps ++ keeps ∷ [] }
+
+-- the first reply to what the keeper is handed; where it has none, it does not keep it
+abbrev pub first_keeps : List Bool → Bool
+first_keeps [] = false
+first_keeps (keeps ∷ more) = keeps
 
 -- what a stage of the engine holds, of whose keeper this is seen
 abbrev pub value_of : {K : Type 0} → (K → Option KeeperTold) → (K → ℕ) → Stage K → EngineValue
@@ -35,9 +47,10 @@ value_of told faults (stages.Head head keeper) =
 value_of told faults (stages.Run r) = record { state = Running r.running; keeper = r.keeper }
 value_of told faults stages.Away = record { state = Heading no_head; keeper = seen None 0 }
 
--- no line is being done, and the parts that head lines have declared are those of a deployment
+-- no line is being done, and the parts that head lines have declared are those of a deployment, and those of the site
+-- where that is said
 abbrev pub IsAccepted : {K : Type 0} → Stage K → Type 0
-IsAccepted (stages.Head head keeper) = deploy_refusal head.parts ≡ None
+IsAccepted (stages.Head head keeper) = (deploy_refusal head.parts ≡ None) × IsOfSite head
 IsAccepted (stages.Run r) = Unit {0}
 IsAccepted stages.Away = ⊥
 
@@ -59,7 +72,7 @@ target_in (Running r) = TheBoot r
 
 -- the boot over a head that opens so
 abbrev pub opened_target : Head → Opening → Target
-opened_target head (Opened start) = TheBoot (started (set_up head.setup 0) start)
+opened_target head (Opened start) = TheBoot (started (set_up head.setup 0) no_seats head.site start)
 opened_target head (UnstartedBoot cause) = TheUnstarted head cause
 
 -- what a line is done to that is an event line, or is none
@@ -80,18 +93,13 @@ abbrev pub in_head : Head → Answer Head → Outcome
 in_head head Refused = RefusedIn (Heading head)
 in_head head (Done next text) = DoneTo (Heading next) text
 
--- a line over a boot, by its answer
-abbrev pub in_boot : RunningState → Answer RunningState → Outcome
-in_boot r Refused = RefusedIn (Running r)
-in_boot r (Done next text) = DoneTo (Running next) text
-
 -- how the next boot of the same deployment and limits opens
 abbrev pub next_opening : RunningState → StartReplies → Opening
 next_opening r replies = opening r.boot.start.deployment r.boot.start.limits replies
 
--- the next boot, where it opens so; the callers of the boot before are gone, and the sessions stay
+-- the next boot, where it opens so; the callers and the connections of the boot before are gone, and the sessions stay
 abbrev pub reopens : RunningState → Opening → Outcome
-reopens r (Opened start) = DoneTo (Running (started r.sessions start)) (boot_text start.boot)
+reopens r (Opened start) = DoneTo (Running (reopened_over r start)) (boot_text start.boot)
 reopens r (UnstartedBoot cause) = UnstartedIn (Running r) cause
 
 -- a line over a boot; a line of the head is refused there
@@ -100,11 +108,12 @@ line_over r lines.Pass replies = DoneTo (Running r) []
 line_over r (lines.Head line) replies = RefusedIn (Running r)
 line_over r (lines.Call caller line) replies =
     in_boot r (within (with_callers r) (call_step r.boot r.callers caller line))
-line_over r (lines.Commit caller) replies = in_boot r (commit_step r caller replies.keeps)
+line_over r (lines.Commit caller) replies = in_boot r (commit_step r caller (first_keeps replies.keeps))
 line_over r (lines.Boot line) replies = in_boot r (boot_line r line)
 line_over r lines.Reopen replies = reopens r (next_opening r replies.again)
 line_over r (lines.Session line) replies =
     in_boot r (within (with_sessions r) (session_line r.sessions line))
+line_over r (lines.Seat line) replies = seat_over r line replies.keeps
 
 -- a line that is done to a target
 abbrev pub line_on : Target → Line → Replies → Outcome
@@ -121,10 +130,11 @@ abbrev pub calls_over : RunningState → Line → Replies → List KeeperCall
 calls_over r lines.Pass replies = []
 calls_over r (lines.Head line) replies = []
 calls_over r (lines.Call caller line) replies = []
-calls_over r (lines.Commit caller) replies = commit_calls r caller replies.keeps
+calls_over r (lines.Commit caller) replies = commit_calls r caller (first_keeps replies.keeps)
 calls_over r (lines.Boot line) replies = []
 calls_over r lines.Reopen replies = start_calls replies.again
 calls_over r (lines.Session line) replies = []
+calls_over r (lines.Seat line) replies = seat_calls r line replies.keeps
 
 -- the calls of the keeper that a line makes which is done to a target
 abbrev pub calls_on : Target → Line → Replies → List KeeperCall
@@ -132,7 +142,7 @@ calls_on (TheHead head) line replies = []
 calls_on (TheBoot r) line replies = calls_over r line replies
 calls_on (TheUnstarted head cause) line replies = []
 
--- The calls of the keeper that a line makes: those of a start, one for a commit with writes that the boot does not
+-- The calls of the keeper that a line makes: those of a start, one for each commit with writes that the boot does not
 -- refuse, and none else.
 unfoldable pub line_calls : State → Line → Replies → List KeeperCall
 line_calls s line replies =
@@ -153,6 +163,7 @@ ends_over r (lines.Commit caller) replies = []
 ends_over r (lines.Boot line) replies = []
 ends_over r lines.Reopen replies = ended_by r (next_opening r replies.again)
 ends_over r (lines.Session line) replies = []
+ends_over r (lines.Seat line) replies = []
 
 -- the boot that a line ends which is done to a target
 abbrev pub ends_on : Target → Line → Replies → List BootValue
@@ -163,3 +174,20 @@ ends_on (TheUnstarted head cause) line replies = []
 -- The boot that a line ends: `reopen` ends one where the next one starts.
 unfoldable pub ended_boots : State → Line → Replies → List BootValue
 ended_boots s line replies = ends_on (target_of s (is_event line) replies.first) line replies
+
+-- the calls of the keeper by the next step of a connection that a line makes in a state, where the keeper replies so
+abbrev pub next_calls_in : RunningState → Line → Bool → List KeeperCall
+next_calls_in r lines.Pass keeps = []
+next_calls_in r (lines.Head line) keeps = []
+next_calls_in r (lines.Call caller line) keeps = []
+next_calls_in r (lines.Commit caller) keeps = []
+next_calls_in r (lines.Boot line) keeps = []
+next_calls_in r lines.Reopen keeps = []
+next_calls_in r (lines.Session line) keeps = []
+next_calls_in r (lines.Seat line) keeps = next_calls_over r line keeps
+
+-- The calls of the keeper by the next step of a connection that a line makes in a state, where the keeper replies so.
+unfoldable pub next_calls : State → Option Line → Bool → List KeeperCall
+next_calls s None keeps = []
+next_calls (Heading head) (Some line) keeps = []
+next_calls (Running r) (Some line) keeps = next_calls_in r line keeps

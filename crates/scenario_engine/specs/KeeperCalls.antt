@@ -69,3 +69,13 @@ pub record AreSomeMade (calls : List KeeperCall) (old new : KeeperSeen) : Type 0
   pub told : TellsCalls made old.told between
   pub last : (new.told ≡ between) ⊎ ((more ≢ []) × TellsRefusal faults.OutOfMemory between new.told)
   pub counted : AreCounted made old.faults new.faults
+
+-- The first of these calls of the keeper were made; or none was, and maybe it had no memory for one.
+pub record AreSomeAsked (calls : List KeeperCall) (old new : KeeperSeen) : Type 0 where
+  pub made : List KeeperCall
+  pub more : List KeeperCall
+  pub begins : calls ≡ made ++ more
+  pub between : Option KeeperTold
+  pub told : TellsCalls made old.told between
+  pub last : (new.told ≡ between) ⊎ ((made ≡ []) × TellsRefusal faults.OutOfMemory between new.told)
+  pub counted : AreCounted made old.faults new.faults

@@ -1,10 +1,15 @@
 pub mod KeeperCalls
 pub mod Opening
 pub mod State
+pub mod Going
 pub mod Running
+pub mod Seats
+pub mod Lending
+pub mod Connections
 pub mod Engine
 pub mod Transcript
 pub mod Telling
 pub mod Told
 pub mod Sound
 pub mod Sessions
+pub mod UnderWay

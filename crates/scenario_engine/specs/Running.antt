@@ -28,20 +28,29 @@ use Rattle.line_steps.specs.declared.callers.Caller.{Caller}
 use Rattle.line_steps.specs.declared.callers.Caller.TheVariants.{Absent, Live}
 use Rattle.scenario_engine.specs.KeeperCalls.{KeeperCall, apply_calls}
 use Rattle.scenario_engine.specs.State.{RunningState}
+use Rattle.seat_lines.specs.Giving.{sessions_given_back, without_seats}
+use Rattle.seat_lines.specs.Site.{SeatsState}
 use Rattle.session_steps.specs.Sessions.{SessionsState, reopened}
 use Rattle.scenario_text.specs.Answer.{Answer, Refused, Done, or_refused, within}
 use Rattle.line_steps.specs.Callers.{caller_at, ended, begin_step}
 use Rattle.line_steps.specs.Texts.{committed_text, commit_refusal_text, down_text, up_text, reboot_refusal_text, table_text, journal_text}
 
--- a boot that was just started over these sessions, without callers
-abbrev pub started : SessionsState → Start → RunningState
-started sessions start =
+-- a boot of the site or of another deployment that was just started over these sessions and connections, without
+-- callers
+abbrev pub started : SessionsState → SeatsState → Bool → Start → RunningState
+started sessions seats site start =
     record {
       boot = new_boot start;
       since = [];
       callers = [];
       sessions = reopened sessions start.boot;
+      seats = seats;
+      site = site;
     }
+
+-- the next boot: the callers are gone; the connections gave back what they hold of the bricks, and are gone
+abbrev pub reopened_over : RunningState → Start → RunningState
+reopened_over r start = started (sessions_given_back r.seats.seats r.sessions) (without_seats r.seats) r.site start
 
 -- the same boot with these callers
 abbrev pub with_callers : RunningState → List Caller → RunningState

@@ -1,5 +1,6 @@
 -- What holds of the journal of each boot of a scenario.
 use Rattle.std.specs.Prelude.{◌≡◌, ℕ, Some, slice_get, All}
+use Rattle.auction_site.specs.Meant.{AreMeant}
 use Rattle.journal_model.specs.declared.entry.CommitEntry.{CommitEntry}
 use Rattle.journal_model.specs.declared.entry.Entry.TheVariants.{Commit}
 use Rattle.journal_model.specs.Revoked.{IsUnrebooted}
@@ -19,3 +20,8 @@ RunsSerially b = IsSerial b.start.base b.entries
 abbrev pub CommitsOwnRequests : BootValue → Type 0
 CommitsOwnRequests b = (place : ℕ) (e : CommitEntry) → slice_get b.entries place ≡ Some (Commit e) →
     e.request.boot ≡ b.start.boot
+
+-- Each commit of a boot that has an action wrote and answered what the site means by the action's text, over the rows
+-- just before it.
+abbrev pub CommitsAsMeant : BootValue → Type 0
+CommitsAsMeant b = AreMeant b.start.base b.entries

@@ -1,6 +1,6 @@
 -- What a line answers and asks of the keeper: that there are replies of the keeper by which it is so. Where memory runs
 -- out, what a line has asked of the keeper by then.
-use Rattle.std.specs.Prelude.{◌≡◌, ℕ, Bool, false, List, [], map, Option, IfSome, string_bytes}
+use Rattle.std.specs.Prelude.{◌≡◌, ◌⊎◌, ℕ, Bool, false, List, [], map, Option, Some, IfSome, string_bytes}
 use Rattle.boot_core.specs.declared.refusals.StartRefusal.{StartRefusal}
 use Rattle.boot_core.specs.declared.refusals.StartRefusal.TheVariants as refusals
 use Rattle.container_core.specs.Start.{boot_row}
@@ -13,14 +13,16 @@ use Rattle.scenario_text.specs.declared.answer.LineAnswer.{LineAnswer}
 use Rattle.scenario_text.specs.declared.answer.LineAnswer.TheVariants as answers
 use Rattle.line_steps.specs.declared.head.Head.{Head}
 use Rattle.scenario_text.specs.declared.line.Line.{Line}
+use Rattle.scenario_text.specs.declared.seat_line.SeatLine.{SeatLine}
 use Rattle.scenario_engine.specs.declared.failure.UnstartedCause.TheVariants as causes
 use Rattle.scenario_engine.specs.declared.failure.LineFailure.{LineFailure}
 use Rattle.scenario_engine.specs.declared.failure.LineFailure.TheVariants as failures
-use Rattle.scenario_engine.specs.Engine.{Replies, Target, TheUnstarted, target_of, target_calls, line_on, calls_on}
-use Rattle.scenario_engine.specs.KeeperCalls.{KeeperSeen, AreMade, AreSomeMade}
+use Rattle.scenario_engine.specs.Engine.{Replies, Target, TheUnstarted, target_of, target_calls, line_on, calls_on, next_calls}
+use Rattle.scenario_engine.specs.KeeperCalls.{KeeperSeen, AreMade, AreSomeMade, AreSomeAsked}
 use Rattle.scenario_engine.specs.Opening.{StartReplies, Opening, UnstartedBoot, opening, start_calls}
 use Rattle.scenario_engine.specs.Running.{commit_step, commit_calls}
-use Rattle.scenario_engine.specs.State.{RunningState, State, Outcome, RefusedIn, DoneTo, UnstartedIn}
+use Rattle.scenario_engine.specs.Seats.{in_boot, seat_over, seat_calls, next_calls_over}
+use Rattle.scenario_engine.specs.State.{RunningState, State, Running, Outcome, RefusedIn, DoneTo, UnstartedIn, UnderWayIn}
 use Rattle.scenario_engine.specs.Transcript.{answer_to, calls_to}
 
 -- A boot opened so.
@@ -50,6 +52,27 @@ pub record Commits (r : RunningState) (caller : ℕ) (answer : Answer RunningSta
 -- Memory ran out before the commit of a caller was answered: the keeper has not kept its writes.
 abbrev pub CommitsPartly : RunningState → ℕ → KeeperSeen → KeeperSeen → Type 0
 CommitsPartly r caller old new = AreSomeMade (commit_calls r caller false) old new
+
+-- A line about connections came to this answer.
+pub record AnswersSeat (r : RunningState) (line : SeatLine) (answer : Answer RunningState) (old new : KeeperSeen) : Type 0 where
+  pub keeps : List Bool
+  pub answers : in_boot r answer ≡ seat_over r line keeps
+  pub made : AreMade (seat_calls r line keeps) old new
+
+-- Memory ran out in a step of a connection that a line makes over a boot: the whole steps before it led to this boot;
+-- then the first calls of the keeper by that step were made.
+pub record BreaksSeat (r : RunningState) (line : SeatLine) (old new : KeeperSeen) : Type 0 where
+  pub keeps : List Bool
+  pub mid : RunningState
+  pub comes : seat_over r line keeps ≡ UnderWayIn (Running mid)
+  pub between : KeeperSeen
+  pub whole : AreMade (seat_calls r line keeps) old between
+  pub next : Bool
+  pub last : AreSomeAsked (next_calls_over mid line next) between new
+
+-- Memory ran out in a line about connections over a boot: the keeper was handed nothing, or in a step.
+abbrev pub EndsSeat : RunningState → SeatLine → KeeperSeen → KeeperSeen → Type 0
+EndsSeat r line old new = AreMade [] old new ⊎ BreaksSeat r line old new
 
 -- A line, which is an event line or not, has this to be done to.
 pub record Reaches (s : State) (event : Bool) (target : Target) (old new : KeeperSeen) : Type 0 where
@@ -83,11 +106,23 @@ AnswersOn answers.Done after target line old new = DoesOn target line (DoneTo af
 AnswersOn (answers.Wrote text) after target line old new =
     DoesOn target line (DoneTo after (string_bytes text)) old new
 
--- Memory ran out while a line was done to a target: the keeper has not kept the writes of a commit.
+-- Memory ran out while a line was done to a target: the keeper has not kept the writes of a commit, and a step of a
+-- connection has handed nothing to it.
 pub record DoesPartlyOn (target : Target) (line : Line) (old new : KeeperSeen) : Type 0 where
   pub replies : Replies
-  pub unkept : replies.keeps ≡ false
+  pub unkept : replies.keeps ≡ []
   pub made : AreSomeMade (calls_on target line replies) old new
+
+-- Memory ran out in a step of a connection, which a line made that was done to a target: the whole steps before it led
+-- to this state; then the first calls of the keeper by that step were made.
+pub record BreaksOffOn (target : Target) (line : Line) (old new : KeeperSeen) : Type 0 where
+  pub replies : Replies
+  pub mid : State
+  pub comes : line_on target line replies ≡ UnderWayIn mid
+  pub between : KeeperSeen
+  pub whole : AreMade (calls_on target line replies) old between
+  pub next : Bool
+  pub last : AreSomeAsked (next_calls mid (Some line) next) between new
 
 -- why a line was not done, whose boot was refused so
 abbrev pub failure_of : StartRefusal → LineFailure
@@ -100,7 +135,7 @@ failure_of refusals.OutOfMemory = failures.OutOfMemory
 abbrev pub EndsOn : LineFailure → Target → Line → KeeperSeen → KeeperSeen → Type 0
 EndsOn (failures.Unstarted cause) target line old new =
     (state : State) × DoesOn target line (UnstartedIn state cause) old new
-EndsOn failures.OutOfMemory target line old new = DoesPartlyOn target line old new
+EndsOn failures.OutOfMemory target line old new = DoesPartlyOn target line old new ⊎ BreaksOffOn target line old new
 
 -- A text that spells this line, or none, was done, with this outcome.
 pub record Does (s : State) (line : Option Line) (outcome : Outcome) (old new : KeeperSeen) : Type 0 where
@@ -117,12 +152,24 @@ Answers answers.Done after s line old new = Does s line (DoneTo after []) old ne
 Answers (answers.Wrote text) after s line old new =
     Does s line (DoneTo after (string_bytes text)) old new
 
--- Memory ran out while a text was done that spells this line, or none: the first of its calls of the keeper were made,
--- and the keeper has not kept the writes of a commit.
+-- Memory ran out while a text was done that spells this line, or none: the first of its calls of the keeper were made.
+-- The keeper has not kept the writes of a commit, and a step of a connection has handed nothing to it.
 pub record DoesPartly (s : State) (line : Option Line) (old new : KeeperSeen) : Type 0 where
   pub replies : Replies
-  pub unkept : replies.keeps ≡ false
+  pub unkept : replies.keeps ≡ []
   pub made : AreSomeMade (calls_to s line replies) old new
+
+-- Memory ran out in a step of a connection, which a text made that spells this line: the whole steps before it led to
+-- this state, by calls of the keeper as they say; then the first calls of the keeper by that step were made, which may
+-- have been kept.
+pub record BreaksOff (s : State) (line : Option Line) (old new : KeeperSeen) : Type 0 where
+  pub replies : Replies
+  pub mid : State
+  pub comes : answer_to s line replies ≡ UnderWayIn mid
+  pub between : KeeperSeen
+  pub whole : AreMade (calls_to s line replies) old between
+  pub next : Bool
+  pub last : AreSomeAsked (next_calls mid line next) between new
 
 -- Of the rows that the keeper held, where it tells, at most that of the boot's number is another.
 abbrev pub HoldsRowsButNumber : Option KeeperTold → Option KeeperTold → Type 0
@@ -134,4 +181,4 @@ HoldsRowsButNumber old new =
 abbrev pub Ends : LineFailure → State → Option Line → KeeperSeen → KeeperSeen → Type 0
 Ends (failures.Unstarted cause) s line old new =
     (state : State) × Does s line (UnstartedIn state cause) old new
-Ends failures.OutOfMemory s line old new = DoesPartly s line old new
+Ends failures.OutOfMemory s line old new = DoesPartly s line old new ⊎ BreaksOff s line old new

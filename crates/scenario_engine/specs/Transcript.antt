@@ -8,7 +8,7 @@ use Rattle.line_steps.specs.Head.{no_head}
 use Rattle.scenario_engine.specs.declared.failure.UnstartedCause.{UnstartedCause}
 use Rattle.scenario_engine.specs.Engine.{Replies, step, line_calls, ended_boots}
 use Rattle.scenario_engine.specs.KeeperCalls.{KeeperCall}
-use Rattle.scenario_engine.specs.State.{State, Heading, Running, Outcome, RefusedIn, DoneTo, UnstartedIn}
+use Rattle.scenario_engine.specs.State.{State, Heading, Running, Outcome, RefusedIn, DoneTo, UnstartedIn, UnderWayIn}
 
 -- A line of a scenario, with what the keeper replies while it is done.
 pub record Turn : Type 0 where
@@ -50,22 +50,25 @@ ends_to s (Some line) replies = ended_boots s line replies
 unfoldable pub turn_ends : State → Turn → List BootValue
 turn_ends s turn = ends_to s (line_of turn.line) turn.replies
 
--- What turns write from here on, up to the first that is refused or needs a boot that was not started.
+-- What turns write from here on, up to the first that is refused, needs a boot that was not started, or is under way: a
+-- line writes at its end.
 abbrev pub transcript : State → List Turn → List ℕ
 transcript s [] = []
 transcript s (turn ∷ turns) = elim (turn_outcome s turn) [
   | RefusedIn t ↦ []
   | DoneTo t text ↦ text ++ transcript t turns
   | UnstartedIn t cause ↦ []
+  | UnderWayIn t ↦ []
 ]
 
--- A scenario comes to its end, to a line that is refused or too long, which has this number, or to a boot that was not
--- started. It leaves this state.
+-- A scenario comes to its end, to a line that is refused or too long, which has this number, to a boot that was not
+-- started, or to a line that is under way, which has this number. It leaves this state.
 pub data End : Type 0 where
   Ended : (state : State) → End
   RefusedAt : (state : State) (number : ℕ) → End
   TooLong : (state : State) (number : ℕ) → End
   Unstarted : (state : State) (cause : UnstartedCause) → End
+  UnderWay : (state : State) (number : ℕ) → End
 
 -- How turns end from here on, the next of which has this number.
 abbrev pub end_from : State → ℕ → List Turn → End
@@ -76,6 +79,7 @@ end_from s n (turn ∷ turns) =
       | RefusedIn t ↦ RefusedAt t n
       | DoneTo t text ↦ end_from t (n + 1) turns
       | UnstartedIn t cause ↦ Unstarted t cause
+      | UnderWayIn t ↦ UnderWay t n
     ])
 
 -- The calls of the keeper that turns make from here on, up to where the scenario ends.
@@ -87,6 +91,7 @@ calls_from s (turn ∷ turns) =
       | RefusedIn t ↦ []
       | DoneTo t text ↦ calls_from t turns
       | UnstartedIn t cause ↦ []
+      | UnderWayIn t ↦ []
     ]))
 
 -- the boot of a state, where one is started
@@ -104,7 +109,16 @@ boots_from s (turn ∷ turns) =
       | RefusedIn t ↦ boots_in t
       | DoneTo t text ↦ boots_from t turns
       | UnstartedIn t cause ↦ boots_in t
+      | UnderWayIn t ↦ boots_in t
     ]))
+
+-- no line is under way: the keeper has replied to all that the turns asked
+abbrev pub IsAnswered : End → Type 0
+IsAnswered (Ended state) = Unit {0}
+IsAnswered (RefusedAt state number) = Unit {0}
+IsAnswered (TooLong state number) = Unit {0}
+IsAnswered (Unstarted state cause) = Unit {0}
+IsAnswered (UnderWay state number) = ⊥
 
 -- the state at the end
 abbrev pub last_state : End → State
@@ -112,3 +126,4 @@ last_state (Ended state) = state
 last_state (RefusedAt state number) = state
 last_state (TooLong state number) = state
 last_state (Unstarted state cause) = state
+last_state (UnderWay state number) = state

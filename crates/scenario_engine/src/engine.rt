@@ -4,6 +4,7 @@ ghost use Rattle.std.specs.Prelude.{◌≡◌, ◌≤◌, true, Some, Ok, Err, M
 ghost use Rattle.outside.specs.Faults.{Rose};
 ghost use Rattle.scenario_text.specs.declared.line.Line.TheVariants as lines;
 ghost use Rattle.scenario_text.specs.Reading.{line_of};
+ghost use Rattle.scenario_text.specs.declared.answer.LineAnswer.{LineAnswer};
 ghost use Rattle.scenario_engine.specs.declared.failure.LineFailure.{LineFailure};
 ghost use Rattle.scenario_engine.specs.declared.failure.UnstartedCause.{UnstartedCause};
 ghost use Rattle.scenario_engine.specs.Engine.{target_in, is_heading};
@@ -16,7 +17,7 @@ use crate::running::Running;
 use crash_base::OutOfMemory;
 use line_steps::{Head, boot_text, head_line};
 use outside::Keeper;
-use scenario_text::{Line, LineAnswer, read_line};
+use scenario_text::{Line, LineAnswer, SeatLine, read_line};
 use std::alloc::Global;
 use std::marker::Model;
 use std::mem;
@@ -45,6 +46,13 @@ impl<K: Keeper + Drop> Model for Engine<K> {
     ghost view = { λ e. value_of K.told K.faults e.stage };
 
     ghost invariant = { λ e. IsAccepted e.stage };
+}
+
+/// The answer to a line about connections that is refused.
+fn refused(_line: SeatLine) -> LineAnswer
+    ensures { result ≡ LineAnswer.Refused }
+{
+    LineAnswer::Refused
 }
 
 /// What a line answers, or that there was no memory for it.
@@ -172,6 +180,31 @@ impl<K: Keeper + Drop> Engine<K> {
         }
     }
 
+    /// Does a line about connections over the boot, where one is started.
+    fn seat_line(&mut self, alloc: Global, line: SeatLine) -> Result<LineAnswer, LineFailure>
+        ensures answer { MatchResult result
+            (λ a. AnswersOn a self.new.state (target_in self.old.state) (lines.Seat line)
+            self.old.keeper self.new.keeper)
+            (λ failure. EndsOn failure (target_in self.old.state) (lines.Seat line)
+            self.old.keeper self.new.keeper) }
+        ensures failed { result ≡ Err (LineFailure.Unstarted UnstartedCause.KeeperFailed)
+            → Rose self.old.keeper.faults self.new.keeper.faults }
+        ensures count { self.old.keeper.faults ≤ self.new.keeper.faults }
+    {
+        match mem::replace(&mut self.stage, Stage::Away) {
+            Stage::Head(head, keeper) => {
+                self.stage = Stage::Head(head, keeper);
+                Ok(refused(line))
+            }
+            Stage::Run(running) => {
+                let (running, answer) = running.seat_line(alloc, line);
+                self.stage = Stage::Run(running);
+                answered(answer)
+            }
+            Stage::Away => unreachable!(),
+        }
+    }
+
     /// Does a line, to the head or over the boot.
     fn line_on(&mut self, alloc: Global, line: Line) -> Result<LineAnswer, LineFailure>
         ensures answer { MatchResult result
@@ -193,6 +226,7 @@ impl<K: Keeper + Drop> Engine<K> {
                 Line::Boot(line) => answered(running.boot_line(alloc, line)),
                 Line::Reopen => self.reopen(alloc),
                 Line::Session(line) => answered(running.session_line(alloc, line)),
+                Line::Seat(line) => self.seat_line(alloc, line),
             },
             Stage::Away => unreachable!(),
         }
@@ -216,8 +250,8 @@ impl<K: Keeper + Drop> Engine<K> {
     }
 
     /// Does one line of text: reads it, and does the line that it spells. The first event line starts the boot over the
-    /// keeper's rows, also where it is then refused. `commit` hands its writes to the keeper, and `reopen` starts the
-    /// next boot over the keeper's rows.
+    /// keeper's rows, also where it is then refused. `commit` hands its writes to the keeper, and so do the steps of a
+    /// connection that `step` and `run` make; `reopen` starts the next boot over the keeper's rows.
     ///
     /// # Errors
     /// `LineFailure` says why a boot was left unstarted, or that memory ran out. The scenario ends there: what state

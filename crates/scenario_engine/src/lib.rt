@@ -1,9 +1,9 @@
 //! A scenario, line by line, over a keeper.
 //!
 //! An `Engine` does one line after the other. Head lines build a deployment; the first event line starts a boot over
-//! the rows of the keeper, `commit` hands its writes to the keeper before it is answered, and `reopen` starts the next
-//! boot over the keeper's rows. The engine owns the keeper, first beside its head and then in a container with the
-//! boot, and hands it back at the end.
+//! the rows of the keeper, `commit` hands its writes to the keeper before it is answered, as the steps of connections
+//! do, and `reopen` starts the next boot over the keeper's rows. The engine owns the keeper, first beside its head and
+//! then in a container with the boot, and hands it back at the end.
 //!
 //! ```text
 //! let mut engine = Engine::new(alloc, keeper);
@@ -17,20 +17,25 @@
 //! of faults rises where it fails at one.
 //!
 //! The laws hold for all turns, whatever the keeper replies: `boots_are_sound`, `no_turns_commit_after_a_reboot`,
-//! `no_turns_break_the_order` and `commits_are_of_their_boot` for the journals of the boots, `keepers_tell` for the
-//! rows that the keeper holds, `boots_rise` for the numbers of boots over a keeper that tells, and `keepers_decide` for
-//! what decides the transcript.
+//! `no_turns_break_the_order` and `commits_are_of_their_boot` for the journals of the boots, `journals_are_meant` for
+//! what their actions mean, `keepers_tell` for the rows that the keeper holds, `boots_rise` for the numbers of boots
+//! over a keeper that tells, `connections_stand` for the sessions of connections, and `keepers_decide` for what decides
+//! the transcript. A keeper replies to one step of a connection after the other, so turns may stop inside a run:
+//! `lines_are_answered` and `lines_go_on_by_steps` say where, and what the next step asks.
 #![tactic(auto)]
 
+mod connections;
 mod engine;
 mod failure;
 mod laws;
 mod running;
 
+pub use connections::{connections_read_what_was_written, connections_stand, journals_are_meant};
 pub use engine::Engine;
 pub use failure::{LineFailure, UnstartedCause};
 pub use laws::{
     boots_are_sound, boots_rise, commits_are_of_their_boot, failures_are_of_calls, keepers_decide,
-    keepers_tell, no_commit_is_kept_partly, no_turns_break_the_order,
-    no_turns_commit_after_a_reboot, scenarios_have_sessions,
+    keepers_tell, lines_are_answered, lines_go_on_by_steps, no_commit_is_kept_partly,
+    no_turns_break_the_order, no_turns_commit_after_a_reboot, nonces_are_of_one_node,
+    scenarios_have_sessions, transcripts_begin_alike,
 };

@@ -1,12 +1,17 @@
 //! Event lines, over a boot that is started.
 
-ghost use Rattle.std.specs.Prelude.{◌≡◌, ◌≤◌, ◌+◌, ◌++◌, [], length, None, IfOk, IfErr, IfSome, MatchResult, option_map, string_bytes};
+ghost use Rattle.std.specs.Prelude.{◌≡◌, ◌≤◌, ◌+◌, ◌++◌, Bool, [], length, None, true, IfOk, IfErr, IfSome, MatchResult, is_some, option_map, string_bytes};
+ghost use Rattle.auction_rows.specs.Parts.{site_parts};
 ghost use Rattle.commit_journal.specs.Journal.{IsScope};
 ghost use Rattle.deployment.specs.Refusals.{deploy_refusal};
 ghost use Rattle.scenario_text.specs.Answer.{KeepsRefused, answer_of, within};
 ghost use Rattle.journal_model.specs.Rows.{rows_after};
 ghost use Rattle.line_steps.specs.Texts.{committed_text};
 ghost use Rattle.line_steps.specs.Callers.{begin_step, call_step};
+ghost use Rattle.line_steps.specs.Head.{IsOfSite};
+ghost use Rattle.seat_lines.specs.Site.{AllGoOn, no_seats, site_in};
+ghost use Rattle.container_core.specs.Container.{HasGrownBy};
+ghost use Rattle.scenario_engine.specs.Seats.{BreaksSite, DoesSite};
 ghost use Rattle.boot_core.specs.Boot.{new_boot};
 ghost use Rattle.boot_core.specs.declared.boot.Start.{Start};
 ghost use Rattle.outside.specs.Faults.{Rose};
@@ -16,12 +21,12 @@ ghost use Rattle.scenario_engine.specs.declared.failure.LineFailure.{LineFailure
 ghost use Rattle.scenario_engine.specs.declared.failure.UnstartedCause.{UnstartedCause};
 ghost use Rattle.scenario_engine.specs.KeeperCalls.{seen};
 ghost use Rattle.scenario_engine.specs.Opening.{Opened};
-ghost use Rattle.scenario_engine.specs.Running.{started, with_callers, with_sessions, scope_of, drop_step, down_step, up_step, reboot_step, table_step, journal_step, boot_line};
-ghost use Rattle.scenario_engine.specs.Telling.{Opens, FailsToOpen, Commits, CommitsPartly, failure_of};
+ghost use Rattle.scenario_engine.specs.Running.{started, reopened_over, with_callers, with_sessions, scope_of, drop_step, down_step, up_step, reboot_step, table_step, journal_step, boot_line};
+ghost use Rattle.scenario_engine.specs.Telling.{Opens, FailsToOpen, Commits, CommitsPartly, AnswersSeat, EndsSeat, failure_of};
 
 use crate::failure::{LineFailure, UnstartedCause, failure_of};
 use boot_core::{Boot, JournalLimits};
-use container_core::{Container, StartFail};
+use container_core::{Container, StartFail, histories_grow};
 use crash_base::{APPLICATION, LatestRows, OutOfMemory, Place, Scope, WordText, WorkerNo};
 use deployment::Deployment;
 use line_steps::{
@@ -29,28 +34,34 @@ use line_steps::{
     reboot_refusal_text, rebooted_text, request_of, table_text, up_text,
 };
 use outside::Keeper;
-use scenario_text::{BootLine, CallLine, LineAnswer, MAX_CALLER, SessionLine};
+use scenario_text::{BootLine, CallLine, LineAnswer, MAX_CALLER, SeatLine, SessionLine};
+use seat_lines::Seats;
 use session_steps::Sessions;
+use site_routes::SiteRouter;
 use std::alloc::Global;
 use std::marker::Model;
 
-/// A boot that is started, in a container with its keeper, its callers, and the sessions.
+/// A boot that is started, in a container with its keeper, its callers, the sessions and the connections; and the
+/// router of the site, where its deployment is that of the site.
 #[derive(Drop)]
 pub(crate) struct Running<K: Keeper + Drop> {
     container: Container<K>,
     callers: Callers,
     sessions: Sessions,
+    seats: Seats,
+    router: Option<SiteRouter>,
 }
 
 impl<K: Keeper + Drop> Model for Running<K> {
-    ghost use Rattle.line_steps.specs.Callers.{AllFit};
+    ghost use Rattle.std.specs.Prelude.{is_some};
+    ghost use Rattle.scenario_engine.specs.Going.{RunsOn};
     ghost use Rattle.scenario_engine.specs.State.{RunningValue, running_value};
 
     ghost Value = { RunningValue };
 
-    ghost view = { λ a. running_value a.container a.callers a.sessions };
+    ghost view = { λ a. running_value a.container a.callers a.sessions a.seats (is_some a.router) };
 
-    ghost invariant = { λ a. AllFit a.container.boot a.callers };
+    ghost invariant = { λ a. RunsOn a.container a.callers a.seats (is_some a.router) };
 }
 
 /// A boot that was not opened: why, and its keeper.
@@ -68,6 +79,59 @@ fn not_opened<K: Keeper + Drop>(fail: StartFail<K>) -> Unopened<K>
     Unopened {
         failure: failure_of(fail.refusal),
         keeper: fail.keeper,
+    }
+}
+
+/// What the next boot takes over of one.
+#[derive(Drop)]
+struct Parts<K: Keeper + Drop> {
+    container: Container<K>,
+    sessions: Sessions,
+    seats: Seats,
+    router: Option<SiteRouter>,
+}
+
+/// The router of the site, where the deployment is that of the site.
+fn router_for(alloc: Global, site: bool) -> Result<Option<SiteRouter>, OutOfMemory>
+    ensures { IfOk result (λ router. is_some router ≡ site) }
+{
+    if site {
+        let router = SiteRouter::new(alloc)?;
+        Ok(Some(router))
+    } else {
+        Ok(None)
+    }
+}
+
+/// A line about connections over a container, with its sessions and connections. It is refused where there is no
+/// router.
+fn site_line<K: Keeper + Drop>(
+    alloc: Global,
+    router: &Option<SiteRouter>,
+    seats: &mut Seats,
+    container: &mut Container<K>,
+    sessions: Sessions,
+    line: SeatLine,
+) -> (Sessions, Result<LineAnswer, OutOfMemory>)
+    requires site { is_some router.now ≡ true → container.old.boot.start.deployment ≡ site_parts }
+    requires goes { AllGoOn container.old seats.old }
+    ensures answer { MatchResult result.1
+        (λ a. DoesSite (is_some router.now) line container.old sessions seats.old
+        (answer_of a (site_in container.new result.0 seats.new)) container.new)
+        (λ _. BreaksSite (is_some router.now) line container.old sessions seats.old container.new) }
+    ensures refused { IfOk result.1 (λ a. KeepsRefused a (site_in container.old sessions seats.old)
+        (site_in container.new result.0 seats.new)) }
+    ensures goes { AllGoOn container.new seats.new }
+    ensures grown { HasGrownBy container.old container.new }
+    ensures count { container.old.faults ≤ container.new.faults }
+{
+    histories_grow();
+    match router {
+        None => (sessions, Ok(LineAnswer::Refused)),
+        Some(router) => match seats.line(alloc, router, container, sessions, line) {
+            (sessions, Ok(answer)) => (sessions, Ok(answer)),
+            (sessions, Err(OutOfMemory)) => (sessions, Err(OutOfMemory)),
+        },
     }
 }
 
@@ -94,30 +158,43 @@ fn current_rows<'a>(alloc: Global, boot: &'a Boot) -> Result<LatestRows<'a>, Out
 }
 
 impl<K: Keeper + Drop> Running<K> {
-    /// A boot that was just started over these sessions, without callers.
-    fn over(alloc: Global, container: Container<K>, mut sessions: Sessions) -> Running<K>
+    /// A boot of the site or of another deployment that was just started over these sessions and connections, none of
+    /// which is there, without callers.
+    fn over(
+        alloc: Global,
+        container: Container<K>,
+        mut sessions: Sessions,
+        seats: Seats,
+        router: Option<SiteRouter>,
+    ) -> Running<K>
+        requires none { seats.seats ≡ [] }
+        requires site { is_some router ≡ true → container.boot.start.deployment ≡ site_parts }
         ensures started { (start : Start) → container.boot ≡ new_boot start → container.since ≡ []
-            → result.running ≡ started sessions start }
+            → result.running ≡ started sessions seats (is_some router) start }
         ensures keeper { result.keeper ≡ seen container.told container.faults }
     {
         sessions.reopen(container.boot());
         Running {
             callers: Callers::new(alloc),
             sessions,
+            seats,
+            router,
             container,
         }
     }
 
-    /// Opens a boot over the rows of the keeper and these sessions, without callers.
+    /// Opens a boot over the rows of the keeper and these sessions, without callers and connections.
     fn open(
         alloc: Global,
         deployment: Deployment,
         limits: JournalLimits,
         sessions: Sessions,
+        router: Option<SiteRouter>,
         keeper: K,
     ) -> Result<Running<K>, Unopened<K>>
+        requires site { is_some router ≡ true → deployment ≡ site_parts }
         ensures opens { MatchResult result
-            (λ r. (start : Start) × (r.running ≡ started sessions start)
+            (λ r. (start : Start) × (r.running ≡ started sessions no_seats (is_some router) start)
             × Opens deployment limits (Opened start) (seen (K.told keeper) (K.faults keeper)) r.keeper)
             (λ u. FailsToOpen u.failure deployment limits (seen (K.told keeper) (K.faults keeper))
             (seen (K.told u.keeper) (K.faults u.keeper))) }
@@ -128,7 +205,13 @@ impl<K: Keeper + Drop> Running<K> {
             (λ u. K.faults keeper ≤ K.faults u.keeper) }
     {
         match Container::start(alloc, deployment, keeper, limits) {
-            Ok(container) => Ok(Running::over(alloc, container, sessions)),
+            Ok(container) => Ok(Running::over(
+                alloc,
+                container,
+                sessions,
+                Seats::new(alloc),
+                router,
+            )),
             Err(fail) => Err(not_opened(fail)),
         }
     }
@@ -136,9 +219,10 @@ impl<K: Keeper + Drop> Running<K> {
     /// Starts the first boot, over the deployment and the limits of the head. Where it is not started, the keeper is
     /// handed back.
     pub(crate) fn start(alloc: Global, head: Head, keeper: K) -> Result<Running<K>, Unopened<K>>
-        requires { deploy_refusal head.parts ≡ None }
+        requires accepted { deploy_refusal head.parts ≡ None }
+        requires of_site { IsOfSite head }
         ensures opens { MatchResult result
-            (λ r. (start : Start) × (r.running ≡ started (set_up head.setup 0) start)
+            (λ r. (start : Start) × (r.running ≡ started (set_up head.setup 0) no_seats head.site start)
             × Opens head.parts head.limits (Opened start) (seen (K.told keeper) (K.faults keeper)) r.keeper)
             (λ u. FailsToOpen u.failure head.parts head.limits (seen (K.told keeper) (K.faults keeper))
             (seen (K.told u.keeper) (K.faults u.keeper))) }
@@ -155,26 +239,40 @@ impl<K: Keeper + Drop> Running<K> {
                 keeper,
             });
         };
+        let Ok(router) = router_for(alloc, head.site) else {
+            return Err(Unopened {
+                failure: LineFailure::OutOfMemory,
+                keeper,
+            });
+        };
         match Deployment::check(head.parts) {
-            Ok(deployment) => Running::open(alloc, deployment, limits, sessions, keeper),
+            Ok(deployment) => Running::open(alloc, deployment, limits, sessions, router, keeper),
             Err(_) => unreachable!(),
         }
     }
 
     /// What the next boot takes over. The callers are gone.
-    fn into_parts(self) -> (Container<K>, Sessions)
-        ensures boot { result.0.boot ≡ self.running.boot }
-        ensures keeper { seen result.0.told result.0.faults ≡ self.keeper }
-        ensures sessions { result.1 ≡ self.running.sessions }
+    fn into_parts(self) -> Parts<K>
+        ensures boot { result.container.boot ≡ self.running.boot }
+        ensures keeper { seen result.container.told result.container.faults ≡ self.keeper }
+        ensures sessions { result.sessions ≡ self.running.sessions }
+        ensures seats { result.seats ≡ self.running.seats }
+        ensures router { is_some result.router ≡ self.running.site }
+        ensures site { is_some result.router ≡ true → result.container.boot.start.deployment ≡ site_parts }
     {
-        (self.container, self.sessions)
+        Parts {
+            container: self.container,
+            sessions: self.sessions,
+            seats: self.seats,
+            router: self.router,
+        }
     }
 
-    /// Starts the next boot, over the same deployment and limits. The callers of this one are gone, and the sessions
-    /// stay. Where it is not started, the keeper is handed back.
+    /// Starts the next boot, over the same deployment and limits. The callers and the connections of this one are gone,
+    /// which gave back what they held, and the sessions stay. Where it is not started, the keeper is handed back.
     pub(crate) fn reopen(self, alloc: Global) -> Result<Running<K>, Unopened<K>>
         ensures opens { MatchResult result
-            (λ r. (start : Start) × (r.running ≡ started self.running.sessions start)
+            (λ r. (start : Start) × (r.running ≡ reopened_over self.running start)
             × Opens self.running.boot.start.deployment self.running.boot.start.limits (Opened start)
             self.keeper r.keeper)
             (λ u. FailsToOpen u.failure self.running.boot.start.deployment
@@ -185,9 +283,15 @@ impl<K: Keeper + Drop> Running<K> {
         ensures count { MatchResult result (λ r. self.keeper.faults ≤ r.keeper.faults)
             (λ u. self.keeper.faults ≤ K.faults u.keeper) }
     {
-        let (container, sessions) = self.into_parts();
+        let Parts {
+            mut container,
+            sessions,
+            mut seats,
+            router,
+        } = self.into_parts();
+        let sessions = seats.give_back(alloc, &mut container, sessions);
         match container.reopen(alloc) {
-            Ok(container) => Ok(Running::over(alloc, container, sessions)),
+            Ok(container) => Ok(Running::over(alloc, container, sessions, seats, router)),
             Err(fail) => Err(not_opened(fail)),
         }
     }
@@ -229,6 +333,7 @@ impl<K: Keeper + Drop> Running<K> {
         ensures refused { IfOk result (λ a. KeepsRefused a self.old.running self.new.running) }
         ensures count { self.old.keeper.faults ≤ self.new.keeper.faults }
     {
+        self.seats.stay();
         match self.next_committed_text(alloc, caller) {
             Err(OutOfMemory) => Err(OutOfMemory),
             Ok(text) => match self.callers.take(caller) {
@@ -251,6 +356,7 @@ impl<K: Keeper + Drop> Running<K> {
         ensures refused { KeepsRefused result self.old.running self.new.running }
         ensures kept { self.new.keeper ≡ self.old.keeper }
     {
+        self.seats.stay();
         let Some(ticket) = self.callers.take(caller) else {
             return LineAnswer::Refused;
         };
@@ -265,6 +371,7 @@ impl<K: Keeper + Drop> Running<K> {
         ensures refused { IfOk result (λ a. KeepsRefused a self.old.running self.new.running) }
         ensures kept { self.new.keeper ≡ self.old.keeper }
     {
+        self.seats.stay();
         let Some(scope) = scope_of(self.container.deployment(), &word) else {
             return Ok(LineAnswer::Refused);
         };
@@ -282,6 +389,7 @@ impl<K: Keeper + Drop> Running<K> {
         ensures refused { IfOk result (λ a. KeepsRefused a self.old.running self.new.running) }
         ensures kept { self.new.keeper ≡ self.old.keeper }
     {
+        self.seats.stay();
         let Some(scope) = scope_of(self.container.deployment(), &word) else {
             return Ok(LineAnswer::Refused);
         };
@@ -300,6 +408,7 @@ impl<K: Keeper + Drop> Running<K> {
         ensures refused { IfOk result (λ a. KeepsRefused a self.old.running self.new.running) }
         ensures kept { self.new.keeper ≡ self.old.keeper }
     {
+        self.seats.stay();
         let Some(scope) = scope_of(self.container.deployment(), &word) else {
             return Ok(LineAnswer::Refused);
         };
@@ -344,6 +453,7 @@ impl<K: Keeper + Drop> Running<K> {
         ensures refused { IfOk result (λ a. KeepsRefused a self.old.running self.new.running) }
         ensures kept { self.new.keeper ≡ self.old.keeper }
     {
+        self.seats.stay();
         if !self.callers.can_begin(caller) {
             return Ok(LineAnswer::Refused);
         }
@@ -405,5 +515,42 @@ impl<K: Keeper + Drop> Running<K> {
         ensures kept { self.new.keeper ≡ self.old.keeper }
     {
         self.sessions.step(alloc, line)
+    }
+
+    /// A line about connections. It is refused where the deployment is not that of the site.
+    pub(crate) fn seat_line(
+        self,
+        alloc: Global,
+        line: SeatLine,
+    ) -> (Running<K>, Result<LineAnswer, OutOfMemory>)
+        ensures answer { MatchResult result.1
+            (λ a. AnswersSeat self.running line (answer_of a result.0.running) self.keeper result.0.keeper)
+            (λ _. EndsSeat self.running line self.keeper result.0.keeper) }
+        ensures refused { IfOk result.1 (λ a. KeepsRefused a self.running result.0.running) }
+        ensures count { self.keeper.faults ≤ result.0.keeper.faults }
+    {
+        let Running {
+            mut container,
+            callers,
+            sessions,
+            mut seats,
+            router,
+        } = self;
+        let (sessions, answer) = site_line(
+            alloc,
+            &router,
+            &mut seats,
+            &mut container,
+            sessions,
+            line,
+        );
+        let running = Running {
+            container,
+            callers,
+            sessions,
+            seats,
+            router,
+        };
+        (running, answer)
     }
 }

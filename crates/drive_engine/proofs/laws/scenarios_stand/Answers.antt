@@ -9,5 +9,6 @@ returns c = λ turns old new made. record {
   unrebooted = c.no_turns_commit_after_a_reboot.ensures turns;
   serial = c.no_turns_break_the_order.ensures turns;
   own = c.commits_are_of_their_boot.ensures turns;
+  meant = c.journals_are_meant.ensures turns;
   sessions = c.scenarios_have_sessions.ensures turns;
 }

@@ -1,3 +1,4 @@
+use Rattle.scenario_engine.proofs.SeatsFit.{SeatLaws}
 use Rattle.scenario_engine.proofs.Soundness.{BootLaws, sound_in_all, sound_at_end}
 use Rattle.scenario_engine.proofs.laws.boots_are_sound.Goals as goal
 
@@ -10,4 +11,15 @@ returns c =
       down = sound.down;
       up = sound.up;
     } in
-    record { boots = sound_in_all laws; state = sound_at_end laws }
+    let fit = c.attempts_fit.ensures in
+    let at = c.boots_stay_sound_at_seats.ensures in
+    let seats : SeatLaws = record {
+      begins = fit.begins;
+      step = fit.step;
+      others = fit.others;
+      meanwhile = fit.meanwhile;
+      still = fit.still;
+      commits = at.commits;
+      sound = at.sound;
+    } in
+    record { boots = sound_in_all laws seats; state = sound_at_end laws seats }

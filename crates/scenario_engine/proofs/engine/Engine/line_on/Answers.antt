@@ -66,8 +66,8 @@ returns-in-Boot-clause-answer g c =
     let part = uncalled_ended c.boot_line.result line r next (boot_line r.running c.in-Boot.line) refl refl c.boot_line.ensures.answer c.boot_line.ensures.refused c.boot_line.ensures.kept in
     placed c.answered-in-Boot.result (in_run next) c.args.self.now (in_run r) c.args.line line (part_ended c.boot_line.result c.answered-in-Boot.result (in_run next) (in_run r) line c.answered-in-Boot.ensures part) v c.in-Boot.is
 
-pub returns-in-Run-clause-answer : goal.returns-in-Run-clause-answer
-returns-in-Run-clause-answer g c =
+pub returns-in-Session-clause-answer : goal.returns-in-Session-clause-answer
+returns-in-Session-clause-answer g c =
     let value = value_of g.K.Keeper.told g.K.Keeper.faults in
     let r = c.in-Run.running in
     let next = c.session_line.new.self in

@@ -1,8 +1,8 @@
-use Rattle.std.proofs.Common.{◌≡◌, Ok, Err, None, ap, sym, ◌∙◌, subst, refl}
+use Rattle.std.proofs.Common.{◌≡◌, inl, Ok, Err, None, ap, sym, ◌∙◌, subst, refl}
 use Rattle.deployment.proofs.Growing.{none_of_nothing}
 use Rattle.deployment.specs.Refusals.{deploy_refusal}
 use Rattle.line_steps.specs.declared.head.Head.{Head}
-use Rattle.line_steps.specs.Head.{no_head}
+use Rattle.line_steps.specs.Head.{no_head, IsOfSite}
 use Rattle.line_steps.specs.Texts.{boot_text}
 use Rattle.scenario_text.specs.declared.answer.LineAnswer.TheVariants as answers
 use Rattle.scenario_text.specs.declared.line.Line.TheVariants as lines
@@ -32,13 +32,13 @@ returns-after-boot_text-clause-answer g c =
       | in-Ok-boot_text w ↦ (
           let text = w.in-Ok-boot_text.ensures ∙ ap boot_text c.number-number.ensures in
           moved c.match-boot_text.result (Ok (answers.Wrote w.in-Ok-boot_text.text)) (in_run next) c.args.self.now (in_run r) lines.Reopen (reopened r.running next.running h.0 _ r.keeper next.keeper h.1 h.2 text) w.result-is v)
-      | in-Err-boot_text w ↦ moved c.match-boot_text.result (Err failures.OutOfMemory) (in_run next) c.args.self.now (in_run r) lines.Reopen (reopened_partly r.running h.0 r.keeper next.keeper h.2) w.result-is v
+      | in-Err-boot_text w ↦ moved c.match-boot_text.result (Err failures.OutOfMemory) (in_run next) c.args.self.now (in_run r) lines.Reopen (inl (reopened_partly r.running h.0 r.keeper next.keeper h.2)) w.result-is v
     ]
 
 pub invariant_of-self-in-Err : goal.invariant_of-self-in-Err
 invariant_of-self-in-Err g c =
-    let P : Head → Type 0 = λ h. deploy_refusal h.parts ≡ None in
-    subst P (sym c.new.ensures) (none_of_nothing no_head.parts refl refl refl)
+    let P : Head → Type 0 = λ h. (deploy_refusal h.parts ≡ None) × IsOfSite h in
+    subst P (sym c.new.ensures) (none_of_nothing no_head.parts refl refl refl, λ site. absurd (cc))
 
 pub returns-in-Err-clause-answer : goal.returns-in-Err-clause-answer
 returns-in-Err-clause-answer g c =

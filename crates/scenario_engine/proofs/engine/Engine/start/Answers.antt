@@ -2,7 +2,7 @@ use Rattle.std.proofs.Common.{◌≡◌, sym, ◌∙◌, ap, subst, refl, None}
 use Rattle.deployment.specs.Refusals.{deploy_refusal}
 use Rattle.deployment.proofs.Growing.{none_of_nothing}
 use Rattle.line_steps.specs.declared.head.Head.{Head}
-use Rattle.line_steps.specs.Head.{no_head}
+use Rattle.line_steps.specs.Head.{no_head, IsOfSite}
 use Rattle.scenario_engine.specs.Engine.{value_of}
 use Rattle.scenario_engine.specs.KeeperCalls.{seen}
 use Rattle.scenario_engine.proofs.Stepping.{heading, in_run, started_so, not_started_so, started_already}
@@ -10,8 +10,8 @@ use Rattle.scenario_engine.proofs.engine.Engine.start.Goals as goal
 
 pub invariant_of-self-in-Err : goal.invariant_of-self-in-Err
 invariant_of-self-in-Err g c =
-    let P : Head → Type 0 = λ h. deploy_refusal h.parts ≡ None in
-    subst P (sym c.new.ensures) (none_of_nothing no_head.parts refl refl refl)
+    let P : Head → Type 0 = λ h. (deploy_refusal h.parts ≡ None) × IsOfSite h in
+    subst P (sym c.new.ensures) (none_of_nothing no_head.parts refl refl refl, λ site. absurd (cc))
 
 pub returns-in-Ok-clause-starts : goal.returns-in-Ok-clause-starts
 returns-in-Ok-clause-starts g c =

@@ -1,3 +1,5 @@
+use Rattle.std.specs.Prelude.{is_some}
+use Rattle.scenario_engine.proofs.Going.{runs_grown}
 use Rattle.std.proofs.Common.{string_bytes, subst}
 use Rattle.container_core.specs.Container.{ContainerValue}
 use Rattle.line_steps.specs.Callers.{FitsCaller}
@@ -13,19 +15,25 @@ use Rattle.scenario_engine.proofs.running.Running.commit_step.Goals as goal
 
 pub commit-requires-after_bounds : goal.commit-requires-after_bounds
 commit-requires-after_bounds g c κs within =
-    subst (λ (a : Caller). FitsCaller c.self.inside.container.boot a) c.in-Some.ensures.live (fit_at c.self.inside.container.boot c.self.inside.callers c.args.caller c.self.invariant)
+    subst (λ (a : Caller). FitsCaller c.self.inside.container.boot a) c.in-Some.ensures.live (fit_at c.self.inside.container.boot c.self.inside.callers c.args.caller c.self.invariant.fits)
 
 pub invariant_of-self-in-Ok-commit : goal.invariant_of-self-in-Ok-commit
 invariant_of-self-in-Ok-commit g c =
-    fit_ended c.self.inside.container.boot c.commit.new.self.boot c.self.inside.callers c.take.new.self c.args.caller c.in-Some.ensures.taken c.commit.ensures.grown.boot c.self.invariant
+    runs_grown c.self.inside.container c.commit.new.self c.self.inside.callers c.take.new.self c.self.inside.seats _ c.commit.ensures.grown c.stay.ensures
+    (fit_ended c.self.inside.container.boot c.commit.new.self.boot c.self.inside.callers c.take.new.self c.args.caller c.in-Some.ensures.taken c.commit.ensures.grown.boot c.self.invariant.fits)
+    c.self.invariant
 
 pub invariant_of-self-in-Ok-commit_refusal_text : goal.invariant_of-self-in-Ok-commit_refusal_text
 invariant_of-self-in-Ok-commit_refusal_text g c =
-    fit_ended c.self.inside.container.boot c.commit.new.self.boot c.self.inside.callers c.take.new.self c.args.caller c.in-Some.ensures.taken c.commit.ensures.grown.boot c.self.invariant
+    runs_grown c.self.inside.container c.commit.new.self c.self.inside.callers c.take.new.self c.self.inside.seats _ c.commit.ensures.grown c.stay.ensures
+    (fit_ended c.self.inside.container.boot c.commit.new.self.boot c.self.inside.callers c.take.new.self c.args.caller c.in-Some.ensures.taken c.commit.ensures.grown.boot c.self.invariant.fits)
+    c.self.invariant
 
 pub invariant_of-self-in-Some : goal.invariant_of-self-in-Some
 invariant_of-self-in-Some g c =
-    fit_ended c.self.inside.container.boot c.commit.new.self.boot c.self.inside.callers c.take.new.self c.args.caller c.in-Some.ensures.taken c.commit.ensures.grown.boot c.self.invariant
+    runs_grown c.self.inside.container c.commit.new.self c.self.inside.callers c.take.new.self c.self.inside.seats _ c.commit.ensures.grown c.stay.ensures
+    (fit_ended c.self.inside.container.boot c.commit.new.self.boot c.self.inside.callers c.take.new.self c.args.caller c.in-Some.ensures.taken c.commit.ensures.grown.boot c.self.invariant.fits)
+    c.self.invariant
 
 pub returns-in-Ok-commit_refusal_text-clause-answer : goal.returns-in-Ok-commit_refusal_text-clause-answer
 returns-in-Ok-commit_refusal_text-clause-answer g c =
@@ -33,8 +41,8 @@ returns-in-Ok-commit_refusal_text-clause-answer g c =
     let n : ContainerValue = c.commit.new.self in
     let text = string_bytes c.in-Ok-commit_refusal_text.text in
     let cause = c.in-Err-commit.refused.cause in
-    let P : RunningValue → Type 0 = λ v. Commits v.running c.args.caller (Done (run_of n c.take.new.self c.self.inside.sessions) text) v.keeper (seen n.told n.faults) in
-    subst P c.self.view_is (refused_in k n c.self.inside.callers c.take.new.self c.self.inside.sessions c.args.caller c.in-Some.ticket cause text c.in-Some.ensures.live c.in-Ok-commit_refusal_text.ensures.memory c.in-Err-commit.ensures.answer c.in-Err-commit.ensures.leaves c.commit.ensures.count c.in-Err-commit.ensures.failed c.in-Some.ensures.taken c.in-Ok-commit_refusal_text.ensures.text)
+    let P : RunningValue → Type 0 = λ v. Commits v.running c.args.caller (Done (run_of n c.take.new.self c.self.inside.sessions c.self.inside.seats (is_some c.self.inside.router)) text) v.keeper (seen n.told n.faults) in
+    subst P c.self.view_is (refused_in k n c.self.inside.callers c.take.new.self c.self.inside.sessions c.self.inside.seats (is_some c.self.inside.router) c.args.caller c.in-Some.ticket cause text c.in-Some.ensures.live c.in-Ok-commit_refusal_text.ensures.memory c.in-Err-commit.ensures.answer c.in-Err-commit.ensures.leaves c.commit.ensures.count c.in-Err-commit.ensures.failed c.in-Some.ensures.taken c.in-Ok-commit_refusal_text.ensures.text)
 
 pub returns-clause-answer : goal.returns-clause-answer
 returns-clause-answer g c =
@@ -42,4 +50,4 @@ returns-clause-answer g c =
     let n : ContainerValue = c.commit.new.self in
     let cause = c.in-Err-commit.refused.cause in
     let P : RunningValue → Type 0 = λ v. CommitsPartly v.running c.args.caller v.keeper (seen n.told n.faults) in
-    subst P c.self.view_is (refused_partly (run_of k c.self.inside.callers c.self.inside.sessions) c.args.caller c.in-Some.ticket cause (seen k.told k.faults) (seen n.told n.faults) c.in-Some.ensures.live c.in-Err-commit.ensures.answer (asked_of cause c.in-Some.ticket.call k n c.in-Err-commit.ensures.leaves c.commit.ensures.count c.in-Err-commit.ensures.failed))
+    subst P c.self.view_is (refused_partly (run_of k c.self.inside.callers c.self.inside.sessions c.self.inside.seats (is_some c.self.inside.router)) c.args.caller c.in-Some.ticket cause (seen k.told k.faults) (seen n.told n.faults) c.in-Some.ensures.live c.in-Err-commit.ensures.answer (asked_of cause c.in-Some.ticket.call k n c.in-Err-commit.ensures.leaves c.commit.ensures.count c.in-Err-commit.ensures.failed))

@@ -1,4 +1,7 @@
-use Rattle.std.proofs.Common.{◌≡◌, sym, subst, ap}
+use Rattle.std.proofs.Common.{◌≡◌, ◌∙◌, sym, subst, ap}
+use Rattle.std.specs.Prelude.{is_some}
+use Rattle.seat_lines.specs.Site.{no_seats}
+use Rattle.scenario_engine.specs.Running.{started}
 use Rattle.scenario_engine.specs.KeeperCalls.{KeeperSeen, seen}
 use Rattle.scenario_engine.specs.Opening.{Opened}
 use Rattle.scenario_engine.specs.Telling.{Opens, FailsToOpen, failure_of}
@@ -13,7 +16,9 @@ returns-in-Ok-clause-opens g c =
     let new = seen k.told k.faults in
     let h = opened c.args.deployment c.args.limits old new k.boot c.in-Ok.ensures.started.opened c.in-Ok.ensures.count in
     let P : KeeperSeen → Type 0 = λ n. Opens c.args.deployment c.args.limits (Opened h.0) old n in
-    (h.0, c.over.ensures.started h.0 h.1 c.in-Ok.ensures.started.since, subst P (sym c.over.ensures.keeper) h.2)
+    let none : c.over.result.running ≡ started c.args.sessions no_seats (is_some c.args.router) h.0 =
+    c.over.ensures.started h.0 h.1 c.in-Ok.ensures.started.since ∙ ap (λ s. started c.args.sessions s (is_some c.args.router) h.0) c.new.ensures.state in
+    (h.0, none, subst P (sym c.over.ensures.keeper) h.2)
 
 pub returns-in-Err-clause-opens : goal.returns-in-Err-clause-opens
 returns-in-Err-clause-opens g c =

@@ -1,3 +1,5 @@
+use Rattle.std.specs.Prelude.{is_some}
+use Rattle.scenario_engine.proofs.Going.{runs_meanwhile}
 use Rattle.std.proofs.Common.{◌≡◌, Some, sym, ◌∙◌, ap, ℕ, string_bytes}
 use Rattle.journal_model.specs.declared.entry.Entry.TheVariants.{Up}
 use Rattle.journal_model.specs.Reboots.{IsUndone, undone_of}
@@ -25,7 +27,7 @@ returns-clause-answer g c =
     let is : IsUndone k.boot.entries down.0 s = found_of k.boot.entries s down undone in
     let wrote = c.in_ok-text.ensures ∙ ap (λ (n : ℕ). up_text n) c.end_reboot-place.ensures.place in
     let found : scope_of k.boot.start.deployment c.args.word ≡ Some s = sym (c.in-Some.ensures.scope ∙ ap (λ p. scope_of p c.args.word) c.deployment.ensures) in
-    up_done k c.end_reboot-place.new.self c.self.inside.callers c.self.inside.sessions c.args.word s down (string_bytes c.in_ok-text.text) found undone (c.end_reboot-place.ensures.up s is.down) wrote ∙ ap (λ (v : RunningValue). up_step v.running c.args.word) c.self.view_is
+    up_done k c.end_reboot-place.new.self c.self.inside.callers c.self.inside.sessions c.self.inside.seats (is_some c.self.inside.router) c.args.word s down (string_bytes c.in_ok-text.text) found undone (c.end_reboot-place.ensures.up s is.down) wrote ∙ ap (λ (v : RunningValue). up_step v.running c.args.word) c.self.view_is
 
 pub returns-in_err-text-clause-kept : goal.returns-in_err-text-clause-kept
 returns-in_err-text-clause-kept g c =
@@ -44,3 +46,11 @@ returns-clause-kept g c =
     let undone : undone_of k.boot.entries s ≡ Some down = ap (λ (b : BootValue). undone_of b.entries s) (sym c.as_boot.ensures.value) ∙ sym c.in-Some-undone_of.ensures in
     let is : IsUndone k.boot.entries down.0 s = found_of k.boot.entries s down undone in
     kept_after k c.end_reboot-place.new.self (Up s) (c.end_reboot-place.ensures.up s is.down) ∙ ap (λ (v : RunningValue). v.keeper) c.self.view_is
+
+pub invariant_of-self : goal.invariant_of-self
+invariant_of-self g c =
+    runs_meanwhile c.self.inside.container c.end_reboot-place.new.self c.self.inside.callers c.self.inside.seats _ c.end_reboot-place.ensures.grown c.stay.ensures c.self.invariant
+
+pub invariant_of-self-2 : goal.invariant_of-self-2
+invariant_of-self-2 g c =
+    runs_meanwhile c.self.inside.container c.end_reboot-place.new.self c.self.inside.callers c.self.inside.seats _ c.end_reboot-place.ensures.grown c.stay.ensures c.self.invariant
