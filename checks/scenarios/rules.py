@@ -1,6 +1,6 @@
 """Scenarios that are made by plain rules, which also say what they should write: two calls and a reboot in every order,
-two calls of one table in every order, lists of lines by chance in which callers, reboots and sessions are mixed, and
-pairs of faults of bricks.
+two calls of one table in every order, lists of lines by chance in which callers, reboots and sessions are mixed, pairs
+of faults of bricks, and requests of a browser that are cut at every place.
 Each function of ALL yields pairs of an input and an output. The rules are stated again here, apart from the program."""
 
 from itertools import combinations
@@ -585,6 +585,34 @@ def full_bricks_are_told():
     yield whole("bricks 2 2 2\n", (lines, wanted))
 
 
+# The site: what a connection is answered is the same however the bytes of its requests are cut.
+
+CURL = b"GET / HTTP/1.1\r\nHost: localhost\r\nUser-Agent: curl/8.5.0\r\nAccept: */*\r\n\r\n"
+HOME = b"""<!doctype html>
+<title>Auctions</title>
+<h1>Auctions</h1>
+<p>Signed out</p>
+<p><a href="/categories">Categories</a></p>
+"""
+
+
+def home_pages_by_every_cut():
+    """Two requests of the home page on one connection: in one line for each byte, with nothing, a step or a run behind
+    each, and in two lines, cut at each place; then the second one without its end."""
+    page = b"HTTP/1.1 200 OK\r\nContent-Type: text/html; charset=utf-8\r\nContent-Length: 120\r\n\r\n" + HOME
+    out = f"s1 out {page.hex()}"
+    for behind in ([], ["step s1"], ["run s1"]):
+        lines = [line for byte in CURL + CURL for line in (f"bytes s1 {byte:02x}", *behind)]
+        yield whole("site\nconn s1\n", ([*lines, "run s1", "end s1", "run s1"], [out, out, "s1 closed"]))
+    for cut in range(len(CURL) * 2 + 1):
+        parts = [(CURL + CURL)[:cut], (CURL + CURL)[cut:]]
+        lines = [line for part in parts for line in (f"bytes s1 {part.hex() or '-'}", "run s1")]
+        yield whole("site\nconn s1\n", (lines, [out, out]))
+    for cut in range(1, len(CURL)):
+        lines = [f"bytes s1 {(CURL + CURL[:cut]).hex()}", "end s1", "run s1"]
+        yield whole("site\nconn s1\n", (lines, [out, "s1 ended cut"]))
+
+
 def whole(head, played):
     """An input and an output of these lines."""
     lines, wanted = played
@@ -592,4 +620,4 @@ def whole(head, played):
 
 
 ALL = (reboots_in_every_order, calls_of_one_table_in_every_order, mixed_by_chance, reads_by_chance)
-ALL += (one_fault_at_the_write_and_one_at_the_read, full_bricks_are_told)
+ALL += (one_fault_at_the_write_and_one_at_the_read, full_bricks_are_told, home_pages_by_every_cut)
