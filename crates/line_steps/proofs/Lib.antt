@@ -3,4 +3,5 @@ pub mod Fitting
 pub mod Heading
 pub mod Listing
 pub mod Numbering
+mod SiteBricks
 pub mod Stepping

@@ -17,19 +17,21 @@
 //!
 //! `head_line` keeps the parts of the head such that a deployment accepts them, which are those of the site where it
 //! was named, and `Callers` keeps the calls such that each fits its boot. A line visits its bytes and those that it
-//! writes, and what its call of the boot visits.
+//! writes, and what its call of the boot visits. `sites_have_three_bricks` says which bricks the site has.
 #![tactic(auto)]
 
 mod call_lines;
 mod callers;
 mod copying;
 mod head;
+mod laws;
 mod tables;
 mod texts;
 
 pub use call_lines::call_line;
 pub use callers::{Caller, Callers, request_of};
 pub use head::{Head, SITE_BRICKS, SITE_LEAST, SITE_MOST, head_line};
+pub use laws::sites_have_three_bricks;
 pub use tables::{LAST_TABLE, table_of};
 pub use texts::{
     boot_text, commit_refusal_text, committed_text, down_text, journal_text, list_answer_text,

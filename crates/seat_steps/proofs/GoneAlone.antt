@@ -67,7 +67,7 @@ module _ (laws : AloneLaws) (key : List ℕ) (worker : WorkerNo) where
   at-stage s new items stage rest is none =
       both-so (record s { stage = stage }) new items (rest ∙ ap (λ (x : Stage ActionCall). let y : Shepherd ActionCall = record s { stage = x } in y) is, none)
 
-  at-so : (t : ShepherdTurn) (s new : Shepherd ActionCall) (items : List Item) → AloneAt key worker t s new items → (new, items) ≡ alone_at making t s
+  pub at-so : (t : ShepherdTurn) (s new : Shepherd ActionCall) (items : List Item) → AloneAt key worker t s new items → (new, items) ≡ alone_at making t s
   at-so turns.Bytes s new items at = both-so s new items at
   at-so turns.Request s new items at = both-so s new items at
   at-so turns.Outside s new items at = both-so s new items at

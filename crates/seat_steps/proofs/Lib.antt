@@ -7,3 +7,12 @@ mod Gone
 mod Sounding
 mod Stepping
 mod Windows
+mod AnswerStays
+mod AnsweringSteps
+mod GoneSaid
+mod InsideSaid
+mod OwnSaid
+mod PassesSaid
+mod RequestSaid
+mod Visiting
+mod MadeSteps

@@ -1,3 +1,4 @@
+pub mod Answering
 pub mod Begins
 pub mod Going
 pub mod Gone

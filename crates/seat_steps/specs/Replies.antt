@@ -7,11 +7,15 @@ use Rattle.lane_link.specs.Twins.{call_held}
 use Rattle.lane_link.specs.declared.link.LaneLink.{LaneLink}
 use Rattle.session_lanes.specs.Lanes.{LanesState}
 use Rattle.session_way.specs.declared.way.SessionWay.{SessionWay}
+use Rattle.shepherd.specs.Shepherds.{turn}
+use Rattle.shepherd.specs.declared.shepherd.ShepherdTurn.TheVariants as turns
 use Rattle.shepherd_steps.specs.Outside.{Replies}
 use Rattle.ssm_frames.specs.Spelling.{encode_of}
 use Rattle.ssm_stub.specs.declared.event.StubNext.TheVariants as next
 use Rattle.ssm_world.specs.Worlds.{next_of}
 use Rattle.ssm_world.specs.declared.event.Packet.{Packet}
+use Rattle.seat_steps.specs.Twinned.{way_in}
+use Rattle.seat_steps.specs.declared.seat.Seat.{Seat}
 
 -- the bytes that spell the frame of a packet; none where there is no such packet
 abbrev pub packet_bytes : Option Packet → List ℕ
@@ -41,3 +45,8 @@ IsSpelled st (Some number) =
 abbrev pub HearsSpelled : SessionWay → LaneLink → Type 0
 HearsSpelled to link =
     (from : BrickNo) → option_map next_of (call_held to) ≡ Some (next.Receive from) → IsSpelled link.lanes (heard_next link from)
+
+-- what a seat would hear over bricks is spelled by its bytes, where its turn is to call the link
+abbrev pub SeatHears : Seat → LanesState → Type 0
+SeatHears seat st =
+    turn seat.connection ≡ turns.Outside → HearsSpelled (way_in seat.connection.stage) (record { lanes = st; active = seat.twin })

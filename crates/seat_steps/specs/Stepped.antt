@@ -30,7 +30,7 @@ use Rattle.shepherd_steps.specs.Inside.{HasReplied, TellsReply, added_to, handed
 use Rattle.shepherd_steps.specs.Stepping.{Calling, Calls, Givens}
 use Rattle.site_programs.specs.Errands.{IsMadeOf}
 use Rattle.site_programs.specs.declared.maker.SiteMaker.{SiteMaker}
-use Rattle.seat_steps.specs.Replies.{HearsSpelled}
+use Rattle.seat_steps.specs.Replies.{HearsSpelled, SeatHears}
 use Rattle.seat_steps.specs.Seats.{SeatGivens, SeatOutcome, SeatWorld, givens_in, seat_step}
 use Rattle.seat_steps.specs.Twinned.{Twinned, twinned, way_in}
 use Rattle.seat_steps.specs.declared.seat.NextDraws.{NextDraws}
@@ -167,7 +167,7 @@ pub record MakesCalls (g : SeatGivens) (seat : Seat) (old : ContainerValue) (w :
 pub record HasStepped (key : List ℕ) (worker : WorkerNo) (now : Moment) (seat : Seat) (old : ContainerValue) (w : SeatWorld) (new : ContainerValue) (o : SeatOutcome) : Type 0 where
   pub keeps : Bool
   pub keeper : KeeperReplied keeps (seat_writes seat.connection old.boot) old new
-  pub heard : turn seat.connection ≡ turns.Outside → HearsSpelled (way_in seat.connection.stage) (record { lanes = w.store; active = seat.twin })
+  pub heard : SeatHears seat w.store
   pub calls : MakesCalls (record { key = key; worker = worker; now = now; keeps = keeps }) seat old w new o
   pub step_is : o ≡ seat_step (record { key = key; worker = worker; now = now; keeps = keeps }) seat w
 

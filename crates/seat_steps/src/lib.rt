@@ -23,6 +23,9 @@
 //! - `Seat::give_up` leaves what `seat_gone` says.
 //! - Bricks stay as events and lanes made them behind a step and where a seat is given up, also of a seat that does not
 //!   stand: law `bricks_stay_sound`.
+//! - `specs/Answering.antt` has what is so of a connection at any time, in the words of `shepherd`, as `SeatAnswers`:
+//!   its items are for the requests of its bytes, in order, each once, and what it put out are the responses to its
+//!   items. Each step keeps it, by the function: law `seats_answer_their_requests`.
 //!
 //! Whoever drives several seats keeps of each that it goes on in its container (`GoesOnAtSeat`), as with `shepherd`.
 //!
@@ -31,6 +34,7 @@
 #![tactic(auto)]
 
 mod alone;
+mod answering;
 mod events;
 mod giving_up;
 mod laws;
@@ -38,6 +42,7 @@ mod seat;
 mod step;
 mod twins;
 
+pub use answering::{made_steps_show_texts, seats_answer_their_requests};
 pub use laws::bricks_stay_sound;
 pub use seat::{NODE, NextDraws, Seat, SeatShepherd};
 pub use site_programs::SiteMaker;

@@ -80,7 +80,7 @@ shown_fewer : {P : Type 0} (place : Place) (again : Bool) (ready : Ready) (v : V
 shown_fewer place again (Respond bytes) v = omega arith
 shown_fewer place again (Write order page) v = omega arith
 
-closed_fewer : {P : Type 0} (ready : Bool → Ready) (o : RequestOutcome) (v : Visit P) → steps_left (left_so (closed_with ready o) v) ≤ page_steps + calls_left v.way
+pub closed_fewer : {P : Type 0} (ready : Bool → Ready) (o : RequestOutcome) (v : Visit P) → steps_left (left_so (closed_with ready o) v) ≤ page_steps + calls_left v.way
 closed_fewer ready (Page place again) v = shown_fewer place again (ready again) v
 closed_fewer ready (Sentinel group down) v = omega arith
 closed_fewer ready (Revoked tries) v = omega arith
@@ -135,7 +135,7 @@ opens_fewer v tries program is =
 
 -- At the windows.
 
-told_same : {P : Type 0} (told : Option WriteOutcome) (work : Work P) → work_left (work_told told work) ≡ work_left work
+pub told_same : {P : Type 0} (told : Option WriteOutcome) (work : Work P) → work_left (work_told told work) ≡ work_left work
 told_same None work = refl
 told_same (Some (outcome.Written cookie)) Reading = refl
 told_same (Some (outcome.Written cookie)) Opening = refl
@@ -152,12 +152,12 @@ told_same (Some (outcome.Missed causes)) (Decided became) = refl
 told_same (Some (outcome.Missed causes)) (Answered fate bytes) = refl
 told_same (Some (outcome.Missed causes)) (Left fate) = refl
 
-after_told : {P : Type 0} (told : Option WriteOutcome) (v : Visit P) → steps_left (after_outcome told v) ≡ work_left (work_told told v.work) + calls_left v.way
+pub after_told : {P : Type 0} (told : Option WriteOutcome) (v : Visit P) → steps_left (after_outcome told v) ≡ work_left (work_told told v.work) + calls_left v.way
 after_told None v = refl
 after_told (Some (outcome.Written cookie)) v = refl
 after_told (Some (outcome.Missed causes)) v = refl
 
-overloaded_same : {P : Type 0} (full : List WindowFact) (work : Work P) → work_left (overloaded full work) ≡ work_left work
+pub overloaded_same : {P : Type 0} (full : List WindowFact) (work : Work P) → work_left (overloaded full work) ≡ work_left work
 overloaded_same full Reading = refl
 overloaded_same full Opening = refl
 overloaded_same full (Serving tries program) = refl

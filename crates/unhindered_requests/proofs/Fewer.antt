@@ -94,7 +94,7 @@ goes_not : (x : Next) (done : DoneText) → x ≡ next.Done done → Continues x
 goes_not x done is goes = subst Continues is goes
 
 -- a try that goes on has had fewer answers than it may have
-few_answers : (law : DoneInTime) (c : ContainerValue) (asks : List Answer → Next) (a : AttemptValue) → IsSome (run_of c.boot.start.deployment asks (rows_at_begin c.boot a.ticket.call)) → IsUnderWay c.boot asks a → Continues (wanted asks a) → length a.answers < MAX_STEPS
+pub few_answers : (law : DoneInTime) (c : ContainerValue) (asks : List Answer → Next) (a : AttemptValue) → IsSome (run_of c.boot.start.deployment asks (rows_at_begin c.boot a.ticket.call)) → IsUnderWay c.boot asks a → Continues (wanted asks a) → length a.answers < MAX_STEPS
 few_answers law c asks a some way goes = elim (cases_lt (length a.answers) MAX_STEPS) [
   | inl few ↦ few
   | inr many ↦ (let done = law c.boot asks a some way many in absurd (goes_not (wanted asks a) done.0 done.1 goes))
