@@ -27,10 +27,11 @@ use Rattle.ssm_stub.specs.Reads.{ReadState, read_start}
 use Rattle.ssm_world.specs.Worlds.{WorldValue, is_new, nonce_of}
 use Rattle.ssm_world.specs.declared.call.Call.{Call}
 use Rattle.ssm_world.specs.declared.call.Call.TheVariants as call
+use Rattle.seat_steps.specs.Replies.{SeatHears}
 use Rattle.seat_steps.specs.Seats.{SeatGivens, SeatWorld, givens_in, making_by, seat_step, seen_by}
 use Rattle.seat_steps.specs.Twinned.{Twinned, begun_there, twinned, twinned_by, value_put, way_in, write_there}
 use Rattle.seat_steps.specs.declared.seat.Seat.{Seat}
-use Rattle.seat_laws.specs.Standing.{AreApart, HasTwin, SeatHears, HoldsNew, SeatStands}
+use Rattle.seat_laws.specs.Standing.{AreApart, HasTwin, HoldsNew, SeatStands}
 use Rattle.seat_laws.proofs.Alone.{gone-in}
 use Rattle.seat_laws.proofs.Moving.{MoveLaws, Moves, events-on, moves-events, moves-sound, none-of, one-of, other-stays, same-world}
 use Rattle.seat_laws.proofs.Twinning.{EventLaws, MayBegin, Moved, Twinnable, event-moved, stays-twinnable}

@@ -54,10 +54,10 @@ use Rattle.ssm_stub.specs.declared.reply.ReadReply.{ReadReply}
 use Rattle.lane_link.specs.declared.link.LaneLink.{LaneLink}
 use Rattle.seat_steps.specs.Seats.{SeatGivens, SeatWorld, givens_in, making_by, readings_under, seat_step, seen_by, service_in}
 use Rattle.seat_steps.specs.declared.seat.Seat.{Seat}
-use Rattle.seat_laws.proofs.Asking.{AskLaws, asked-holders}
+use Rattle.seat_laws.proofs.Asking.{AskLaws, BearLaws, accepted-cookie, asked-holders}
 use Rattle.seat_laws.proofs.HearingReads.{gone-heard}
 use Rattle.seat_laws.proofs.Passing.{admitted, drawing, undrawn}
-use Rattle.seat_laws.specs.Reads.{found, read_behind, read_fated, read_heard, read_told}
+use Rattle.seat_laws.specs.Reads.{BearsCookie, found, read_behind, read_fated, read_heard, read_told}
 
 -- nothing is told of a session by this work, where none was found
 abbrev QuietWork : Work ActionCall → Type 0
@@ -164,37 +164,47 @@ first-turn (h ∷ hs) some = by (turn_in_order asks) refl where
   by None none = absurd (let e : true ≡ false = all_heard_in_order asks none 0 (record { who = h; ear = Open Unasked }) refl in cc)
   by (Some t) is = (t, is)
 
--- What a read came to that has just begun: its cookie has expired.
-pub record HasExpired (now : Moment) (o : ReadOutcome) : Type 0 where
-  pub expiry : Moment
-  pub is : o ≡ read.Expired now expiry
-  pub past : expiry.0 < now.0
+-- what is answered to a read that asked nobody yet, but that its cookie has expired
+abbrev pub unasked-rest : List Holder → Option (Result (List ℕ) ReadRefusal)
+unasked-rest hs =
+    let asks : List (Ask Holder ReadReply) = none_asked hs in
+    found_or (found_in asks) (lost_unless (turn_in_order asks) (filter_map loss_of asks))
 
-start-expired : (now : Moment) (nonce : Version) (cookie : Cookie) (o : ReadOutcome) → AreHolders cookie.bricks → outcome_of_read (read_start now nonce cookie) ≡ Some o → HasExpired now o
+-- that is nothing
+pub rest-none : (hs : List Holder) → AreHolders hs → unasked-rest hs ≡ None
+rest-none hs holders = by (none_asked hs) (fresh-asks hs) (first-turn hs holders.0) where
+  by : (asks : List (Ask Holder ReadReply)) → AreFresh asks → ((t : Turn Holder) × (turn_in_order asks ≡ Some t))
+      → found_or (found_in asks) (lost_unless (turn_in_order asks) (filter_map loss_of asks)) ≡ None
+  by asks fresh first =
+      ap (λ (f : Option (List ℕ)). found_or f (lost_unless (turn_in_order asks) (filter_map loss_of asks))) (none_found asks fresh)
+      ∙ ap (λ (t : Option (Turn Holder)). lost_unless t (filter_map loss_of asks)) first.1
+
+-- What a read came to that has just begun: its cookie has expired.
+record IsPast (now : Moment) (cookie : Cookie) (o : ReadOutcome) : Type 0 where
+  is : o ≡ read.Expired now cookie.expiry
+  past : cookie.expiry.0 < now.0
+
+start-expired : (now : Moment) (nonce : Version) (cookie : Cookie) (o : ReadOutcome) → AreHolders cookie.bricks → outcome_of_read (read_start now nonce cookie) ≡ Some o → IsPast now cookie o
 start-expired now nonce cookie o holders came = by (nat_lt cookie.expiry.0 now.0) refl came where
   r : ReadState
   r = read_start now nonce cookie
 
-  asks : List (Ask Holder ReadReply)
-  asks = none_asked cookie.bricks
-
-  rest : Option (Result (List ℕ) ReadRefusal)
-  rest = found_or (found_in asks) (lost_unless (turn_in_order asks) (filter_map loss_of asks))
-
-  none : rest ≡ None
-  none =
-      let first = first-turn cookie.bricks holders.0 in
-      ap (λ (f : Option (List ℕ)). found_or f (lost_unless (turn_in_order asks) (filter_map loss_of asks))) (none_found asks (fresh-asks cookie.bricks))
-      ∙ ap (λ (t : Option (Turn Holder)). lost_unless t (filter_map loss_of asks)) first.1
-
   same : (x : ReadOutcome) → Some x ≡ Some o → o ≡ x
   same x is = cc
 
-  by : (b : Bool) → nat_lt cookie.expiry.0 now.0 ≡ b → option_and_then (outcome_by r) (if b then Some (Err (refusal.Expired now cookie.expiry)) else rest) ≡ Some o → HasExpired now o
-  by true late is = record { expiry = cookie.expiry; is = same (read.Expired now cookie.expiry) is; past = ltb-true cookie.expiry.0 now.0 late }
-  by false late is = absurd (let e : None ≡ Some o = sym (ap (option_and_then (outcome_by r)) none) ∙ is in cc)
+  by : (b : Bool) → nat_lt cookie.expiry.0 now.0 ≡ b → option_and_then (outcome_by r) (if b then Some (Err (refusal.Expired now cookie.expiry)) else unasked-rest cookie.bricks) ≡ Some o → IsPast now cookie o
+  by true late is = record { is = same (read.Expired now cookie.expiry) is; past = ltb-true cookie.expiry.0 now.0 late }
+  by false late is = absurd (let e : None ≡ Some o = sym (ap (option_and_then (outcome_by r)) (rest-none cookie.bricks holders)) ∙ is in cc)
 
-module _ (laws : AskLaws) (g : SeatGivens) (seat : Seat) (w : SeatWorld) (o : ReadOutcome) where
+-- A request bears a cookie that has expired, and hears so.
+pub record HasExpired (key bytes : List ℕ) (now : Moment) (o : ReadOutcome) : Type 0 where
+  pub head : Head
+  pub cookie : Cookie
+  pub bears : BearsCookie key bytes head cookie
+  pub is : o ≡ read.Expired now cookie.expiry
+  pub past : cookie.expiry.0 < now.0
+
+module _ (laws : AskLaws) (more : BearLaws) (g : SeatGivens) (seat : Seat) (w : SeatWorld) (o : ReadOutcome) where
   abbrev m : Making ActionCall
   m = making_by g
 
@@ -206,45 +216,52 @@ module _ (laws : AskLaws) (g : SeatGivens) (seat : Seat) (w : SeatWorld) (o : Re
   at = record { connection = k; twin = seat.twin }
 
   abbrev Hears : Shepherd ActionCall → Type 0
-  Hears s = read_heard (gone_alone m s).0.stage ≡ Some o → HasExpired g.now o
+  Hears s = read_heard (gone_alone m s).0.stage ≡ Some o → HasExpired g.key k.received g.now o
 
   quiet-hears : (s : Shepherd ActionCall) → Quiet s.stage → Hears s
   quiet-hears s quiet heard = absurd (gone-quiet m s o quiet heard)
 
   request-hears : (seen : LinkCounts) → Hears (take_request (service_in g w) seen g.now k undrawn).0
   unfolding take_request
-  request-hears seen = by (taken_of k.received) where
+  request-hears seen = by (taken_of k.received) refl where
     -- the connection behind a request's bytes, at this stage
     behind : Head → Stage ActionCall → Shepherd ActionCall
     behind head stage = record (takes_by (service_in g w) seen g.now (took.Request head) k undrawn).0 { stage = stage }
 
-    admits : (head : Head) (order : Order) → decided_by (readings_under g.key) w.boot.start.boot head ≡ decided.Ordered order → (c : Option Cookie) → order.cookie ≡ c
+    admits : (head : Head) → taken_of k.received ≡ took.Request head → (order : Order) → decided_by (readings_under g.key) w.boot.start.boot head ≡ decided.Ordered order → (c : Option Cookie) → order.cookie ≡ c
         → Hears (behind head (admitted_visit (facts_of (admitted g w order) g.now k.front head) seen (admitted g w order) c))
-    admits head order is None has = quiet-hears (behind head (admitted_visit (facts_of (admitted g w order) g.now k.front head) seen (admitted g w order) None)) (refl, tt)
-    admits head order is (Some cookie) has = λ heard.
+    admits head taken order is None has = quiet-hears (behind head (admitted_visit (facts_of (admitted g w order) g.now k.front head) seen (admitted g w order) None)) (refl, tt)
+    admits head taken order is (Some cookie) has = λ heard.
         let a = admitted g w order in
         let r : ReadState = read_start g.now a.read cookie in
         let v : Visit ActionCall = begun (facts_of a g.now k.front head) seen (way.Reading r) Reading in
-        start-expired g.now a.read cookie o (asked-holders laws g.key w.boot.start.boot head order cookie is has)
-        (gone-heard m (behind head Resting) v (Some (asked_call a)) r o heard)
+        let late : IsPast g.now cookie o = start-expired g.now a.read cookie o (asked-holders laws g.key w.boot.start.boot head order cookie is has)
+        (gone-heard m (behind head Resting) v (Some (asked_call a)) r o heard) in
+        record {
+          head = head;
+          cookie = cookie;
+          bears = record { taken = taken; accepted = accepted-cookie laws more g.key w.boot.start.boot head order cookie is has };
+          is = late.is;
+          past = late.past;
+        }
 
-    spent : (head : Head) (order : Order) → decided_by (readings_under g.key) w.boot.start.boot head ≡ decided.Ordered order → (x : Option ℕ)
+    spent : (head : Head) → taken_of k.received ≡ took.Request head → (order : Order) → decided_by (readings_under g.key) w.boot.start.boot head ≡ decided.Ordered order → (x : Option ℕ)
         → Hears (behind head (begun_by k.front seen head g.now (arrival_by g.key (service_in g w).home order g.now (drawing g w order).drawn x)))
-    spent head order is (Some serial) =
+    spent head taken order is (Some serial) =
         quiet-hears (behind head (begun_by k.front seen head g.now (arrival_by g.key (service_in g w).home order g.now (drawing g w order).drawn (Some serial)))) (refl, refl)
-    spent head order is None = admits head order is order.cookie refl
+    spent head taken order is None = admits head taken order is order.cookie refl
 
-    decision : (head : Head) (d : Decision) → decided_by (readings_under g.key) w.boot.start.boot head ≡ d → Hears (behind head (begun_by k.front seen head g.now (arrives_by (service_in g w) g.now d undrawn).0))
-    decision head (decided.Refused why) is = quiet-hears (behind head (begun_by k.front seen head g.now (arrives_by (service_in g w) g.now (decided.Refused why) undrawn).0)) (refl, refl)
-    decision head (decided.Ordered order) is = spent head order is (drawing g w order).spent
+    decision : (head : Head) → taken_of k.received ≡ took.Request head → (d : Decision) → decided_by (readings_under g.key) w.boot.start.boot head ≡ d → Hears (behind head (begun_by k.front seen head g.now (arrives_by (service_in g w) g.now d undrawn).0))
+    decision head taken (decided.Refused why) is = quiet-hears (behind head (begun_by k.front seen head g.now (arrives_by (service_in g w) g.now (decided.Refused why) undrawn).0)) (refl, refl)
+    decision head taken (decided.Ordered order) is = spent head taken order is (drawing g w order).spent
 
-    by : (t : Taken) → Hears (takes_by (service_in g w) seen g.now t k undrawn).0
-    by (took.Request head) = decision head ((service_in g w).decides head) refl
-    by took.Bad = quiet-hears (takes_by (service_in g w) seen g.now took.Bad k undrawn).0 tt
-    by (took.TooLong len lines) = quiet-hears (takes_by (service_in g w) seen g.now (took.TooLong len lines) k undrawn).0 tt
-    by took.NoCoding = quiet-hears (takes_by (service_in g w) seen g.now took.NoCoding k undrawn).0 tt
-    by (took.BodyTooLong said) = quiet-hears (takes_by (service_in g w) seen g.now (took.BodyTooLong said) k undrawn).0 tt
-    by took.More = quiet-hears k tt
+    by : (t : Taken) → taken_of k.received ≡ t → Hears (takes_by (service_in g w) seen g.now t k undrawn).0
+    by (took.Request head) taken = decision head taken ((service_in g w).decides head) refl
+    by took.Bad taken = quiet-hears (takes_by (service_in g w) seen g.now took.Bad k undrawn).0 tt
+    by (took.TooLong len lines) taken = quiet-hears (takes_by (service_in g w) seen g.now (took.TooLong len lines) k undrawn).0 tt
+    by took.NoCoding taken = quiet-hears (takes_by (service_in g w) seen g.now took.NoCoding k undrawn).0 tt
+    by (took.BodyTooLong said) taken = quiet-hears (takes_by (service_in g w) seen g.now (took.BodyTooLong said) k undrawn).0 tt
+    by took.More taken = quiet-hears k tt
 
   abbrev E : ShepherdTurn → World ActionCall LaneLink
   E t = (event_at (givens_in g w) t (seen_by at w)).0
@@ -263,11 +280,11 @@ module _ (laws : AskLaws) (g : SeatGivens) (seat : Seat) (w : SeatWorld) (o : Re
   event-hears (turns.Ended end) = quiet-hears (E (turns.Ended end)).connection tt
 
 -- What a connection hears of a session in the step in which it takes a request: that its cookie has expired.
-pub at-once : AskLaws → (g : SeatGivens) (seat : Seat) (w : SeatWorld) (o : ReadOutcome) → seat.connection.stage ≡ Resting → read_heard (seat_step g seat w).seat.connection.stage ≡ Some o → HasExpired g.now o
+pub at-once : AskLaws → BearLaws → (g : SeatGivens) (seat : Seat) (w : SeatWorld) (o : ReadOutcome) → seat.connection.stage ≡ Resting → read_heard (seat_step g seat w).seat.connection.stage ≡ Some o → HasExpired g.key seat.connection.received g.now o
 unfolding seat_step step
-at-once laws g seat w o rests heard =
+at-once laws more g seat w o rests heard =
     let P : Stage ActionCall → Type 0 =
     λ stage. let s : Shepherd ActionCall = record (seat.connection) { stage = stage } in
     let e : World ActionCall LaneLink = (event_at (givens_in g w) (turn s) (seen_by (record { connection = s; twin = seat.twin }) w)).0 in
-    read_heard (gone_alone (making_by g) e.connection).0.stage ≡ Some o → HasExpired g.now o in
-    subst P (sym rests) (event-hears laws g seat w o (turn (let s : Shepherd ActionCall = record (seat.connection) { stage = Resting } in s))) heard
+    read_heard (gone_alone (making_by g) e.connection).0.stage ≡ Some o → HasExpired g.key seat.connection.received g.now o in
+    subst P (sym rests) (event-hears laws more g seat w o (turn (let s : Shepherd ActionCall = record (seat.connection) { stage = Resting } in s))) heard

@@ -1,6 +1,7 @@
 -- The serial numbers that are drawn rise, and those of a read and of a write differ.
 use Rattle.std.proofs.Common.{is_none, is_some, ◌≡◌, ◌≢◌, ◌∙◌, ◌≤◌, ◌<◌, ◌+◌, ◌%◌, ◌^◌, ◌||◌, ℕ, suc, Bool, true, false, nat_lt, nat_le, not, ◌&&◌, if◌then◌else◌, List, [], ◌∷◌, ◌++◌, Option, Some, None, refl, sym, ap, subst, arith}
 use Rattle.std.specs.List.{list_any}
+use Rattle.std.proofs.lemmas.Bool.{ltb-false}
 use Rattle.std.proofs.lemmas.Bool.Decides.{nat_tests}
 use Rattle.outside.specs.declared.serials.TheConstants.{SERIALS_END}
 use Rattle.request_decisions.specs.Calls.{number_for}
@@ -63,6 +64,22 @@ all-drawn numbers (kind ∷ kinds) counts =
     more-drawn kind kinds (numbers.serials counts.serials) (numbers.words counts.words) counts (draws numbers kinds (record counts { serials = suc counts.serials })) (draws numbers kinds (record counts { words = suc counts.words }))
     (all-drawn numbers kinds (record counts { serials = suc counts.serials })) (all-drawn numbers kinds (record counts { words = suc counts.words }))
     (is_serial kind) (nat_lt (numbers.serials counts.serials) SERIALS_END)
+
+more-spent : (kind : DrawKind) (seen word last : ℕ) (counts : Counts) (further words : Drawing) → (further.spent ≡ Some last → SERIALS_END ≤ last) → (words.spent ≡ Some last → SERIALS_END ≤ last)
+    → (b c : Bool) → nat_lt seen SERIALS_END ≡ c → (more b c kind seen word counts further words).spent ≡ Some last → SERIALS_END ≤ last
+more-spent kind seen word last counts further words one other true true at is = one is
+more-spent kind seen word last counts further words one other true false at is =
+    let e : Some seen ≡ Some last = is in let same : seen ≡ last = cc in subst (λ (n : ℕ). SERIALS_END ≤ n) same (ltb-false seen SERIALS_END at)
+more-spent kind seen word last counts further words one other false c at is = other is
+
+-- a serial number that is spent is past the last one
+pub spent-past : (numbers : Numbers) (last : ℕ) (kinds : List DrawKind) (counts : Counts) → (draws numbers kinds counts).spent ≡ Some last → SERIALS_END ≤ last
+spent-past numbers last [] counts is = absurd (let e : None ≡ Some last = is in cc)
+spent-past numbers last (kind ∷ kinds) counts is =
+    more-spent kind (numbers.serials counts.serials) (numbers.words counts.words) last counts
+    (draws numbers kinds (record counts { serials = suc counts.serials })) (draws numbers kinds (record counts { words = suc counts.words }))
+    (spent-past numbers last kinds (record counts { serials = suc counts.serials })) (spent-past numbers last kinds (record counts { words = suc counts.words }))
+    (is_serial kind) (nat_lt (numbers.serials counts.serials) SERIALS_END) refl is
 
 -- whether a kind of this number is drawn by a serial number
 abbrev serial_number : ℕ → Bool

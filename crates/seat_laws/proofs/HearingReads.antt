@@ -31,7 +31,7 @@ use Rattle.shepherd_steps.specs.Alone.{Making, alone, alone_at, gone_alone}
 use Rattle.shepherd_steps.specs.Opening.{open_stage}
 use Rattle.shepherd_steps.specs.Outside.{machine_after, outside}
 use Rattle.shepherd_steps.specs.Own.{outcome_by, outcome_of_read, own, told_read}
-use Rattle.shepherd_steps.specs.Stepping.{World, event_at}
+use Rattle.shepherd_steps.specs.Stepping.{World, event_at, step}
 use Rattle.ssm_frames.specs.Spelling.{encode_of}
 use Rattle.ssm_stub.specs.Reads.{ReadState, read_answer, read_ask, read_machine, read_next}
 use Rattle.ssm_stub.specs.declared.event.StubNext.{StubNext}
@@ -39,8 +39,9 @@ use Rattle.ssm_stub.specs.declared.event.StubNext.TheVariants as next
 use Rattle.ssm_stub.specs.declared.read_call.ReadRefusal.{ReadRefusal}
 use Rattle.ssm_stub.specs.declared.read_call.ReadRefusal.TheVariants as refusal
 use Rattle.seat_steps.specs.Replies.{lane_replies}
-use Rattle.seat_steps.specs.Seats.{SeatGivens, SeatWorld, givens_in, making_by}
+use Rattle.seat_steps.specs.Seats.{SeatGivens, SeatWorld, givens_in, making_by, seat_step}
 use Rattle.seat_steps.specs.Twinned.{way_in}
+use Rattle.seat_steps.specs.declared.seat.Seat.{Seat}
 use Rattle.seat_laws.specs.Reads.{read_awaited, read_heard, read_under_way}
 
 -- what a read came to is its answer
@@ -95,10 +96,10 @@ under-way (Refusing why bytes) r is = absurd (cc)
 under-way (Over end) r is = absurd (cc)
 
 -- whose turn it is where a request waits for a read
-abbrev WaitingTurn : ShepherdTurn → Type 0
+abbrev pub WaitingTurn : ShepherdTurn → Type 0
 WaitingTurn t = (t ≡ turns.Outside) ⊎ ((t ≡ turns.Own) ⊎ ((end : EndKind) × (t ≡ turns.Ended end)))
 
-waiting-turn : (s : Shepherd ActionCall) (v : Visit ActionCall) (call : Option AskedCall) (r : ReadState) → WaitingTurn (turn (waits s v call r))
+pub waiting-turn : (s : Shepherd ActionCall) (v : Visit ActionCall) (call : Option AskedCall) (r : ReadState) → WaitingTurn (turn (waits s v call r))
 waiting-turn s v call r = by s.wants_memory (read_next r) where
   by : (b : Bool) (n : StubNext) → WaitingTurn (if b then turns.Ended ends.OutOfMemory else turn_by (or_own (outside_or wanted.Nothing n)))
   by true n = inr (inr (ends.OutOfMemory, refl))
@@ -171,20 +172,126 @@ module _ (m : Making ActionCall) (s : Shepherd ActionCall) (v : Visit ActionCall
     by t (inr (inl is)) = subst K (sym is) (then-heard (outcome_of_read r) refl)
     by t (inr (inr is)) = subst K (sym is.1) once-heard
 
+-- what was heard at a stage, where something was
+abbrev pub Heard : Stage ActionCall → Type 0
+Heard stage = (o : ReadOutcome) × (read_heard stage ≡ Some o)
+
+-- the same, where no read is waited for
+abbrev pub HearsOrWaits : Stage ActionCall → Type 0
+HearsOrWaits stage = read_under_way stage ≡ None → Heard stage
+
+module _ (m : Making ActionCall) (s : Shepherd ActionCall) (v : Visit ActionCall) (call : Option AskedCall) (r : ReadState) where
+  abbrev waiter : Shepherd ActionCall
+  waiter = waits s v call r
+
+  -- a request that waits still has not come to hear anything
+  waits-still : HearsOrWaits waiter.stage
+  waits-still none = absurd (let e : Some r ≡ None = none in cc)
+
+  -- by what it does by itself once, while its read has come to nothing
+  once-waits : outcome_of_read r ≡ None → (alone m waiter).0 ≡ waiter
+  unfolding alone own
+  once-waits nothing = by (turn waiter) (waiting-turn s v call r) where
+    by : (t : ShepherdTurn) → WaitingTurn t → (alone_at m t waiter).0 ≡ waiter
+    by t (inl is) = ap (λ (x : ShepherdTurn). (alone_at m x waiter).0) is
+    by t (inr (inl is)) =
+        ap (λ (x : ShepherdTurn). (alone_at m x waiter).0) is
+        ∙ ap (λ (x : Option ReadOutcome). let k : Shepherd ActionCall = record s { stage = Serving (told_read x (waiting v r)) call } in k) nothing
+    by t (inr (inr is)) = ap (λ (x : ShepherdTurn). (alone_at m x waiter).0) is.1
+
+  -- a request whose read has come to nothing waits still
+  pub gone-waits : outcome_of_read r ≡ None → (gone_alone m waiter).0 ≡ waiter
+  unfolding gone_alone
+  gone-waits nothing = ap (λ (k : Shepherd ActionCall). (alone m k).0) (once-waits nothing) ∙ once-waits nothing
+
+  -- what a request does then that was told what its read came to
+  told-hears : (o : ReadOutcome) → (let k : Shepherd ActionCall = record s { stage = Serving (after_read o (waiting v r)) call } in read_heard (alone m k).0.stage ≡ Some o)
+  unfolding alone own open_stage
+  told-hears (read.Found lease) = by s.wants_memory call where
+    by : (b : Bool) (x : Option AskedCall) → (let k : Shepherd ActionCall = record s { stage = Serving (after_read (read.Found lease) (waiting v r)) x } in
+        read_heard (alone_at m (if b then turns.Ended ends.OutOfMemory else turns.Program) k).0.stage ≡ Some (read.Found lease))
+    by true x = refl
+    by false None = refl
+    by false (Some asked) = refl
+  told-hears (read.Expired now expiry) = by s.wants_memory where
+    by : (b : Bool) → (let k : Shepherd ActionCall = record s { stage = Serving (after_read (read.Expired now expiry) (waiting v r)) call } in
+        read_heard (alone_at m (if b then turns.Ended ends.OutOfMemory else turns.Own) k).0.stage ≡ Some (read.Expired now expiry))
+    by true = refl
+    by false = refl
+  told-hears (read.Lost causes) = by s.wants_memory where
+    by : (b : Bool) → (let k : Shepherd ActionCall = record s { stage = Serving (after_read (read.Lost causes) (waiting v r)) call } in
+        read_heard (alone_at m (if b then turns.Ended ends.OutOfMemory else turns.Own) k).0.stage ≡ Some (read.Lost causes))
+    by true = refl
+    by false = refl
+
+  -- A connection that waited for a read, and then went on by itself, waits still, or has heard what the read came to.
+  pub gone-hears : HearsOrWaits (gone_alone m waiter).0.stage
+  unfolding gone_alone alone own
+  gone-hears = by (turn waiter) refl (waiting-turn s v call r) where
+    Then : ShepherdTurn → Type 0
+    Then t = HearsOrWaits (alone m (alone_at m t waiter).0).0.stage
+
+    -- at a turn of others nothing is done
+    stays : (t : ShepherdTurn) → turn waiter ≡ t → HearsOrWaits (alone_at m t waiter).0.stage → HearsOrWaits (alone m waiter).0.stage
+    stays t is = subst (λ (x : ShepherdTurn). HearsOrWaits (alone_at m x waiter).0.stage) (sym is)
+
+    told : (x : Option ReadOutcome) → outcome_of_read r ≡ x → (let k : Shepherd ActionCall = record s { stage = Serving (told_read x (waiting v r)) call } in HearsOrWaits (alone m k).0.stage)
+    told None nothing = subst (λ (k : Shepherd ActionCall). HearsOrWaits k.stage) (sym (once-waits nothing)) waits-still
+    told (Some o) came = λ none. (o, told-hears o)
+
+    by : (t : ShepherdTurn) → turn waiter ≡ t → WaitingTurn t → Then t
+    by t is (inl outside) = subst Then (sym outside) (stays turns.Outside (is ∙ outside) waits-still)
+    by t is (inr (inl by_itself)) = subst Then (sym by_itself) (told (outcome_of_read r) refl)
+    by t is (inr (inr over)) = subst Then (sym over.1) (stays (turns.Ended over.0) (is ∙ over.1) waits-still)
+
 -- What a way holds is a read that came to this.
 pub record HasRead (to : SessionWay) (o : ReadOutcome) : Type 0 where
   pub read : ReadState
   pub is : to ≡ way.Reading read
   pub came : outcome_of_read read ≡ Some o
 
-module _ (g : SeatGivens) (w : SeatWorld) (link : LaneLink) (o : ReadOutcome) where
+module _ (g : SeatGivens) (w : SeatWorld) (link : LaneLink) where
   -- a connection as its step sees it
   abbrev seen : Shepherd ActionCall → World ActionCall LaneLink
   seen s = record { connection = s; boot = w.boot; since = w.since; windows = w.store.windows; link = link; drawn = record { words = 0; serials = 0 } }
 
+  -- what its step leaves has heard what it waited for, or waits still
+  abbrev Hears : ShepherdTurn → Shepherd ActionCall → Type 0
+  Hears t s = HearsOrWaits (gone_alone (making_by g) (event_at (givens_in g w) t (seen s)).0.connection).0.stage
+
+  event-hears : (s : Shepherd ActionCall) (v : Visit ActionCall) (call : Option AskedCall) (r : ReadState) (t : ShepherdTurn) → WaitingTurn t → Hears t (waits s v call r)
+  unfolding outside
+  event-hears s v call r t turn_is = by turn_is where
+    K : ShepherdTurn → Type 0
+    K x = Hears x (waits s v call r)
+
+    goes : K turns.Outside
+    goes =
+        let after = machine_after read_machine lane_replies (encode_of (read_ask r)) r link in
+        let counts : LinkCounts = counted (lane_link_tally after.1) in
+        gone-hears (making_by g) s (record v { counts = counts }) call after.0
+
+    by : WaitingTurn t → K t
+    by (inl is) = subst K (sym is) goes
+    by (inr (inl is)) = subst K (sym is) (gone-hears (making_by g) s v call r)
+    by (inr (inr is)) = subst K (sym is.1) (gone-hears (making_by g) s v call r)
+
+  -- Behind the event of a step a connection that waited waits still, or has heard.
+  pub step-hears : (s : Shepherd ActionCall) (r : ReadState) → read_under_way s.stage ≡ Some r → Hears (turn s) s
+  step-hears s r is =
+      let x : Waits s.stage r = under-way s.stage r is in
+      let P : Stage ActionCall → Type 0 = λ stage. let k : Shepherd ActionCall = record s { stage = stage } in Hears (turn k) k in
+      subst P (sym x.is) (event-hears s x.visit x.call r (turn (waits s x.visit x.call r)) (waiting-turn s x.visit x.call r))
+
+-- So it is behind the step of a seat.
+pub hears-so : (g : SeatGivens) (seat : Seat) (w : SeatWorld) (r : ReadState) → read_under_way seat.connection.stage ≡ Some r → HearsOrWaits (seat_step g seat w).seat.connection.stage
+unfolding seat_step step
+hears-so g seat w r waits = step-hears g w (record { lanes = w.store; active = seat.twin }) seat.connection r waits
+
+module _ (g : SeatGivens) (w : SeatWorld) (link : LaneLink) (o : ReadOutcome) where
   abbrev Ends : ShepherdTurn → Shepherd ActionCall → Type 0
   Ends t s =
-      let e : World ActionCall LaneLink = (event_at (givens_in g w) t (seen s)).0 in
+      let e : World ActionCall LaneLink = (event_at (givens_in g w) t (seen g w link s)).0 in
       read_heard (gone_alone (making_by g) e.connection).0.stage ≡ Some o → HasRead (way_in e.connection.stage) o
 
   event-ends : (s : Shepherd ActionCall) (v : Visit ActionCall) (call : Option AskedCall) (r : ReadState) (t : ShepherdTurn) → WaitingTurn t → Ends t (waits s v call r)

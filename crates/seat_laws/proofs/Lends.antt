@@ -30,12 +30,12 @@ use Rattle.shepherd_steps.specs.Stepping.{World, event_at, step, steps_in}
 use Rattle.ssm_world.specs.declared.call.Call.{Call}
 use Rattle.seat_steps.proofs.Begins.{twin-begins}
 use Rattle.seat_steps.specs.Begins.{begin_steps}
-use Rattle.seat_steps.specs.Replies.{HearsSpelled, lane_replies}
+use Rattle.seat_steps.specs.Replies.{HearsSpelled, SeatHears, lane_replies}
 use Rattle.seat_steps.specs.Seats.{SeatGivens, SeatWorld, givens_in, seat_step, seen_by}
 use Rattle.seat_steps.specs.Twinned.{way_in}
 use Rattle.seat_steps.specs.declared.seat.Seat.{Seat}
 use Rattle.seat_laws.specs.Lending.{event_steps, seat_lends, twin_steps, window_steps}
-use Rattle.seat_laws.specs.Standing.{HasTwin, SeatHears, SeatStands}
+use Rattle.seat_laws.specs.Standing.{HasTwin, SeatStands}
 use Rattle.seat_laws.proofs.Hearing.{outside-holds, way-steps}
 use Rattle.seat_laws.proofs.Twinning.{OpenOutside, TurnLaw, open-outside}
 

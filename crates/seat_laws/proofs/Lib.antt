@@ -3,8 +3,10 @@ mod Asking
 mod Assembling
 mod AtOnce
 mod Attempting
+mod Awaiting
 mod Drawing
 mod Drawn
+mod FewerSteps
 mod Hearing
 mod HearingReads
 mod Lends
@@ -19,6 +21,7 @@ mod Passing
 mod Ranges
 mod ReadBegins
 mod ReadingRightly
+mod Remaining
 mod Replying
 mod Running
 mod SeatsFit

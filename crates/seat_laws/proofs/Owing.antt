@@ -102,7 +102,7 @@ abbrev pub Owes : Visit ActionCall → Version → Type 0
 Owes v n = owed_by v.work v.way v.facts.write ≡ Some n
 
 -- the turn of a program is that of a request that opens
-opening-so : (w : Work ActionCall) (x : Wants) → turn_by (visit_turn_by w x) ≡ turns.Program → w ≡ Opening
+pub opening-so : (w : Work ActionCall) (x : Wants) → turn_by (visit_turn_by w x) ≡ turns.Program → w ≡ Opening
 opening-so Reading wanted.Nothing e = absurd (cc)
 opening-so Reading wanted.Outside e = absurd (cc)
 opening-so Reading wanted.Windows e = absurd (cc)
@@ -118,7 +118,7 @@ opening-so (Left fate) wanted.Outside e = absurd (cc)
 opening-so (Left fate) wanted.Windows e = absurd (cc)
 
 -- a connection whose turn is to make a program has a request open that opens
-open-program : (s : Shepherd ActionCall) → turn s ≡ turns.Program → OnVisit s.stage (λ (v : Visit ActionCall) (call : Option AskedCall). turn_by (visit_turn v) ≡ turns.Program)
+pub open-program : (s : Shepherd ActionCall) → turn s ≡ turns.Program → OnVisit s.stage (λ (v : Visit ActionCall) (call : Option AskedCall). turn_by (visit_turn v) ≡ turns.Program)
 open-program s is = go s.stage (at-turn s turns.Program is (λ e. cc)) where
   at-rest : (a b c : Bool) → (if a then turns.Request else (if b then (if c then turns.Ended ends.Closed else turns.Ended ends.Cut) else turns.Bytes)) ≡ turns.Program → ⊥
   at-rest true b c e = cc

@@ -33,6 +33,7 @@ use Rattle.ssm_world.specs.Worlds.{IsMade, WorldValue, after, bricks_of, new_wor
 use Rattle.ssm_world.specs.declared.call.Call.{Call}
 use Rattle.ssm_world.specs.declared.call.Call.TheVariants as call
 use Rattle.ssm_world.specs.declared.event.WorldEvent.{WorldEvent}
+use Rattle.seat_steps.specs.Replies.{SeatHears}
 use Rattle.seat_steps.specs.Seats.{SeatGivens, SeatWorld, givens_in, making_by, seat_step, seen_by}
 use Rattle.seat_steps.specs.Twinned.{value_put, twinned, twinned_by, way_in}
 use Rattle.seat_steps.specs.declared.seat.Seat.{Seat}
@@ -42,7 +43,7 @@ use Rattle.seat_laws.proofs.Moving.{MoveLaws, Moves, events-on, moves-events, sa
 use Rattle.seat_laws.proofs.ReadBegins.{ReadBegan, after-on, calls-rise, read-began}
 use Rattle.seat_laws.proofs.Twinning.{EventLaws, Moved, Twinnable, event-moved}
 use Rattle.seat_laws.specs.Reads.{IsFoundOrLost, MissedFor, ReadsRightly, ReadsSince, order_of, read_heard, read_under_way, value_written}
-use Rattle.seat_laws.specs.Standing.{HasTwin, SeatHears, SeatStands}
+use Rattle.seat_laws.specs.Standing.{HasTwin, SeatStands}
 
 -- the laws of worlds by which a read is right, and an acknowledged cookie stays so
 pub record WorldLaws : Type 0 where

@@ -61,11 +61,11 @@ use Rattle.shepherd_steps.specs.Passes.{goes, outcome_of, windows_by, windows_st
 use Rattle.shepherd_steps.specs.Stepping.{World, event_at, step_inside, steps_in}
 use Rattle.shepherd_steps.specs.Taking.{Counts, Service, arrival_by, arrives_by, draws, take_request, takes_by}
 use Rattle.ssm_stub.specs.Reads.{ReadState, read_start}
-use Rattle.seat_steps.specs.Replies.{HearsSpelled, lane_replies}
+use Rattle.seat_steps.specs.Replies.{HearsSpelled, SeatHears, lane_replies}
 use Rattle.seat_steps.specs.Seats.{SeatGivens, SeatWorld, givens_in, seen_by, service_in}
 use Rattle.seat_steps.specs.Twinned.{way_in}
 use Rattle.seat_steps.specs.declared.seat.Seat.{Seat}
-use Rattle.seat_laws.specs.Standing.{HasTwin, SeatHears, SeatStands}
+use Rattle.seat_laws.specs.Standing.{HasTwin, SeatStands}
 use Rattle.seat_laws.proofs.Alone.{Stays, inside-stays}
 use Rattle.seat_laws.proofs.Asking.{AskLaws, asked-holders}
 use Rattle.seat_laws.proofs.Hearing.{outside-holds, way-steps}

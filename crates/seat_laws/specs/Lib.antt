@@ -7,3 +7,4 @@ pub mod Owing
 pub mod Reads
 pub mod Spelling
 pub mod Standing
+pub mod StepsLeft

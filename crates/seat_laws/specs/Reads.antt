@@ -1,13 +1,21 @@
 -- What a seat reads of its session.
-use Rattle.std.specs.Prelude.{◌≡◌, ◌≤◌, ℕ, List, [], length, map, Option, Some, None, option_map, slice_get}
+use Rattle.std.specs.Prelude.{◌≡◌, ◌⊎◌, ◌≤◌, ℕ, List, [], length, map, Option, Some, None, option_map, slice_get}
 use Rattle.auction_calls.specs.declared.action.ActionCall.{ActionCall}
+use Rattle.crash_base.specs.declared.numbers.Moment.{Moment}
+use Rattle.http_wire.specs.Taking.{taken_of}
+use Rattle.http_wire.specs.declared.taken.Head.{Head}
+use Rattle.http_wire.specs.declared.taken.Taken.TheVariants.{Request}
 use Rattle.lane_link.specs.Twins.{ByEvents, call_held}
 use Rattle.outcome_items.specs.declared.outcome.ItemOutcome.{ItemOutcome}
 use Rattle.outcome_items.specs.declared.outcome.ItemOutcome.TheVariants as item
+use Rattle.outside.specs.declared.serials.TheConstants.{SERIALS_END}
+use Rattle.request_decisions.specs.declared.decision.Decision.{Decision}
+use Rattle.request_decisions.specs.declared.decision.Decision.TheVariants.{Ordered, Refused}
 use Rattle.request_visit.specs.declared.visit.Fate.{Fate}
 use Rattle.request_visit.specs.declared.visit.Fate.TheVariants.{Known, Writing}
 use Rattle.request_visit.specs.declared.visit.Work.{Work}
 use Rattle.request_visit.specs.declared.visit.Work.TheVariants.{Reading, Opening, Serving as ServingBy, Committed, Decided, Answered, Left}
+use Rattle.session_cookie.specs.declared.cookie.Cookie.{Cookie}
 use Rattle.session_cookie.specs.declared.cookie.Holder.{Holder}
 use Rattle.session_lanes.specs.Lanes.{LanesState}
 use Rattle.session_lanes.specs.Sound.{LanesAreSound}
@@ -19,6 +27,7 @@ use Rattle.session_way.specs.declared.way.SessionWay.{SessionWay}
 use Rattle.session_way.specs.declared.way.SessionWay.TheVariants as way
 use Rattle.shepherd.specs.declared.shepherd.Stage.{Stage}
 use Rattle.shepherd.specs.declared.shepherd.Stage.TheVariants.{Resting, Serving, Refusing, Over}
+use Rattle.shepherd_steps.specs.Deciding.{accepted_by}
 use Rattle.ssm_stub.specs.Reads.{ReadState}
 use Rattle.ssm_stub.specs.Writes.{WriteState}
 use Rattle.ssm_stub.specs.declared.cause.BrickCause.{BrickCause}
@@ -26,6 +35,7 @@ use Rattle.ssm_world.specs.Claims.{IsRight, ReadOrder, WasMissed, read_world, to
 use Rattle.ssm_world.specs.Worlds.{WorldValue, after, bricks_of, new_world}
 use Rattle.ssm_world.specs.declared.call.Call.TheVariants as call
 use Rattle.ssm_world.specs.declared.event.WorldEvent.{WorldEvent}
+use Rattle.seat_steps.specs.Seats.{readings_under}
 use Rattle.seat_steps.specs.Twinned.{value_put}
 use Rattle.seat_steps.specs.declared.seat.Seat.{Seat}
 
@@ -90,6 +100,53 @@ read_heard Resting = None
 read_heard (Serving v call) = read_behind v.work v.lease
 read_heard (Refusing why bytes) = None
 read_heard (Over end) = None
+
+-- what became of a request by its fate, where that is known
+abbrev pub known_fate : Fate → Option ItemOutcome
+known_fate (Known became) = Some became
+known_fate (Writing place again) = None
+
+-- the same, by its work
+abbrev pub known_work : Work ActionCall → Option ItemOutcome
+known_work Reading = None
+known_work Opening = None
+known_work (ServingBy tries program) = None
+known_work (Committed place again shown) = None
+known_work (Decided became) = Some became
+known_work (Answered fate bytes) = known_fate fate
+known_work (Left fate) = known_fate fate
+
+-- What became of the request that is open, if one is open and that is known.
+abbrev pub known_outcome : Stage ActionCall → Option ItemOutcome
+known_outcome Resting = None
+known_outcome (Serving v call) = known_work v.work
+known_outcome (Refusing why bytes) = None
+known_outcome (Over end) = None
+
+-- Bytes begin with a request that bears this cookie: its text is read as this under a key.
+pub record BearsCookie (key bytes : List ℕ) (head : Head) (cookie : Cookie) : Type 0 where
+  pub taken : taken_of bytes ≡ Request head
+  pub accepted : accepted_by (readings_under key) head.cookie ≡ Some cookie
+
+-- The request that is open waits for a read by this cookie at this moment.
+pub record AwaitsRead (now : Moment) (cookie : Cookie) (stage : Stage ActionCall) : Type 0 where
+  pub read : ReadState
+  pub waits : read_under_way stage ≡ Some read
+  pub asks : cookie_asked read ≡ cookie
+  pub moment_is : read.moment ≡ now
+
+-- The request that is open is not served: it is told that the serial numbers are spent, up to one that is past the
+-- last.
+pub record FindsNoSerial (stage : Stage ActionCall) : Type 0 where
+  pub seen : ℕ
+  pub past : SERIALS_END ≤ seen
+  pub became : known_outcome stage ≡ Some (item.SerialsSpent seen)
+
+-- What a request that bears a cookie which has not expired is taken as, by what is decided of it: it is refused so; or
+-- it waits for a read by its cookie at this moment, unless no serial number is left for it.
+abbrev pub IsTakenBy : Moment → Cookie → Decision → Stage ActionCall → Type 0
+IsTakenBy now cookie (Refused why) stage = known_outcome stage ≡ Some (item.Refused why)
+IsTakenBy now cookie (Ordered order) stage = AwaitsRead now cookie stage ⊎ FindsNoSerial stage
 
 -- a read as it was asked for
 abbrev pub order_of : ReadState → ReadOrder

@@ -5,11 +5,8 @@ use Rattle.send_windows.specs.Windows.{KeepLimits}
 use Rattle.session_lanes.specs.Lanes.{LanesState}
 use Rattle.session_lanes.specs.Sound.{LanesAreSound}
 use Rattle.session_way.specs.declared.way.SessionWay.{SessionWay}
-use Rattle.shepherd.specs.Shepherds.{turn}
-use Rattle.shepherd.specs.declared.shepherd.ShepherdTurn.TheVariants as turns
 use Rattle.ssm_world.specs.Worlds.{is_new, nonce_of}
 use Rattle.ssm_world.specs.declared.call.Call.{Call}
-use Rattle.seat_steps.specs.Replies.{HearsSpelled}
 use Rattle.seat_steps.specs.Twinned.{way_in}
 use Rattle.seat_steps.specs.declared.seat.Seat.{Seat}
 
@@ -23,11 +20,6 @@ pub record SeatStands (seat : Seat) (st : LanesState) : Type 0 where
   pub sound : LanesAreSound st
   pub limits : KeepLimits st.windows
   pub twin : HasTwin (way_in seat.connection.stage) seat.twin st
-
--- what a seat would hear over bricks is spelled by its bytes, where its turn is to call the link
-abbrev pub SeatHears : Seat → LanesState → Type 0
-SeatHears seat st =
-    turn seat.connection ≡ turns.Outside → HearsSpelled (way_in seat.connection.stage) (record { lanes = st; active = seat.twin })
 
 -- what a way holds has a nonce that no call of the lanes has
 abbrev pub HoldsNew : LanesState → SessionWay → Type 0

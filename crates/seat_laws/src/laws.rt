@@ -16,13 +16,14 @@ ghost use Rattle.ssm_world.specs.Worlds.{nonce_of};
 ghost use Rattle.ssm_world.specs.declared.call.Call.{Call};
 ghost use Rattle.seat_steps.specs.Gone.{seat_gone};
 ghost use Rattle.seat_steps.specs.Going.{GoesOnAtSeat};
+ghost use Rattle.seat_steps.specs.Replies.{SeatHears};
 ghost use Rattle.seat_steps.specs.Seats.{SeatGivens, SeatWorld, numbers_from, seat_step};
 ghost use Rattle.seat_steps.specs.Twinned.{way_in};
 ghost use Rattle.seat_steps.specs.declared.seat.Seat.{Seat};
 ghost use Rattle.session_steps.specs.Lent.{after_lent};
 ghost use Rattle.seat_laws.specs.Lending.{seat_lends};
 ghost use Rattle.seat_laws.specs.Owing.{BeginsWith, IsDrawnIn, RiseFrom, write_owed};
-ghost use Rattle.seat_laws.specs.Standing.{AreApart, SeatHears, HoldsNew, SeatStands};
+ghost use Rattle.seat_laws.specs.Standing.{AreApart, HoldsNew, SeatStands};
 
 use auction_actions::ActionProgram;
 use lane_link::{LaneLink, lanes_go_by_events, steps_are_turns_of_twins, twins_begin, twins_stay};

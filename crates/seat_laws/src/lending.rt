@@ -10,9 +10,9 @@ ghost use Rattle.session_steps.specs.Lent.{BeginsSo, LentStep, WasDrawn, after_l
 ghost use Rattle.seat_laws.specs.Drawing.{SeatHasDrawn};
 ghost use Rattle.seat_laws.specs.LentSteps.{lent_steps};
 
-/// What any step of a seat leaves of the bricks is what lent bricks are after its steps of them (`lent_steps`), whatever
-/// it hears and whatever the keeper replies; the next serial never falls,
-/// nor passes a limit that is not before the end of serials; and the boot stays the one that began.
+/// What any step of a seat leaves of the bricks is what lent bricks are after its steps of them (`lent_steps`),
+/// whatever it hears and whatever the keeper replies; the next serial never falls, nor passes a limit that is not
+/// before the end of serials; and the boot stays the one that began.
 pub fn bricks_go_by_lent_steps()
     ensures store { (g : SeatGivens) (seat : Seat) (w : SeatWorld)
         → (seat_step g seat w).world.store ≡ after_lent w.store (lent_steps g seat w) }

@@ -20,10 +20,12 @@
 //!   whoever has no seat that stands at hand.
 //! - `requests_order_their_own_writes`: the request of a seat has ordered only its own write, behind each step.
 //! - `seats_read_what_was_written`: what a seat hears of its session is the value that was acknowledged; or that it has
-//!   expired, or is lost, with the cause of each brick.
+//!   expired, or is lost, with the cause of each brick. A request that bears a cookie in time waits for a read by this
+//!   very one, and waits no longer only once it has heard what that came to.
 //! - `reads_begin_behind_earlier_lanes`: a seat's read had not begun before the seat began to wait for it.
 //! - `seats_acknowledge_what_they_wrote`: a cookie that a seat's write answers is acknowledged with the value written.
 //! - `seats_miss_for_causes`: a write that a seat missed has the cause of each brick.
+//! - `seats_come_to_rest`: each step leaves fewer, until the seat waits for bytes or is gone.
 //! - `replies_matter_where_handed`: where a step hands nothing to the keeper, its reply changes nothing.
 //!
 //! Two things are asked of whoever drives the seats. What a seat hears is spelled by its bytes (`SeatHears`): the
@@ -36,6 +38,7 @@ mod laws;
 mod lending;
 mod owned_writes;
 mod reading;
+mod resting;
 
 pub use fitting::{
     attempts_fit, boots_stay_sound_at_seats, moments_stay_in_time, replies_matter_where_handed,
@@ -51,3 +54,4 @@ pub use reading::{
     reads_begin_behind_earlier_lanes, seats_acknowledge_what_they_wrote, seats_miss_for_causes,
     seats_read_what_was_written,
 };
+pub use resting::seats_come_to_rest;

@@ -1,9 +1,9 @@
 //! Laws of what seats read of their sessions, and of what they write. Each is the contract of a function that does
 //! nothing: a caller that needs the law calls the function.
 
-ghost use Rattle.std.specs.Prelude.{◌≡◌, ◌<◌, ◌≤◌, ℕ, List, length, None, Some, Ok, Err};
+ghost use Rattle.std.specs.Prelude.{◌≡◌, ◌<◌, ◌≤◌, ℕ, List, length, false, None, Some, Ok, Err};
 ghost use Rattle.session_cookie.specs.declared.cookie.Cookie.{Cookie};
-ghost use Rattle.crash_base.specs.declared.numbers.Moment.{Moment};
+ghost use Rattle.http_wire.specs.declared.taken.Head.{Head};
 ghost use Rattle.lane_link.specs.Twins.{ByEvents};
 ghost use Rattle.session_lanes.specs.Lanes.{LanesState};
 ghost use Rattle.session_lanes.specs.Sound.{LanesAreSound};
@@ -11,16 +11,18 @@ ghost use Rattle.session_way.specs.Reading.{cookie_asked};
 ghost use Rattle.session_way.specs.declared.session_read.ReadOutcome.{ReadOutcome};
 ghost use Rattle.session_way.specs.declared.session_read.ReadOutcome.TheVariants.{Expired};
 ghost use Rattle.shepherd.specs.declared.shepherd.Stage.TheVariants.{Resting};
+ghost use Rattle.shepherd_steps.specs.Deciding.{decided_by};
 ghost use Rattle.session_way.specs.Way.{answer_held};
 ghost use Rattle.ssm_stub.specs.Reads.{ReadState};
 ghost use Rattle.ssm_stub.specs.declared.cause.BrickCause.{BrickCause};
 ghost use Rattle.ssm_stub.specs.declared.write_call.WriteRefusal.TheVariants.{Missed};
 ghost use Rattle.ssm_world.specs.Claims.{IsAcknowledged};
-ghost use Rattle.seat_steps.specs.Seats.{SeatGivens, SeatWorld, seat_step};
+ghost use Rattle.seat_steps.specs.Replies.{SeatHears};
+ghost use Rattle.seat_steps.specs.Seats.{SeatGivens, SeatWorld, readings_under, seat_step};
 ghost use Rattle.seat_steps.specs.Twinned.{way_in};
 ghost use Rattle.seat_steps.specs.declared.seat.Seat.{Seat};
-ghost use Rattle.seat_laws.specs.Reads.{IsFoundOrLost, MissedFor, ReadsRightly, ReadsSince, order_of, read_heard, read_under_way, value_written};
-ghost use Rattle.seat_laws.specs.Standing.{SeatHears, SeatStands};
+ghost use Rattle.seat_laws.specs.Reads.{BearsCookie, IsFoundOrLost, IsTakenBy, MissedFor, ReadsRightly, ReadsSince, order_of, read_heard, read_under_way, value_written};
+ghost use Rattle.seat_laws.specs.Standing.{SeatStands};
 
 use lane_link::{lanes_go_by_events, steps_are_turns_of_twins, twins_begin, twins_stay};
 use request_decisions::cookies_are_of_the_key;
@@ -35,14 +37,16 @@ use ssm_world::{
 use text_readings::{cookies_are_accepted_of_their_texts, tokens_are_read_once};
 
 /// What a seat reads of its session was written. Its read is by a cookie that was acknowledged with a value in earlier
-/// lanes, from which events lead to the present, and in which the read had not begun yet. Where it hears in a step what
-/// the read came to, that is right: it found just this value, at a moment that is not past the cookie's expiry, and a
-/// brick of the cookie gave it; or it tells that the cookie has expired, where the moment is past that; or that the
-/// session is lost, where it is not, with the cause of each brick of the cookie, in its order, which the brick or this
-/// read met, whatever else happened between its turns. So within the lease it found the value, or lost it at each
-/// brick. In the step in which a request is taken nothing is heard but that its cookie has expired. The call of a read
-/// that begins in a step is the last one then, and stays the seat's until the read has ended. So another value is
-/// refused, and a cause that no brick met.
+/// lanes of the bricks, from which events lead to the present, and in which the read had not begun yet. Where it hears
+/// in a step what the read came to, that is right: it found just this value, at a moment that is not past the cookie's
+/// expiry, and a brick of the cookie gave it; or it tells that the cookie has expired, where the moment is past that;
+/// or that the session is lost, where it is not, with the cause of each brick of the cookie, in its order, which the
+/// brick or this read met, whatever else happened between its turns. So within the lease it found the value, or lost it
+/// at each brick. In the step in which a request is taken nothing is heard but that the cookie that it bears has
+/// expired. Where that has not, a seat with memory refuses the request as it is decided; or the request waits for a
+/// read by this very cookie at the present moment, unless no serial number is left. A request that waits no longer for
+/// its read has heard what the read came to. The call of a read that begins in a step is the last one then, and stays
+/// the seat's until the read has ended. So another value is refused, and a cause that no brick met.
 pub fn seats_read_what_was_written()
     ensures right { (earlier : LanesState) (g : SeatGivens) (seat : Seat) (w : SeatWorld) (r : ReadState)
         (value : List ℕ) (outcome : ReadOutcome) → SeatStands seat w.store → SeatHears seat w.store
@@ -57,7 +61,17 @@ pub fn seats_read_what_was_written()
     ensures at_once { (g : SeatGivens) (seat : Seat) (w : SeatWorld) (outcome : ReadOutcome)
         → seat.connection.stage ≡ Resting
         → read_heard (seat_step g seat w).seat.connection.stage ≡ Some outcome
-        → (expiry : Moment) × (outcome ≡ Expired g.now expiry) × (expiry.0 < g.now.0) }
+        → (head : Head) × (cookie : Cookie) × BearsCookie g.key seat.connection.received head cookie
+        × (outcome ≡ Expired g.now cookie.expiry) × (cookie.expiry.0 < g.now.0) }
+    ensures asked { (g : SeatGivens) (seat : Seat) (w : SeatWorld) (head : Head) (cookie : Cookie)
+        → seat.connection.stage ≡ Resting → seat.connection.wants_memory ≡ false
+        → BearsCookie g.key seat.connection.received head cookie → g.now.0 ≤ cookie.expiry.0
+        → IsTakenBy g.now cookie (decided_by (readings_under g.key) w.boot.start.boot head)
+        (seat_step g seat w).seat.connection.stage }
+    ensures hears { (g : SeatGivens) (seat : Seat) (w : SeatWorld) (r : ReadState)
+        → read_under_way seat.connection.stage ≡ Some r
+        → read_under_way (seat_step g seat w).seat.connection.stage ≡ None
+        → (outcome : ReadOutcome) × (read_heard (seat_step g seat w).seat.connection.stage ≡ Some outcome) }
     ensures begins { (g : SeatGivens) (seat : Seat) (w : SeatWorld) (number : ℕ) → SeatStands seat w.store
         → SeatHears seat w.store → seat.twin ≡ None → (seat_step g seat w).seat.twin ≡ Some number
         → number ≡ length w.store.world.calls }

@@ -1,6 +1,8 @@
 use Rattle.seat_steps.proofs.Functions.{reads-rightly as texts-rightly}
-use Rattle.seat_laws.proofs.Asking.{AskLaws}
+use Rattle.seat_laws.proofs.Asking.{AskLaws, BearLaws}
 use Rattle.seat_laws.proofs.AtOnce.{HasExpired, at-once}
+use Rattle.seat_laws.proofs.Awaiting.{taken-so}
+use Rattle.seat_laws.proofs.HearingReads.{hears-so}
 use Rattle.seat_laws.proofs.Moving.{MoveLaws}
 use Rattle.seat_laws.proofs.ReadingRightly.{WorldLaws, begins-last, found-or-lost, reads-rightly, stays-same}
 use Rattle.seat_laws.proofs.Twinning.{EventLaws}
@@ -63,7 +65,27 @@ returns-clause-at_once c =
       decides = c.requests_are_decided_as_read.ensures;
       accepted = c.cookies_are_of_the_key.ensures.accepted;
     } in
-    λ g seat w outcome rests heard. (let it : HasExpired g.now outcome = at-once ask g seat w outcome rests heard in (it.expiry, it.is, it.past))
+    let bear : BearLaws = record {
+      reads = c.cookies_are_accepted_of_their_texts.ensures.cookie;
+      taken = c.cookies_are_of_the_key.ensures.taken;
+    } in
+    λ g seat w outcome rests heard. (let it : HasExpired g.key seat.connection.received g.now outcome = at-once ask bear g seat w outcome rests heard in (it.head, it.cookie, it.bears, it.is, it.past))
+
+pub returns-clause-asked : goal.returns-clause-asked
+returns-clause-asked c =
+    let ask : AskLaws = record {
+      rightly = texts-rightly c.cookies_are_accepted_of_their_texts.ensures.cookie c.cookies_are_accepted_of_their_texts.ensures.none c.tokens_are_read_once.ensures.read;
+      decides = c.requests_are_decided_as_read.ensures;
+      accepted = c.cookies_are_of_the_key.ensures.accepted;
+    } in
+    let bear : BearLaws = record {
+      reads = c.cookies_are_accepted_of_their_texts.ensures.cookie;
+      taken = c.cookies_are_of_the_key.ensures.taken;
+    } in
+    λ g seat w head cookie rests memory bears early. taken-so ask bear g seat w head cookie rests memory bears early
+
+pub returns-clause-hears : goal.returns-clause-hears
+returns-clause-hears c = λ g seat w r waits none. hears-so g seat w r waits none
 
 pub returns-clause-begins : goal.returns-clause-begins
 returns-clause-begins c =
