@@ -18,8 +18,8 @@ use Rattle.shepherd.specs.declared.shepherd.Stage.TheVariants.{Resting, Serving,
 use Rattle.shepherd_steps.specs.Passes.{outcome_of}
 use Rattle.seat_steps.specs.Gone.{item_by_work, item_left, seat_gone, stage_gone, visit_gone}
 use Rattle.seat_steps.specs.declared.seat.Seat.{Seat}
-use Rattle.seat_lines.specs.Giving.{given_items, items_if, left_by}
-use Rattle.seat_lines.specs.Telling.{HasAccounted, HasTold, IsSent, last_outs}
+use Rattle.seat_lines.specs.Giving.{items_at_giving_up, items_if, left_by}
+use Rattle.seat_lines.specs.PuttingOut.{HasAccounted, HasPutOut, IsSent, last_outs}
 use Rattle.seat_lines.proofs.Leaving.{left_count, told_left}
 
 dropped_left : (w : Work ActionCall) → has_left (dropped w) ≡ has_left w
@@ -73,11 +73,11 @@ accounted outs items responses sent (Over end) are each is = record {
   each = each ∙ ap length (sym (append-nil items));
 }
 
-pub gone_told : (n : ℕ) (outs : List (List ℕ)) (items : List Item) (seat : Seat) (st : LanesState) → HasTold n outs items (Some seat) [] → HasAccounted outs (items ++ items_if (seat_gone seat st).item)
+pub gone_told : (n : ℕ) (outs : List (List ℕ)) (items : List Item) (seat : Seat) (st : LanesState) → HasPutOut n outs items (Some seat) [] → HasAccounted outs (items ++ items_if (seat_gone seat st).item)
 unfolding stage_gone
 gone_told n outs items seat st told = accounted outs items told.responses told.sent seat.connection.stage told.outs_are told.each told.behind.0
 
-pub items_given : (seats : List (Option Seat)) (st : LanesState) → given_items seats st ≡ flat_map left_by seats
+pub items_given : (seats : List (Option Seat)) (st : LanesState) → items_at_giving_up seats st ≡ flat_map left_by seats
 unfolding stage_gone
 items_given [] st = refl
 items_given (None ∷ seats) st = items_given seats st

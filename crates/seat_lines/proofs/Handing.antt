@@ -21,6 +21,7 @@ use Rattle.request_visit.specs.declared.visit.Visit.{Visit}
 use Rattle.scenario_text.specs.Answer.{Answer, Done, KeepsRefused, Refused, answer_of}
 use Rattle.scenario_text.specs.declared.answer.LineAnswer.{LineAnswer}
 use Rattle.scenario_text.specs.declared.answer.LineAnswer.TheVariants as answers
+use Rattle.seat_steps.specs.Replies.{SeatHears}
 use Rattle.seat_steps.specs.Seats.{SeatGivens, SeatOutcome, SeatWorld, givens_in, seat_step, seen_by}
 use Rattle.seat_steps.specs.Stepped.{BreaksOff, CallsAt, HasStepped, KeeperReplied, MakesEvent, SeatCalling, calling, kept_between, seat_writes, world_from, writes_at}
 use Rattle.seat_steps.specs.declared.seat.NextDraws.{NextDraws}
@@ -37,7 +38,20 @@ use Rattle.shepherd.specs.declared.shepherd.Stage.TheVariants.{Resting, Serving,
 use Rattle.shepherd_steps.specs.Inside.{HasReplied, Inside, TellsReply, added_to, handed, inside}
 use Rattle.shepherd_steps.specs.Stepping.{World, event_at, step, step_inside, steps_in}
 use Rattle.seat_lines.specs.Handing.{AreCounted, AreHanded, AreSomeHanded, BreaksIn, Handed, HasMovedIn, TellsHanded, handed_first, writes_by}
+use Rattle.seat_lines.specs.Hearing.{PlaceHears}
 use Rattle.seat_lines.specs.Lines.{Place, moved, moves, place_step, step_text, steps_at, still_by, end_of, worker_of}
+
+-- what a connection that is there hears in its place is what it hears
+one_hears : (seat : Seat) (st : LanesState) → SeatHears seat st → PlaceHears (Some seat) st
+one_hears seat st heard there is = let same : seat ≡ there = cc in subst (λ (x : Seat). SeatHears x st) same heard
+
+-- one that is not there hears nothing
+none_hears : (st : LanesState) → PlaceHears None st
+none_hears st there is = absurd (cc)
+
+-- nor does one that makes no step
+still_hears : (seat : Seat) (st : LanesState) → moves (turn seat.connection) ≡ false → SeatHears seat st
+still_hears seat st rests outside = let clash : true ≡ false = sym (ap moves outside) ∙ rests in absurd (cc)
 
 -- what the keeper tells of its reply to one step
 told_once : (writes : List RowWrite) (keeps : Bool) (old new : Option KeeperTold) → TellsReply writes keeps old new → TellsHanded (handed_first writes keeps []) old new
@@ -180,7 +194,7 @@ broke_in law key now n seat old new lanes next after (inr (bytes, mid, link, mad
     record {
       keeps = keeps;
       handed = all_handed (handed_first writes keeps []) old new (handed_once writes keeps old new event.keeper count);
-      added = inr (refl, refl, (place, step_text (turn seat.connection) n o.bytes, moved_at (turn seat.connection) g n seat w moving, left.0, left.1));
+      added = inr (refl, refl, (place, step_text (turn seat.connection) n o.bytes, moved_at (turn seat.connection) g n seat w moving, left.0, left.1), one_hears seat lanes event.heard);
     }
 
 -- the same, of the key and the moment that are lent
@@ -211,6 +225,7 @@ moved_in key now n seat old w new o a stepped moving count is =
       keeps = stepped.keeps;
       answers = is ∙ (ap (λ (x : SeatOutcome). moved (turn seat.connection) n x) stepped.step_is ∙ sym (moved_at (turn seat.connection) g n seat w moving));
       handed = handed_once (seat_writes seat.connection old.boot) stepped.keeps old new stepped.keeper count;
+      heard = one_hears seat w.store stepped.heard;
     }
 
 -- what a connection hands at a turn at which it makes no step
@@ -230,7 +245,7 @@ no_writes (turns.Ended end) seat boot is at = ap (λ (x : ShepherdTurn). writes_
 -- a connection that is not there is refused
 pub none_moves : (key : List ℕ) (now : Moment) (n : ℕ) (c : ContainerValue) (w : SeatWorld) → HasMovedIn key now n None c w Refused c
 unfolding place_step
-none_moves key now n c w = record { keeps = true; answers = refl; handed = handed_none c }
+none_moves key now n c w = record { keeps = true; answers = refl; handed = handed_none c; heard = none_hears w.store }
 
 -- what a connection comes to at a turn at which it makes no step
 still_at : (t : ShepherdTurn) (g : SeatGivens) (n : ℕ) (seat : Seat) (w : SeatWorld) → moves t ≡ false → still_by (end_of t) n seat w ≡ steps_at t g n seat w
@@ -254,6 +269,7 @@ still_moves key now n seat c w a rests is =
       keeps = true;
       answers = is ∙ still_at (turn seat.connection) g n seat w rests;
       handed = subst (λ (writes : List RowWrite). AreHanded (handed_first writes true []) c c) (sym (no_writes (turn seat.connection) seat c.boot rests refl)) (handed_none c);
+      heard = one_hears seat w.store (still_hears seat w.store rests);
     }
 
 -- memory ran out behind a step of a seat that was made
@@ -277,6 +293,7 @@ stepped_breaks key now n seat old w new o stepped moving boot since count =
           boot ∙ ap (λ (x : SeatOutcome). x.world.boot) stepped.step_is,
           since ∙ ap (λ (x : SeatOutcome). x.world.since) stepped.step_is,
         ),
+        one_hears seat w.store stepped.heard,
       );
     }
 

@@ -76,7 +76,7 @@ use Rattle.seat_steps.specs.Seats.{SeatGivens, SeatOutcome, SeatWorld, givens_in
 use Rattle.seat_steps.specs.declared.seat.Seat.{Seat}
 use Rattle.seat_lines.specs.Items.{outs_at, puts_out}
 use Rattle.seat_lines.specs.Lines.{moves}
-use Rattle.seat_lines.specs.Telling.{IsSent, last_outs}
+use Rattle.seat_lines.specs.PuttingOut.{IsSent, last_outs}
 
 -- a step of others with a request changes nothing of whether its response has left
 

@@ -2,6 +2,7 @@ mod Answering
 pub mod GivenUp
 pub mod Going
 mod Handing
+pub mod Hearing
 mod Leaving
 pub mod MoreReplies
 pub mod OneSeat
@@ -10,3 +11,4 @@ mod Placing
 pub mod RunSteps
 pub mod SeatSteps
 pub mod Taken
+mod LinesAnswer

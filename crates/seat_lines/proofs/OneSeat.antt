@@ -100,19 +100,19 @@ conn_alone s n =
 record Came (seat : Option Seat) (become : Seat → Seat) (new : Option Seat) (text : List ℕ) : Type 0 where
   pub was : Seat
   pub was_is : seat ≡ Some was
-  pub going_on : was.connection.ended ≡ false
+  pub not_ended : was.connection.ended ≡ false
   pub new_is : new ≡ Some (become was)
   pub silent : text ≡ []
 
 bytes_came : (bytes : List ℕ) (seat : Option Seat) → Comes (Came seat (λ x. fed x bytes)) (bytes_step bytes seat)
 bytes_came bytes None = tt
 bytes_came bytes (Some seat) =
-    comes_if (Came (Some seat) (λ x. fed x bytes)) seat.connection.ended (Done (Some (fed seat bytes)) []) (λ goes. record { was = seat; was_is = refl; going_on = goes; new_is = refl; silent = refl })
+    comes_if (Came (Some seat) (λ x. fed x bytes)) seat.connection.ended (Done (Some (fed seat bytes)) []) (λ goes. record { was = seat; was_is = refl; not_ended = goes; new_is = refl; silent = refl })
 
 end_came : (seat : Option Seat) → Comes (Came seat ended) (end_step seat)
 end_came None = tt
 end_came (Some seat) =
-    comes_if (Came (Some seat) ended) seat.connection.ended (Done (Some (ended seat)) []) (λ goes. record { was = seat; was_is = refl; going_on = goes; new_is = refl; silent = refl })
+    comes_if (Came (Some seat) ended) seat.connection.ended (Done (Some (ended seat)) []) (λ goes. record { was = seat; was_is = refl; not_ended = goes; new_is = refl; silent = refl })
 
 -- what came to one connection is a change of connections alone
 came_alone : (s : SiteState) (n : ℕ) (become : Seat → Seat) (a : Answer (Option Seat)) → Comes (Came (seat_at s.seats.seats n) become) a → Comes (ChangesSeatsAlone s) (within (with_seat s n) a)
@@ -124,7 +124,7 @@ came_becomes s n become Refused came = tt
 came_becomes s n become (Done new text) came = record {
   seat = came.was;
   was = came.was_is;
-  going_on = came.going_on;
+  not_ended = came.not_ended;
   becomes = get_or-set_same s.seats.seats n new None (within_places s.seats.seats n came.was came.was_is) ∙ came.new_is;
 }
 

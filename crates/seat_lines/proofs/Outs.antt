@@ -23,11 +23,11 @@ use Rattle.shepherd.specs.declared.shepherd.ShepherdTurn.TheVariants as turns
 use Rattle.shepherd.specs.declared.shepherd.Stage.{Stage}
 use Rattle.shepherd.specs.declared.shepherd.Stage.TheVariants.{Resting, Serving, Refusing, Over}
 use Rattle.seat_lines.specs.Changing.{IsLeftBySeat, SeatBecomes, number_in}
-use Rattle.seat_lines.specs.Items.{items_at, line_gives, line_items, line_outs, outs_at, over_gives, place_gives, puts_out, run_gives, step_gives}
+use Rattle.seat_lines.specs.Items.{items_at, line_yields, line_items, line_outs, outs_at, over_yields, place_yields, puts_out, run_yields, step_yields}
 use Rattle.seat_lines.specs.Lines.{ended, fed, givens_of, is_beyond, moves, step_line, step_text, world_of}
 use Rattle.seat_lines.specs.Runs.{rests, run_from, seat_line, step_by}
 use Rattle.seat_lines.specs.Site.{SiteState, seat_at, with_seat}
-use Rattle.seat_lines.specs.Telling.{HasTold, IsSent, IsSentBy, TellsMore, last_outs}
+use Rattle.seat_lines.specs.PuttingOut.{HasPutOut, IsSent, IsSentBy, PutsOutMore, last_outs}
 use Rattle.seat_lines.specs.Texts.{gone_text, out_text}
 use Rattle.seat_lines.proofs.Answering.{run_begun}
 use Rattle.seat_lines.proofs.Leaving.{Passes, is_open_turn, open_turn, seat_passes}
@@ -83,19 +83,19 @@ none_given (turns.Ended end) o is = (refl, refl)
 
 -- the same, told of what is equal
 tells_as : (n : ℕ) (outs : List (List ℕ)) (items : List Item) (more more_is : List (List ℕ)) (taken taken_is : List Item) (seat seat_is : Option Seat) (text text_is : List ℕ)
-    → more ≡ more_is → taken ≡ taken_is → seat ≡ seat_is → text ≡ text_is → TellsMore n outs items more taken seat text → TellsMore n outs items more_is taken_is seat_is text_is
+    → more ≡ more_is → taken ≡ taken_is → seat ≡ seat_is → text ≡ text_is → PutsOutMore n outs items more taken seat text → PutsOutMore n outs items more_is taken_is seat_is text_is
 tells_as n outs items more more_is taken taken_is seat seat_is text text_is a b c d tells =
-    subst (λ (x : List (List ℕ)). TellsMore n outs items x taken_is seat_is text_is) a
-    (subst (λ (x : List Item). TellsMore n outs items more x seat_is text_is) b
-    (subst (λ (x : Option Seat). TellsMore n outs items more taken x text_is) c
-    (subst (λ (x : List ℕ). TellsMore n outs items more taken seat x) d tells)))
+    subst (λ (x : List (List ℕ)). PutsOutMore n outs items x taken_is seat_is text_is) a
+    (subst (λ (x : List Item). PutsOutMore n outs items more x seat_is text_is) b
+    (subst (λ (x : Option Seat). PutsOutMore n outs items more taken x text_is) c
+    (subst (λ (x : List ℕ). PutsOutMore n outs items more taken seat x) d tells)))
 
 -- nothing was put out and given
-nothing_more : (n : ℕ) (outs : List (List ℕ)) (items : List Item) (seat : Seat) (new : Option Seat) (text : List ℕ) → (told : HasTold n outs items (Some seat) []) → IsSentBy n new told.sent text → TellsMore n outs items [] [] new text
+nothing_more : (n : ℕ) (outs : List (List ℕ)) (items : List Item) (seat : Seat) (new : Option Seat) (text : List ℕ) → (told : HasPutOut n outs items (Some seat) []) → IsSentBy n new told.sent text → PutsOutMore n outs items [] [] new text
 nothing_more n outs items seat new text told behind = record {
   rest = text;
   text_is = refl;
-  told = record {
+  put_out = record {
     responses = told.responses;
     sent = told.sent;
     outs_are = append-nil outs ∙ told.outs_are;
@@ -107,28 +107,28 @@ nothing_more n outs items seat new text told behind = record {
 module _ (s : SiteState) (n : ℕ) (keeps : Bool) (t : SiteState) (text : List ℕ) (is : step_line s n keeps ≡ Done t text) where
   -- what a step gives that is done
   given : {A : Type 0} (gives : ShepherdTurn → SeatOutcome → List A) (seat : Seat) (st : LanesState) → seat_at s.seats.seats n ≡ Some seat → s.sessions.store ≡ Some st
-      → step_gives gives s n keeps ≡ gives (turn seat.connection) (seat_step (givens_of s n keeps) seat (world_of s st))
+      → step_yields gives s n keeps ≡ gives (turn seat.connection) (seat_step (givens_of s n keeps) seat (world_of s st))
   given {A} gives seat st there bricks =
-      ap (λ (b : Bool). cond b [] (over_gives gives s n keeps s.sessions.store)) (near_step s n keeps t text is)
-      ∙ (ap (λ (o : Option LanesState). over_gives gives s n keeps o) bricks
-      ∙ ap (λ (o : Option Seat). place_gives gives (givens_of s n keeps) o (world_of s st)) there)
+      ap (λ (b : Bool). cond b [] (over_yields gives s n keeps s.sessions.store)) (near_step s n keeps t text is)
+      ∙ (ap (λ (o : Option LanesState). over_yields gives s n keeps o) bricks
+      ∙ ap (λ (o : Option Seat). place_yields gives (givens_of s n keeps) o (world_of s st)) there)
 
-  module _ (outs : List (List ℕ)) (items : List Item) (seat : Seat) (there : seat_at s.seats.seats n ≡ Some seat) (told : HasTold n outs items (Some seat) []) (st : LanesState) (bricks : s.sessions.store ≡ Some st) where
+  module _ (outs : List (List ℕ)) (items : List Item) (seat : Seat) (there : seat_at s.seats.seats n ≡ Some seat) (told : HasPutOut n outs items (Some seat) []) (st : LanesState) (bricks : s.sessions.store ≡ Some st) where
     abbrev o : SeatOutcome
     o = seat_step (givens_of s n keeps) seat (world_of s st)
 
     abbrev at : ShepherdTurn
     at = turn seat.connection
 
-    moving_tells : moves at ≡ true → TellsMore n outs items (outs_at at o) (items_at at o) (seat_at t.seats.seats n) text
+    moving_tells : moves at ≡ true → PutsOutMore n outs items (outs_at at o) (items_at at o) (seat_at t.seats.seats n) text
     moving_tells moving =
         let left : IsLeftBySeat s n at o t text = left_by_seat s n keeps t text seat st there bricks moving is in
         let passes : Passes seat.connection.stage (outs_at at o) o.items o.seat.connection.stage told.sent = seat_passes (givens_of s n keeps) seat (world_of s st) told.sent moving told.behind.0 in
         let taken : items_at at o ≡ o.items = ap (λ (b : Bool). cond b o.items []) moving in
-        let now : TellsMore n outs items (outs_at at o) (items_at at o) (Some o.seat) text = record {
+        let now : PutsOutMore n outs items (outs_at at o) (items_at at o) (Some o.seat) text = record {
           rest = [];
           text_is = left.text_is ∙ text_at at n o;
-          told = record {
+          put_out = record {
             responses = told.responses ++ passes.responses;
             sent = passes.more;
             outs_are = ap (λ (x : List (List ℕ)). x ++ outs_at at o) told.outs_are ∙ (append_assoc told.responses told.sent (outs_at at o) ∙ (ap (λ (x : List (List ℕ)). told.responses ++ x) passes.outs_are ∙ sym (append_assoc told.responses passes.responses passes.more)));
@@ -136,11 +136,11 @@ module _ (s : SiteState) (n : ℕ) (keeps : Bool) (t : SiteState) (text : List �
             behind = (passes.behind, refl);
           };
         } in
-        subst (λ (x : Option Seat). TellsMore n outs items (outs_at at o) (items_at at o) x text) (sym left.seat) now
+        subst (λ (x : Option Seat). PutsOutMore n outs items (outs_at at o) (items_at at o) x text) (sym left.seat) now
 
-    still_tells : moves at ≡ false → TellsMore n outs items [] [] (seat_at t.seats.seats n) text
+    still_tells : moves at ≡ false → PutsOutMore n outs items [] [] (seat_at t.seats.seats n) text
     still_tells still = by (stays_at at still) where
-      by : ((at ≡ turns.Bytes) ⊎ ((end : EndKind) × (at ≡ turns.Ended end))) → TellsMore n outs items [] [] (seat_at t.seats.seats n) text
+      by : ((at ≡ turns.Bytes) ⊎ ((end : EndKind) × (at ≡ turns.Ended end))) → PutsOutMore n outs items [] [] (seat_at t.seats.seats n) text
       by (inl waiting) =
           let same : (t ≡ s) × (text ≡ []) = waits_still s n keeps t text seat there waiting is in
           tells_as n outs items [] [] [] [] (Some seat) (seat_at t.seats.seats n) [] text refl refl (sym there ∙ ap (λ (x : SiteState). seat_at x.seats.seats n) (sym same.0)) (sym same.1)
@@ -151,21 +151,21 @@ module _ (s : SiteState) (n : ℕ) (keeps : Bool) (t : SiteState) (text : List �
           tells_as n outs items [] [] [] [] None (seat_at t.seats.seats n) text text refl refl (sym none) refl
           (nothing_more n outs items seat None text told (end, gone.1, λ other. ends_told seat.connection end told.sent over told.behind.0 other))
 
-    at_turn_tells : TellsMore n outs items (outs_at at o) (items_at at o) (seat_at t.seats.seats n) text
+    at_turn_tells : PutsOutMore n outs items (outs_at at o) (items_at at o) (seat_at t.seats.seats n) text
     at_turn_tells = by (moves at) refl where
-      by : (b : Bool) → moves at ≡ b → TellsMore n outs items (outs_at at o) (items_at at o) (seat_at t.seats.seats n) text
+      by : (b : Bool) → moves at ≡ b → PutsOutMore n outs items (outs_at at o) (items_at at o) (seat_at t.seats.seats n) text
       by true moving = moving_tells moving
       by false still =
           let none : (outs_at at o ≡ []) × (items_at at o ≡ []) = none_given at o still in
           tells_as n outs items [] (outs_at at o) [] (items_at at o) (seat_at t.seats.seats n) (seat_at t.seats.seats n) text text (sym none.0) (sym none.1) refl refl (still_tells still)
 
   -- a step tells more of a connection that is there
-  pub step_tells : (outs : List (List ℕ)) (items : List Item) (seat : Seat) → seat_at s.seats.seats n ≡ Some seat → HasTold n outs items (Some seat) []
-      → TellsMore n outs items (step_gives outs_at s n keeps) (step_gives items_at s n keeps) (seat_at t.seats.seats n) text
+  pub step_tells : (outs : List (List ℕ)) (items : List Item) (seat : Seat) → seat_at s.seats.seats n ≡ Some seat → HasPutOut n outs items (Some seat) []
+      → PutsOutMore n outs items (step_yields outs_at s n keeps) (step_yields items_at s n keeps) (seat_at t.seats.seats n) text
   step_tells outs items seat there told = go (with_bricks s n keeps t text is) where
-    go : ((st : LanesState) × (s.sessions.store ≡ Some st)) → TellsMore n outs items (step_gives outs_at s n keeps) (step_gives items_at s n keeps) (seat_at t.seats.seats n) text
+    go : ((st : LanesState) × (s.sessions.store ≡ Some st)) → PutsOutMore n outs items (step_yields outs_at s n keeps) (step_yields items_at s n keeps) (seat_at t.seats.seats n) text
     go (st, bricks) =
-        tells_as n outs items (outs_at (turn seat.connection) (o outs items seat there told st bricks)) (step_gives outs_at s n keeps) (items_at (turn seat.connection) (o outs items seat there told st bricks)) (step_gives items_at s n keeps) (seat_at t.seats.seats n) (seat_at t.seats.seats n) text text
+        tells_as n outs items (outs_at (turn seat.connection) (o outs items seat there told st bricks)) (step_yields outs_at s n keeps) (items_at (turn seat.connection) (o outs items seat there told st bricks)) (step_yields items_at s n keeps) (seat_at t.seats.seats n) (seat_at t.seats.seats n) text text
         (sym (given outs_at seat st there bricks)) (sym (given items_at seat st there bricks)) refl refl (at_turn_tells outs items seat there told st bricks)
 
 -- a connection that is not at rest is there
@@ -175,19 +175,19 @@ going_there (Some seat) e = (seat, refl)
 
 module _ (n : ℕ) (outs : List (List ℕ)) (items : List Item) where
   -- one more step of a run
-  joined : (s x : SiteState) (keeps : Bool) (text out : List ℕ) (more : List (List ℕ)) (taken : List Item) → rests (seat_at s.seats.seats n) ≡ false → step_line s n keeps ≡ Done x out → TellsMore n outs items more taken (seat_at s.seats.seats n) text
-      → TellsMore n outs items (more ++ step_gives outs_at s n keeps) (taken ++ step_gives items_at s n keeps) (seat_at x.seats.seats n) (text ++ out)
+  joined : (s x : SiteState) (keeps : Bool) (text out : List ℕ) (more : List (List ℕ)) (taken : List Item) → rests (seat_at s.seats.seats n) ≡ false → step_line s n keeps ≡ Done x out → PutsOutMore n outs items more taken (seat_at s.seats.seats n) text
+      → PutsOutMore n outs items (more ++ step_yields outs_at s n keeps) (taken ++ step_yields items_at s n keeps) (seat_at x.seats.seats n) (text ++ out)
   joined s x keeps text out more taken going is tells = by (going_there (seat_at s.seats.seats n) going) where
     f : List ℕ → List ℕ
     f bytes = out_text n bytes
 
-    by : ((seat : Seat) × (seat_at s.seats.seats n ≡ Some seat)) → TellsMore n outs items (more ++ step_gives outs_at s n keeps) (taken ++ step_gives items_at s n keeps) (seat_at x.seats.seats n) (text ++ out)
+    by : ((seat : Seat) × (seat_at s.seats.seats n ≡ Some seat)) → PutsOutMore n outs items (more ++ step_yields outs_at s n keeps) (taken ++ step_yields items_at s n keeps) (seat_at x.seats.seats n) (text ++ out)
     by (seat, there) =
-        let told : HasTold n (outs ++ more) (items ++ taken) (Some seat) tells.rest = subst (λ (o : Option Seat). HasTold n (outs ++ more) (items ++ taken) o tells.rest) there tells.told in
-        let bare : HasTold n (outs ++ more) (items ++ taken) (Some seat) [] = subst (λ (r : List ℕ). HasTold n (outs ++ more) (items ++ taken) (Some seat) r) told.behind.1 told in
-        let gives : List (List ℕ) = step_gives outs_at s n keeps in
-        let gets : List Item = step_gives items_at s n keeps in
-        let next : TellsMore n (outs ++ more) (items ++ taken) gives gets (seat_at x.seats.seats n) out = step_tells s n keeps x out is (outs ++ more) (items ++ taken) seat there bare in
+        let told : HasPutOut n (outs ++ more) (items ++ taken) (Some seat) tells.rest = subst (λ (o : Option Seat). HasPutOut n (outs ++ more) (items ++ taken) o tells.rest) there tells.put_out in
+        let bare : HasPutOut n (outs ++ more) (items ++ taken) (Some seat) [] = subst (λ (r : List ℕ). HasPutOut n (outs ++ more) (items ++ taken) (Some seat) r) told.behind.1 told in
+        let gives : List (List ℕ) = step_yields outs_at s n keeps in
+        let gets : List Item = step_yields items_at s n keeps in
+        let next : PutsOutMore n (outs ++ more) (items ++ taken) gives gets (seat_at x.seats.seats n) out = step_tells s n keeps x out is (outs ++ more) (items ++ taken) seat there bare in
         let first : text ≡ flat_map (out_text n) more = tells.text_is ∙ (ap (λ (r : List ℕ). flat_map (out_text n) more ++ r) told.behind.1 ∙ append-nil (flat_map (out_text n) more)) in
         record {
           rest = next.rest;
@@ -196,54 +196,54 @@ module _ (n : ℕ) (outs : List (List ℕ)) (items : List Item) where
               ∙ (ap (λ (b : List ℕ). flat_map (out_text n) more ++ b) next.text_is
               ∙ (sym (append_assoc (flat_map (out_text n) more) (flat_map (out_text n) gives) next.rest)
               ∙ ap (λ (c : List ℕ). c ++ next.rest) (sym (flat_map-append (out_text n) more gives))));
-          told = subst (λ (a : List (List ℕ)). HasTold n a (items ++ (taken ++ gets)) (seat_at x.seats.seats n) next.rest) (append_assoc outs more gives)
-              (subst (λ (b : List Item). HasTold n ((outs ++ more) ++ gives) b (seat_at x.seats.seats n) next.rest) (append_assoc items taken gets) next.told);
+          put_out = subst (λ (a : List (List ℕ)). HasPutOut n a (items ++ (taken ++ gets)) (seat_at x.seats.seats n) next.rest) (append_assoc outs more gives)
+              (subst (λ (b : List Item). HasPutOut n ((outs ++ more) ++ gives) b (seat_at x.seats.seats n) next.rest) (append_assoc items taken gets) next.put_out);
         }
 
   -- what follows the answer to a step of a run
   abbrev RunThen : List ℕ → List Bool → Answer SiteState → Option (Answer SiteState)
   RunThen text replies a = elim a [ Refused ↦ Some Refused | Done x out ↦ run_from x (text ++ out) n replies ]
 
-  abbrev GivesThen : {A : Type 0} → (ShepherdTurn → SeatOutcome → List A) → SiteState → Bool → List Bool → Answer SiteState → List A
-  GivesThen gives s keeps replies a = elim a [ Refused ↦ [] | Done x out ↦ step_gives gives s n keeps ++ run_gives gives x n replies ]
+  abbrev YieldsThen : {A : Type 0} → (ShepherdTurn → SeatOutcome → List A) → SiteState → Bool → List Bool → Answer SiteState → List A
+  YieldsThen gives s keeps replies a = elim a [ Refused ↦ [] | Done x out ↦ step_yields gives s n keeps ++ run_yields gives x n replies ]
 
   -- a run that is at its end
-  halts : (s t : SiteState) (text out : List ℕ) (more : List (List ℕ)) (taken : List Item) → Some (Done s text) ≡ Some (Done t out) → TellsMore n outs items more taken (seat_at s.seats.seats n) text → TellsMore n outs items (more ++ []) (taken ++ []) (seat_at t.seats.seats n) out
+  halts : (s t : SiteState) (text out : List ℕ) (more : List (List ℕ)) (taken : List Item) → Some (Done s text) ≡ Some (Done t out) → PutsOutMore n outs items more taken (seat_at s.seats.seats n) text → PutsOutMore n outs items (more ++ []) (taken ++ []) (seat_at t.seats.seats n) out
   halts s t text out more taken is tells =
       let same : s ≡ t = cc in
       let texts : text ≡ out = cc in
       tells_as n outs items more (more ++ []) taken (taken ++ []) (seat_at s.seats.seats n) (seat_at t.seats.seats n) text out (sym (append-nil more)) (sym (append-nil taken)) (ap (λ (x : SiteState). seat_at x.seats.seats n) same) texts tells
 
-  pub run_tells : (s t : SiteState) (text out : List ℕ) (more : List (List ℕ)) (taken : List Item) (replies : List Bool) → TellsMore n outs items more taken (seat_at s.seats.seats n) text → run_from s text n replies ≡ Some (Done t out)
-      → TellsMore n outs items (more ++ run_gives outs_at s n replies) (taken ++ run_gives items_at s n replies) (seat_at t.seats.seats n) out
+  pub run_tells : (s t : SiteState) (text out : List ℕ) (more : List (List ℕ)) (taken : List Item) (replies : List Bool) → PutsOutMore n outs items more taken (seat_at s.seats.seats n) text → run_from s text n replies ≡ Some (Done t out)
+      → PutsOutMore n outs items (more ++ run_yields outs_at s n replies) (taken ++ run_yields items_at s n replies) (seat_at t.seats.seats n) out
   run_tells s t text out more taken [] tells is = go (rests (seat_at s.seats.seats n)) is where
-    go : (b : Bool) → cond b (Some (Done s text)) None ≡ Some (Done t out) → TellsMore n outs items (more ++ []) (taken ++ []) (seat_at t.seats.seats n) out
+    go : (b : Bool) → cond b (Some (Done s text)) None ≡ Some (Done t out) → PutsOutMore n outs items (more ++ []) (taken ++ []) (seat_at t.seats.seats n) out
     go true e = halts s t text out more taken e tells
     go false e = absurd (cc)
   run_tells s t text out more taken (keeps ∷ replies) tells is =
       go (λ x o m i. run_tells x t (text ++ o) out m i replies) (rests (seat_at s.seats.seats n)) refl is where
         Later : Type 0
-        Later = (x : SiteState) (o : List ℕ) (m : List (List ℕ)) (i : List Item) → TellsMore n outs items m i (seat_at x.seats.seats n) (text ++ o) → run_from x (text ++ o) n replies ≡ Some (Done t out)
-            → TellsMore n outs items (m ++ run_gives outs_at x n replies) (i ++ run_gives items_at x n replies) (seat_at t.seats.seats n) out
+        Later = (x : SiteState) (o : List ℕ) (m : List (List ℕ)) (i : List Item) → PutsOutMore n outs items m i (seat_at x.seats.seats n) (text ++ o) → run_from x (text ++ o) n replies ≡ Some (Done t out)
+            → PutsOutMore n outs items (m ++ run_yields outs_at x n replies) (i ++ run_yields items_at x n replies) (seat_at t.seats.seats n) out
 
         by : Later → rests (seat_at s.seats.seats n) ≡ false → (a : Answer SiteState) → step_line s n keeps ≡ a → RunThen text replies a ≡ Some (Done t out)
-            → TellsMore n outs items (more ++ GivesThen outs_at s keeps replies a) (taken ++ GivesThen items_at s keeps replies a) (seat_at t.seats.seats n) out
+            → PutsOutMore n outs items (more ++ YieldsThen outs_at s keeps replies a) (taken ++ YieldsThen items_at s keeps replies a) (seat_at t.seats.seats n) out
         by later going Refused at e = absurd (cc)
         by later going (Done x o) at e =
-            let gives : List (List ℕ) = step_gives outs_at s n keeps in
-            let gets : List Item = step_gives items_at s n keeps in
-            tells_as n outs items ((more ++ gives) ++ run_gives outs_at x n replies) (more ++ (gives ++ run_gives outs_at x n replies)) ((taken ++ gets) ++ run_gives items_at x n replies) (taken ++ (gets ++ run_gives items_at x n replies)) (seat_at t.seats.seats n) (seat_at t.seats.seats n) out out
-            (append_assoc more gives (run_gives outs_at x n replies)) (append_assoc taken gets (run_gives items_at x n replies)) refl refl
+            let gives : List (List ℕ) = step_yields outs_at s n keeps in
+            let gets : List Item = step_yields items_at s n keeps in
+            tells_as n outs items ((more ++ gives) ++ run_yields outs_at x n replies) (more ++ (gives ++ run_yields outs_at x n replies)) ((taken ++ gets) ++ run_yields items_at x n replies) (taken ++ (gets ++ run_yields items_at x n replies)) (seat_at t.seats.seats n) (seat_at t.seats.seats n) out out
+            (append_assoc more gives (run_yields outs_at x n replies)) (append_assoc taken gets (run_yields items_at x n replies)) refl refl
             (later x o (more ++ gives) (taken ++ gets) (joined s x keeps text o more taken going at tells) e)
 
         go : Later → (b : Bool) → rests (seat_at s.seats.seats n) ≡ b → cond b (Some (Done s text)) (RunThen text replies (step_line s n keeps)) ≡ Some (Done t out)
-            → TellsMore n outs items (more ++ cond b [] (GivesThen outs_at s keeps replies (step_line s n keeps))) (taken ++ cond b [] (GivesThen items_at s keeps replies (step_line s n keeps))) (seat_at t.seats.seats n) out
+            → PutsOutMore n outs items (more ++ cond b [] (YieldsThen outs_at s keeps replies (step_line s n keeps))) (taken ++ cond b [] (YieldsThen items_at s keeps replies (step_line s n keeps))) (seat_at t.seats.seats n) out
         go later true at e = halts s t text out more taken e tells
         go later false at e = by later at (step_line s n keeps) refl e
 
 -- what comes to a connection changes nothing of what it has told
-came_tells : (n : ℕ) (outs : List (List ℕ)) (items : List Item) (s t : SiteState) (seat : Seat) (become : Seat → Seat) (text : List ℕ) → ((x : Seat) → (become x).connection.stage ≡ x.connection.stage) → seat_at s.seats.seats n ≡ Some seat → SeatBecomes n s become t → text ≡ [] → HasTold n outs items (Some seat) []
-    → TellsMore n outs items [] [] (seat_at t.seats.seats n) text
+came_tells : (n : ℕ) (outs : List (List ℕ)) (items : List Item) (s t : SiteState) (seat : Seat) (become : Seat → Seat) (text : List ℕ) → ((x : Seat) → (become x).connection.stage ≡ x.connection.stage) → seat_at s.seats.seats n ≡ Some seat → SeatBecomes n s become t → text ≡ [] → HasPutOut n outs items (Some seat) []
+    → PutsOutMore n outs items [] [] (seat_at t.seats.seats n) text
 came_tells n outs items s t seat become text keeps there comes silent told =
     let same : comes.seat ≡ seat = (let both : Some comes.seat ≡ Some seat = sym comes.was ∙ there in cc) in
     let stage : (become comes.seat).connection.stage ≡ seat.connection.stage = keeps comes.seat ∙ ap (λ (x : Seat). x.connection.stage) same in
@@ -251,8 +251,8 @@ came_tells n outs items s t seat become text keeps there comes silent told =
     (nothing_more n outs items seat (Some (become comes.seat)) [] told (subst (λ (x : Stage ActionCall). IsSent x told.sent) (sym stage) told.behind.0, refl))
 
 -- a line tells more of a connection that is there
-pub line_tells : (s t : SiteState) (line : SeatLine) (replies : List Bool) (text : List ℕ) (outs : List (List ℕ)) (items : List Item) (seat : Seat) → seat_line s line replies ≡ Some (Done t text) → seat_at s.seats.seats (number_in line) ≡ Some seat → HasTold (number_in line) outs items (Some seat) []
-    → TellsMore (number_in line) outs items (line_outs s line replies) (line_items s line replies) (seat_at t.seats.seats (number_in line)) text
+pub line_tells : (s t : SiteState) (line : SeatLine) (replies : List Bool) (text : List ℕ) (outs : List (List ℕ)) (items : List Item) (seat : Seat) → seat_line s line replies ≡ Some (Done t text) → seat_at s.seats.seats (number_in line) ≡ Some seat → HasPutOut (number_in line) outs items (Some seat) []
+    → PutsOutMore (number_in line) outs items (line_outs s line replies) (line_items s line replies) (seat_at t.seats.seats (number_in line)) text
 line_tells s t (lines.Conn n) replies text outs items seat is there told = absurd (let not : seat_line s (lines.Conn n) replies ≡ Some Refused = there_refused s n replies seat there in cc)
 line_tells s t (lines.Bytes n bytes) replies text outs items seat is there told =
     came_tells n outs items s t seat (λ x. fed x bytes) text (λ x. refl) there (bytes_fed s t n bytes replies text is) (still_alone s t (lines.Bytes n bytes) replies text is refl).silent told

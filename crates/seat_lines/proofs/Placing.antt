@@ -7,6 +7,7 @@ use Rattle.scenario_text.specs.Answer.{Answer, Refused, Done, KeepsRefused, answ
 use Rattle.scenario_text.specs.declared.answer.LineAnswer.{LineAnswer}
 use Rattle.scenario_text.specs.declared.answer.LineAnswer.TheVariants as answers
 use Rattle.scenario_text.specs.declared.seat_line.TheConstants.{MAX_SEAT}
+use Rattle.seat_steps.specs.Replies.{SeatHears}
 use Rattle.seat_steps.specs.Seats.{SeatGivens, SeatWorld}
 use Rattle.seat_steps.specs.declared.seat.Seat.{Seat}
 use Rattle.session_lanes.specs.Lanes.{LanesState}
@@ -14,7 +15,8 @@ use Rattle.session_steps.specs.Lent.{LentSessionsState, put_back}
 use Rattle.shepherd.specs.Shepherds.{turn}
 use Rattle.shepherd.specs.declared.shepherd.ShepherdTurn.{ShepherdTurn}
 use Rattle.shepherd.specs.declared.shepherd.ShepherdTurn.TheVariants as turns
-use Rattle.seat_lines.specs.Handing.{AddedNothing, AreHanded, BreaksIn, BreaksStep, Handed, HasMadeStep, HasMovedIn, IsAsPlaceLeaves, IsAsStepLeaves, handed_first, step_hands, writes_by}
+use Rattle.seat_lines.specs.Handing.{LeftAsItWas, AreHanded, BreaksIn, BreaksStep, Handed, HasMadeStep, HasMovedIn, IsAsPlaceLeaves, IsAsStepLeaves, handed_first, step_hands, writes_by}
+use Rattle.seat_lines.specs.Hearing.{PlaceHears, StepHears}
 use Rattle.seat_lines.specs.Lines.{Place, givens_of, is_beyond, place_step, step_line, step_over, steps_at, with_place, worker_of, world_of}
 use Rattle.seat_lines.specs.Runs.{rests}
 use Rattle.seat_lines.specs.Site.{SeatsState, SiteState, seat_at, site_in, with_seats}
@@ -100,9 +102,16 @@ within_answer answers.Refused whole part = refl
 within_answer answers.Done whole part = refl
 within_answer (answers.Wrote text) whole part = refl
 
+-- what a connection hears in its place, over bricks, is what it hears over these
+place_hears : (place : Option Seat) (lanes st : LanesState) (seat : Seat) → PlaceHears place lanes → Some lanes ≡ Some st → place ≡ Some seat → SeatHears seat st
+place_hears place lanes st seat heard store there = let same : lanes ≡ st = cc in subst (λ (x : LanesState). SeatHears seat x) same (heard seat there)
+
 module _ (n : ℕ) (old : ContainerValue) (lent : LentSessionsState) (lanes : LanesState) (serial : ℕ) (seats : SeatsState) (new : ContainerValue) (fits : n ≤ MAX_SEAT) where
   abbrev s : SiteState
   s = site_in old (put_back lent (Some lanes) serial) seats
+
+  step_hears : PlaceHears (seat_at seats.seats n) lanes → StepHears s n
+  step_hears heard st seat near store there = place_hears (seat_at seats.seats n) lanes st seat heard store there
 
   -- a connection that came to this in its place made a step of the site
   pub made_there : (a : LineAnswer) (place : Place) → HasMovedIn lent.key lent.moment n (seat_at seats.seats n) old (world_of s lanes) (answer_of a place) new → HasMadeStep n old (put_back lent (Some lanes) serial) seats (answer_of a (with_place s n place)) new
@@ -110,6 +119,7 @@ module _ (n : ℕ) (old : ContainerValue) (lent : LentSessionsState) (lanes : La
     keeps = moved.keeps;
     answers = within_answer a (with_place s n) place ∙ (ap (within (with_place s n)) moved.answers ∙ sym (step_there s n moved.keeps lanes fits refl));
     handed = subst (λ (handed : List Handed). AreHanded handed old new) (sym (hands_there s n moved.keeps lanes fits refl)) moved.handed;
+    heard = step_hears moved.heard;
   }
 
   -- so it is where memory ran out
@@ -130,11 +140,11 @@ module _ (n : ℕ) (old : ContainerValue) (lent : LentSessionsState) (lanes : La
     answer : Answer Place
     answer = place_step (record { key = lent.key; worker = worker_of n; now = lent.moment; keeps = broke.keeps }) n (seat_at seats.seats n) (world_of s lanes)
 
-    added : (AddedNothing broke.handed.made old new ⊎ ((broke.handed.more ≡ []) × (new.told ≡ broke.handed.between) × IsAsPlaceLeaves answer new))
-        → (AddedNothing broke.handed.made old new ⊎ ((broke.handed.more ≡ []) × (new.told ≡ broke.handed.between) × IsAsStepLeaves (step_line s n broke.keeps) new))
+    added : (LeftAsItWas broke.handed.made old new ⊎ ((broke.handed.more ≡ []) × (new.told ≡ broke.handed.between) × IsAsPlaceLeaves answer new × PlaceHears (seat_at seats.seats n) lanes))
+        → (LeftAsItWas broke.handed.made old new ⊎ ((broke.handed.more ≡ []) × (new.told ≡ broke.handed.between) × IsAsStepLeaves (step_line s n broke.keeps) new × StepHears s n))
     added (inl none) = inl none
-    added (inr (all, told, (place, text, is, boot, since))) =
-        inr (all, told, (with_place s n place, text, step_there s n broke.keeps lanes fits refl ∙ ap (within (with_place s n)) is, boot, since))
+    added (inr (all, told, (place, text, is, boot, since), heard)) =
+        inr (all, told, (with_place s n place, text, step_there s n broke.keeps lanes fits refl ∙ ap (within (with_place s n)) is, boot, since), step_hears heard)
 
   -- a connection that is not there makes no step
   pub none_there : (at : new ≡ old) → seat_at seats.seats n ≡ None → HasMadeStep n old (put_back lent (Some lanes) serial) seats Refused new

@@ -22,10 +22,12 @@ use Rattle.seat_steps.specs.Gone.{seat_gone}
 use Rattle.seat_steps.specs.declared.seat.Seat.{Seat}
 use Rattle.seat_lines.specs.Giving.{given_back}
 use Rattle.seat_lines.specs.Handing.{AreCounted, AreHanded, BreaksRun, BreaksStep, Handed, HasDone, HasMadeStep, HasRunTo, RunsOnce, TellsHanded, handed_first, run_hands, step_hands, writes_by}
+use Rattle.seat_lines.specs.Hearing.{StepHears}
 use Rattle.seat_lines.specs.Lines.{is_beyond, step_line, step_over, text_of}
 use Rattle.seat_lines.specs.Runs.{can_run, going, rests, run_from, run_line, steps_from}
 use Rattle.seat_lines.specs.Site.{AllGoOn, SeatsState, SiteState, seat_at, site_in}
 use Rattle.seat_lines.proofs.Handing.{all_handed, handed_none, nothing_kept}
+use Rattle.seat_lines.proofs.Hearing.{hears_once_more}
 use Rattle.seat_lines.proofs.Placing.{IsDone, not_beyond}
 
 -- what is handed first and then more
@@ -113,7 +115,7 @@ module _ (n : ℕ) (old : ContainerValue) (sessions : SessionsState) (seats : Se
 
   -- a run begins
   pub run_begins : HasRunTo n old sessions seats old sessions seats []
-  run_begins = record { replies = []; steps = refl; comes = λ more. refl; handed = handed_none old }
+  run_begins = record { replies = []; steps = refl; comes = λ more. refl; handed = handed_none old; heard = tt }
 
   module _ (mid : ContainerValue) (mid_sessions : SessionsState) (mid_seats : SeatsState) (text : List ℕ) (run : HasRunTo n old sessions seats mid mid_sessions mid_seats text) where
     abbrev here : SiteState
@@ -134,6 +136,7 @@ module _ (n : ℕ) (old : ContainerValue) (sessions : SessionsState) (seats : Se
               ∙ ap (λ (x : List ℕ). run_from there x n more) (sym once.text_is)));
           handed = subst (λ (handed : List Handed). AreHanded handed old new) (sym (hands_on start here n run.replies (once.keeps ∷ []) run.steps ∙ ap (λ (x : List Handed). run_hands start n run.replies ++ x) (one_hands here n once.keeps going)))
               (handed_on (run_hands start n run.replies) (step_hands here n (once.keeps ∷ [])) old mid new run.handed once.handed);
+          heard = hears_once_more start here n run.replies once.keeps run.steps run.heard once.heard;
         }
 
     -- memory runs out in its next step
@@ -145,6 +148,7 @@ module _ (n : ℕ) (old : ContainerValue) (sessions : SessionsState) (seats : Se
       mid_seats = mid_seats;
       steps = run.steps;
       handed = run.handed;
+      heard = run.heard;
       there = can;
       goes_on = going;
       last = broke;
@@ -170,6 +174,7 @@ module _ (n : ℕ) (old : ContainerValue) (sessions : SessionsState) (seats : Se
           ∙ ap (λ (b : Bool). cond b (Some (Done here text)) None) at_rest))
           );
       handed = run.handed;
+      heard = run.heard;
     }
 
   -- a run that cannot begin is refused
@@ -179,6 +184,7 @@ module _ (n : ℕ) (old : ContainerValue) (sessions : SessionsState) (seats : Se
     replies = [];
     answers = sym (ap (λ (b : Bool). cond b (run_from start [] n []) (Some Refused)) can);
     handed = handed_none old;
+    heard = tt;
   }
 
   -- a step is a line
@@ -187,15 +193,17 @@ module _ (n : ℕ) (old : ContainerValue) (sessions : SessionsState) (seats : Se
     replies = made.keeps ∷ [];
     answers = ap (λ (x : Answer SiteState). Some x) made.answers;
     handed = made.handed;
+    heard = made.heard;
   }
 
   -- the line by which a connection goes is refused, where its step is
-  pub going_refused : (to_rest : Bool) → step_line start n true ≡ Refused → can_run start n ≡ false → HasDone (going to_rest n) old sessions seats Refused old
-  going_refused true step can = run_refused can
-  going_refused false step can = record {
+  pub going_refused : (to_rest : Bool) → step_line start n true ≡ Refused → can_run start n ≡ false → StepHears start n → HasDone (going to_rest n) old sessions seats Refused old
+  going_refused true step can heard = run_refused can
+  going_refused false step can heard = record {
     replies = true ∷ [];
     answers = ap (λ (x : Answer SiteState). Some x) (sym step);
     handed = subst (λ (handed : List Handed). AreHanded handed old old) (sym (ap (λ (x : Answer SiteState). elim x [ Refused ↦ [] | Done t out ↦ handed_first (writes_by (seat_at start.seats.seats n) start.boot) true [] ]) step)) (handed_none old);
+    heard = heard;
   }
 
 -- what a step that is done wrote
@@ -210,6 +218,7 @@ runs_once n old sessions seats text new new_sessions new_seats new_text a made d
   step_is = told_by a (site_in new new_sessions new_seats) (step_line (site_in old sessions seats) n made.keeps) made.answers (done made.keeps);
   text_is = is;
   handed = made.handed;
+  heard = made.heard;
 }
 
 -- memory ran out behind a step that was made
@@ -219,7 +228,7 @@ made_breaks n old sessions seats a new new_sessions new_seats made done =
     record {
       keeps = made.keeps;
       handed = all_handed (step_hands (site_in old sessions seats) n (made.keeps ∷ [])) old new made.handed;
-      added = inr (refl, refl, (there, text_of a, told_by a there (step_line (site_in old sessions seats) n made.keeps) made.answers (done made.keeps), refl, refl));
+      added = inr (refl, refl, (there, text_of a, told_by a there (step_line (site_in old sessions seats) n made.keeps) made.answers (done made.keeps), refl, refl), made.heard);
     }
 
 -- what holds while a run goes on
@@ -299,6 +308,7 @@ beyond_going n old sessions seats to_rest beyond =
     going_refused n old sessions seats to_rest
     (beyond_by (is_beyond n) (or_refused sessions.store (λ (store : LanesState). step_over s n true store)) beyond)
     ((no_run (is_beyond n) (is_some sessions.store && is_some (seat_at seats.seats n))).0 beyond)
+    (λ st seat near store there. let clash : true ≡ false = sym beyond ∙ near in absurd (cc))
 
 -- and where there are no bricks
 pub bare_going : (n : ℕ) (old : ContainerValue) (sessions : SessionsState) (seats : SeatsState) (to_rest : Bool) → sessions.store ≡ None → HasDone (going to_rest n) old sessions seats Refused old
@@ -308,6 +318,7 @@ bare_going n old sessions seats to_rest bare =
     going_refused n old sessions seats to_rest
     (ap (λ (o : Option LanesState). refused_if (is_beyond n) (or_refused o (λ (store : LanesState). step_over s n true store))) bare ∙ bare_by (is_beyond n))
     ((no_run (is_beyond n) (is_some sessions.store && is_some (seat_at seats.seats n))).1 (ap (λ (o : Option LanesState). is_some o && is_some (seat_at seats.seats n)) bare))
+    (λ st seat near store there. let clash : None ≡ Some st = sym bare ∙ store in absurd (cc))
 
 -- bricks to which connections gave back what they held are sound
 pub given_sound : ((seat : Seat) (st : LanesState) → HasSoundStore (Some st) → HasSoundStore (Some (seat_gone seat st).store)) → (seats : List (Option Seat)) (st : LanesState) → HasSoundStore (Some st) → HasSoundStore (Some (given_back seats st))

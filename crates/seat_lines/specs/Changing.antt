@@ -37,7 +37,7 @@ pub record ChangesSeatsAlone (old new : SiteState) (text : List ℕ) : Type 0 wh
 pub record SeatBecomes (n : ℕ) (old : SiteState) (become : Seat → Seat) (new : SiteState) : Type 0 where
   pub seat : Seat
   pub was : seat_at old.seats.seats n ≡ Some seat
-  pub going_on : seat.connection.ended ≡ false
+  pub not_ended : seat.connection.ended ≡ false
   pub becomes : seat_at new.seats.seats n ≡ Some (become seat)
 
 -- The site is as the step of a seat at a turn leaves it: with the seat in its place, the bricks and the serial that is

@@ -25,11 +25,11 @@ items_if (Some item) = item ∷ []
 
 -- The items that these connections give where they give back what they hold, in the order of their numbers: each of a
 -- request whose response has left.
-abbrev pub given_items : List (Option Seat) → LanesState → List Item
-given_items [] st = []
-given_items (None ∷ seats) st = given_items seats st
-given_items (Some seat ∷ seats) st =
-    items_if (seat_gone seat st).item ++ given_items seats (seat_gone seat st).store
+abbrev pub items_at_giving_up : List (Option Seat) → LanesState → List Item
+items_at_giving_up [] st = []
+items_at_giving_up (None ∷ seats) st = items_at_giving_up seats st
+items_at_giving_up (Some seat ∷ seats) st =
+    items_if (seat_gone seat st).item ++ items_at_giving_up seats (seat_gone seat st).store
 
 -- the item that is left of a connection, if it is there and one is left
 abbrev pub left_by : Option Seat → List Item

@@ -14,6 +14,7 @@ use Rattle.seat_steps.specs.Seats.{SeatWorld}
 use Rattle.seat_steps.specs.Stepped.{seat_writes}
 use Rattle.seat_steps.specs.declared.seat.Seat.{Seat}
 use Rattle.shepherd_steps.specs.Inside.{TellsReply}
+use Rattle.seat_lines.specs.Hearing.{LineHears, PlaceHears, RunHears, StepHears}
 use Rattle.seat_lines.specs.Lines.{Place, place_step, step_line, worker_of}
 use Rattle.seat_lines.specs.Runs.{can_run, rests, run_from, seat_line, steps_from}
 use Rattle.seat_lines.specs.declared.lending.Lending.{Lending}
@@ -104,8 +105,8 @@ pub record AreSomeHanded (handed : List Handed) (old new : ContainerValue) : Typ
 
 -- Nothing was added to the boot of a container, or to the events since its start, and its keeper has kept nothing of
 -- what it was handed.
-abbrev pub AddedNothing : List Handed → ContainerValue → ContainerValue → Type 0
-AddedNothing made old new = (made ≡ []) × (new.boot ≡ old.boot) × (new.since ≡ old.since)
+abbrev pub LeftAsItWas : List Handed → ContainerValue → ContainerValue → Type 0
+LeftAsItWas made old new = (made ≡ []) × (new.boot ≡ old.boot) × (new.since ≡ old.since)
 
 -- The boot of a container, and the events since its start, are as a connection left them that made its step in a place.
 abbrev pub IsAsPlaceLeaves : Answer Place → ContainerValue → Type 0
@@ -117,61 +118,70 @@ abbrev pub IsAsStepLeaves : Answer SiteState → ContainerValue → Type 0
 IsAsStepLeaves answer new =
     (site : SiteState) × (text : List ℕ) × (answer ≡ Done site text) × (new.boot ≡ site.boot) × (new.since ≡ site.since)
 
--- A connection came to this in its place, where the keeper replied so.
+-- A connection came to this in its place, where the keeper replied so, and what it heard is spelled by its bytes.
 pub record HasMovedIn (key : List ℕ) (now : Moment) (n : ℕ) (seat : Option Seat) (old : ContainerValue) (w : SeatWorld) (answer : Answer Place) (new : ContainerValue) : Type 0 where
   pub keeps : Bool
   pub answers : answer ≡ place_step (record { key = key; worker = worker_of n; now = now; keeps = keeps }) n seat w
   pub handed : AreHanded (handed_first (writes_by seat old.boot) keeps []) old new
+  pub heard : PlaceHears seat w.store
 
 -- Memory ran out in the step of a connection in its place: before anything was added; or behind what it does in the
--- container, and then the keeper replied so to all that the step hands to it.
+-- container, and then the keeper replied so to all that the step hands to it, and what it heard is spelled.
 pub record BreaksIn (key : List ℕ) (now : Moment) (n : ℕ) (seat : Option Seat) (old : ContainerValue) (w : SeatWorld) (new : ContainerValue) : Type 0 where
   pub keeps : Bool
   pub handed : AreSomeHanded (handed_first (writes_by seat old.boot) keeps []) old new
-  pub added : AddedNothing handed.made old new
+  pub added : LeftAsItWas handed.made old new
       ⊎ ((handed.more ≡ []) × (new.told ≡ handed.between)
-      × IsAsPlaceLeaves (place_step (record { key = key; worker = worker_of n; now = now; keeps = keeps }) n seat w) new)
+      × IsAsPlaceLeaves (place_step (record { key = key; worker = worker_of n; now = now; keeps = keeps }) n seat w) new
+      × PlaceHears seat w.store)
 
--- The step of a connection came to this answer in a container, and left the keeper so, where it replied so.
+-- The step of a connection came to this answer in a container, and left the keeper so, where it replied so. What it
+-- heard is spelled.
 pub record HasMadeStep (n : ℕ) (old : ContainerValue) (sessions : SessionsState) (seats : SeatsState) (answer : Answer SiteState) (new : ContainerValue) : Type 0 where
   pub keeps : Bool
   pub answers : answer ≡ step_line (site_in old sessions seats) n keeps
   pub handed : AreHanded (step_hands (site_in old sessions seats) n (keeps ∷ [])) old new
+  pub heard : StepHears (site_in old sessions seats) n
 
--- A run made one more step, which wrote something behind its text, where the keeper replied so.
+-- A run made one more step, which wrote something behind its text, where the keeper replied so. What it heard is
+-- spelled.
 pub record RunsOnce (n : ℕ) (old : ContainerValue) (sessions : SessionsState) (seats : SeatsState) (text : List ℕ) (new : ContainerValue) (new_sessions : SessionsState) (new_seats : SeatsState) (new_text : List ℕ) : Type 0 where
   pub keeps : Bool
   pub out : List ℕ
   pub step_is : step_line (site_in old sessions seats) n keeps ≡ Done (site_in new new_sessions new_seats) out
   pub text_is : new_text ≡ text ++ out
   pub handed : AreHanded (step_hands (site_in old sessions seats) n (keeps ∷ [])) old new
+  pub heard : StepHears (site_in old sessions seats) n
 
--- Steps of a run led to these, with this text, where the keeper replied so to them.
+-- Steps of a run led to these, with this text, where the keeper replied so to them. What they heard is spelled.
 pub record HasRunTo (n : ℕ) (old : ContainerValue) (sessions : SessionsState) (seats : SeatsState) (mid : ContainerValue) (mid_sessions : SessionsState) (mid_seats : SeatsState) (text : List ℕ) : Type 0 where
   pub replies : List Bool
   pub steps : steps_from (site_in old sessions seats) n replies ≡ Some (site_in mid mid_sessions mid_seats)
   pub comes : (more : List Bool) → run_from (site_in old sessions seats) [] n (replies ++ more) ≡ run_from (site_in mid mid_sessions mid_seats) text n more
   pub handed : AreHanded (run_hands (site_in old sessions seats) n replies) old mid
+  pub heard : RunHears (site_in old sessions seats) n replies
 
 -- A line about connections came to this answer in a container, and left the keeper so, where the keeper replied so to
--- its steps.
+-- its steps. What they heard is spelled.
 pub record HasDone (line : SeatLine) (old : ContainerValue) (sessions : SessionsState) (seats : SeatsState) (answer : Answer SiteState) (new : ContainerValue) : Type 0 where
   pub replies : List Bool
   pub answers : Some answer ≡ seat_line (site_in old sessions seats) line replies
   pub handed : AreHanded (line_hands (site_in old sessions seats) line replies) old new
+  pub heard : LineHears (site_in old sessions seats) line replies
 
 -- Memory ran out in the step of a connection: before anything was added; or behind what it does in the container, and
--- then the keeper replied so to all that the step hands to it. So a commit that was kept is in the boot, and one
--- with writes that is in the boot was handed to the keeper and kept.
+-- then the keeper replied so to all that the step hands to it, and what it heard is spelled. So a commit that was kept
+-- is in the boot, and one with writes that is in the boot was handed to the keeper and kept.
 pub record BreaksStep (n : ℕ) (old : ContainerValue) (sessions : SessionsState) (seats : SeatsState) (new : ContainerValue) : Type 0 where
   pub keeps : Bool
   pub handed : AreSomeHanded (step_hands (site_in old sessions seats) n (keeps ∷ [])) old new
-  pub added : AddedNothing handed.made old new
+  pub added : LeftAsItWas handed.made old new
       ⊎ ((handed.more ≡ []) × (new.told ≡ handed.between)
-      × IsAsStepLeaves (step_line (site_in old sessions seats) n keeps) new)
+      × IsAsStepLeaves (step_line (site_in old sessions seats) n keeps) new
+      × StepHears (site_in old sessions seats) n)
 
--- Memory ran out in the run of a connection: whole steps of it were made, where the keeper replied so, and it could go
--- on and was not at its end; and then memory ran out in a step.
+-- Memory ran out in the run of a connection: whole steps of it were made, where the keeper replied so, and what they
+-- heard is spelled; it could go on and was not at its end; and then memory ran out in a step.
 pub record BreaksRun (n : ℕ) (old : ContainerValue) (sessions : SessionsState) (seats : SeatsState) (new : ContainerValue) : Type 0 where
   pub replies : List Bool
   pub mid : ContainerValue
@@ -179,6 +189,7 @@ pub record BreaksRun (n : ℕ) (old : ContainerValue) (sessions : SessionsState)
   pub mid_seats : SeatsState
   pub steps : steps_from (site_in old sessions seats) n replies ≡ Some (site_in mid mid_sessions mid_seats)
   pub handed : AreHanded (run_hands (site_in old sessions seats) n replies) old mid
+  pub heard : RunHears (site_in old sessions seats) n replies
   pub there : can_run (site_in mid mid_sessions mid_seats) n ≡ true
   pub goes_on : rests (seat_at mid_seats.seats n) ≡ false
   pub last : BreaksStep n mid mid_sessions mid_seats new

@@ -1,4 +1,4 @@
--- What lines about connections give: the bytes that connections put out, and the items of requests.
+-- What lines about connections yield: the bytes that connections put out, and the items of requests.
 use Rattle.std.specs.Prelude.{ℕ, Bool, true, false, if◌then◌else◌, List, [], ◌∷◌, ◌++◌, Option, Some, None}
 use Rattle.outcome_items.specs.declared.item.Item.{Item}
 use Rattle.scenario_text.specs.Answer.{Refused, Done}
@@ -31,52 +31,52 @@ puts_out (turns.Ended end) = false
 abbrev pub outs_at : ShepherdTurn → SeatOutcome → List (List ℕ)
 outs_at turn o = if puts_out turn then o.bytes ∷ [] else []
 
--- the items that it gave
+-- the items that it yielded
 abbrev pub items_at : ShepherdTurn → SeatOutcome → List Item
 items_at turn o = if moves turn then o.items else []
 
--- what the step of a connection in a world gives, if it is there
-abbrev pub place_gives : {A : Type 0} → (ShepherdTurn → SeatOutcome → List A) → SeatGivens → Option Seat → SeatWorld → List A
-place_gives gives g None w = []
-place_gives gives g (Some seat) w = gives (turn seat.connection) (seat_step g seat w)
+-- what the step of a connection in a world yields, if it is there
+abbrev pub place_yields : {A : Type 0} → (ShepherdTurn → SeatOutcome → List A) → SeatGivens → Option Seat → SeatWorld → List A
+place_yields yields g None w = []
+place_yields yields g (Some seat) w = yields (turn seat.connection) (seat_step g seat w)
 
--- what the step of a connection over these bricks gives, if there are some
-abbrev pub over_gives : {A : Type 0} → (ShepherdTurn → SeatOutcome → List A) → SiteState → ℕ → Bool → Option LanesState → List A
-over_gives gives s n keeps None = []
-over_gives gives s n keeps (Some store) =
-    place_gives gives (givens_of s n keeps) (seat_at s.seats.seats n) (world_of s store)
+-- what the step of a connection over these bricks yields, if there are some
+abbrev pub over_yields : {A : Type 0} → (ShepherdTurn → SeatOutcome → List A) → SiteState → ℕ → Bool → Option LanesState → List A
+over_yields yields s n keeps None = []
+over_yields yields s n keeps (Some store) =
+    place_yields yields (givens_of s n keeps) (seat_at s.seats.seats n) (world_of s store)
 
--- what the step of a connection gives, where the keeper keeps what it is handed or not
-abbrev pub step_gives : {A : Type 0} → (ShepherdTurn → SeatOutcome → List A) → SiteState → ℕ → Bool → List A
-step_gives gives s n keeps = if is_beyond n then [] else over_gives gives s n keeps s.sessions.store
+-- what the step of a connection yields, where the keeper keeps what it is handed or not
+abbrev pub step_yields : {A : Type 0} → (ShepherdTurn → SeatOutcome → List A) → SiteState → ℕ → Bool → List A
+step_yields yields s n keeps = if is_beyond n then [] else over_yields yields s n keeps s.sessions.store
 
--- what the first step gives, where the keeper replies so first
-abbrev pub first_gives : {A : Type 0} → (ShepherdTurn → SeatOutcome → List A) → SiteState → ℕ → List Bool → List A
-first_gives gives s n [] = []
-first_gives gives s n (keeps ∷ more) = step_gives gives s n keeps
+-- what the first step yields, where the keeper replies so first
+abbrev pub first_yields : {A : Type 0} → (ShepherdTurn → SeatOutcome → List A) → SiteState → ℕ → List Bool → List A
+first_yields yields s n [] = []
+first_yields yields s n (keeps ∷ more) = step_yields yields s n keeps
 
--- what a run gives from here on, in order, where the keeper replies so to one step after the other
-abbrev pub run_gives : {A : Type 0} → (ShepherdTurn → SeatOutcome → List A) → SiteState → ℕ → List Bool → List A
-run_gives gives s n [] = []
-run_gives gives s n (keeps ∷ more) =
+-- what a run yields from here on, in order, where the keeper replies so to one step after the other
+abbrev pub run_yields : {A : Type 0} → (ShepherdTurn → SeatOutcome → List A) → SiteState → ℕ → List Bool → List A
+run_yields yields s n [] = []
+run_yields yields s n (keeps ∷ more) =
     if rests (seat_at s.seats.seats n) then [] else
     (elim (step_line s n keeps) [
       | Refused ↦ []
-      | Done t out ↦ step_gives gives s n keeps ++ run_gives gives t n more
+      | Done t out ↦ step_yields yields s n keeps ++ run_yields yields t n more
     ])
 
--- what a line about connections gives, in order, where the keeper replies so to one step after the other
-abbrev pub line_gives : {A : Type 0} → (ShepherdTurn → SeatOutcome → List A) → SiteState → SeatLine → List Bool → List A
-line_gives gives s (lines.Conn n) replies = []
-line_gives gives s (lines.Bytes n bytes) replies = []
-line_gives gives s (lines.End n) replies = []
-line_gives gives s (lines.Step n) replies = first_gives gives s n replies
-line_gives gives s (lines.Run n) replies = run_gives gives s n replies
+-- what a line about connections yields, in order, where the keeper replies so to one step after the other
+abbrev pub line_yields : {A : Type 0} → (ShepherdTurn → SeatOutcome → List A) → SiteState → SeatLine → List Bool → List A
+line_yields yields s (lines.Conn n) replies = []
+line_yields yields s (lines.Bytes n bytes) replies = []
+line_yields yields s (lines.End n) replies = []
+line_yields yields s (lines.Step n) replies = first_yields yields s n replies
+line_yields yields s (lines.Run n) replies = run_yields yields s n replies
 
--- The items that a line about connections gives, in order.
+-- The items that a line about connections yields, in order.
 abbrev pub line_items : SiteState → SeatLine → List Bool → List Item
-line_items s line replies = line_gives items_at s line replies
+line_items s line replies = line_yields items_at s line replies
 
 -- What its connection puts out by it, in order, each response for itself.
 abbrev pub line_outs : SiteState → SeatLine → List Bool → List (List ℕ)
-line_outs s line replies = line_gives outs_at s line replies
+line_outs s line replies = line_yields outs_at s line replies

@@ -1,9 +1,11 @@
 pub mod Changing
 pub mod Giving
 pub mod Handing
+pub mod Hearing
 pub mod Items
 pub mod Lines
+pub mod Responding
 pub mod Runs
 pub mod Site
-pub mod Telling
+pub mod PuttingOut
 pub mod Texts

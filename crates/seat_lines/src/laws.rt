@@ -16,12 +16,12 @@ ghost use Rattle.shepherd.specs.declared.shepherd.EndKind.{EndKind};
 ghost use Rattle.shepherd.specs.declared.shepherd.ShepherdTurn.{ShepherdTurn};
 ghost use Rattle.shepherd.specs.declared.shepherd.ShepherdTurn.TheVariants as turns;
 ghost use Rattle.seat_lines.specs.Changing.{ChangesSeatsAlone, IsLeftBySeat, SeatBecomes, makes_steps, number_in};
-ghost use Rattle.seat_lines.specs.Giving.{given_items, items_if, left_by, without_seats};
+ghost use Rattle.seat_lines.specs.Giving.{items_at_giving_up, items_if, left_by, without_seats};
 ghost use Rattle.seat_lines.specs.Items.{line_items, line_outs};
 ghost use Rattle.seat_lines.specs.Lines.{givens_of, moves, step_line, step_text, world_of};
-ghost use Rattle.seat_lines.specs.Runs.{seat_line};
+ghost use Rattle.seat_lines.specs.Runs.{can_run, seat_line};
 ghost use Rattle.seat_lines.specs.Site.{SeatsState, SiteState, no_seats, seat_at, with_seat};
-ghost use Rattle.seat_lines.specs.Telling.{HasAccounted, HasTold, TellsMore};
+ghost use Rattle.seat_lines.specs.PuttingOut.{HasAccounted, HasPutOut, PutsOutMore};
 ghost use Rattle.seat_lines.specs.Texts.{gone_text, out_text};
 ghost use Rattle.seat_lines.specs.declared.seats.TheConstants.{FIRST_WORD, FIRST_WORKER};
 
@@ -55,7 +55,7 @@ pub fn steps_are_those_of_seats()
         → step_line s n keeps ≡ Refused }
     ensures beyond { (s : SiteState) (n : ℕ) (keeps : Bool) → MAX_SEAT < n → step_line s n keeps ≡ Refused }
     ensures bare { (s : SiteState) (n : ℕ) (keeps : Bool) → s.sessions.store ≡ None → step_line s n keeps ≡ Refused }
-    ensures given { (s : SiteState) (n : ℕ) (keeps : Bool) → givens_of s n keeps ≡ record {
+    ensures settings { (s : SiteState) (n : ℕ) (keeps : Bool) → givens_of s n keeps ≡ record {
       key = s.sessions.key;
       worker = record { 0 = 65536 + n };
       now = s.sessions.moment;
@@ -72,12 +72,14 @@ pub fn steps_are_those_of_seats()
     ensures silent { (t : ShepherdTurn) (n : ℕ) (bytes : List ℕ) → t ≢ turns.Output → step_text t n bytes ≡ [] }
     ensures first { no_seats ≡ record { seats = []; word = 1 } }
     ensures boots { (s : SeatsState) → without_seats s ≡ record { seats = []; word = s.word } }
-    ensures limits { (FIRST_WORKER ≡ 65536) × (FIRST_WORD ≡ 1) }
+    ensures numbers { (FIRST_WORKER ≡ 65536) × (FIRST_WORD ≡ 1) }
 {}
 
 /// A line about a connection leaves all others as they are. Where it makes no step, it changes connections alone: one
-/// that opens was not there and has done nothing yet, and bytes and the end of the input come to one that is there and
-/// whose input has not ended. Behind a run that is done, the connection waits for bytes or is gone.
+/// that opens was not there, has a number up to `MAX_SEAT` and has done nothing yet, and bytes and the end of the input
+/// come to one that is there and whose input has not ended. A run is refused where the connection is not there, where
+/// none has its number, and where there are no bricks (`can_run`). Behind a run that is done, the connection waits for
+/// bytes or is gone.
 pub fn lines_change_one_connection()
     ensures others { (s t : SiteState) (line : SeatLine) (replies : List Bool) (text : List ℕ) (m : ℕ)
         → seat_line s line replies ≡ Some (Done t text) → m ≢ number_in line
@@ -86,6 +88,10 @@ pub fn lines_change_one_connection()
         → seat_line s line replies ≡ Some (Done t text) → makes_steps line ≡ false → ChangesSeatsAlone s t text }
     ensures there { (s : SiteState) (n : ℕ) (replies : List Bool) (seat : Seat) → seat_at s.seats.seats n ≡ Some seat
         → seat_line s (lines.Conn n) replies ≡ Some Refused }
+    ensures beyond { (s : SiteState) (n : ℕ) (replies : List Bool) → MAX_SEAT < n
+        → seat_line s (lines.Conn n) replies ≡ Some Refused }
+    ensures unable { (s : SiteState) (n : ℕ) (replies : List Bool) → can_run s n ≡ false
+        → seat_line s (lines.Run n) replies ≡ Some Refused }
     ensures opens { (s t : SiteState) (n : ℕ) (replies : List Bool) (text : List ℕ)
         → seat_line s (lines.Conn n) replies ≡ Some (Done t text)
         → seat_at t.seats.seats n ≡ Some (record { connection = fresh; twin = None }) }
@@ -104,7 +110,7 @@ pub fn lines_change_one_connection()
 
 /// A line about a connection is refused for no other cause: a connection of a number up to `MAX_SEAT` opens that is not
 /// there; bytes and the end of the input come to one whose input has not ended; and one that is there makes its step
-/// wherever there are bricks.
+/// wherever there are bricks. So a run of it is not refused, at its begin or behind any of its steps.
 pub fn lines_are_taken()
     ensures opens { (s : SiteState) (n : ℕ) (replies : List Bool) → n ≤ MAX_SEAT → seat_at s.seats.seats n ≡ None
         → seat_line s (lines.Conn n) replies ≢ Some Refused }
@@ -115,20 +121,23 @@ pub fn lines_are_taken()
         → seat.connection.ended ≡ false → seat_line s (lines.End n) replies ≢ Some Refused }
     ensures made { (s : SiteState) (n : ℕ) (keeps : Bool) (seat : Seat) (st : LanesState) → n ≤ MAX_SEAT
         → seat_at s.seats.seats n ≡ Some seat → s.sessions.store ≡ Some st → step_line s n keeps ≢ Refused }
+    ensures ran { (s : SiteState) (n : ℕ) (replies : List Bool) (seat : Seat) (st : LanesState) → n ≤ MAX_SEAT
+        → seat_at s.seats.seats n ≡ Some seat → s.sessions.store ≡ Some st
+        → seat_line s (lines.Run n) replies ≢ Some Refused }
 {}
 
 /// What a line writes is what its connection puts out by it, in order, and how it ended, if it goes. Over all lines a
 /// connection puts out as many responses as it gives items, each before its item; behind them stands at most the
 /// response of the request that is open, which has left, or at last the one to what is refused. Where it is given up,
 /// each response that has left has its item.
-pub fn responses_are_told_in_order()
-    ensures begins { (n : ℕ) → HasTold n [] [] (Some (record { connection = fresh; twin = None })) [] }
+pub fn responses_are_put_out_in_order()
+    ensures begins { (n : ℕ) → HasPutOut n [] [] (Some (record { connection = fresh; twin = None })) [] }
     ensures line { (s t : SiteState) (line : SeatLine) (replies : List Bool) (text : List ℕ) (outs : List (List ℕ)) (items : List Item) (seat : Seat)
         → seat_line s line replies ≡ Some (Done t text) → seat_at s.seats.seats (number_in line) ≡ Some seat
-        → HasTold (number_in line) outs items (Some seat) []
-        → TellsMore (number_in line) outs items (line_outs s line replies) (line_items s line replies)
+        → HasPutOut (number_in line) outs items (Some seat) []
+        → PutsOutMore (number_in line) outs items (line_outs s line replies) (line_items s line replies)
         (seat_at t.seats.seats (number_in line)) text }
-    ensures gone { (n : ℕ) (outs : List (List ℕ)) (items : List Item) (seat : Seat) (st : LanesState) → HasTold n outs items (Some seat) []
+    ensures gone { (n : ℕ) (outs : List (List ℕ)) (items : List Item) (seat : Seat) (st : LanesState) → HasPutOut n outs items (Some seat) []
         → HasAccounted outs (items ++ items_if (seat_gone seat st).item) }
-    ensures given { (seats : List (Option Seat)) (st : LanesState) → given_items seats st ≡ flat_map left_by seats }
+    ensures given_up { (seats : List (Option Seat)) (st : LanesState) → items_at_giving_up seats st ≡ flat_map left_by seats }
 {}

@@ -20,13 +20,22 @@
 //! A line is refused whose number no connection has (`MAX_SEAT`), and a step or a run where the sessions have no
 //! bricks.
 //!
+//! Each contract also tells that what the steps of a line heard is spelled by its bytes (`specs/Hearing.antt`), as each
+//! frame of the code is: the laws about what connections read take it so.
+//!
 //! The random words of a scenario are 1, 2, 3 and so on over all its boots, and the serials are those of its sessions,
 //! which are lent to each step and put back.
+//!
+//! The laws hold of every site. `steps_are_those_of_seats` says what a step leaves and writes,
+//! `lines_change_one_connection` what a line leaves as it was, and `lines_are_taken` where it is not refused;
+//! `lines_come_to_one_answer` says that replies behind the last one change nothing, and
+//! `responses_are_put_out_in_order` what a connection puts out over all its lines.
 #![tactic(auto)]
 
 mod giving;
 mod laws;
 mod lending;
+mod responding;
 mod running;
 mod seats;
 mod stepping;
@@ -34,6 +43,7 @@ mod texts;
 
 pub use laws::{
     lines_are_taken, lines_change_one_connection, lines_come_to_one_answer,
-    responses_are_told_in_order, steps_are_those_of_seats,
+    responses_are_put_out_in_order, steps_are_those_of_seats,
 };
+pub use responding::responses_are_those_of_their_items;
 pub use seats::{FIRST_WORD, FIRST_WORKER, Seats};

@@ -227,7 +227,10 @@ impl Seats {
                 let Lending { lanes, serial } = lending;
                 match answer {
                     Ok(answer) => (lent.put_back(Some(lanes), serial), Ok(answer)),
-                    Err(OutOfMemory) => (lent.put_back(None, serial), Err(OutOfMemory)),
+                    Err(OutOfMemory) => {
+                        drop(lanes);
+                        (lent.put_back(None, serial), Err(OutOfMemory))
+                    }
                 }
             }
         }

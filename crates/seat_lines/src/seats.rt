@@ -16,6 +16,7 @@ use seat_steps::{Seat, SiteMaker};
 use shepherd::connections_go_on;
 use std::alloc::Global;
 use std::marker::Model;
+use std::mem;
 
 /// A connection `sN` is the worker that has the number N behind this one. A caller `cN` is the worker N.
 pub const FIRST_WORKER: u32 = 65_536;
@@ -48,6 +49,13 @@ fn pad(seats: &mut Vec<Option<Seat>>, number: u64) -> Result<(), OutOfMemory>
         seats.push(None)?;
     }
     Ok(())
+}
+
+/// Puts a connection, or none, in a place. What was there is let go.
+pub(crate) fn put(place: &mut Option<Seat>, seat: Option<Seat>)
+    ensures { place.new ≡ seat }
+{
+    drop(mem::replace(place, seat));
 }
 
 /// Bytes come in on a connection, if it is there and its input has not ended.
@@ -122,7 +130,7 @@ impl Seats {
             return Ok(LineAnswer::Refused);
         }
         pad(&mut self.seats, number)?;
-        self.seats[number as usize] = Some(Seat::new(alloc));
+        put(&mut self.seats[number as usize], Some(Seat::new(alloc)));
         Ok(LineAnswer::Done)
     }
 

@@ -16,7 +16,7 @@ ghost use Rattle.seat_lines.specs.Lines.{Place, end_of, moves, step_text, still_
 ghost use Rattle.seat_lines.specs.Site.{AllGoOn, IsGoingIn, site_in};
 
 use crate::lending::Lending;
-use crate::seats::{FIRST_WORKER, Seats};
+use crate::seats::{FIRST_WORKER, Seats, put};
 use crate::texts::{gone_text, out_text};
 use auction_actions::ActionProgram;
 use container_core::Container;
@@ -182,7 +182,7 @@ fn stay_or_go(
         None => Ok(LineAnswer::Done),
         Some(end) => {
             let text = gone_text(alloc, number, end)?;
-            *place = None;
+            put(place, None);
             Ok(LineAnswer::Wrote(text))
         }
     }

@@ -1,4 +1,5 @@
 use Rattle.seat_lines.proofs.OneSeat.{bytes_fed, input_ended, opens_fresh, others_stay, run_at_rest, still_alone, there_refused}
+use Rattle.seat_lines.proofs.Taken.{opens_none, run_refused}
 use Rattle.seat_lines.proofs.laws.lines_change_one_connection.Goals as goal
 
 pub returns-clause-others : goal.returns-clause-others
@@ -9,6 +10,12 @@ returns-clause-still c = still_alone
 
 pub returns-clause-there : goal.returns-clause-there
 returns-clause-there c = there_refused
+
+pub returns-clause-beyond : goal.returns-clause-beyond
+returns-clause-beyond c = opens_none
+
+pub returns-clause-unable : goal.returns-clause-unable
+returns-clause-unable c = run_refused
 
 pub returns-clause-opens : goal.returns-clause-opens
 returns-clause-opens c = opens_fresh

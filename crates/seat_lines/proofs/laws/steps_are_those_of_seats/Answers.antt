@@ -23,8 +23,8 @@ returns-clause-beyond c = beyond_steps
 pub returns-clause-bare : goal.returns-clause-bare
 returns-clause-bare c = bare_steps
 
-pub returns-clause-given : goal.returns-clause-given
-returns-clause-given c = λ s n keeps. refl
+pub returns-clause-settings : goal.returns-clause-settings
+returns-clause-settings c = λ s n keeps. refl
 
 pub returns-clause-world : goal.returns-clause-world
 returns-clause-world c = λ s st. refl
@@ -41,5 +41,5 @@ returns-clause-first c = refl
 pub returns-clause-boots : goal.returns-clause-boots
 returns-clause-boots c = λ s. refl
 
-pub returns-clause-limits : goal.returns-clause-limits
-returns-clause-limits c = (refl, refl)
+pub returns-clause-numbers : goal.returns-clause-numbers
+returns-clause-numbers c = (refl, refl)

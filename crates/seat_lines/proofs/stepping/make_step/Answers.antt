@@ -4,7 +4,10 @@ use Rattle.container_core.specs.Container.{ContainerValue}
 use Rattle.crash_base.specs.declared.numbers.Moment.{Moment}
 use Rattle.scenario_text.specs.Answer.{Answer, Done, answer_of}
 use Rattle.seat_steps.specs.Seats.{SeatOutcome, SeatWorld}
-use Rattle.seat_steps.specs.Stepped.{HasStepped, world_from}
+use Rattle.crash_base.specs.declared.memory.OutOfMemory.{OutOfMemory}
+use Rattle.seat_steps.specs.Stepped.{BreaksOff, HasStepped, world_from}
+use Rattle.seat_steps.specs.declared.seat.NextDraws.{NextDraws}
+use Rattle.seat_steps.specs.declared.step.SeatStepped.{SeatStepped}
 use Rattle.shepherd.specs.declared.shepherd.ShepherdTurn.{ShepherdTurn}
 use Rattle.seat_lines.specs.Handing.{HasMovedIn, place_from}
 use Rattle.seat_lines.specs.Lines.{Place, step_text, worker_of}
@@ -18,7 +21,8 @@ returns-in-Ok-step_text-clause-step g c =
     let place : Place = record { seat = Some o.seat; world = o.world } in
     let n : ℕ = c.args.number in
     let a : Answer Place = answer_of c.in-Ok-step_text.answer place in
-    let stepped : HasStepped c.key.result.now (worker_of n) c.moment.result c.args.seat.now c.args.container.now w c.step-lanes.new.container o = IfOk-at_ok _ c.in-Ok.is c.step-lanes.ensures.step in
+    let P : SeatStepped → Type 0 = λ s. HasStepped c.key.result.now (worker_of n) c.moment.result c.args.seat.now c.args.container.now w c.step-lanes.new.container (record o { bytes = s.bytes; items = s.items }) in
+    let stepped : P c.in-Ok.stepped = IfOk-at_ok P c.in-Ok.is c.step-lanes.ensures.step in
     let at : HasMovedIn c.key.result.now c.moment.result n (Some c.args.seat.now) c.args.container.now w a c.step-lanes.new.container =
     moved_in c.key.result.now c.moment.result n c.args.seat.now c.args.container.now w c.step-lanes.new.container o a stepped c.requires.moves c.step-lanes.ensures.count
     (c.in-Ok-step_text.ensures place ∙ ap (λ (t : ShepherdTurn). Done place (step_text t n o.bytes)) c.turn-turn.ensures) in
@@ -37,7 +41,8 @@ returns-in-Ok-clause-breaks g c =
     let new : ContainerValue = c.step-lanes.new.container in
     let o : SeatOutcome = record { seat = c.step-lanes.new.self; world = world_from new c.step-lanes.result.0 c.step-lanes.new.next; bytes = c.in-Ok.stepped.bytes; items = c.in-Ok.stepped.items } in
     let w : SeatWorld = (place_from (Some c.args.seat.now) old c.args.lending c.args.word.now).world in
-    let stepped : HasStepped c.key.result.now (worker_of n) c.moment.result c.args.seat.now old w new o = IfOk-at_ok _ c.in-Ok.is c.step-lanes.ensures.step in
+    let P : SeatStepped → Type 0 = λ s. HasStepped c.key.result.now (worker_of n) c.moment.result c.args.seat.now old w new (record o { bytes = s.bytes; items = s.items }) in
+    let stepped : P c.in-Ok.stepped = IfOk-at_ok P c.in-Ok.is c.step-lanes.ensures.step in
     breaks_lent c.key.result.now c.args.lent.now.key c.moment.result c.args.lent.now.moment n (Some c.args.seat.now) old w new c.key.ensures c.moment.ensures.moment
     (stepped_breaks c.key.result.now c.moment.result n c.args.seat.now old w new o stepped c.requires.moves refl refl c.step-lanes.ensures.count)
 
@@ -47,6 +52,8 @@ returns-clause-breaks g c =
     let old : ContainerValue = c.args.container.now in
     let new : ContainerValue = c.step-lanes.new.container in
     let w : SeatWorld = (place_from (Some c.args.seat.now) old c.args.lending c.args.word.now).world in
+    let next : NextDraws = record { word = c.args.word.now; serial = c.args.lending.serial } in
+    let Q : OutOfMemory → Type 0 = λ e. BreaksOff c.key.result.now c.moment.result c.args.seat.now old c.args.lending.lanes next new c.step-lanes.new.next in
     breaks_lent c.key.result.now c.args.lent.now.key c.moment.result c.args.lent.now.moment n (Some c.args.seat.now) old w new c.key.ensures c.moment.ensures.moment
-    (broke_in c.steps_inside_are_fixed.ensures.replied c.key.result.now c.moment.result n c.args.seat.now old new c.args.lending.lanes (record { word = c.args.word.now; serial = c.args.lending.serial }) c.step-lanes.new.next (IfErr-at_err _ c.in-Err.is c.step-lanes.ensures.broke) c.requires.moves
+    (broke_in c.steps_inside_are_fixed.ensures.replied c.key.result.now c.moment.result n c.args.seat.now old new c.args.lending.lanes next c.step-lanes.new.next (IfErr-at_err Q c.in-Err.is c.step-lanes.ensures.broke) c.requires.moves
     (boot_stays old new c.step-lanes.ensures.grown c.tell_entries.ensures c.tell_entries-2.ensures) c.step-lanes.ensures.count)

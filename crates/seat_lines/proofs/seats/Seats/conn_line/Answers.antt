@@ -1,5 +1,6 @@
-use Rattle.std.proofs.Common.{Some, subst, sym}
+use Rattle.std.proofs.Common.{Option, subst, sym}
 use Rattle.std.specs.Prelude.{All}
+use Rattle.seat_steps.specs.declared.seat.Seat.{Seat}
 use Rattle.seat_lines.specs.Site.{IsGoingIn, SeatsState}
 use Rattle.seat_lines.proofs.Going.{going_set}
 use Rattle.seat_lines.proofs.seats.Seats.conn_line.Goals as goal
@@ -12,4 +13,5 @@ returns-in_err-pad-clause-goes c = λ container all.
 pub returns-clause-goes : goal.returns-clause-goes
 returns-clause-goes c = λ container all.
     let P : SeatsState → Type 0 = λ s. All (IsGoingIn container) s.seats in
-    going_set container c.pad.new.seats.items c.args.number (Some c.new.result) (c.new.ensures.goes container) (c.pad.ensures.goes container (subst P (sym c.self.view_is) all))
+    let Q : Option Seat → Type 0 = λ p. IsGoingIn container p in
+    going_set container c.pad.new.seats.items c.args.number c.put.new.place (subst Q (sym c.put.ensures) (c.new.ensures.goes container)) (c.pad.ensures.goes container (subst P (sym c.self.view_is) all))

@@ -2,6 +2,7 @@ use Rattle.std.proofs.Common.{Some, ℕ, refl, string_bytes}
 use Rattle.std.proofs.lemmas.Result.{IfOk-at_ok}
 use Rattle.container_core.specs.Container.{ContainerValue}
 use Rattle.scenario_text.specs.Answer.{answer_of}
+use Rattle.scenario_text.specs.declared.answer.LineAnswer.{LineAnswer}
 use Rattle.session_steps.specs.Lent.{put_back}
 use Rattle.session_steps.specs.Sessions.{SessionsState}
 use Rattle.seat_lines.specs.Handing.{HasMadeStep}
@@ -17,7 +18,8 @@ returns-in-Ok-add_text-clause-run g c =
     let new : ContainerValue = c.step-lending.new.container in
     let sessions : SessionsState = put_back c.args.lent.now (Some c.args.lending.lanes) c.args.lending.serial in
     let after : SessionsState = put_back c.args.lent.now (Some c.step-lending.result.0.lanes) c.step-lending.result.0.serial in
-    let made : HasMadeStep n old sessions c.args.self.now (answer_of c.in-Ok.answer (site_in new after c.step-lending.new.self)) new = IfOk-at_ok _ c.in-Ok.is c.step-lending.ensures.step in
+    let P : LineAnswer → Type 0 = λ a. HasMadeStep n old sessions c.args.self.now (answer_of a (site_in new after c.step-lending.new.self)) new in
+    let made : P c.in-Ok.answer = IfOk-at_ok P c.in-Ok.is c.step-lending.ensures.step in
     runs_once n old sessions c.args.self.now (string_bytes c.args.text.now) new after c.step-lending.new.self (string_bytes c.add_text.new.text) c.in-Ok.answer made
     (λ keeps. steps_done (site_in old sessions c.args.self.now) n keeps c.args.lending.lanes c.requires.number refl c.requires.goes_on) c.in-Ok-add_text.ensures
 
@@ -28,6 +30,7 @@ returns-in-Err-add_text-clause-breaks g c =
     let new : ContainerValue = c.step-lending.new.container in
     let sessions : SessionsState = put_back c.args.lent.now (Some c.args.lending.lanes) c.args.lending.serial in
     let after : SessionsState = put_back c.args.lent.now (Some c.step-lending.result.0.lanes) c.step-lending.result.0.serial in
-    let made : HasMadeStep n old sessions c.args.self.now (answer_of c.in-Ok.answer (site_in new after c.step-lending.new.self)) new = IfOk-at_ok _ c.in-Ok.is c.step-lending.ensures.step in
+    let P : LineAnswer → Type 0 = λ a. HasMadeStep n old sessions c.args.self.now (answer_of a (site_in new after c.step-lending.new.self)) new in
+    let made : P c.in-Ok.answer = IfOk-at_ok P c.in-Ok.is c.step-lending.ensures.step in
     made_breaks n old sessions c.args.self.now c.in-Ok.answer new after c.step-lending.new.self made
     (λ keeps. steps_done (site_in old sessions c.args.self.now) n keeps c.args.lending.lanes c.requires.number refl c.requires.goes_on)
