@@ -12,14 +12,17 @@ use Rattle.scenario_text.specs.declared.answer.LineAnswer.{LineAnswer}
 use Rattle.scenario_text.specs.declared.answer.LineAnswer.TheVariants as answers
 use Rattle.scenario_text.specs.declared.seat_line.SeatLine.{SeatLine}
 use Rattle.scenario_text.specs.declared.seat_line.SeatLine.TheVariants as lines
-use Rattle.seat_lines.specs.Handing.{Handed, TellsHanded, AreCounted as CountedEach, AreHanded, AreSomeHanded, HasDone, BreaksStep, BreaksRun, BreaksOff, line_hands, step_hands, run_hands}
+use Rattle.seat_lines.specs.Handing.{Handed, TellsHanded, AreCounted as CountedEach, AreHanded, AreSomeHanded, HasDone, LeftAsItWas, BreaksStep, BreaksRun, BreaksOff, IsAsStepLeaves, line_hands, step_hands, run_hands}
+use Rattle.seat_lines.specs.Hearing.{StepHears}
 use Rattle.seat_lines.specs.Lines.{is_beyond, step_line, step_over}
 use Rattle.session_lanes.specs.Lanes.{LanesState}
 use Rattle.seat_lines.specs.Runs.{can_run, rests, run_from, run_line, steps_from}
 use Rattle.seat_lines.specs.Site.{SeatsState, SiteState, seat_at, site_in}
+use Rattle.seat_lines.proofs.Hearing.{hears_once_more}
 use Rattle.seat_steps.specs.declared.seat.Seat.{Seat}
 use Rattle.session_steps.specs.Sessions.{SessionsState}
 use Rattle.shepherd_steps.specs.Inside.{TellsReply}
+use Rattle.scenario_engine.specs.Hearing.{SeatLineHears}
 use Rattle.scenario_engine.specs.KeeperCalls.{KeeperCall, seen, TellsCalls, has_failed, AreCounted, AreMade, AreSomeAsked}
 use Rattle.scenario_engine.specs.Running.{keep_calls}
 use Rattle.scenario_engine.specs.Seats.{in_boot, after_steps, by_replies, seat_over, handed_calls, seat_calls, DoesSite, BreaksSite}
@@ -84,6 +87,35 @@ some_asked handed old new h = record {
   last = last_asked h.made h.between new.told h.last;
   counted = counted_all h.made old.faults new.faults h.counted;
 }
+
+-- where nothing was handed, nothing was asked
+nothing_asked : (handed : List Handed) (old new : ContainerValue) (h : AreSomeHanded handed old new) → h.made ≡ [] → AreSomeAsked [] (seen old.told old.faults) (seen new.told new.faults)
+nothing_asked handed old new h none =
+    some_asked [] old new (record {
+      made = [];
+      more = [];
+      begins = refl;
+      between = h.between;
+      tells = subst (λ (made : List Handed). TellsHanded made old.told h.between) none h.tells;
+      last = last_of h.last;
+      counted = subst (λ (made : List Handed). CountedEach made old.faults new.faults) none h.counted;
+    })
+  where
+    empty : List Handed
+    empty = []
+
+    last_of : ((new.told ≡ h.between) ⊎ ((h.made ≡ []) × TellsRefusal faults.OutOfMemory h.between new.told)) → (new.told ≡ h.between) ⊎ ((empty ≡ []) × TellsRefusal faults.OutOfMemory h.between new.told)
+    last_of (inl same) = inl same
+    last_of (inr (first, tells)) = inr (refl, tells)
+
+-- of a step that broke off nothing was asked, or what it heard is spelled
+broken_heard : (n : ℕ) (old new : ContainerValue) (sessions : SessionsState) (seats : SeatsState) → BreaksStep n old sessions seats new → AreSomeAsked [] (seen old.told old.faults) (seen new.told new.faults) ⊎ StepHears (site_in old sessions seats) n
+broken_heard n old new sessions seats h = go h.added
+  where
+    go : (LeftAsItWas h.handed.made old new ⊎ ((h.handed.more ≡ []) × (new.told ≡ h.handed.between) × IsAsStepLeaves (step_line (site_in old sessions seats) n h.keeps) new × StepHears (site_in old sessions seats) n))
+        → AreSomeAsked [] (seen old.told old.faults) (seen new.told new.faults) ⊎ StepHears (site_in old sessions seats) n
+    go (inl (none, boot, since)) = inl (nothing_asked (step_hands (site_in old sessions seats) n (h.keeps ∷ [])) old new h.handed none)
+    go (inr (all, told, left, heard)) = inr heard
 
 -- a run that is under way
 
@@ -175,6 +207,7 @@ answers_seat k n callers sessions after seats left line a h =
       keeps = h.replies;
       answers = answered_so r (site_in n after left) a ∙ ap (by_replies r line h.replies) h.answers;
       made = handed_made (line_hands (site_in k sessions seats) line h.replies) k n h.handed;
+      heard = λ site. h.heard;
     }
 
 refused_seat : (k n : ContainerValue) (callers : List Caller) (sessions after : SessionsState) (seats left : SeatsState) (line : SeatLine) (a : LineAnswer) → DoesSite false line k sessions seats (answer_of a (site_in n after left)) n → AnswersSeat (run_of k callers sessions seats false) line (answer_of a (run_of n callers after left false)) (seen k.told k.faults) (seen n.told n.faults)
@@ -186,6 +219,7 @@ refused_seat k n callers sessions after seats left line a h =
       keeps = [];
       answers = answered_so r (site_in n after left) a ∙ ap (λ (b : Answer SiteState). in_boot r (within (with_site r) b)) h.0;
       made = subst P (sym h.1) (none_made (seen k.told k.faults));
+      heard = λ site. let clash : false ≡ true = site in absurd (cc);
     }
 
 breaks_step : (k n : ContainerValue) (callers : List Caller) (sessions : SessionsState) (seats : SeatsState) (number : ℕ) → BreaksStep number k sessions seats n → BreaksSeat (run_of k callers sessions seats true) (lines.Step number) (seen k.told k.faults) (seen n.told n.faults)
@@ -198,7 +232,16 @@ breaks_step k n callers sessions seats number h = record {
   whole = none_made (seen k.told k.faults);
   next = h.keeps;
   last = some_asked (step_hands (site_in k sessions seats) number (h.keeps ∷ [])) k n h.handed;
+  heard = λ site. tt;
+  last_heard = by (broken_heard number k n sessions seats h);
 }
+  where
+    Asked : Type 0
+    Asked = AreSomeAsked [] (seen k.told k.faults) (seen n.told n.faults)
+
+    by : Asked ⊎ StepHears (site_in k sessions seats) number → Asked ⊎ SeatLineHears (run_of k callers sessions seats true) (lines.Step number) (h.keeps ∷ [])
+    by (inl none) = inl none
+    by (inr heard) = inr (λ site. heard)
 
 breaks_run : (k n : ContainerValue) (callers : List Caller) (sessions : SessionsState) (seats : SeatsState) (number : ℕ) → BreaksRun number k sessions seats n → BreaksSeat (run_of k callers sessions seats true) (lines.Run number) (seen k.told k.faults) (seen n.told n.faults)
 unfolding seat_over seat_calls run_line
@@ -216,7 +259,16 @@ breaks_run k n callers sessions seats number h =
       whole = handed_made (run_hands s number h.replies) k h.mid h.handed;
       next = h.last.keeps;
       last = some_asked (step_hands t number (h.last.keeps ∷ [])) h.mid n h.last.handed;
+      heard = λ site. h.heard;
+      last_heard = by (broken_heard number h.mid n h.mid_sessions h.mid_seats h.last);
     }
+  where
+    Asked : Type 0
+    Asked = AreSomeAsked [] (seen h.mid.told h.mid.faults) (seen n.told n.faults)
+
+    by : Asked ⊎ StepHears (site_in h.mid h.mid_sessions h.mid_seats) number → Asked ⊎ SeatLineHears (run_of k callers sessions seats true) (lines.Run number) (h.replies ++ h.last.keeps ∷ [])
+    by (inl none) = inl none
+    by (inr heard) = inr (λ site. hears_once_more (site_in k sessions seats) (site_in h.mid h.mid_sessions h.mid_seats) number h.replies h.last.keeps h.steps h.heard heard)
 
 breaks_seat : (k n : ContainerValue) (callers : List Caller) (sessions : SessionsState) (seats : SeatsState) (line : SeatLine) → BreaksOff line k sessions seats n → EndsSeat (run_of k callers sessions seats true) line (seen k.told k.faults) (seen n.told n.faults)
 breaks_seat k n callers sessions seats (lines.Conn number) h = inl (handed_made [] k n h)

@@ -324,7 +324,7 @@ leads_turn law laws s has turn = leads_answer law laws s has (line_of turn.line)
 
 -- Turns of sessions from a state lead to the sessions of the last one; from the head they begin with those that some
 -- head sets up, with as many bricks as head lines allow.
-abbrev AllLead : State → List SessionTurn → State → Type 0
+abbrev pub AllLead : State → List SessionTurn → State → Type 0
 AllLead (Heading head) turns last =
     HasCounts head.setup.counts → (setup : SetupState) × (end : SessionsState) × Lead (set_up setup 0) turns end × HasCounts setup.counts × AreSessionsOf last setup end
 AllLead (Running r) turns last = (end : SessionsState) × Lead r.sessions turns end × ((setup : SetupState) → AreSessionsOf last setup end)

@@ -10,6 +10,7 @@ mod Leading
 pub mod Meant
 pub mod Numbering
 pub mod OfSite
+mod Pausing
 pub mod Rebooting
 pub mod Requesting
 pub mod SeatChanges
@@ -27,6 +28,8 @@ pub mod Telling
 pub mod TellingCalls
 pub mod Turns
 pub mod Unkept
+mod RunsLeft
+mod Writing
 pub mod Rising
 pub mod UnderWay
 pub mod Unhanded

@@ -1,22 +1,24 @@
--- Connections that stand over the bricks stand behind each line about one, where what they hear is read back: their
--- twins are apart, and the write that each owes is new to the world.
-use Rattle.std.proofs.Common.{◌≡◌, ◌≢◌, ◌⊎◌, inl, inr, ℕ, zero, suc, ◌+◌, ◌-◌, ◌<◌, ◌≤◌, Bool, true, false, cond, List, [], ◌∷◌, ◌++◌, length, Option, Some, None, is_some, refl, sym, ap, ◌∙◌, subst, arith}
+-- Connections that stand over the bricks stand behind each line about one, where what they hear is spelled: their
+-- twins are apart, and the write that each owes is new to the world. So does each step of theirs.
+use Rattle.std.proofs.Common.{◌≡◌, ◌≢◌, ◌⊎◌, inl, inr, ℕ, zero, suc, ◌+◌, ◌-◌, ◌^◌, ◌<◌, ◌≤◌, Bool, true, false, cond, List, [], ◌∷◌, ◌++◌, length, Option, Some, None, is_some, refl, sym, ap, ◌∙◌, subst, arith}
 use Rattle.std.specs.Prelude.{All, IfSome, replicate, slice_get, slice_set}
 use Rattle.std.specs.Option.{option_map}
+use Rattle.std.proofs.lemmas.List.Elements.{All-cons, All-nil}
 use Rattle.crash_base.specs.declared.numbers.Version.{Version}
-use Rattle.lane_link.specs.Links.{SpellsPacket, heard_next}
-use Rattle.lane_link.specs.Twins.{call_held}
+use Rattle.lane_link.specs.Twins.{ByEvents, call_held}
 use Rattle.scenario_text.specs.Answer.{Answer, Refused, Done, or_refused, refused_if, within}
+use Rattle.scenario_text.specs.declared.seat_line.SeatLine.{SeatLine}
+use Rattle.scenario_text.specs.declared.seat_line.SeatLine.TheVariants as lines
 use Rattle.scenario_text.proofs.Leaving.{Leaves, leaves-refused_if}
 use Rattle.seat_laws.specs.Drawing.{SeatHasDrawn}
 use Rattle.seat_laws.specs.LentSteps.{lent_steps}
 use Rattle.seat_laws.specs.Ordering.{OrdersOwn}
 use Rattle.seat_laws.specs.Owing.{BeginsWith, IsDrawnIn, write_owed}
-use Rattle.seat_laws.specs.Standing.{AreApart, HoldsNew, SeatHears, SeatStands}
+use Rattle.seat_laws.specs.Standing.{AreApart, HoldsNew, SeatStands}
 use Rattle.seat_lines.specs.Lines.{bytes_line, bytes_step, conn_line, end_line, end_step, ended, fed, givens_of, is_beyond, new_seat, open_line, place_step, step_line, step_over, steps_at, with_place, world_of}
 use Rattle.seat_lines.specs.Runs.{rests}
 use Rattle.seat_lines.specs.Site.{SiteState, padded, seat_at, with_seat}
-use Rattle.seat_steps.specs.Replies.{IsSpelled, packet_bytes}
+use Rattle.seat_steps.specs.Replies.{SeatHears}
 use Rattle.seat_steps.specs.Seats.{SeatGivens, SeatOutcome, SeatWorld, seat_step}
 use Rattle.seat_steps.specs.Twinned.{way_in}
 use Rattle.seat_steps.specs.declared.seat.Seat.{Seat}
@@ -31,11 +33,11 @@ use Rattle.shepherd.specs.declared.shepherd.ShepherdTurn.{ShepherdTurn}
 use Rattle.shepherd.specs.declared.shepherd.ShepherdTurn.TheVariants as turns
 use Rattle.ssm_world.specs.Worlds.{is_new, nonce_of}
 use Rattle.ssm_world.specs.declared.call.Call.{Call}
-use Rattle.ssm_world.specs.declared.event.Packet.{Packet}
-use Rattle.scenario_engine.specs.Connections.{AllReadBack}
-use Rattle.scenario_engine.specs.Lending.{lends_by, steps_lend}
+use Rattle.scenario_engine.specs.Connections.{StepMade, line_makes, run_makes, step_makes}
+use Rattle.scenario_engine.specs.Lending.{lends_by}
+use Rattle.seat_lines.specs.Hearing.{HearsOnce, LineHears, RunHears, StepHears}
 use Rattle.scenario_engine.specs.Seats.{after_steps}
-use Rattle.scenario_engine.proofs.SeatsLead.{DrawLaws, Goes, IfDrew, SiteHasDrawn, drew_here, goes_step, goes_steps}
+use Rattle.scenario_engine.proofs.SeatsLead.{DrawLaws, Goes, IfDrew, SiteHasDrawn, drew_here, goes_step}
 
 -- what is promised of seats, and of the bricks behind what is done with them
 pub record StandLaws : Type 0 where
@@ -50,7 +52,16 @@ pub record StandLaws : Type 0 where
   pub begun : (g : SeatGivens) (seat : Seat) (w : SeatWorld) (held : Call) → SeatStands seat w.store → OrdersOwn seat.connection.stage → seat.twin ≡ None → call_held (way_in (seat_step g seat w).seat.connection.stage) ≡ Some held → BeginsWith g seat w (nonce_of held)
   pub alone : (g : SeatGivens) (seat : Seat) (w : SeatWorld) (other : Version) → ((held : Call) → seat.twin ≡ None → call_held (way_in (seat_step g seat w).seat.connection.stage) ≡ Some held → nonce_of held ≢ other) → All (BeginsSo (λ (v : Version). v ≢ other)) (lent_steps g seat w)
   pub leaves : (st : LanesState) (steps : List LentStep) (other : Version) → HasSoundStore (Some st) → All (BeginsSo (λ (v : Version). v ≢ other)) steps → is_new st.world other ≡ true → is_new (after_lent st steps).world other ≡ true
-  pub packets : (st : LanesState) (steps : List LentStep) → LanesAreSound st → (number : ℕ) (packet : Packet) → slice_get st.world.packets number ≡ Some packet → slice_get (after_lent st steps).world.packets number ≡ Some packet
+  pub last : (g : SeatGivens) (seat : Seat) (w : SeatWorld) (number : ℕ) → SeatStands seat w.store → SeatHears seat w.store → seat.twin ≡ None → (seat_step g seat w).seat.twin ≡ Some number → number ≡ length w.store.world.calls
+  pub same : (g : SeatGivens) (seat : Seat) (w : SeatWorld) (number other : ℕ) → seat.twin ≡ Some number → (seat_step g seat w).seat.twin ≡ Some other → other ≡ number
+  pub events : (st : LanesState) (steps : List LentStep) → ByEvents st (after_lent st steps)
+
+-- What else is kept of the bricks, which events keep, and of the twin at each place, which holds of none and of one
+-- that begins.
+pub record KeptLaws (L : LanesState → Type 0) (K : ℕ → Option ℕ → Type 0) : Type 0 where
+  pub goes : (st later : LanesState) → ByEvents st later → L st → L later
+  pub none : (place : ℕ) → K place None
+  pub begins : (st : LanesState) (place : ℕ) → L st → K place (Some (length st.world.calls))
 
 -- a connection stands, has ordered only its own write, and the write that it owes is new to the world
 pub record IsGood (st : LanesState) (a : Seat) : Type 0 where
@@ -68,6 +79,15 @@ pub record AllStand (seats : List (Option Seat)) (st : LanesState) : Type 0 wher
   pub each : (i : ℕ) (a : Seat) → seat_at seats i ≡ Some a → IsGood st a
   pub pairs : (i j : ℕ) (a b : Seat) → i ≢ j → seat_at seats i ≡ Some a → seat_at seats j ≡ Some b → AreTwo a b
 
+-- this is so of the twin at each place
+abbrev pub TwinsAre : (ℕ → Option ℕ → Type 0) → List (Option Seat) → Type 0
+TwinsAre K seats = (i : ℕ) (a : Seat) → seat_at seats i ≡ Some a → K i a.twin
+
+-- all connections stand, and this is so of their twins
+pub record ArePlaced (K : ℕ → Option ℕ → Type 0) (seats : List (Option Seat)) (st : LanesState) : Type 0 where
+  pub all : AllStand seats st
+  pub twins : TwinsAre K seats
+
 -- no call has had a nonce that is still to be drawn
 abbrev pub AreFresh : SessionsState → LanesState → Type 0
 AreFresh s st = (serial : ℕ) → s.serial ≤ serial → is_new st.world (record (nonce s) { serial = serial }) ≡ true
@@ -77,8 +97,17 @@ AreFresh s st = (serial : ℕ) → s.serial ≤ serial → is_new st.world (reco
 none_stands : (i : ℕ) (a : Seat) → seat_at [] i ≡ Some a → ⊥
 none_stands i a is = cc
 
+some_seat : (x a : Seat) → Some x ≡ Some a → x ≡ a
+some_seat x a is = cc
+
+no_seat : (a : Seat) → None ≡ Some a → ⊥
+no_seat a is = cc
+
 pub no_seats_stand : (st : LanesState) → AllStand [] st
 no_seats_stand st = record { each = λ i a is. absurd (none_stands i a is); pairs = λ i j a b apart is other. absurd (none_stands i a is) }
+
+pub no_seats_placed : (K : ℕ → Option ℕ → Type 0) (st : LanesState) → ArePlaced K [] st
+no_seats_placed K st = record { all = no_seats_stand st; twins = λ i a is. absurd (none_stands i a is) }
 
 -- a place after one was set
 abbrev IsSet : List (Option Seat) → ℕ → Option Seat → ℕ → Seat → Type 0
@@ -171,32 +200,62 @@ padded_stand seats n st all =
       pairs = λ i j a b unlike is other. all.pairs i j a b unlike (at_padded seats k i a is) (at_padded seats k j b other);
     }
 
--- what a seat would hear over bricks all of whose packets are read back is spelled
-pub hears_spelled : (seat : Seat) (st : LanesState) → AllReadBack st → SeatHears seat st
-hears_spelled seat st back outside = λ from wants. go (heard_next (record { lanes = st; active = seat.twin }) from)
-  where
-    at : (number : ℕ) (o : Option Packet) → slice_get st.world.packets number ≡ o → SpellsPacket (packet_bytes o) o
-    at number None there = refl
-    at number (Some packet) there = (refl, back number packet there)
+-- twins where a place is set
 
-    go : (o : Option ℕ) → IsSpelled st o
-    go None = tt
-    go (Some number) = at number (slice_get st.world.packets number) refl
+set_twins : (K : ℕ → Option ℕ → Type 0) (seats : List (Option Seat)) (n : ℕ) (o : Option Seat) → TwinsAre K seats → ((a : Seat) → o ≡ Some a → K n a.twin) → TwinsAre K (slice_set seats n o)
+set_twins K seats n o all here = λ i a is. one i a (at_set seats n o i a is)
+  where
+    one : (i : ℕ) (a : Seat) → IsSet seats n o i a → K i a.twin
+    one i a (inl (same, is)) = subst (λ (x : ℕ). K x a.twin) (sym same) (here a is)
+    one i a (inr (other, is)) = all i a is
+
+set_twin : (K : ℕ → Option ℕ → Type 0) (seats : List (Option Seat)) (n : ℕ) (new : Seat) → TwinsAre K seats → K n new.twin → TwinsAre K (slice_set seats n (Some new))
+set_twin K seats n new all here = set_twins K seats n (Some new) all (λ a is. subst (λ (x : Seat). K n x.twin) (some_seat new a is) here)
+
+set_no_twin : (K : ℕ → Option ℕ → Type 0) (seats : List (Option Seat)) (n : ℕ) → TwinsAre K seats → TwinsAre K (slice_set seats n None)
+set_no_twin K seats n all = set_twins K seats n None all (λ a is. absurd (no_seat a is))
+
+padded_twins : (K : ℕ → Option ℕ → Type 0) (seats : List (Option Seat)) (n : ℕ) → TwinsAre K seats → TwinsAre K (padded seats n)
+padded_twins K seats n all = let k : ℕ = n + 1 - length seats in λ i a is. all i a (at_padded seats k i a is)
 
 -- One step over bricks.
-pub record IsWhole (s : SiteState) (st : LanesState) : Type 0 where
+pub record IsWhole (L : LanesState → Type 0) (K : ℕ → Option ℕ → Type 0) (s : SiteState) (st : LanesState) : Type 0 where
   pub fresh : AreFresh s.sessions st
   pub all : AllStand s.seats.seats st
+  pub later : L st
+  pub twins : TwinsAre K s.seats.seats
 
--- a site has bricks, over which all stand
-abbrev pub WholeIn : SiteState → Type 0
-WholeIn s = (st : LanesState) × (s.sessions.store ≡ Some st) × IsWhole s st
+-- so is a site with bricks, while serials are left
+abbrev pub WholeIf : (LanesState → Type 0) → (ℕ → Option ℕ → Type 0) → SiteState → Type 0
+WholeIf L K s = (st : LanesState) → s.sessions.store ≡ Some st → s.sessions.serial < 2 ^ 64 - 1 → IsWhole L K s st
+
+-- What is known of a step that is made.
+pub record IsStep (L : LanesState → Type 0) (K : ℕ → Option ℕ → Type 0) (step : StepMade) : Type 0 where
+  pub near : is_beyond step.number ≡ false
+  pub whole : WholeIf L K step.site
+  pub hears : StepHears step.site step.number
+
+pub under : (a b : ℕ) → a ≤ b → b < 2 ^ 64 - 1 → a < 2 ^ 64 - 1
+under a b up less = omega (arith, up, less)
+
+-- a step that is done has the number of a connection
+near_done : (s v : SiteState) (n : ℕ) (keeps : Bool) (out : List ℕ) → step_line s n keeps ≡ Done v out → is_beyond n ≡ false
+unfolding step_line
+near_done s v n keeps out done = by (is_beyond n) refl done
+  where
+    by : (far : Bool) → is_beyond n ≡ far → refused_if far (or_refused s.sessions.store (λ store. step_over s n keeps store)) ≡ Done v out → is_beyond n ≡ false
+    by true is done = absurd (cc)
+    by false is done = is
 
 less_up : (a b c d : ℕ) → a < b → b ≤ c → c ≤ d → a ≡ d → ⊥
 less_up a b c d less up more same = omega (arith, less, up, more, same)
 
-module _ (draw : DrawLaws) (laws : StandLaws) where
-  module _ (s : SiteState) (n : ℕ) (keeps : Bool) (st : LanesState) (has : SiteHasDrawn s) (back : AllReadBack st) (whole : IsWhole s st) (seat : Seat) (there : seat_at s.seats.seats n ≡ Some seat) where
+module _ (L : LanesState → Type 0) (K : ℕ → Option ℕ → Type 0) (kept : KeptLaws L K) (draw : DrawLaws) (laws : StandLaws) where
+  -- a site has bricks, over which all stand
+  abbrev WholeIn : SiteState → Type 0
+  WholeIn s = (st : LanesState) × (s.sessions.store ≡ Some st) × IsWhole L K s st
+
+  module _ (s : SiteState) (n : ℕ) (keeps : Bool) (st : LanesState) (has : SiteHasDrawn s) (whole : IsWhole L K s st) (seat : Seat) (there : seat_at s.seats.seats n ≡ Some seat) (hears : SeatHears seat st) where
     abbrev W : SeatWorld
     W = world_of s st
 
@@ -245,7 +304,7 @@ module _ (draw : DrawLaws) (laws : StandLaws) where
 
     good_on : IsGood O.world.store O.seat
     good_on = record {
-      stands = laws.stands G seat W good.stands (hears_spelled seat st back) (λ none held is. new_of (nonce_of held) (begun held none is).from);
+      stands = laws.stands G seat W good.stands hears (λ none held is. new_of (nonce_of held) (begun held none is).from);
       orders = laws.orders G seat W good.orders;
       owed = λ v owed. still_new v (λ held none is same. (begun held none is).over (owed ∙ ap (λ (x : Version). Some x) (sym same))) (new_of v (laws.owed G seat W v owed));
     }
@@ -273,7 +332,7 @@ module _ (draw : DrawLaws) (laws : StandLaws) where
         let its : IsGood st b = whole.all.each j b is in
         let two : AreTwo seat b = whole.all.pairs n j seat b (λ e. other (sym e)) there is in
         record {
-          stands = laws.others G seat b W good.stands (hears_spelled seat st back) its.stands two.twins;
+          stands = laws.others G seat b W good.stands hears its.stands two.twins;
           orders = its.orders;
           owed = λ v owed. still_new v (λ held none holds. unlike j b v other is owed (nonce_of held) (begun held none holds).from) (its.owed v owed);
         }
@@ -283,9 +342,21 @@ module _ (draw : DrawLaws) (laws : StandLaws) where
         let its : IsGood st b = whole.all.each j b is in
         let two : AreTwo seat b = whole.all.pairs n j seat b (λ e. other (sym e)) there is in
         record {
-          twins = laws.apart G seat b W good.stands (hears_spelled seat st back) its.stands two.twins;
+          twins = laws.apart G seat b W good.stands hears its.stands two.twins;
           owed = λ v ours theirs. unlike j b v other is theirs v (laws.owed G seat W v ours) refl;
         }
+
+    -- what else is kept
+
+    later_on : L O.world.store
+    later_on = kept.goes st O.world.store (subst (ByEvents st) (sym (draw.store G seat W)) (laws.events st (lent_steps G seat W))) whole.later
+
+    twin_by : (old new : Option ℕ) → seat.twin ≡ old → O.seat.twin ≡ new → K n new
+    twin_by old None was is = kept.none n
+    twin_by None (Some number) was is = subst (λ (x : ℕ). K n (Some x)) (sym (laws.last G seat W number good.stands hears was is)) (kept.begins st n whole.later)
+    twin_by (Some old) (Some number) was is =
+        let mine : K n (Some old) = subst (K n) was (whole.twins n seat there) in
+        subst (λ (x : ℕ). K n (Some x)) (sym (laws.same G seat W old number was is)) mine
 
     moved_whole : WholeIn (with_place s n (record { seat = Some O.seat; world = O.world }))
     moved_whole = (
@@ -294,20 +365,37 @@ module _ (draw : DrawLaws) (laws : StandLaws) where
       record {
         fresh = fresh_on;
         all = set_stands s.seats.seats n (Some O.seat) st O.world.store whole.all
-            (λ a is. subst (IsGood O.world.store) (some_is a is) good_on)
+            (λ a is. subst (IsGood O.world.store) (some_seat O.seat a is) good_on)
             other_good
-            (λ a j b is other its. subst (λ (x : Seat). AreTwo x b) (some_is a is) (two_on j b other its));
+            (λ a j b is other its. subst (λ (x : Seat). AreTwo x b) (some_seat O.seat a is) (two_on j b other its));
+        later = later_on;
+        twins = set_twin K s.seats.seats n O.seat whole.twins (twin_by seat.twin O.seat.twin refl refl);
       },
     )
-      where
-        some_is : (a : Seat) → Some O.seat ≡ Some a → O.seat ≡ a
-        some_is a is = cc
 
     stays_whole : WholeIn (with_place s n (record { seat = Some seat; world = W }))
-    stays_whole = (st, refl, record { fresh = whole.fresh; all = set_same laws s.seats.seats n st seat seat whole.all there refl refl })
+    stays_whole = (
+      st,
+      refl,
+      record {
+        fresh = whole.fresh;
+        all = set_same laws s.seats.seats n st seat seat whole.all there refl refl;
+        later = whole.later;
+        twins = set_twin K s.seats.seats n seat whole.twins (whole.twins n seat there);
+      },
+    )
 
     goes_whole : WholeIn (with_place s n (record { seat = None; world = W }))
-    goes_whole = (st, refl, record { fresh = whole.fresh; all = set_none s.seats.seats n st whole.all })
+    goes_whole = (
+      st,
+      refl,
+      record {
+        fresh = whole.fresh;
+        all = set_none s.seats.seats n st whole.all;
+        later = whole.later;
+        twins = set_no_twin K s.seats.seats n whole.twins;
+      },
+    )
 
     at_turn : (t : ShepherdTurn) → Leaves WholeIn (within (with_place s n) (steps_at t G n seat W))
     at_turn turns.Bytes = stays_whole
@@ -321,73 +409,106 @@ module _ (draw : DrawLaws) (laws : StandLaws) where
     at_turn turns.Item = moved_whole
     at_turn (turns.Ended end) = goes_whole
 
-  pub step_whole : (s : SiteState) (n : ℕ) (keeps : Bool) (st : LanesState) → s.sessions.store ≡ Some st → SiteHasDrawn s → AllReadBack st → IsWhole s st → Leaves WholeIn (step_line s n keeps)
+  step_whole : (s : SiteState) (n : ℕ) (keeps : Bool) (st : LanesState) → s.sessions.store ≡ Some st → SiteHasDrawn s → StepHears s n → IsWhole L K s st → Leaves WholeIn (step_line s n keeps)
   unfolding step_line place_step
-  step_whole s n keeps st is has back whole =
+  step_whole s n keeps st is has heard whole =
       leaves-refused_if WholeIn (is_beyond n) (or_refused s.sessions.store (λ store. step_over s n keeps store)) (λ near.
-      subst (λ (o : Option LanesState). Leaves WholeIn (or_refused o (λ store. step_over s n keeps store))) (sym is) (by (seat_at s.seats.seats n) refl))
+      subst (λ (o : Option LanesState). Leaves WholeIn (or_refused o (λ store. step_over s n keeps store))) (sym is) (by near (seat_at s.seats.seats n) refl))
     where
-      by : (o : Option Seat) → seat_at s.seats.seats n ≡ o → Leaves WholeIn (within (with_place s n) (or_refused o (λ seat. steps_at (turn seat.connection) (givens_of s n keeps) n seat (world_of s st))))
-      by None here = tt
-      by (Some seat) here = at_turn s n keeps st has back whole seat here (turn seat.connection)
+      by : is_beyond n ≡ false → (o : Option Seat) → seat_at s.seats.seats n ≡ o → Leaves WholeIn (within (with_place s n) (or_refused o (λ seat. steps_at (turn seat.connection) (givens_of s n keeps) n seat (world_of s st))))
+      by near None here = tt
+      by near (Some seat) here = at_turn s n keeps st has whole seat here (heard st seat near is here) (turn seat.connection)
 
   -- whole steps
 
-  pub some_one : (o : Option LanesState) (st later : LanesState) → o ≡ Some st → o ≡ Some later → st ≡ later
+  some_one : (o : Option LanesState) (st later : LanesState) → o ≡ Some st → o ≡ Some later → st ≡ later
   some_one o st later is other = let both : Some st ≡ Some later = sym is ∙ other in cc
 
-  -- packets that are read back behind steps were before them
-  pub back_before : (s t : SiteState) (steps : List LentStep) (st later : LanesState) → Goes s steps t → LanesAreSound st → s.sessions.store ≡ Some st → t.sessions.store ≡ Some later → AllReadBack later → AllReadBack st
-  back_before s t steps st later goes sound is at back = λ number packet there.
-      let after : t.sessions.store ≡ Some (after_lent st steps) = ap (λ (x : SessionsState). x.store) goes.lent.state_is ∙ some_lents s.sessions.store is in
-      let same : after_lent st steps ≡ later = some_one t.sessions.store (after_lent st steps) later after at in
-      back number packet (subst (λ (x : LanesState). slice_get x.world.packets number ≡ Some packet) same (laws.packets st steps sound number packet there))
+  abbrev Lends : SiteState → ℕ → Bool → List LentStep
+  Lends s n keeps = lends_by s n keeps (seat_at s.seats.seats n) s.sessions.store
+
+  -- where a step leaves bricks, it is over bricks
+  whole_on : (s v : SiteState) (n : ℕ) (keeps : Bool) → Goes s (Lends s n keeps) v → ((st : LanesState) → s.sessions.store ≡ Some st → IsWhole L K s st → WholeIn v) → WholeIf L K s → WholeIf L K v
+  whole_on s v n keeps goes each whole = λ later at left. by s.sessions.store refl later at left
     where
-      some_lents : (o : Option LanesState) → o ≡ Some st → option_map (λ (x : LanesState). after_lent x steps) o ≡ Some (after_lent st steps)
-      some_lents o is = ap (λ (x : Option LanesState). option_map (λ (y : LanesState). after_lent y steps) x) is
+      none_left : (o : Option LanesState) → o ≡ None → option_map (λ (st : LanesState). after_lent st (Lends s n keeps)) o ≡ None
+      none_left o none = ap (λ (x : Option LanesState). option_map (λ (st : LanesState). after_lent st (Lends s n keeps)) x) none
 
-  sound_of : (s : SiteState) (n : ℕ) (st : LanesState) → rests (seat_at s.seats.seats n) ≡ false → IsWhole s st → LanesAreSound st
-  sound_of s n st goes whole = by (seat_at s.seats.seats n) refl goes
+      by : (o : Option LanesState) → s.sessions.store ≡ o → (later : LanesState) → v.sessions.store ≡ Some later → v.sessions.serial < 2 ^ 64 - 1 → IsWhole L K v later
+      by None none later at left =
+          let gone : v.sessions.store ≡ None = ap (λ (x : SessionsState). x.store) goes.lent.state_is ∙ none_left s.sessions.store none in
+          let clash : None ≡ Some later = sym gone ∙ at in absurd (cc)
+      by (Some st) is later at left =
+          let mid : WholeIn v = each st is (whole st is (under s.sessions.serial v.sessions.serial goes.lent.serials left)) in
+          subst (IsWhole L K v) (some_one v.sessions.store mid.0 later mid.1 at) mid.2
+
+  pub step_goes : (s : SiteState) (n : ℕ) (keeps : Bool) → SiteHasDrawn s → StepHears s n → WholeIf L K s → Leaves (WholeIf L K) (step_line s n keeps)
+  step_goes s n keeps has heard whole = go (step_line s n keeps) (goes_step draw s n keeps has) (λ st is here. step_whole s n keeps st is has heard here)
     where
-      by : (o : Option Seat) → seat_at s.seats.seats n ≡ o → rests o ≡ false → LanesAreSound st
-      by None here goes = absurd (cc)
-      by (Some seat) here goes = (whole.all.each n seat here).stands.sound
+      go : (a : Answer SiteState) → Leaves (Goes s (Lends s n keeps)) a → ((st : LanesState) → s.sessions.store ≡ Some st → IsWhole L K s st → Leaves WholeIn a) → Leaves (WholeIf L K) a
+      go Refused goes each = tt
+      go (Done v out) goes each = whole_on s v n keeps goes each whole
 
-  whole_same : (s : SiteState) (st later : LanesState) → s.sessions.store ≡ Some st → s.sessions.store ≡ Some later → IsWhole s st → IsWhole s later
-  whole_same s st later is at whole = subst (IsWhole s) (some_one s.sessions.store st later is at) whole
-
-  pub steps_whole : (s : SiteState) (n : ℕ) (replies : List Bool) → is_beyond n ≡ false → SiteHasDrawn s → (st later : LanesState) → s.sessions.store ≡ Some st → (after_steps s n replies).sessions.store ≡ Some later → AllReadBack later → IsWhole s st → IsWhole (after_steps s n replies) later
-  steps_whole s n [] near has st later is at back whole = whole_same s st later is at whole
-  steps_whole s n (keeps ∷ more) near has st later is at back whole =
-      go (λ v its mid there. steps_whole v n more near its mid later there) (rests (seat_at s.seats.seats n)) refl (step_line s n keeps) (goes_step draw s n keeps has) (λ moves. step_whole s n keeps st is has (earlier moves) whole) at
+  pub steps_go : (s : SiteState) (n : ℕ) (replies : List Bool) → SiteHasDrawn s → RunHears s n replies → WholeIf L K s → WholeIf L K (after_steps s n replies)
+  steps_go s n [] has heard whole = whole
+  steps_go s n (keeps ∷ more) has heard whole =
+      go (λ v its on here. steps_go v n more its on here) (rests (seat_at s.seats.seats n)) refl (step_line s n keeps) refl (goes_step draw s n keeps has) (λ hears. step_goes s n keeps has hears whole)
     where
-      bricks : is_some s.sessions.store ≡ true
-      bricks = ap is_some is
+      go : ((v : SiteState) → SiteHasDrawn v → RunHears v n more → WholeIf L K v → WholeIf L K (after_steps v n more))
+          → (b : Bool) → rests (seat_at s.seats.seats n) ≡ b → (a : Answer SiteState) → step_line s n keeps ≡ a → Leaves (Goes s (Lends s n keeps)) a → (StepHears s n → Leaves (WholeIf L K) a)
+          → WholeIf L K (cond b s (elim a [ Refused ↦ s | Done v out ↦ after_steps v n more ]))
+      go rest true here a is left its = whole
+      go rest false here Refused is left its = whole
+      go rest false here (Done v out) is left its = rest v left.has ((heard here).1 v out is) (its (heard here).0)
 
-      earlier : rests (seat_at s.seats.seats n) ≡ false → AllReadBack st
-      earlier moves = back_before s (after_steps s n (keeps ∷ more)) (steps_lend s n (keeps ∷ more)) st later (goes_steps draw s n (keeps ∷ more) near bricks has) (sound_of s n st moves whole) is at back
+  -- the steps that are made
 
-      go : ((v : SiteState) → SiteHasDrawn v → (mid : LanesState) → v.sessions.store ≡ Some mid → (after_steps v n more).sessions.store ≡ Some later → AllReadBack later → IsWhole v mid → IsWhole (after_steps v n more) later)
-          → (b : Bool) → rests (seat_at s.seats.seats n) ≡ b → (a : Answer SiteState) → Leaves (Goes s (lends_by s n keeps (seat_at s.seats.seats n) s.sessions.store)) a → (rests (seat_at s.seats.seats n) ≡ false → Leaves WholeIn a)
-          → (let u : SiteState = cond b s (elim a [ Refused ↦ s | Done v out ↦ after_steps v n more ]) in u.sessions.store ≡ Some later → IsWhole u later)
-      go rest true here a left its = λ end. whole_same s st later is end whole
-      go rest false here Refused left its = λ end. whole_same s st later is end whole
-      go rest false here (Done v out) left its = λ end. let mid : WholeIn v = its here in rest v left.has mid.0 mid.1 end back mid.2
+  known_run : (s : SiteState) (n : ℕ) (replies : List Bool) → SiteHasDrawn s → RunHears s n replies → WholeIf L K s → All (IsStep L K) (run_makes s n replies)
+  known_run s n [] has heard whole = All-nil (IsStep L K)
+  known_run s n (keeps ∷ more) has heard whole =
+      go (λ v its on here. known_run v n more its on here) (rests (seat_at s.seats.seats n)) refl (step_line s n keeps) refl (goes_step draw s n keeps has) (λ hears. step_goes s n keeps has hears whole)
+    where
+      go : ((v : SiteState) → SiteHasDrawn v → RunHears v n more → WholeIf L K v → All (IsStep L K) (run_makes v n more))
+          → (b : Bool) → rests (seat_at s.seats.seats n) ≡ b → (a : Answer SiteState) → step_line s n keeps ≡ a → Leaves (Goes s (Lends s n keeps)) a → (StepHears s n → Leaves (WholeIf L K) a)
+          → All (IsStep L K) (cond b [] (elim a [ Refused ↦ [] | Done v out ↦ record { site = s; number = n; keeps = keeps } ∷ run_makes v n more ]))
+      go rest true here a is left its = All-nil (IsStep L K)
+      go rest false here Refused is left its = All-nil (IsStep L K)
+      go rest false here (Done v out) is left its =
+          All-cons (IsStep L K) (record { site = s; number = n; keeps = keeps }) (run_makes v n more)
+          (record { near = near_done s v n keeps out is; whole = whole; hears = (heard here).0 })
+          (rest v left.has ((heard here).1 v out is) (its (heard here).0))
+
+  known_step : (s : SiteState) (n : ℕ) (replies : List Bool) → HearsOnce s n replies → WholeIf L K s → All (IsStep L K) (step_makes s n replies)
+  known_step s n [] heard whole = All-nil (IsStep L K)
+  known_step s n (keeps ∷ more) heard whole = go (step_line s n keeps) refl
+    where
+      go : (a : Answer SiteState) → step_line s n keeps ≡ a → All (IsStep L K) (elim a [ Refused ↦ [] | Done v out ↦ record { site = s; number = n; keeps = keeps } ∷ [] ])
+      go Refused is = All-nil (IsStep L K)
+      go (Done v out) is =
+          All-cons (IsStep L K) (record { site = s; number = n; keeps = keeps }) []
+          (record { near = near_done s v n keeps out is; whole = whole; hears = heard }) (All-nil (IsStep L K))
+
+  pub known_line : (s : SiteState) (line : SeatLine) (replies : List Bool) → SiteHasDrawn s → LineHears s line replies → WholeIf L K s → All (IsStep L K) (line_makes s line replies)
+  known_line s (lines.Conn n) replies has heard whole = All-nil (IsStep L K)
+  known_line s (lines.Bytes n bytes) replies has heard whole = All-nil (IsStep L K)
+  known_line s (lines.End n) replies has heard whole = All-nil (IsStep L K)
+  known_line s (lines.Step n) replies has heard whole = known_step s n replies heard whole
+  known_line s (lines.Run n) replies has heard whole = known_run s n replies has heard whole
 
   -- lines that leave the bricks as they are
 
-  pub conn_whole : (s : SiteState) (n : ℕ) (st : LanesState) → LanesAreSound st → KeepLimits st.windows → AllStand s.seats.seats st → Leaves (λ (t : SiteState). AllStand t.seats.seats st) (conn_line s n)
+  pub conn_whole : (s : SiteState) (n : ℕ) (st : LanesState) → LanesAreSound st → KeepLimits st.windows → ArePlaced K s.seats.seats st → Leaves (λ (t : SiteState). ArePlaced K t.seats.seats st) (conn_line s n)
   unfolding open_line
-  conn_whole s n st sound limits all =
-      leaves-refused_if (λ (t : SiteState). AllStand t.seats.seats st) (is_beyond n) _ (λ near. leaves-refused_if (λ (t : SiteState). AllStand t.seats.seats st) (is_some (seat_at s.seats.seats n)) _ (λ free.
-      set_stands (padded s.seats.seats n) n (Some new_seat) st st (padded_stand s.seats.seats n st all)
-      (λ a is. subst (IsGood st) (some_is a is) begins)
-      (λ j b other is. (padded_stand s.seats.seats n st all).each j b is)
-      (λ a j b is other its. subst (λ (x : Seat). AreTwo x b) (some_is a is) (apart b))))
+  conn_whole s n st sound limits placed =
+      leaves-refused_if (λ (t : SiteState). ArePlaced K t.seats.seats st) (is_beyond n) _ (λ near. leaves-refused_if (λ (t : SiteState). ArePlaced K t.seats.seats st) (is_some (seat_at s.seats.seats n)) _ (λ free.
+      record {
+        all = set_stands (padded s.seats.seats n) n (Some new_seat) st st (padded_stand s.seats.seats n st placed.all)
+            (λ a is. subst (IsGood st) (some_seat new_seat a is) begins)
+            (λ j b other is. (padded_stand s.seats.seats n st placed.all).each j b is)
+            (λ a j b is other its. subst (λ (x : Seat). AreTwo x b) (some_seat new_seat a is) (apart b));
+        twins = set_twin K (padded s.seats.seats n) n new_seat (padded_twins K s.seats.seats n placed.twins) (kept.none n);
+      }))
     where
-      some_is : (a : Seat) → Some new_seat ≡ Some a → new_seat ≡ a
-      some_is a is = cc
-
       owes_none : (v : Version) → None ≡ Some v → ⊥
       owes_none v is = cc
 
@@ -400,26 +521,33 @@ module _ (draw : DrawLaws) (laws : StandLaws) where
       apart : (b : Seat) → AreTwo new_seat b
       apart b = record { twins = λ number ours. absurd (no_twin number ours); owed = λ v ours. absurd (owes_none v ours) }
 
-  pub bytes_whole : (s : SiteState) (n : ℕ) (bytes : List ℕ) (st : LanesState) → AllStand s.seats.seats st → Leaves (λ (t : SiteState). AllStand t.seats.seats st) (bytes_line s n bytes)
-  unfolding bytes_line
-  bytes_whole s n bytes st all = go (seat_at s.seats.seats n) refl
-    where
-      by : (seat : Seat) (over : Bool) → seat_at s.seats.seats n ≡ Some seat → Leaves (λ (t : SiteState). AllStand t.seats.seats st) (within (with_seat s n) (refused_if over (Done (Some (fed seat bytes)) [])))
-      by seat true here = tt
-      by seat false here = set_same laws s.seats.seats n st seat (fed seat bytes) all here refl refl
+  -- another of the same stage and twin
+  placed_same : (seats : List (Option Seat)) (n : ℕ) (st : LanesState) (seat new : Seat) → ArePlaced K seats st → seat_at seats n ≡ Some seat → new.connection.stage ≡ seat.connection.stage → new.twin ≡ seat.twin → ArePlaced K (slice_set seats n (Some new)) st
+  placed_same seats n st seat new placed here stage twin = record {
+    all = set_same laws seats n st seat new placed.all here stage twin;
+    twins = set_twin K seats n new placed.twins (subst (K n) (sym twin) (placed.twins n seat here));
+  }
 
-      go : (o : Option Seat) → seat_at s.seats.seats n ≡ o → Leaves (λ (t : SiteState). AllStand t.seats.seats st) (within (with_seat s n) (bytes_step bytes o))
+  pub bytes_whole : (s : SiteState) (n : ℕ) (bytes : List ℕ) (st : LanesState) → ArePlaced K s.seats.seats st → Leaves (λ (t : SiteState). ArePlaced K t.seats.seats st) (bytes_line s n bytes)
+  unfolding bytes_line
+  bytes_whole s n bytes st placed = go (seat_at s.seats.seats n) refl
+    where
+      by : (seat : Seat) (over : Bool) → seat_at s.seats.seats n ≡ Some seat → Leaves (λ (t : SiteState). ArePlaced K t.seats.seats st) (within (with_seat s n) (refused_if over (Done (Some (fed seat bytes)) [])))
+      by seat true here = tt
+      by seat false here = placed_same s.seats.seats n st seat (fed seat bytes) placed here refl refl
+
+      go : (o : Option Seat) → seat_at s.seats.seats n ≡ o → Leaves (λ (t : SiteState). ArePlaced K t.seats.seats st) (within (with_seat s n) (bytes_step bytes o))
       go None here = tt
       go (Some seat) here = by seat seat.connection.ended here
 
-  pub end_whole : (s : SiteState) (n : ℕ) (st : LanesState) → AllStand s.seats.seats st → Leaves (λ (t : SiteState). AllStand t.seats.seats st) (end_line s n)
+  pub end_whole : (s : SiteState) (n : ℕ) (st : LanesState) → ArePlaced K s.seats.seats st → Leaves (λ (t : SiteState). ArePlaced K t.seats.seats st) (end_line s n)
   unfolding end_line
-  end_whole s n st all = go (seat_at s.seats.seats n) refl
+  end_whole s n st placed = go (seat_at s.seats.seats n) refl
     where
-      by : (seat : Seat) (over : Bool) → seat_at s.seats.seats n ≡ Some seat → Leaves (λ (t : SiteState). AllStand t.seats.seats st) (within (with_seat s n) (refused_if over (Done (Some (ended seat)) [])))
+      by : (seat : Seat) (over : Bool) → seat_at s.seats.seats n ≡ Some seat → Leaves (λ (t : SiteState). ArePlaced K t.seats.seats st) (within (with_seat s n) (refused_if over (Done (Some (ended seat)) [])))
       by seat true here = tt
-      by seat false here = set_same laws s.seats.seats n st seat (ended seat) all here refl refl
+      by seat false here = placed_same s.seats.seats n st seat (ended seat) placed here refl refl
 
-      go : (o : Option Seat) → seat_at s.seats.seats n ≡ o → Leaves (λ (t : SiteState). AllStand t.seats.seats st) (within (with_seat s n) (end_step o))
+      go : (o : Option Seat) → seat_at s.seats.seats n ≡ o → Leaves (λ (t : SiteState). ArePlaced K t.seats.seats st) (within (with_seat s n) (end_step o))
       go None here = tt
       go (Some seat) here = by seat seat.connection.ended here

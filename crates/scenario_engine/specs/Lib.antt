@@ -4,10 +4,12 @@ pub mod State
 pub mod Going
 pub mod Running
 pub mod Seats
+pub mod RunsLeft
 pub mod Lending
-pub mod Connections
 pub mod Engine
 pub mod Transcript
+pub mod Hearing
+pub mod Connections
 pub mod Telling
 pub mod Told
 pub mod Sound

@@ -1,12 +1,13 @@
 //! Laws of what connections do in scenarios. Each is the contract of a function that does nothing: a caller that needs
 //! the law calls the function.
 
-ghost use Rattle.std.specs.Prelude.{◌≡◌, ◌<◌, ◌-◌, ◌^◌, ℕ, All, Bool, List, Some};
+ghost use Rattle.std.specs.Prelude.{◌≡◌, ◌<◌, ◌≤◌, ◌-◌, ◌^◌, ◌++◌, ℕ, All, Bool, List, Some};
 ghost use Rattle.outside.specs.Keeper.{KeeperTold};
-ghost use Rattle.seat_laws.specs.Reads.{ReadsRightly, ReadsSince, order_of, read_heard};
+ghost use Rattle.seat_laws.specs.Reads.{IsFoundOrLost, ReadsRightly, ReadsSince, order_of, read_heard, read_under_way};
 ghost use Rattle.seat_laws.specs.Standing.{SeatStands};
 ghost use Rattle.seat_lines.specs.Lines.{givens_of, world_of};
 ghost use Rattle.seat_lines.specs.Site.{seat_at};
+ghost use Rattle.seat_steps.specs.Replies.{SeatHears};
 ghost use Rattle.seat_steps.specs.Seats.{seat_step};
 ghost use Rattle.seat_steps.specs.declared.seat.Seat.{Seat};
 ghost use Rattle.session_lanes.specs.Lanes.{LanesState};
@@ -14,11 +15,12 @@ ghost use Rattle.session_way.specs.Reading.{cookie_asked};
 ghost use Rattle.session_way.specs.declared.session_read.ReadOutcome.{ReadOutcome};
 ghost use Rattle.ssm_stub.specs.Reads.{ReadState};
 ghost use Rattle.ssm_world.specs.Claims.{IsAcknowledged};
-ghost use Rattle.scenario_engine.specs.Connections.{AllReadBack};
+ghost use Rattle.scenario_engine.specs.Connections.{HasBrowsers, IsIdle, Pause, StepStands, Wrote, steps_before, steps_behind};
+ghost use Rattle.scenario_engine.specs.Hearing.{AllHeard};
 ghost use Rattle.scenario_engine.specs.KeeperCalls.{TellsCalls};
 ghost use Rattle.scenario_engine.specs.Sound.{CommitsAsMeant};
 ghost use Rattle.scenario_engine.specs.State.{RunningState, Running, site_of};
-ghost use Rattle.scenario_engine.specs.Transcript.{Turn, first, boots_from, calls_from, end_from, last_state};
+ghost use Rattle.scenario_engine.specs.Transcript.{Turn, Ended, first, boots_from, calls_from, end_from, last_state};
 
 use crate::laws::boots_rise;
 use auction_site::journals_stay_meant;
@@ -26,15 +28,15 @@ use lane_link::lanes_go_by_events;
 use seat_laws::{
     attempts_fit, boots_stay_sound_at_seats, bricks_go_by_lent_steps, moments_stay_in_time,
     others_stand, owed_writes_were_drawn, requests_order_their_own_writes,
-    seats_begin_with_drawn_nonces, seats_read_what_was_written, seats_spell_their_calls,
-    seats_stand, seats_stand_meanwhile,
+    seats_acknowledge_what_they_wrote, seats_begin_with_drawn_nonces, seats_read_what_was_written,
+    seats_spell_their_calls, seats_stand, seats_stand_meanwhile,
 };
 use send_windows::windows_keep_their_limits;
 use session_steps::{
-    lent_bricks_stay_sound, lent_steps_leave_others, lines_leave_calls, nonces_stay_new,
-    other_nonces_stay_new, turns_go_by_events, writes_with_new_nonces_are_done,
+    lent_steps_leave_others, lines_leave_calls, nonces_stay_new, other_nonces_stay_new,
+    turns_go_by_events, writes_with_new_nonces_are_done,
 };
-use ssm_world::worlds_only_grow;
+use ssm_world::{acknowledged_cookies_stay_acknowledged, worlds_only_grow};
 
 /// Whatever the turns, each commit of an action wrote and answered what the site means by the action, over the rows
 /// just before it, also where they stop at a line. The commits of callers have no action.
@@ -50,14 +52,29 @@ pub fn journals_are_meant()
 
 /// Over a keeper that tells, each connection that is there stands over the bricks while serials are left, whatever the
 /// turns: so the laws of `lane_link` say of its session that it reads what was written, and that `Lost` is answered
-/// only with a cause for each brick. It asks that the frame of each packet that was ever sent is read back from its
-/// bytes (`AllReadBack`). So is each frame whose fields are in range (`ssm_frames`); that all are is proved of no
-/// scenario.
-pub fn connections_stand()
-    ensures { (turns : List Turn) (t u : KeeperTold) (r : RunningState) (st : LanesState) (n : ℕ) (seat : Seat) →
-        TellsCalls (calls_from first turns) (Some t) (Some u) →
+/// only with a cause for each brick. And a connection that was idle at the end of the first turns, or was not there,
+/// waits behind further ones only for a read that began since. So it is of each step that connections make behind a
+/// pause; and what a write had answered to one before the pause is acknowledged then. It asks that what the steps of
+/// connections heard is spelled by its bytes (`AllHeard`), as each frame of the code is.
+pub fn connections_stand_over_bricks()
+    ensures stands { (turns : List Turn) (t u : KeeperTold) (r : RunningState) (st : LanesState) (n : ℕ)
+        (seat : Seat) →
+        TellsCalls (calls_from first turns) (Some t) (Some u) → AllHeard first turns →
         last_state (end_from first 1 turns) ≡ Running r → r.sessions.store ≡ Some st →
-        r.sessions.serial < 2 ^ 64 - 1 → AllReadBack st → seat_at r.seats.seats n ≡ Some seat → SeatStands seat st }
+        r.sessions.serial < 2 ^ 64 - 1 → seat_at r.seats.seats n ≡ Some seat → SeatStands seat st }
+    ensures since { (turns more : List Turn) (t u : KeeperTold) (r q : RunningState) (st now : LanesState) (n : ℕ)
+        (seat : Seat) (read : ReadState) →
+        TellsCalls (calls_from first (turns ++ more)) (Some t) (Some u) → AllHeard first (turns ++ more) →
+        end_from first 1 turns ≡ Ended (Running r) → r.sessions.store ≡ Some st → IsIdle r n →
+        last_state (end_from first 1 (turns ++ more)) ≡ Running q → q.sessions.store ≡ Some now →
+        q.sessions.serial < 2 ^ 64 - 1 → seat_at q.seats.seats n ≡ Some seat →
+        read_under_way seat.connection.stage ≡ Some read → ReadsSince st seat now read }
+    ensures steps { (turns : List Turn) (t u : KeeperTold) (pause : Pause turns) →
+        TellsCalls (calls_from first turns) (Some t) (Some u) → AllHeard first turns →
+        All (StepStands pause.running pause.bricks) (steps_behind pause) }
+    ensures wrote { (turns : List Turn) (t u : KeeperTold) (pause : Pause turns) →
+        TellsCalls (calls_from first turns) (Some t) (Some u) → AllHeard first turns →
+        All (Wrote pause.bricks) (steps_before pause) }
 {
     boots_rise();
     seats_stand();
@@ -67,11 +84,13 @@ pub fn connections_stand()
     requests_order_their_own_writes();
     bricks_go_by_lent_steps();
     seats_begin_with_drawn_nonces();
+    seats_read_what_was_written();
+    seats_acknowledge_what_they_wrote();
+    acknowledged_cookies_stay_acknowledged();
     nonces_stay_new();
     other_nonces_stay_new();
     lines_leave_calls();
     turns_go_by_events();
-    lent_bricks_stay_sound();
     lent_steps_leave_others();
     writes_with_new_nonces_are_done();
     windows_keep_their_limits();
@@ -81,21 +100,72 @@ pub fn connections_stand()
 
 /// Over a keeper that tells, what a connection reads of its session was written, whatever the turns, while serials are
 /// left: also in a run that is under way, which stops where its replies do. Where its step hears what a read came to,
-/// by a cookie that was acknowledged with a value in earlier bricks, before the read began, it is this value, within
+/// by a cookie that was acknowledged with a value in earlier lanes, before the read began, it is this value, within
 /// the lease; or that the cookie has expired, where it has; or that the session is lost, with the cause of each brick
-/// of the cookie. All packets that were sent are to be read back, as in `connections_stand`.
+/// of the cookie. So within the lease it is this value, or the session is lost at each brick of the cookie. What the
+/// steps before heard, and what this one hears, is spelled by its bytes.
 pub fn connections_read_what_was_written()
-    ensures { (turns : List Turn) (t u : KeeperTold) (r : RunningState) (st earlier : LanesState) (n : ℕ) (keeps : Bool)
-        (seat : Seat) (read : ReadState) (value : List ℕ) (outcome : ReadOutcome) →
-        TellsCalls (calls_from first turns) (Some t) (Some u) →
+    ensures right { (turns : List Turn) (t u : KeeperTold) (r : RunningState) (st earlier : LanesState) (n : ℕ)
+        (keeps : Bool) (seat : Seat) (read : ReadState) (value : List ℕ) (outcome : ReadOutcome) →
+        TellsCalls (calls_from first turns) (Some t) (Some u) → AllHeard first turns →
         last_state (end_from first 1 turns) ≡ Running r → r.sessions.store ≡ Some st →
-        r.sessions.serial < 2 ^ 64 - 1 → AllReadBack st → seat_at r.seats.seats n ≡ Some seat →
+        r.sessions.serial < 2 ^ 64 - 1 → seat_at r.seats.seats n ≡ Some seat → SeatHears seat st →
         ReadsSince earlier seat st read → IsAcknowledged earlier.world (cookie_asked read) value →
         read_heard (seat_step (givens_of (site_of r) n keeps) seat (world_of (site_of r) st)).seat.connection.stage
         ≡ Some outcome →
         ReadsRightly earlier (seat_step (givens_of (site_of r) n keeps) seat (world_of (site_of r) st)).world.store
         (order_of read) value outcome }
+    ensures in_time { (turns : List Turn) (t u : KeeperTold) (r : RunningState) (st earlier : LanesState) (n : ℕ)
+        (keeps : Bool) (seat : Seat) (read : ReadState) (value : List ℕ) (outcome : ReadOutcome) →
+        TellsCalls (calls_from first turns) (Some t) (Some u) → AllHeard first turns →
+        last_state (end_from first 1 turns) ≡ Running r → r.sessions.store ≡ Some st →
+        r.sessions.serial < 2 ^ 64 - 1 → seat_at r.seats.seats n ≡ Some seat → SeatHears seat st →
+        ReadsSince earlier seat st read → IsAcknowledged earlier.world (cookie_asked read) value →
+        read_heard (seat_step (givens_of (site_of r) n keeps) seat (world_of (site_of r) st)).seat.connection.stage
+        ≡ Some outcome →
+        read.moment.0 ≤ read.expiry.0 → IsFoundOrLost value (cookie_asked read).bricks outcome }
 {
-    connections_stand();
+    connections_stand_over_bricks();
+    seats_read_what_was_written();
+}
+
+/// Over a keeper that tells, a cookie that was acknowledged with a value at the end of some turns reads back rightly
+/// behind further ones, while serials are left, at a connection that was idle then, or was not there. Where its next
+/// step hears what its read came to, it is this value, within the lease; or that the cookie has expired, where it has;
+/// or that the session is lost, with the cause of each brick of the cookie.
+pub fn connections_read_back()
+    ensures right { (turns more : List Turn) (t u : KeeperTold) (r q : RunningState) (st now : LanesState) (n : ℕ)
+        (keeps : Bool) (seat : Seat) (read : ReadState) (value : List ℕ) (outcome : ReadOutcome) →
+        TellsCalls (calls_from first (turns ++ more)) (Some t) (Some u) → AllHeard first (turns ++ more) →
+        end_from first 1 turns ≡ Ended (Running r) → r.sessions.store ≡ Some st → IsIdle r n →
+        last_state (end_from first 1 (turns ++ more)) ≡ Running q → q.sessions.store ≡ Some now →
+        q.sessions.serial < 2 ^ 64 - 1 → seat_at q.seats.seats n ≡ Some seat → SeatHears seat now →
+        read_under_way seat.connection.stage ≡ Some read → IsAcknowledged st.world (cookie_asked read) value →
+        read_heard (seat_step (givens_of (site_of q) n keeps) seat (world_of (site_of q) now)).seat.connection.stage
+        ≡ Some outcome →
+        ReadsRightly st (seat_step (givens_of (site_of q) n keeps) seat (world_of (site_of q) now)).world.store
+        (order_of read) value outcome }
+    ensures in_time { (turns more : List Turn) (t u : KeeperTold) (r q : RunningState) (st now : LanesState) (n : ℕ)
+        (keeps : Bool) (seat : Seat) (read : ReadState) (value : List ℕ) (outcome : ReadOutcome) →
+        TellsCalls (calls_from first (turns ++ more)) (Some t) (Some u) → AllHeard first (turns ++ more) →
+        end_from first 1 turns ≡ Ended (Running r) → r.sessions.store ≡ Some st → IsIdle r n →
+        last_state (end_from first 1 (turns ++ more)) ≡ Running q → q.sessions.store ≡ Some now →
+        q.sessions.serial < 2 ^ 64 - 1 → seat_at q.seats.seats n ≡ Some seat → SeatHears seat now →
+        read_under_way seat.connection.stage ≡ Some read → IsAcknowledged st.world (cookie_asked read) value →
+        read_heard (seat_step (givens_of (site_of q) n keeps) seat (world_of (site_of q) now)).seat.connection.stage
+        ≡ Some outcome →
+        read.moment.0 ≤ read.expiry.0 → IsFoundOrLost value (cookie_asked read).bricks outcome }
+{
+    connections_stand_over_bricks();
+    connections_read_what_was_written();
+}
+
+/// Over a keeper that tells, what browsers read of their sessions was written, and what they wrote is acknowledged,
+/// whatever the turns, where what their steps heard is spelled by its bytes.
+pub fn scenarios_have_browsers()
+    ensures { (turns : List Turn) (t u : KeeperTold) → TellsCalls (calls_from first turns) (Some t) (Some u) →
+        AllHeard first turns → HasBrowsers turns }
+{
+    connections_stand_over_bricks();
     seats_read_what_was_written();
 }

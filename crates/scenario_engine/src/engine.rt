@@ -65,6 +65,13 @@ fn answered(answer: Result<LineAnswer, OutOfMemory>) -> Result<LineAnswer, LineF
     }
 }
 
+/// Puts a stage in place of another, which is let go.
+fn put<K: Keeper + Drop>(stage: &mut Stage<K>, next: Stage<K>)
+    ensures { stage.new ≡ next }
+{
+    drop(mem::replace(stage, next));
+}
+
 impl<K: Keeper + Drop> Engine<K> {
     /// A scenario before its first line, over this keeper. It takes no memory.
     pub fn new(alloc: Global, keeper: K) -> Engine<K>
@@ -81,7 +88,10 @@ impl<K: Keeper + Drop> Engine<K> {
         ensures { seen (K.told result) (K.faults result) ≡ self.keeper }
     {
         match self.stage {
-            Stage::Head(_, keeper) => keeper,
+            Stage::Head(head, keeper) => {
+                drop(head);
+                keeper
+            }
             Stage::Run(running) => running.into_keeper(),
             Stage::Away => unreachable!(),
         }
@@ -112,16 +122,19 @@ impl<K: Keeper + Drop> Engine<K> {
         match mem::replace(&mut self.stage, Stage::Away) {
             Stage::Head(head, keeper) => match Running::start(alloc, head, keeper) {
                 Ok(running) => {
-                    self.stage = Stage::Run(running);
+                    put(&mut self.stage, Stage::Run(running));
                     Ok(())
                 }
                 Err(unopened) => {
-                    self.stage = Stage::Head(Head::new(alloc), unopened.keeper);
+                    put(
+                        &mut self.stage,
+                        Stage::Head(Head::new(alloc), unopened.keeper),
+                    );
                     Err(unopened.failure)
                 }
             },
             Stage::Run(running) => {
-                self.stage = Stage::Run(running);
+                put(&mut self.stage, Stage::Run(running));
                 Ok(())
             }
             Stage::Away => unreachable!(),
@@ -159,20 +172,23 @@ impl<K: Keeper + Drop> Engine<K> {
     {
         match mem::replace(&mut self.stage, Stage::Away) {
             Stage::Head(head, keeper) => {
-                self.stage = Stage::Head(head, keeper);
+                put(&mut self.stage, Stage::Head(head, keeper));
                 Ok(LineAnswer::Refused)
             }
             Stage::Run(running) => match running.reopen(alloc) {
                 Ok(next) => {
                     let number = next.number();
-                    self.stage = Stage::Run(next);
+                    put(&mut self.stage, Stage::Run(next));
                     match boot_text(alloc, number) {
                         Ok(text) => Ok(LineAnswer::Wrote(text)),
                         Err(OutOfMemory) => Err(LineFailure::OutOfMemory),
                     }
                 }
                 Err(unopened) => {
-                    self.stage = Stage::Head(Head::new(alloc), unopened.keeper);
+                    put(
+                        &mut self.stage,
+                        Stage::Head(Head::new(alloc), unopened.keeper),
+                    );
                     Err(unopened.failure)
                 }
             },
@@ -193,12 +209,12 @@ impl<K: Keeper + Drop> Engine<K> {
     {
         match mem::replace(&mut self.stage, Stage::Away) {
             Stage::Head(head, keeper) => {
-                self.stage = Stage::Head(head, keeper);
+                put(&mut self.stage, Stage::Head(head, keeper));
                 Ok(refused(line))
             }
             Stage::Run(running) => {
                 let (running, answer) = running.seat_line(alloc, line);
-                self.stage = Stage::Run(running);
+                put(&mut self.stage, Stage::Run(running));
                 answered(answer)
             }
             Stage::Away => unreachable!(),

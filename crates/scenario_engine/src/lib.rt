@@ -14,23 +14,34 @@
 //! A line with what the keeper replies while it is done is a `Turn` of `specs/Transcript`. What turns write, how they
 //! end, and which calls of the keeper they make are functions of the turns alone: `transcript`, `end_from` and
 //! `calls_from`. The engine is proved to answer each line so, and to make just these calls; over any keeper its count
-//! of faults rises where it fails at one.
+//! of faults rises where it fails at one. What connections heard in a turn is spelled by its bytes (`TurnHears` of
+//! `specs/Hearing.antt`), as each frame of the code is.
 //!
 //! The laws hold for all turns, whatever the keeper replies: `boots_are_sound`, `no_turns_commit_after_a_reboot`,
 //! `no_turns_break_the_order` and `commits_are_of_their_boot` for the journals of the boots, `journals_are_meant` for
 //! what their actions mean, `keepers_tell` for the rows that the keeper holds, `boots_rise` for the numbers of boots
-//! over a keeper that tells, `connections_stand` for the sessions of connections, and `keepers_decide` for what decides
-//! the transcript. A keeper replies to one step of a connection after the other, so turns may stop inside a run:
-//! `lines_are_answered` and `lines_go_on_by_steps` say where, and what the next step asks.
+//! over a keeper that tells, `connections_stand_over_bricks` for the sessions of connections, `scenarios_have_browsers`
+//! for what browsers read of them, and `keepers_decide` for what decides the transcript. A keeper replies to one step
+//! of a connection after the other, so turns may stop inside a run: `lines_are_answered` and `lines_go_on_by_steps` say
+//! where, and what the next step asks; and `runs_come_to_rest` says that a run whose steps are counted comes to its
+//! end.
+//!
+//! `failures_are_of_calls` says at which calls a keeper has failed of which that is told, `nonces_are_of_one_node` that
+//! lines and connections draw nonces at one node, `transcripts_begin_alike` that what is written up to a step of a run
+//! begins what is written in the end, and `connections_read_what_was_written` what one step of a connection hears.
 #![tactic(auto)]
 
 mod connections;
 mod engine;
 mod failure;
 mod laws;
+mod resting;
 mod running;
 
-pub use connections::{connections_read_what_was_written, connections_stand, journals_are_meant};
+pub use connections::{
+    connections_read_back, connections_read_what_was_written, connections_stand_over_bricks,
+    journals_are_meant, scenarios_have_browsers,
+};
 pub use engine::Engine;
 pub use failure::{LineFailure, UnstartedCause};
 pub use laws::{
@@ -39,3 +50,4 @@ pub use laws::{
     no_turns_break_the_order, no_turns_commit_after_a_reboot, nonces_are_of_one_node,
     scenarios_have_sessions, transcripts_begin_alike,
 };
+pub use resting::runs_come_to_rest;

@@ -212,7 +212,11 @@ impl<K: Keeper + Drop> Running<K> {
                 Seats::new(alloc),
                 router,
             )),
-            Err(fail) => Err(not_opened(fail)),
+            Err(fail) => {
+                drop(sessions);
+                drop(router);
+                Err(not_opened(fail))
+            }
         }
     }
 
@@ -234,12 +238,15 @@ impl<K: Keeper + Drop> Running<K> {
     {
         let limits = head.limits;
         let Ok(sessions) = Sessions::new(alloc, head.setup) else {
+            drop(head.parts);
             return Err(Unopened {
                 failure: LineFailure::OutOfMemory,
                 keeper,
             });
         };
         let Ok(router) = router_for(alloc, head.site) else {
+            drop(head.parts);
+            drop(sessions);
             return Err(Unopened {
                 failure: LineFailure::OutOfMemory,
                 keeper,
@@ -292,7 +299,12 @@ impl<K: Keeper + Drop> Running<K> {
         let sessions = seats.give_back(alloc, &mut container, sessions);
         match container.reopen(alloc) {
             Ok(container) => Ok(Running::over(alloc, container, sessions, seats, router)),
-            Err(fail) => Err(not_opened(fail)),
+            Err(fail) => {
+                drop(sessions);
+                drop(seats);
+                drop(router);
+                Err(not_opened(fail))
+            }
         }
     }
 
@@ -300,7 +312,11 @@ impl<K: Keeper + Drop> Running<K> {
     pub(crate) fn into_keeper(self) -> K
         ensures { seen (K.told result) (K.faults result) ≡ self.keeper }
     {
-        self.container.into_keeper()
+        let parts = self.into_parts();
+        drop(parts.sessions);
+        drop(parts.seats);
+        drop(parts.router);
+        parts.container.into_keeper()
     }
 
     /// The number of the boot.

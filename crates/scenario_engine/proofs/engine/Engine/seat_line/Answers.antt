@@ -4,6 +4,7 @@ use Rattle.scenario_text.specs.declared.answer.LineAnswer.TheVariants as answers
 use Rattle.scenario_text.specs.declared.line.Line.TheVariants as lines
 use Rattle.scenario_engine.specs.Engine.{value_of}
 use Rattle.scenario_engine.specs.KeeperCalls.{seen}
+use Rattle.scenario_engine.specs.State.{EngineValue}
 use Rattle.scenario_engine.proofs.Stepping.{LineEnded, heading, in_run, in_the_head, placed, seat_ended}
 use Rattle.scenario_engine.proofs.engine.Engine.seat_line.Goals as goal
 
@@ -15,7 +16,8 @@ returns-in-Head-clause-answer g c =
     let line = lines.Seat c.args.line in
     let v : heading head k ≡ c.args.self.now = ap value (sym c.in-Head.is ∙ c.replace.ensures.value) ∙ c.self.view_is in
     let P : LineAnswer → Type 0 = λ a. LineEnded (Ok a) (heading head k) c.args.self.now line in
-    subst P (sym c.refused.ensures) (placed (Ok answers.Refused) (heading head k) c.args.self.now (heading head k) line line (in_the_head answers.Refused line head head k refl refl) v refl)
+    let Q : EngineValue → Type 0 = λ w. LineEnded (Ok c.refused.result) w c.args.self.now line in
+    subst Q (sym (ap value c.put.ensures)) (subst P (sym c.refused.ensures) (placed (Ok answers.Refused) (heading head k) c.args.self.now (heading head k) line line (in_the_head answers.Refused line head head k refl refl) v refl))
 
 pub returns-in-Run-clause-answer : goal.returns-in-Run-clause-answer
 returns-in-Run-clause-answer g c =
@@ -25,4 +27,5 @@ returns-in-Run-clause-answer g c =
     let part = c.seat_line-running.result.1 in
     let line = lines.Seat c.args.line in
     let v : in_run r ≡ c.args.self.now = ap value (sym c.in-Run.is ∙ c.replace.ensures.value) ∙ c.self.view_is in
-    placed c.answered.result (in_run next) c.args.self.now (in_run r) line line (seat_ended part c.answered.result next r c.args.line c.answered.ensures c.seat_line-running.ensures.answer c.seat_line-running.ensures.refused) v refl
+    let Q : EngineValue → Type 0 = λ w. LineEnded c.answered.result w c.args.self.now line in
+    subst Q (sym (ap value c.put-in-Run.ensures)) (placed c.answered.result (in_run next) c.args.self.now (in_run r) line line (seat_ended part c.answered.result next r c.args.line c.answered.ensures c.seat_line-running.ensures.answer c.seat_line-running.ensures.refused) v refl)
