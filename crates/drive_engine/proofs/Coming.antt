@@ -13,28 +13,39 @@ use Rattle.scenario_text.specs.Reading.{line_of}
 use Rattle.scenario_text.specs.declared.line.TheConstants.{MAX_LINE_BYTES}
 use Rattle.scenario_text.proofs.Cuts.{lines_fed, line_unfed, all_left}
 use Rattle.scenario_text.proofs.EndedLines.{text_of_lines-push, lines_before}
-use Rattle.scenario_engine.specs.Engine.{next_calls}
+use Rattle.scenario_engine.specs.Engine.{next_calls, with_reply}
+use Rattle.scenario_engine.specs.Hearing.{HearsTo}
 use Rattle.scenario_engine.specs.KeeperCalls.{KeeperSeen, AreMade, AreSomeAsked}
-use Rattle.scenario_engine.specs.State.{State, RefusedIn, DoneTo, UnstartedIn, UnderWayIn}
+use Rattle.scenario_engine.specs.State.{State, Outcome, RefusedIn, DoneTo, UnstartedIn, UnderWayIn}
 use Rattle.scenario_engine.specs.Telling.{Does, DoesPartly, BreaksOff}
-use Rattle.scenario_engine.specs.Transcript.{Turn, lines_in, first, turn_outcome, transcript, end_from, Ended, calls_from}
+use Rattle.scenario_engine.specs.Transcript.{Turn, lines_in, first, turn_outcome, transcript, end_from, Ended}
 use Rattle.scenario_engine.proofs.Calls.{none_made}
 use Rattle.scenario_engine.proofs.Unkept.{numbers_alone}
-use Rattle.scenario_engine.proofs.Turns.{lines_in-push, end_from-push, transcript-push, turn_done, made-push}
+use Rattle.scenario_engine.proofs.Turns.{lines_in-push, end_from-push, transcript-push, turn_done, turn_heard, made-push, heard-push}
 use Rattle.scenario_engine.proofs.UnderWay.{next_whole}
 use Rattle.drive_engine.specs.declared.drive.TheConstants.{MAX_SCENARIO_BYTES}
 use Rattle.drive_engine.specs.declared.ending.Ending.{Ending}
 use Rattle.drive_engine.specs.declared.ending.Ending.TheVariants as endings
 use Rattle.drive_engine.specs.declared.words.Command.TheVariants.{Drive}
 use Rattle.drive_engine.specs.Command.{Runs}
-use Rattle.drive_engine.specs.Drive.{AreRead, AreReadWithFeeds, HasDone, ScenarioStands, WritesTranscript, StopsUnstarted, StopsAtLongLine, StopsAtFailedRead, StopsOutOfMemory, StopsPastLimit, RunsOutAtLine, StandsOneMore, one_more, BreaksOffAtLine}
+use Rattle.drive_engine.specs.Drive.{AreRead, AreReadWithFeeds, HasDone, ScenarioStands, WritesTranscript, StopsUnstarted, StopsAtLongLine, StopsAtFailedRead, StopsOutOfMemory, StopsPastLimit, RunsOutAtLine, StandsOneMore, one_more, WereDone, BreaksOffAtLine}
 use Rattle.drive_engine.specs.Exchange.{Exchange, exchange, IsRead}
 use Rattle.drive_engine.specs.Play.{PlayState, first_play, DoesLine, WritesNoText, EndsAtLine, HasCome}
-use Rattle.drive_engine.proofs.Breaking.{made_one_more}
+use Rattle.drive_engine.proofs.Breaking.{done_one_more}
 
--- a keeper that was called as turns say tells so
+-- what turns did that were done stands
 abbrev pub ScenariosDoStand : Type 0
-ScenariosDoStand = (turns : List Turn) (old new : KeeperSeen) → AreMade (calls_from first turns) old new → ScenarioStands turns old new
+ScenariosDoStand = (turns : List Turn) (old new : KeeperSeen) → WereDone turns old new → ScenarioStands turns old new
+
+-- turns that were done, and a text after them
+done-push : (s : State) (turns : List Turn) (line : List ℕ) (o : Outcome) (old between new : KeeperSeen) → end_from first 1 turns ≡ Ended s → length line ≤ MAX_LINE_BYTES → WereDone turns old between → (d : Does s (line_of line) o between new) → WereDone (turns ++ record { line = line; replies = d.replies } ∷ []) old new
+done-push s turns line o old between new h short done d = record {
+  made = made-push s turns line o old between new h short done.made d;
+  heard = heard-push s turns (record { line = line; replies = d.replies }) h done.heard (turn_heard s line o between new d);
+}
+
+none_done : (k : KeeperSeen) → WereDone [] k k
+none_done k = record { made = none_made k; heard = tt }
 
 -- the part that was kept and the one that ends the line are that line
 line_joined : (lines : List (List ℕ)) (kept none part rest past : List ℕ) → none ≡ [] → text_of_lines lines ++ (kept ++ ((part ++ 10 ∷ rest) ++ past)) ≡ text_of_lines (lines ++ (kept ++ part) ∷ []) ++ (none ++ (rest ++ past))
@@ -67,7 +78,7 @@ comes_line left left_now written old new held before after more past p q part re
       number = omega (arith, next, h.number, length-append h.turns (turn ∷ []));
       done = end_from-push p.state q.state h.turns turn does.text h.done does.short done;
       written = does.written ∙ ap (λ o. appended o does.text) h.written ∙ appended_more written (transcript first h.turns) does.text ∙ ap (appended written) (sym (transcript-push p.state q.state h.turns turn does.text h.done done));
-      made = made-push p.state h.turns line (DoneTo q.state does.text) held before after h.done does.short h.made does.done;
+      made = done-push p.state h.turns line (DoneTo q.state does.text) held before after h.done does.short h.made does.done;
     }
 
 -- the beginning of a line is kept
@@ -119,7 +130,7 @@ has_done : (left left_now written old new : Option (List ℕ)) (held after : Kee
 has_done left left_now written old new held after turns s done so_far same = record { done = done; written = same ∙ so_far }
 
 -- a boot that it needs was not started
-ends_at_start : (r : UnstartedCause) (left left_now written old new : Option (List ℕ)) (held before after : KeeperSeen) (turns : List Turn) (s t : State) (line : List ℕ) → ScenariosDoStand → end_from first 1 turns ≡ Ended s → old ≡ appended written (transcript first turns) → AreMade (calls_from first turns) held before → HasLine (exchange left left_now written new held after) (lines_in turns) line → WritesNoText line old new → Does s (line_of line) (UnstartedIn t r) before after → StopsUnstarted r (exchange left left_now written new held after)
+ends_at_start : (r : UnstartedCause) (left left_now written old new : Option (List ℕ)) (held before after : KeeperSeen) (turns : List Turn) (s t : State) (line : List ℕ) → ScenariosDoStand → end_from first 1 turns ≡ Ended s → old ≡ appended written (transcript first turns) → WereDone turns held before → HasLine (exchange left left_now written new held after) (lines_in turns) line → WritesNoText line old new → Does s (line_of line) (UnstartedIn t r) before after → StopsUnstarted r (exchange left left_now written new held after)
 ends_at_start r left left_now written old new held before after turns s t line law done so_far tells h (short, same) d = record {
   before = turns;
   turn = record { line = line; replies = d.replies };
@@ -129,24 +140,25 @@ ends_at_start r left left_now written old new held before after turns s t line l
   done = has_done left left_now written old new held after turns s done so_far same;
   short = short;
   unstarted = turn_done s line (UnstartedIn t r) before after d;
-  stands = law (turns ++ record { line = line; replies = d.replies } ∷ []) held after (made-push s turns line (UnstartedIn t r) held before after done short tells d);
+  stands = law (turns ++ record { line = line; replies = d.replies } ∷ []) held after (done-push s turns line (UnstartedIn t r) held before after done short tells d);
 }
 
 -- of the step that broke off nothing was asked, or what was done stands with it
-last_stands : (x : Exchange) (s mid : State) (turns : List Turn) (turn : Turn) (keeps : Bool) (between : KeeperSeen) → ScenariosDoStand → end_from first 1 turns ≡ Ended s → length turn.line ≤ MAX_LINE_BYTES → turn_outcome s turn ≡ UnderWayIn mid → AreMade (calls_from first (turns ++ turn ∷ [])) x.keeper_before between → AreSomeAsked [] between x.keeper_after ⊎ AreMade (next_calls mid (line_of turn.line) keeps) between x.keeper_after → AreSomeAsked [] between x.keeper_after ⊎ StandsOneMore x turns turn
-last_stands x s mid turns turn keeps between law done short way whole (inl asked) = inl asked
-last_stands x s mid turns turn keeps between law done short way whole (inr made) = inr (record {
+last_stands : (x : Exchange) (s mid : State) (turns : List Turn) (turn : Turn) (keeps : Bool) (at between : KeeperSeen) → ScenariosDoStand → end_from first 1 turns ≡ Ended s → length turn.line ≤ MAX_LINE_BYTES → turn_outcome s turn ≡ UnderWayIn mid → WereDone turns x.keeper_before at → WereDone (turns ++ turn ∷ []) x.keeper_before between → AreSomeAsked [] between x.keeper_after ⊎ AreMade (next_calls mid (line_of turn.line) keeps) between x.keeper_after → AreSomeAsked [] between x.keeper_after ⊎ HearsTo s (line_of turn.line) (with_reply turn.replies keeps) → AreSomeAsked [] between x.keeper_after ⊎ StandsOneMore x turns turn
+last_stands x s mid turns turn keeps at between law done short way tells whole (inl asked) heard = inl asked
+last_stands x s mid turns turn keeps at between law done short way tells whole (inr made) (inl asked) = inl asked
+last_stands x s mid turns turn keeps at between law done short way tells whole (inr made) (inr heard) = inr (record {
   keeps = keeps;
-  stands = law (turns ++ one_more turn keeps ∷ []) x.keeper_before x.keeper_after (made_one_more s mid turns turn keeps x.keeper_before between x.keeper_after done short way whole made);
+  stands = law (turns ++ one_more turn keeps ∷ []) x.keeper_before x.keeper_after (done_one_more s mid turns turn keeps x.keeper_before at between x.keeper_after done short way tells whole made heard);
 })
 
 -- memory ran out in a step of a connection
-broken_off : (left left_now written new : Option (List ℕ)) (held before after : KeeperSeen) (turns : List Turn) (s : State) (line : List ℕ) → ScenariosDoStand → end_from first 1 turns ≡ Ended s → AreMade (calls_from first turns) held before → AreRead (exchange left left_now written new held after) (lines_in turns ++ line ∷ []) → length line ≤ MAX_LINE_BYTES → BreaksOff s (line_of line) before after → BreaksOffAtLine (exchange left left_now written new held after) turns s
+broken_off : (left left_now written new : Option (List ℕ)) (held before after : KeeperSeen) (turns : List Turn) (s : State) (line : List ℕ) → ScenariosDoStand → end_from first 1 turns ≡ Ended s → WereDone turns held before → AreRead (exchange left left_now written new held after) (lines_in turns ++ line ∷ []) → length line ≤ MAX_LINE_BYTES → BreaksOff s (line_of line) before after → BreaksOffAtLine (exchange left left_now written new held after) turns s
 broken_off left left_now written new held before after turns s line law done tells read short b =
     let turn : Turn = record { line = line; replies = b.replies } in
-    let d : Does s (line_of line) (UnderWayIn b.mid) before b.between = record { replies = b.replies; answers = sym b.comes; made = b.whole } in
+    let d : Does s (line_of line) (UnderWayIn b.mid) before b.between = record { replies = b.replies; answers = sym b.comes; made = b.whole; heard = b.heard } in
     let way : turn_outcome s turn ≡ UnderWayIn b.mid = turn_done s line (UnderWayIn b.mid) before b.between d in
-    let whole : AreMade (calls_from first (turns ++ turn ∷ [])) held b.between = made-push s turns line (UnderWayIn b.mid) held before b.between done short tells d in
+    let whole : WereDone (turns ++ turn ∷ []) held b.between = done-push s turns line (UnderWayIn b.mid) held before b.between done short tells d in
     record {
       turn = turn;
       mid = b.mid;
@@ -155,11 +167,11 @@ broken_off left left_now written new held before after turns s line law done tel
       short = short;
       under_way = way;
       stands = law (turns ++ turn ∷ []) held b.between whole;
-      last = last_stands (exchange left left_now written new held after) s b.mid turns turn b.next b.between law done short way whole (next_whole b.mid (line_of line) b.next b.between after b.last);
+      last = last_stands (exchange left left_now written new held after) s b.mid turns turn b.next before b.between law done short way tells whole (next_whole b.mid (line_of line) b.next b.between after b.last) b.last_heard;
     }
 
 -- it ends the scenario
-ends_at_line : (e : Ending) (left left_now written old new : Option (List ℕ)) (held before after : KeeperSeen) (turns : List Turn) (s : State) (number : ℕ) (line : List ℕ) → ScenariosDoStand → end_from first 1 turns ≡ Ended s → number ≡ length turns + 1 → old ≡ appended written (transcript first turns) → AreMade (calls_from first turns) held before → HasLine (exchange left left_now written new held after) (lines_in turns) line → EndsAtLine e number s line old new before after → Runs Drive e (exchange left left_now written new held after)
+ends_at_line : (e : Ending) (left left_now written old new : Option (List ℕ)) (held before after : KeeperSeen) (turns : List Turn) (s : State) (number : ℕ) (line : List ℕ) → ScenariosDoStand → end_from first 1 turns ≡ Ended s → number ≡ length turns + 1 → old ≡ appended written (transcript first turns) → WereDone turns held before → HasLine (exchange left left_now written new held after) (lines_in turns) line → EndsAtLine e number s line old new before after → Runs Drive e (exchange left left_now written new held after)
 ends_at_line endings.Done left left_now written old new held before after turns s number line law done next so_far tells h ends = absurd ends
 ends_at_line endings.UnknownCommand left left_now written old new held before after turns s number line law done next so_far tells h ends = absurd ends
 ends_at_line (endings.LineRefused n) left left_now written old new held before after turns s number line law done next so_far tells h (is, (short, same), (t, d)) = (
@@ -174,7 +186,7 @@ ends_at_line (endings.LineRefused n) left left_now written old new held before a
     done = has_done left left_now written old new held after turns s done so_far same;
     short = short;
     refused = turn_done s line (RefusedIn t) before after d;
-    stands = law (turns ++ record { line = line; replies = d.replies } ∷ []) held after (made-push s turns line (RefusedIn t) held before after done short tells d);
+    stands = law (turns ++ record { line = line; replies = d.replies } ∷ []) held after (done-push s turns line (RefusedIn t) held before after done short tells d);
   },
 )
 ends_at_line endings.ReadFailed left left_now written old new held before after turns s number line law done next so_far tells h ends = absurd ends
@@ -191,7 +203,7 @@ ends_at_line endings.WriteFailed left left_now written old new held before after
   answer = turn_done s line (DoneTo t wrote) before after d;
   begins = begins;
   written = is ∙ ap (λ o. appended o prefix) so_far ∙ appended_more written (transcript first turns) prefix;
-  stands = law (turns ++ record { line = line; replies = d.replies } ∷ []) held after (made-push s turns line (DoneTo t wrote) held before after done short tells d);
+  stands = law (turns ++ record { line = line; replies = d.replies } ∷ []) held after (done-push s turns line (DoneTo t wrote) held before after done short tells d);
 }
 ends_at_line endings.KeeperFailed left left_now written old new held before after turns s number line law done next so_far tells h (none, (t, d)) = (refl, ends_at_start causes.KeeperFailed left left_now written old new held before after turns s t line law done so_far tells h none d)
 ends_at_line (endings.BadRow id) left left_now written old new held before after turns s number line law done next so_far tells h (none, (t, d)) = (refl, ends_at_start (causes.BadRow id) left left_now written old new held before after turns s t line law done so_far tells h none d)
@@ -207,7 +219,7 @@ ends_at_line (endings.LineTooLong n) left left_now written old new held before a
   number = is ∙ next;
   done = has_done left left_now written old new held after turns s done so_far same;
   long = long;
-  stands = law turns held after (subst (λ (o : KeeperSeen). AreMade (calls_from first turns) held o) (sym unasked) tells);
+  stands = law turns held after (subst (λ (o : KeeperSeen). WereDone turns held o) (sym unasked) tells);
 }
 ends_at_line endings.OutOfMemory left left_now written old new held before after turns s number line law done next so_far tells h ((short, same), ends) = record {
   before = turns;
@@ -311,7 +323,7 @@ ends_without_feed left left_now written old new held before after more p t law s
         done = end_from-push p.state t h.turns turn does.text h.done does.short done;
         written = does.written ∙ ap (λ o. appended o does.text) h.written ∙ appended_more written (transcript first h.turns) does.text ∙ ap (appended written) (sym (transcript-push p.state t h.turns turn does.text h.done done));
       };
-      stands = law (h.turns ++ turn ∷ []) held after (made-push p.state h.turns p.part (DoneTo t does.text) held before after h.done does.short h.made does.done);
+      stands = law (h.turns ++ turn ∷ []) held after (done-push p.state h.turns p.part (DoneTo t does.text) held before after h.done does.short h.made does.done);
     }
 
 -- bytes were read, of which a part is the next piece
@@ -396,7 +408,7 @@ comes_first left written held = record {
   number = refl;
   done = refl;
   written = nothing_written written;
-  made = none_made held;
+  made = none_done held;
 }
 
 -- and there is no memory to read any
@@ -407,7 +419,7 @@ stops_at_first left written held law = record {
   between = held;
   read = record { rest = []; taken = nothing_read left; plain = All-nil IsOneLine; within = omega arith };
   done = record { done = refl; written = nothing_written written };
-  stands = law [] held held (none_made held);
+  stands = law [] held held (none_done held);
   last = inl refl;
 }
 

@@ -1,6 +1,7 @@
 -- What is read, written and asked of the keeper until a scenario ends.
-use Rattle.std.specs.Prelude.{◌≡◌, ◌≢◌, ℕ, ◌+◌, ◌<◌, ◌≤◌, ◌⊎◌, Bool, List, [], ◌∷◌, ◌++◌, length, All}
+use Rattle.std.specs.Prelude.{◌≡◌, ◌≢◌, ℕ, ◌+◌, ◌<◌, ◌≤◌, ◌⊎◌, Bool, List, [], ◌∷◌, ◌++◌, length, Some, All}
 use mathlib.Core.List.{IsPrefix}
+use Rattle.outside.specs.Keeper.{KeeperTold}
 use Rattle.outside.specs.Source.{prepended}
 use Rattle.boot_core.specs.Sound.{IsSound}
 use Rattle.scenario_engine.specs.declared.failure.UnstartedCause.{UnstartedCause}
@@ -9,8 +10,10 @@ use Rattle.crash_base.specs.declared.row_id.RowId.{RowId}
 use Rattle.scenario_text.specs.Cutting.{lines_of, text_of_lines, IsOneLine, IsCut}
 use Rattle.scenario_text.specs.Reading.{line_of}
 use Rattle.scenario_text.specs.declared.line.TheConstants.{MAX_LINE_BYTES}
+use Rattle.scenario_engine.specs.Connections.{HasBrowsers}
 use Rattle.scenario_engine.specs.Engine.{with_reply}
-use Rattle.scenario_engine.specs.KeeperCalls.{KeeperSeen, TellsCalls, AreCounted, AreSomeAsked}
+use Rattle.scenario_engine.specs.Hearing.{AllHeard}
+use Rattle.scenario_engine.specs.KeeperCalls.{KeeperSeen, TellsCalls, AreCounted, AreMade, AreSomeAsked}
 use Rattle.scenario_engine.specs.Sessions.{HasSessions}
 use Rattle.scenario_engine.specs.Sound.{CommitsUnrebooted, RunsSerially, CommitsOwnRequests, CommitsAsMeant}
 use Rattle.scenario_engine.specs.State.{State, RefusedIn, DoneTo, UnstartedIn, UnderWayIn}
@@ -42,12 +45,19 @@ pub record HasDone (x : Exchange) (turns : List Turn) (state : State) : Type 0 w
   pub done : end_from first 1 turns ≡ Ended state
   pub written : IsWritten x (transcript first turns)
 
+-- Turns were done over a keeper: it was called as they say and not more, and what connections heard in them is spelled
+-- by its bytes.
+pub record WereDone (turns : List Turn) (old new : KeeperSeen) : Type 0 where
+  pub made : AreMade (calls_from first turns) old new
+  pub heard : AllHeard first turns
+
 -- What turns did stands: the keeper was called as they say and holds the rows that they leave; its count of faults rose
 -- where it failed at a call, as that of a commit which was told `keeper failed`, also where it does not tell; each boot
 -- is sound; no commit comes after a reboot of a group that its call entered; each journal is a serial execution of its
 -- calls; each commit is of a request of its own boot; each commit of an action wrote and answered what the site means
--- by the action; and each fetch answers what was written, or says why it does not. A turn that ended the scenario is
--- the last of them, since it may have called the keeper, too.
+-- by the action; each fetch answers what was written, or says why it does not; what connections heard in each turn is
+-- spelled by its bytes; and, over a keeper that tells, what browsers read of their sessions was written. A turn that
+-- ended the scenario is the last of them, since it may have called the keeper, too.
 pub record ScenarioStands (turns : List Turn) (old new : KeeperSeen) : Type 0 where
   pub calls : TellsCalls (calls_from first turns) old.told new.told
   pub told : Tells turns old.told new.told
@@ -58,6 +68,8 @@ pub record ScenarioStands (turns : List Turn) (old new : KeeperSeen) : Type 0 wh
   pub own : All CommitsOwnRequests (boots_from first turns)
   pub meant : All CommitsAsMeant (boots_from first turns)
   pub sessions : HasSessions turns
+  pub heard : AllHeard first turns
+  pub browsers : (t u : KeeperTold) → old.told ≡ Some t → new.told ≡ Some u → HasBrowsers turns
 
 -- A scenario was read and came to its end, and its transcript was written.
 pub record WritesTranscript (x : Exchange) : Type 0 where

@@ -7,15 +7,16 @@ use Rattle.scenario_text.specs.Cutting.{text_of_lines, IsOneLine}
 use Rattle.scenario_text.specs.Reading.{line_of}
 use Rattle.scenario_text.specs.declared.line.TheConstants.{MAX_LINE_BYTES}
 use Rattle.scenario_engine.specs.declared.failure.LineFailure.TheVariants as failures
-use Rattle.scenario_engine.specs.KeeperCalls.{KeeperSeen, AreMade}
+use Rattle.scenario_engine.specs.KeeperCalls.{KeeperSeen}
 use Rattle.scenario_engine.specs.State.{State, RefusedIn, DoneTo}
 use Rattle.scenario_engine.specs.Telling.{Does, Ends}
-use Rattle.scenario_engine.specs.Transcript.{Turn, lines_in, first, Ended, end_from, transcript, calls_from}
+use Rattle.scenario_engine.specs.Transcript.{Turn, lines_in, first, Ended, end_from, transcript}
 use Rattle.drive_engine.specs.declared.drive.TheConstants.{MAX_SCENARIO_BYTES}
 use Rattle.drive_engine.specs.declared.ending.Ending.{Ending}
 use Rattle.drive_engine.specs.declared.ending.Ending.TheVariants as endings
 use Rattle.drive_engine.specs.declared.words.Command.TheVariants.{Drive}
 use Rattle.drive_engine.specs.Command.{Runs}
+use Rattle.drive_engine.specs.Drive.{WereDone}
 use Rattle.drive_engine.specs.Exchange.{Exchange, exchange, IsWritten}
 
 -- the state that the lines before a line leave, what is seen of the keeper then, the part of that line that was read,
@@ -81,7 +82,7 @@ pub record HasCome (x : Exchange) (more : ℕ) (unread past : List ℕ) (p : Pla
   pub number : p.number ≡ length turns + 1
   pub done : end_from first 1 turns ≡ Ended p.state
   pub written : IsWritten x (transcript first turns)
-  pub made : AreMade (calls_from first turns) x.keeper_before x.keeper_after
+  pub made : WereDone turns x.keeper_before x.keeper_after
 
 -- However a scenario has come to the first place, it has now come to the second.
 abbrev pub Comes : PlayState → List ℕ → Option (List ℕ) → KeeperSeen

@@ -2,22 +2,24 @@
 //! law calls the function.
 
 ghost use Rattle.std.specs.Prelude.{◌≡◌, ℕ, List};
-ghost use Rattle.scenario_engine.specs.KeeperCalls.{KeeperSeen, AreMade};
-ghost use Rattle.scenario_engine.specs.Transcript.{Turn, lines_in, first, calls_from, end_from, IsAnswered};
+ghost use Rattle.scenario_engine.specs.KeeperCalls.{KeeperSeen};
+ghost use Rattle.scenario_engine.specs.Transcript.{Turn, lines_in, first, end_from, IsAnswered};
 ghost use Rattle.drive_engine.specs.declared.words.Command.{Command};
 ghost use Rattle.drive_engine.specs.Command.{CallsFor};
-ghost use Rattle.drive_engine.specs.Drive.{ScenarioStands};
+ghost use Rattle.drive_engine.specs.Drive.{ScenarioStands, WereDone};
 
 use descriptor_text::texts_have_an_answer;
 use scenario_engine::{
     boots_are_sound, commits_are_of_their_boot, journals_are_meant, keepers_tell,
-    no_turns_break_the_order, no_turns_commit_after_a_reboot, scenarios_have_sessions,
+    no_turns_break_the_order, no_turns_commit_after_a_reboot, scenarios_have_browsers,
+    scenarios_have_sessions,
 };
 
-/// Whatever the turns, what they did stands where the keeper was called as they say.
+/// Whatever the turns, what they did stands where they were done: the keeper was called as they say, and what
+/// connections heard is spelled.
 pub(crate) fn scenarios_stand()
     ensures { (turns : List Turn) (old new : KeeperSeen)
-        → AreMade (calls_from first turns) old new → ScenarioStands turns old new }
+        → WereDone turns old new → ScenarioStands turns old new }
 {
     keepers_tell();
     boots_are_sound();
@@ -26,6 +28,7 @@ pub(crate) fn scenarios_stand()
     commits_are_of_their_boot();
     journals_are_meant();
     scenarios_have_sessions();
+    scenarios_have_browsers();
 }
 
 /// A text has lines, and calls for a status whatever the keeper replies to each of them, where its replies are as many
