@@ -1,5 +1,5 @@
 -- The items of connections that are given up.
-use Rattle.std.proofs.Common.{◌≡◌, ℕ, true, false, List, [], ◌∷◌, ◌++◌, length, Option, Some, None, refl, sym, ap, ◌∙◌, length-append, arith}
+use Rattle.std.proofs.Common.{◌≡◌, ℕ, List, [], ◌∷◌, ◌++◌, length, Option, Some, None, refl, sym, ap, ◌∙◌, length-append, arith}
 use Rattle.std.proofs.lemmas.List.{append-nil}
 use Rattle.std.specs.List.{flat_map}
 use Rattle.auction_calls.specs.declared.action.ActionCall.{ActionCall}
@@ -19,7 +19,7 @@ use Rattle.shepherd_steps.specs.Passes.{outcome_of}
 use Rattle.seat_steps.specs.Gone.{item_by_work, item_left, seat_gone, stage_gone, visit_gone}
 use Rattle.seat_steps.specs.declared.seat.Seat.{Seat}
 use Rattle.seat_lines.specs.Giving.{items_at_giving_up, items_if, left_by}
-use Rattle.seat_lines.specs.PuttingOut.{HasAccounted, HasPutOut, IsSent, last_outs}
+use Rattle.seat_lines.specs.PuttingOut.{HasAccounted, HasPutOut, IsSent}
 use Rattle.seat_lines.proofs.Leaving.{left_count, told_left}
 
 dropped_left : (w : Work ActionCall) → has_left (dropped w) ≡ has_left w

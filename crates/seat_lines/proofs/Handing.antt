@@ -8,7 +8,6 @@ use Rattle.boot_core.specs.declared.boot.Start.{Start}
 use Rattle.container_core.specs.Container.{ContainerValue, HasGrownBy}
 use Rattle.container_core.specs.History.{entries_in}
 use Rattle.crash_base.specs.declared.numbers.Moment.{Moment}
-use Rattle.crash_base.specs.declared.numbers.WorkerNo.{WorkerNo}
 use Rattle.crash_base.specs.declared.rows.RowWrite.{RowWrite}
 use Rattle.journal_model.specs.declared.entry.Entry.{Entry}
 use Rattle.lane_link.specs.declared.link.LaneLink.{LaneLink}

@@ -1,5 +1,5 @@
 -- What a step of a connection puts out, and the items that it gives, by the stage of the connection.
-use Rattle.std.proofs.Common.{◌≡◌, ◌==◌, inl, inr, ℕ, ◌+◌, Bool, true, false, cond, List, [], ◌∷◌, ◌++◌, length, map, Option, Some, None, refl, sym, ap, subst, ◌∙◌, append_assoc, length-append, arith}
+use Rattle.std.proofs.Common.{◌≡◌, ◌==◌, ℕ, Bool, true, false, List, [], ◌∷◌, ◌++◌, length, map, Option, Some, None, refl, sym, ap, subst, ◌∙◌, append_assoc, length-append, arith}
 use Rattle.std.proofs.lemmas.List.{append-nil}
 use Rattle.std.specs.Prelude.{nat_lt, if◌then◌else◌}
 use Rattle.auction_calls.specs.declared.action.ActionCall.{ActionCall}
@@ -18,14 +18,12 @@ use Rattle.lane_link.specs.declared.link.LaneLink.{LaneLink}
 use Rattle.outcome_items.specs.declared.item.Item.{Item}
 use Rattle.outside.specs.Link.{Tally}
 use Rattle.outside.specs.declared.link.LinkCounts.{LinkCounts}
-use Rattle.request_intake.specs.declared.intake.Admission.{Admission}
 use Rattle.request_intake.specs.declared.intake.Arrival.{Arrival}
 use Rattle.request_intake.specs.declared.intake.Arrival.TheVariants as arrives
 use Rattle.request_visit.specs.Advancing.{departed, response_in}
 use Rattle.request_visit.specs.Serving.{closing_of}
 use Rattle.request_visit.specs.Stepping.{counted, left_so}
 use Rattle.request_visit.specs.Visits.{after_outcome, fate_missed, fate_written, or_over, or_own, overloaded, turn as visit_turn, turn_by as visit_turn_by, with_fate}
-use Rattle.request_visit.specs.declared.facts.VisitFacts.{VisitFacts}
 use Rattle.request_visit.specs.declared.ready.Ready.TheVariants.{Respond, Write}
 use Rattle.request_visit.specs.declared.serving.Closed.{Closed}
 use Rattle.request_visit.specs.declared.serving.Closed.TheVariants as closes
@@ -55,8 +53,6 @@ use Rattle.session_way.specs.declared.way.Wants.TheVariants as wanted
 use Rattle.shepherd.specs.Shepherds.{resting_turn, stage_turn, turn, turn_by}
 use Rattle.shepherd.specs.Standing.{has_left}
 use Rattle.shepherd.specs.Steps.{admitted_visit, begun_by, facts_of, rested}
-use Rattle.shepherd.specs.declared.shepherd.AskedCall.{AskedCall}
-use Rattle.shepherd.specs.declared.shepherd.EndKind.{EndKind}
 use Rattle.shepherd.specs.declared.shepherd.EndKind.TheVariants as ends
 use Rattle.shepherd.specs.declared.shepherd.Shepherd.{Shepherd}
 use Rattle.shepherd.specs.declared.shepherd.ShepherdTurn.{ShepherdTurn}
@@ -76,7 +72,7 @@ use Rattle.seat_steps.specs.Seats.{SeatGivens, SeatOutcome, SeatWorld, givens_in
 use Rattle.seat_steps.specs.declared.seat.Seat.{Seat}
 use Rattle.seat_lines.specs.Items.{outs_at, puts_out}
 use Rattle.seat_lines.specs.Lines.{moves}
-use Rattle.seat_lines.specs.PuttingOut.{IsSent, last_outs}
+use Rattle.seat_lines.specs.PuttingOut.{IsSent}
 
 -- a step of others with a request changes nothing of whether its response has left
 

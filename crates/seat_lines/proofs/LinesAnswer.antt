@@ -28,7 +28,7 @@ use Rattle.shepherd_steps.specs.Stepping.{event_at, step}
 use Rattle.seat_lines.specs.Changing.{ChangesSeatsAlone, IsLeftBySeat, SeatBecomes, makes_steps, number_in}
 use Rattle.seat_lines.specs.Giving.{items_if}
 use Rattle.seat_lines.specs.Items.{items_at, line_items, line_outs, outs_at, over_yields, place_yields, run_yields, step_yields}
-use Rattle.seat_lines.specs.Lines.{ended, fed, givens_of, is_beyond, moves, new_seat, step_line, world_of}
+use Rattle.seat_lines.specs.Lines.{ended, fed, givens_of, moves, step_line, world_of}
 use Rattle.seat_lines.specs.Responding.{AnswersMore, LineShows, PlaceAnswers, RunShows, StepShows, bytes_by, history_of, in_row}
 use Rattle.seat_lines.specs.Runs.{rests, run_from, seat_line}
 use Rattle.seat_lines.specs.Site.{SiteState, seat_at, with_seat}

@@ -23,9 +23,9 @@ use Rattle.shepherd.specs.declared.shepherd.ShepherdTurn.TheVariants as turns
 use Rattle.shepherd.specs.declared.shepherd.Stage.{Stage}
 use Rattle.shepherd.specs.declared.shepherd.Stage.TheVariants.{Resting, Serving, Refusing, Over}
 use Rattle.seat_lines.specs.Changing.{IsLeftBySeat, SeatBecomes, number_in}
-use Rattle.seat_lines.specs.Items.{items_at, line_yields, line_items, line_outs, outs_at, over_yields, place_yields, puts_out, run_yields, step_yields}
-use Rattle.seat_lines.specs.Lines.{ended, fed, givens_of, is_beyond, moves, step_line, step_text, world_of}
-use Rattle.seat_lines.specs.Runs.{rests, run_from, seat_line, step_by}
+use Rattle.seat_lines.specs.Items.{items_at, line_items, line_outs, outs_at, over_yields, place_yields, run_yields, step_yields}
+use Rattle.seat_lines.specs.Lines.{ended, fed, givens_of, moves, step_line, step_text, world_of}
+use Rattle.seat_lines.specs.Runs.{rests, run_from, seat_line}
 use Rattle.seat_lines.specs.Site.{SiteState, seat_at, with_seat}
 use Rattle.seat_lines.specs.PuttingOut.{HasPutOut, IsSent, IsSentBy, PutsOutMore, last_outs}
 use Rattle.seat_lines.specs.Texts.{gone_text, out_text}

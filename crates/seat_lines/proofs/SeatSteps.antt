@@ -6,19 +6,18 @@ use Rattle.std.proofs.lemmas.List.{get_or-set_same, get_or_past, set-get_or}
 use Rattle.std.specs.Prelude.{slice_set}
 use Rattle.scenario_text.specs.Answer.{Answer, Refused, Done, or_refused, refused_if, within}
 use Rattle.scenario_text.specs.declared.seat_line.TheConstants.{MAX_SEAT}
-use Rattle.seat_steps.specs.Seats.{SeatGivens, SeatOutcome, SeatWorld, seat_step}
+use Rattle.seat_steps.specs.Seats.{SeatGivens, SeatOutcome, seat_step}
 use Rattle.seat_steps.specs.declared.seat.Seat.{Seat}
 use Rattle.session_lanes.specs.Lanes.{LanesState}
 use Rattle.session_steps.specs.Lent.{lent_out, put_back}
-use Rattle.session_steps.specs.Sessions.{SessionsState}
 use Rattle.shepherd.specs.Shepherds.{turn}
 use Rattle.shepherd.specs.declared.shepherd.EndKind.{EndKind}
 use Rattle.shepherd.specs.declared.shepherd.ShepherdTurn.{ShepherdTurn}
 use Rattle.shepherd.specs.declared.shepherd.ShepherdTurn.TheVariants as turns
 use Rattle.seat_lines.specs.Changing.{IsLeftBySeat}
-use Rattle.seat_lines.specs.Lines.{Place, givens_of, is_beyond, moved, moves, place_step, step_line, step_over, step_text, steps_at, with_place, world_of}
+use Rattle.seat_lines.specs.Lines.{Place, givens_of, is_beyond, moves, place_step, step_line, step_over, step_text, steps_at, with_place, world_of}
 use Rattle.seat_lines.specs.Site.{SiteState, seat_at, with_seat, with_seats}
-use Rattle.seat_lines.specs.Texts.{gone_text, out_text}
+use Rattle.seat_lines.specs.Texts.{gone_text}
 use Rattle.seat_lines.proofs.Handing.{moved_at}
 
 -- a connection that is there has a place

@@ -1,10 +1,9 @@
 -- What a line about one connection changes, and what it leaves.
-use Rattle.std.specs.Prelude.{◌≡◌, ℕ, Bool, true, false, List, [], Option, Some}
+use Rattle.std.specs.Prelude.{◌≡◌, ℕ, Bool, true, false, List, [], Some}
 use Rattle.scenario_text.specs.declared.seat_line.SeatLine.{SeatLine}
 use Rattle.scenario_text.specs.declared.seat_line.SeatLine.TheVariants as lines
 use Rattle.seat_steps.specs.Seats.{SeatOutcome}
 use Rattle.seat_steps.specs.declared.seat.Seat.{Seat}
-use Rattle.session_steps.specs.Sessions.{SessionsState}
 use Rattle.shepherd.specs.declared.shepherd.ShepherdTurn.{ShepherdTurn}
 use Rattle.seat_lines.specs.Lines.{step_text}
 use Rattle.seat_lines.specs.Site.{SiteState, seat_at}

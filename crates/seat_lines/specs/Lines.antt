@@ -1,5 +1,5 @@
 -- What a line about one connection does, but for a run.
-use Rattle.std.specs.Prelude.{ℕ, ◌+◌, nat_lt, Bool, true, false, if◌then◌else◌, List, [], ◌++◌, Option, Some, None, is_some, string_bytes}
+use Rattle.std.specs.Prelude.{ℕ, ◌+◌, nat_lt, Bool, true, false, List, [], ◌++◌, Option, Some, None, is_some, string_bytes}
 use Rattle.crash_base.specs.declared.numbers.WorkerNo.{WorkerNo}
 use Rattle.scenario_text.specs.Answer.{Answer, Refused, Done, or_refused, refused_if, within}
 use Rattle.scenario_text.specs.declared.seat_line.TheConstants.{MAX_SEAT}
