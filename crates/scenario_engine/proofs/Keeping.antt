@@ -173,7 +173,7 @@ module _ (H : Head → Type 0) (R : RunningState → Type 0) (B : BootValue → 
   kept_boots_in (Heading head) holds = All-nil B
   kept_boots_in (Running r) holds = All-cons B r.boot [] (of_boot r holds) (All-nil B)
 
-  kept_ending : (s : State) (n : ℕ) (turns : List Turn) → HoldsIn H R s → HoldsIn H R (last_state (end_from s n turns))
+  pub kept_ending : (s : State) (n : ℕ) (turns : List Turn) → HoldsIn H R s → HoldsIn H R (last_state (end_from s n turns))
   kept_ending s n [] holds = holds
   kept_ending s n (turn ∷ turns) holds =
       go (nat_lt MAX_LINE_BYTES (length turn.line)) (turn_outcome s turn) (kept_turn s turn holds) (λ t later. kept_ending t (n + 1) turns later)

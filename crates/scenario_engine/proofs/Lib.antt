@@ -24,10 +24,12 @@ pub mod Soundness
 mod Standing
 pub mod Starting
 pub mod Stepping
+mod StepsMade
 pub mod Telling
 pub mod TellingCalls
 pub mod Turns
 pub mod Unkept
+mod RunsCounted
 mod RunsLeft
 mod Writing
 pub mod Rising

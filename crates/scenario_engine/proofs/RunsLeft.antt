@@ -1,6 +1,6 @@
 -- A run comes to rest.
 use Rattle.std.specs.Prelude.{IfSome, slice_set}
-use Rattle.std.proofs.Common.{arith, ◌≡◌, ◌≢◌, ◌⊎◌, ◌∙◌, ◌<◌, ◌≤◌, ◌+◌, ◌*◌, ◌&&◌, not, inl, inr, ℕ, Bool, true, false, cond, List, [], ◌∷◌, ◌++◌, length, Option, Some, None, is_some, refl, sym, ap, subst}
+use Rattle.std.proofs.Common.{arith, ◌≡◌, ◌≢◌, ◌⊎◌, ◌∙◌, ◌<◌, ◌≤◌, ◌+◌, ◌&&◌, not, inl, inr, ℕ, Bool, true, false, cond, List, [], ◌∷◌, ◌++◌, length, Option, Some, None, is_some, refl, sym, ap, subst}
 use Rattle.std.proofs.lemmas.Bool.{and_parts, cases_lt}
 use Rattle.std.proofs.lemmas.Bool.Decides.{nat_tests}
 use Rattle.std.proofs.lemmas.List.{get_or-set_same}
@@ -174,7 +174,7 @@ module _ (laws : RunLaws) (s : SiteState) (n : ℕ) (counted : RunIsCounted s n)
     by (Some seat) there (Some st) bricks = at seat st there bricks (moves (turn seat.connection)) refl
 
 -- connections that are there are counted in another boot
-each-counted : (old new : BootValue) → ((seat : Seat) → IsCounted old seat → IsCounted new seat) → (o : Option Seat) → IfSome o (λ (x : Seat). IsCounted old x) → IfSome o (λ (x : Seat). IsCounted new x)
+pub each-counted : (old new : BootValue) → ((seat : Seat) → IsCounted old seat → IsCounted new seat) → (o : Option Seat) → IfSome o (λ (x : Seat). IsCounted old x) → IfSome o (λ (x : Seat). IsCounted new x)
 each-counted old new goes None its = tt
 each-counted old new goes (Some seat) its = goes seat its
 
@@ -197,38 +197,94 @@ others-counted laws s t n m keeps text counted its is = elim (same-or-not m n) [
   own : RunIsCounted t n
   own = step-counted laws s n counted keeps t text is
 
+-- The boot is of the site, and the steps of each of its connections are counted.
+pub record SeatsCounted (s : SiteState) : Type 0 where
+  pub of_site : s.boot.start.deployment ≡ site_parts
+  pub counted : (n : ℕ) → IfSome (seat_at s.seats.seats n) (λ (x : Seat). IsCounted s.boot x)
+
+module _ (laws : RunLaws) (s : SiteState) (its : SeatsCounted s) where
+  there-counted : (n : ℕ) (seat : Seat) → seat_at s.seats.seats n ≡ Some seat → IsCounted s.boot seat
+  there-counted n seat there = subst (λ (o : Option Seat). IfSome o (λ (x : Seat). IsCounted s.boot x)) there (its.counted n)
+
+  -- so it is where one connection alone was changed
+  one-changed : (t : SiteState) (n : ℕ) → ((x : Seat) → IsCounted s.boot x → IsCounted t.boot x) → IfSome (seat_at t.seats.seats n) (λ (x : Seat). IsCounted t.boot x)
+      → ((m : ℕ) → m ≢ n → seat_at t.seats.seats m ≡ seat_at s.seats.seats m) → SeatsCounted t
+  one-changed t n goes here apart = record {
+    of_site = (goes new_seat (laws.begins s.boot its.of_site)).fits.site;
+    counted = λ m. elim (same-or-not m n) [
+      | inl same ↦ subst (λ (k : ℕ). IfSome (seat_at t.seats.seats k) (λ (x : Seat). IsCounted t.boot x)) (sym same) here
+      | inr other ↦ subst (λ (o : Option Seat). IfSome o (λ (x : Seat). IsCounted t.boot x)) (sym (apart m other)) (each-counted s.boot t.boot goes (seat_at s.seats.seats m) (its.counted m))
+    ];
+  }
+
+  -- Those of each connection are counted behind a step.
+  pub seats-step : (n : ℕ) (keeps : Bool) (t : SiteState) (text : List ℕ) → step_line s n keeps ≡ Done t text → SeatsCounted t
+  seats-step n keeps t text is = by (seat_at s.seats.seats n) refl s.sessions.store refl where
+    apart : (m : ℕ) → m ≢ n → seat_at t.seats.seats m ≡ seat_at s.seats.seats m
+    apart m other = laws.apart s t (lines.Step n) (keeps ∷ []) text m (ap (λ (a : Answer SiteState). Some a) is) other
+
+    moved : (seat : Seat) (st : LanesState) → seat_at s.seats.seats n ≡ Some seat → IsLeftBySeat s n (turn seat.connection) (seat_step (givens_of s n keeps) seat (world_of s st)) t text → SeatsCounted t
+    moved seat st there left =
+        let g : SeatGivens = givens_of s n keeps in
+        let w : SeatWorld = world_of s st in
+        let o : SeatOutcome = seat_step g seat w in
+        let here : IsCounted s.boot seat = there-counted n seat there in
+        let goes : (x : Seat) → IsCounted s.boot x → IsCounted t.boot x = λ x was. subst (λ (b : BootValue). IsCounted b x) (sym left.boot) (laws.other g seat x w here was) in
+        let own : IsCounted t.boot o.seat = subst (λ (b : BootValue). IsCounted b o.seat) (sym left.boot) (laws.step g seat w here) in
+        one-changed t n goes (subst (λ (x : Option Seat). IfSome x (λ (y : Seat). IsCounted t.boot y)) (sym left.seat) own) apart
+
+    gone : (seat : Seat) → seat_at s.seats.seats n ≡ Some seat → t ≡ with_seat s n None → SeatsCounted t
+    gone seat there over =
+        let none : seat_at (slice_set s.seats.seats n None) n ≡ None = get_or-set_same s.seats.seats n None None (within_places s.seats.seats n seat there) in
+        let now : seat_at t.seats.seats n ≡ None = ap (λ (x : SiteState). seat_at x.seats.seats n) over ∙ none in
+        let boot : t.boot ≡ s.boot = ap (λ (x : SiteState). x.boot) over in
+        one-changed t n (λ x was. subst (λ (b : BootValue). IsCounted b x) (sym boot) was) (subst (λ (x : Option Seat). IfSome x (λ (y : Seat). IsCounted t.boot y)) (sym now) tt) apart
+
+    at : (seat : Seat) (st : LanesState) → seat_at s.seats.seats n ≡ Some seat → s.sessions.store ≡ Some st → (b : Bool) → moves (turn seat.connection) ≡ b → SeatsCounted t
+    at seat st there bricks true moving = moved seat st there (laws.moved s t n keeps text seat st there bricks moving is)
+    at seat st there bricks false moving = elim (laws.moving (turn seat.connection) moving) [
+      | inl waiting ↦ subst (λ (x : SiteState). SeatsCounted x) (sym (laws.waits s t n keeps text seat there waiting is).0) its
+      | inr over ↦ gone seat there (laws.over s t n keeps text seat over.0 there over.1 is).0
+    ]
+
+    by : (o : Option Seat) → seat_at s.seats.seats n ≡ o → (b : Option LanesState) → s.sessions.store ≡ b → SeatsCounted t
+    by None none b bricks = absurd (refused-not t text (step_line s n keeps) (laws.none s n keeps none) is)
+    by (Some seat) there None bare = absurd (refused-not t text (step_line s n keeps) (laws.bare s n keeps bare) is)
+    by (Some seat) there (Some st) bricks = at seat st there bricks (moves (turn seat.connection)) refl
+
+  -- So they are behind a line that makes none.
+  pub seats-still : (t : SiteState) (line : SeatLine) (replies : List Bool) (text : List ℕ) → makes_steps line ≡ false → seat_line s line replies ≡ Some (Done t text) → SeatsCounted t
+  seats-still t line replies text still is = one-changed t (number_in line) goes (own line still is) (λ m other. laws.apart s t line replies text m is other) where
+    alone : ChangesSeatsAlone s t text
+    alone = laws.alone s t line replies text is still
+
+    goes : (x : Seat) → IsCounted s.boot x → IsCounted t.boot x
+    goes x was = subst (λ (b : BootValue). IsCounted b x) (sym alone.boot) was
+
+    Seated : Option Seat → Type 0
+    Seated o = IfSome o (λ (x : Seat). IsCounted t.boot x)
+
+    own : (line : SeatLine) → makes_steps line ≡ false → seat_line s line replies ≡ Some (Done t text) → Seated (seat_at t.seats.seats (number_in line))
+    own (lines.Conn n) still is = subst Seated (sym (laws.opens s t n replies text is)) (goes new_seat (laws.begins s.boot its.of_site))
+    own (lines.Bytes n bytes) still is =
+        let b : SeatBecomes n s (λ (x : Seat). fed x bytes) t = laws.feeds s t n bytes replies text is in
+        subst Seated (sym b.becomes) (goes (fed b.seat bytes) (laws.still s.boot b.seat (fed b.seat bytes) refl (there-counted n b.seat b.was)))
+    own (lines.End n) still is =
+        let b : SeatBecomes n s ended t = laws.stopped s t n replies text is in
+        subst Seated (sym b.becomes) (goes (ended b.seat) (laws.still s.boot b.seat (ended b.seat) refl (there-counted n b.seat b.was)))
+    own (lines.Step n) still is = absurd (cc)
+    own (lines.Run n) still is = absurd (cc)
+
 -- The steps of each run are counted behind a line that makes none.
 pub lines-counted : RunLaws → (s t : SiteState) (line : SeatLine) (replies : List Bool) (text : List ℕ) (m : ℕ) → s.boot.start.deployment ≡ site_parts → ((n : ℕ) → RunIsCounted s n) → makes_steps line ≡ false
     → seat_line s line replies ≡ Some (Done t text) → RunIsCounted t m
-lines-counted laws s t line replies text m site counted still is = record {
-  seat = elim (same-or-not m (number_in line)) [
-    | inl same ↦ subst (λ (k : ℕ). Seated (seat_at t.seats.seats k)) (sym same) (own line still is)
-    | inr apart ↦ subst Seated (sym (laws.apart s t line replies text m is apart)) (in-boot (seat_at s.seats.seats m) (counted m).seat)
-  ];
-  windows = subst (λ (x : Option LanesState). IfSome x (λ (y : LanesState). y.windows.w ≤ MAX_BRICKS)) (sym (ap (λ (x : SessionsState). x.store) alone.sessions)) (counted m).windows;
-} where
-  Seated : Option Seat → Type 0
-  Seated o = IfSome o (λ (x : Seat). IsCounted t.boot x)
-
-  alone : ChangesSeatsAlone s t text
-  alone = laws.alone s t line replies text is still
-
-  in-boot : (o : Option Seat) → IfSome o (λ (x : Seat). IsCounted s.boot x) → Seated o
-  in-boot o its = each-counted s.boot t.boot (λ x is. subst (λ (b : BootValue). IsCounted b x) (sym alone.boot) is) o its
-
-  was-counted : (n : ℕ) (seat : Seat) → seat_at s.seats.seats n ≡ Some seat → IsCounted s.boot seat
-  was-counted n seat there = subst (λ (o : Option Seat). IfSome o (λ (x : Seat). IsCounted s.boot x)) there (counted n).seat
-
-  own : (line : SeatLine) → makes_steps line ≡ false → seat_line s line replies ≡ Some (Done t text) → Seated (seat_at t.seats.seats (number_in line))
-  own (lines.Conn n) still is = subst Seated (sym (laws.opens s t n replies text is)) (in-boot (Some new_seat) (laws.begins s.boot site))
-  own (lines.Bytes n bytes) still is =
-      let b : SeatBecomes n s (λ (x : Seat). fed x bytes) t = laws.feeds s t n bytes replies text is in
-      subst Seated (sym b.becomes) (in-boot (Some (fed b.seat bytes)) (laws.still s.boot b.seat (fed b.seat bytes) refl (was-counted n b.seat b.was)))
-  own (lines.End n) still is =
-      let b : SeatBecomes n s ended t = laws.stopped s t n replies text is in
-      subst Seated (sym b.becomes) (in-boot (Some (ended b.seat)) (laws.still s.boot b.seat (ended b.seat) refl (was-counted n b.seat b.was)))
-  own (lines.Step n) still is = absurd (cc)
-  own (lines.Run n) still is = absurd (cc)
+lines-counted laws s t line replies text m site counted still is =
+    let alone : ChangesSeatsAlone s t text = laws.alone s t line replies text is still in
+    let its : SeatsCounted s = record { of_site = site; counted = λ n. (counted n).seat } in
+    record {
+      seat = (seats-still laws s its t line replies text still is).counted m;
+      windows = subst (λ (x : Option LanesState). IfSome x (λ (y : LanesState). y.windows.w ≤ MAX_BRICKS)) (sym (ap (λ (x : SessionsState). x.store) alone.sessions)) (counted m).windows;
+    }
 
 -- a connection that does not rest is there, and does not wait
 abbrev IsOn : Option Seat → Type 0

@@ -1,12 +1,19 @@
 //! Laws of what connections do in scenarios. Each is the contract of a function that does nothing: a caller that needs
 //! the law calls the function.
 
-ghost use Rattle.std.specs.Prelude.{◌≡◌, ◌<◌, ◌≤◌, ◌-◌, ◌^◌, ◌++◌, ℕ, All, Bool, List, Some};
+ghost use Rattle.std.specs.Prelude.{◌≡◌, ◌<◌, ◌≤◌, ◌-◌, ◌^◌, ◌++◌, ◌∷◌, [], ℕ, All, Bool, List, length, Some, false, true};
 ghost use Rattle.outside.specs.Keeper.{KeeperTold};
+ghost use Rattle.scenario_text.specs.Answer.{Done};
+ghost use Rattle.scenario_text.specs.Reading.{line_of};
+ghost use Rattle.scenario_text.specs.declared.line.Line.TheVariants as lines;
+ghost use Rattle.scenario_text.specs.declared.line.TheConstants.{MAX_LINE_BYTES};
+ghost use Rattle.scenario_text.specs.declared.seat_line.SeatLine.{SeatLine};
+ghost use Rattle.scenario_text.specs.declared.seat_line.SeatLine.TheVariants as seats;
 ghost use Rattle.seat_laws.specs.Reads.{IsFoundOrLost, ReadsRightly, ReadsSince, order_of, read_heard, read_under_way};
 ghost use Rattle.seat_laws.specs.Standing.{SeatStands};
-ghost use Rattle.seat_lines.specs.Lines.{givens_of, world_of};
-ghost use Rattle.seat_lines.specs.Site.{seat_at};
+ghost use Rattle.seat_lines.specs.Lines.{givens_of, step_line, world_of};
+ghost use Rattle.seat_lines.specs.Runs.{rests, steps_from};
+ghost use Rattle.seat_lines.specs.Site.{SiteState, seat_at};
 ghost use Rattle.seat_steps.specs.Replies.{SeatHears};
 ghost use Rattle.seat_steps.specs.Seats.{seat_step};
 ghost use Rattle.seat_steps.specs.declared.seat.Seat.{Seat};
@@ -15,11 +22,11 @@ ghost use Rattle.session_way.specs.Reading.{cookie_asked};
 ghost use Rattle.session_way.specs.declared.session_read.ReadOutcome.{ReadOutcome};
 ghost use Rattle.ssm_stub.specs.Reads.{ReadState};
 ghost use Rattle.ssm_world.specs.Claims.{IsAcknowledged};
-ghost use Rattle.scenario_engine.specs.Connections.{HasBrowsers, IsIdle, Pause, StepStands, Wrote, steps_before, steps_behind};
+ghost use Rattle.scenario_engine.specs.Connections.{HasBrowsers, IsIdle, Pause, StepStands, Wrote, line_makes, made_from, steps_before, steps_behind, turn_makes};
 ghost use Rattle.scenario_engine.specs.Hearing.{AllHeard};
 ghost use Rattle.scenario_engine.specs.KeeperCalls.{TellsCalls};
 ghost use Rattle.scenario_engine.specs.Sound.{CommitsAsMeant};
-ghost use Rattle.scenario_engine.specs.State.{RunningState, Running, site_of};
+ghost use Rattle.scenario_engine.specs.State.{RunningState, State, Running, site_of};
 ghost use Rattle.scenario_engine.specs.Transcript.{Turn, Ended, first, boots_from, calls_from, end_from, last_state};
 
 use crate::laws::boots_rise;
@@ -169,3 +176,23 @@ pub fn scenarios_have_browsers()
     connections_stand_over_bricks();
     seats_read_what_was_written();
 }
+
+/// The steps that connections make (`made_from`) are those of their lines, one after the other. A `step` that is done
+/// makes one, over the site as it is. A run makes, behind the steps that led to a site, one more there, where it is not
+/// at its end. A turn over a boot of the site makes the steps of its line. And turns that were done and one more behind
+/// them make the steps of those, and then its own.
+pub fn steps_made_are_those_of_lines()
+    ensures step { (s t : SiteState) (n : ℕ) (keeps : Bool) (more : List Bool) (out : List ℕ) →
+        step_line s n keeps ≡ Done t out →
+        line_makes s (seats.Step n) (keeps ∷ more) ≡ record { site = s; number = n; keeps = keeps } ∷ [] }
+    ensures run { (s mid t : SiteState) (n : ℕ) (before : List Bool) (keeps : Bool) (out : List ℕ) →
+        steps_from s n before ≡ Some mid → rests (seat_at mid.seats.seats n) ≡ false →
+        step_line mid n keeps ≡ Done t out →
+        line_makes s (seats.Run n) (before ++ keeps ∷ [])
+        ≡ line_makes s (seats.Run n) before ++ record { site = mid; number = n; keeps = keeps } ∷ [] }
+    ensures line { (r : RunningState) (turn : Turn) (line : SeatLine) → line_of turn.line ≡ Some (lines.Seat line) →
+        r.site ≡ true → turn_makes (Running r) turn ≡ line_makes (site_of r) line turn.replies.keeps }
+    ensures turns { (turns : List Turn) (turn : Turn) (s : State) → end_from first 1 turns ≡ Ended s →
+        length turn.line ≤ MAX_LINE_BYTES →
+        made_from first (turns ++ turn ∷ []) ≡ made_from first turns ++ turn_makes s turn }
+{}

@@ -12,13 +12,13 @@ ghost use Rattle.scenario_engine.specs.Engine.{Replies, next_calls, with_reply};
 ghost use Rattle.scenario_engine.specs.KeeperCalls.{KeeperCall, Failed, KeeperSeen, AreMade, AreSomeAsked, TellsCalls, has_failed};
 ghost use Rattle.scenario_engine.specs.Running.{with_keeper, boot_refusal, commit_calls};
 ghost use Rattle.scenario_engine.specs.Sound.{CommitsUnrebooted, RunsSerially, CommitsOwnRequests};
-ghost use Rattle.scenario_text.specs.Answer.{Refused};
+ghost use Rattle.scenario_text.specs.Answer.{Done, Refused};
 ghost use Rattle.scenario_text.specs.declared.line.Line.{Line};
 ghost use Rattle.scenario_text.specs.declared.session_line.SessionLine.TheVariants as lines;
 ghost use Rattle.session_cookie.specs.declared.cookie.Cookie.{Cookie};
 ghost use Rattle.scenario_engine.specs.Sessions.{HasSessions, session_turns};
-ghost use Rattle.scenario_engine.specs.Seats.{next_calls_over};
-ghost use Rattle.scenario_engine.specs.State.{State, RunningState, Running, UnderWayIn, site_of};
+ghost use Rattle.scenario_engine.specs.Seats.{next_calls_over, seat_over};
+ghost use Rattle.scenario_engine.specs.State.{State, RunningState, Running, RefusedIn, DoneTo, UnderWayIn, site_of, with_site};
 ghost use Rattle.session_steps.specs.Promise.{BootsRise};
 ghost use Rattle.session_steps.specs.Sessions.{nonce, cookie_of, session_line};
 ghost use Rattle.session_lanes.specs.Lanes.{LanesState};
@@ -27,8 +27,11 @@ ghost use Rattle.scenario_engine.specs.Telling.{DoesPartly, HoldsRowsButNumber};
 ghost use Rattle.scenario_engine.specs.Told.{Tells};
 ghost use Rattle.scenario_engine.specs.Transcript.{Turn, lines_in, first, answer_to, calls_to, turn_outcome, transcript, end_from, last_state, IsAnswered, calls_from, boots_in, boots_from};
 ghost use Rattle.scenario_engine.specs.UnderWay.{MakesOneMore};
+ghost use Rattle.scenario_text.specs.declared.seat_line.SeatLine.{SeatLine};
 ghost use Rattle.scenario_text.specs.declared.seat_line.SeatLine.TheVariants as seats;
 ghost use Rattle.seat_lines.specs.Lines.{step_line};
+ghost use Rattle.seat_lines.specs.Runs.{seat_line};
+ghost use Rattle.seat_lines.specs.Site.{SiteState};
 ghost use Rattle.seat_steps.specs.declared.seat.TheConstants.{NODE as SEATS_NODE};
 ghost use Rattle.session_steps.specs.declared.sessions.TheConstants.{NODE as SESSIONS_NODE};
 
@@ -176,6 +179,21 @@ pub fn no_commit_is_kept_partly()
 /// its end after the steps to which it has replied. So each other line is answered, whatever the replies.
 pub fn lines_are_answered()
     ensures { (s mid : State) (turn : Turn) → turn_outcome s turn ≡ UnderWayIn mid → MakesOneMore turn mid }
+{}
+
+/// A line about a connection is taken over a boot of the site: it is refused only where it is refused of the
+/// connections themselves, and where it is done there, the boot has just what it left. The boot is of the site behind
+/// such a line as it was before. Over any other deployment each of these lines is refused.
+pub fn lines_about_connections_are_taken()
+    ensures taken { (r : RunningState) (line : SeatLine) (replies : List Bool) → r.site ≡ true →
+        seat_line (site_of r) line replies ≢ Some Refused → seat_over r line replies ≢ RefusedIn (Running r) }
+    ensures done { (r : RunningState) (line : SeatLine) (replies : List Bool) (t : SiteState) (text : List ℕ) →
+        r.site ≡ true → seat_line (site_of r) line replies ≡ Some (Done t text) →
+        seat_over r line replies ≡ DoneTo (Running (with_site r t)) text }
+    ensures stays { (r q : RunningState) (line : SeatLine) (replies : List Bool) (text : List ℕ) →
+        seat_over r line replies ≡ DoneTo (Running q) text → q.site ≡ r.site }
+    ensures bare { (r : RunningState) (line : SeatLine) (replies : List Bool) → r.site ≡ false →
+        seat_over r line replies ≡ RefusedIn (Running r) }
 {}
 
 /// Where a line is under way, one reply of the keeper more adds to its calls those of its next step. The calls of one

@@ -23,12 +23,14 @@
 //! over a keeper that tells, `connections_stand_over_bricks` for the sessions of connections, `scenarios_have_browsers`
 //! for what browsers read of them, and `keepers_decide` for what decides the transcript. A keeper replies to one step
 //! of a connection after the other, so turns may stop inside a run: `lines_are_answered` and `lines_go_on_by_steps` say
-//! where, and what the next step asks; and `runs_come_to_rest` says that a run whose steps are counted comes to its
-//! end.
+//! where, and what the next step asks; `runs_come_to_rest` says that a run whose steps are counted comes to its end,
+//! and `runs_of_scenarios_come_to_rest` that the steps of each run of a scenario are.
 //!
 //! `failures_are_of_calls` says at which calls a keeper has failed of which that is told, `nonces_are_of_one_node` that
 //! lines and connections draw nonces at one node, `transcripts_begin_alike` that what is written up to a step of a run
 //! begins what is written in the end, and `connections_read_what_was_written` what one step of a connection hears.
+//! `lines_about_connections_are_taken` says that these lines are taken over a boot of the site, and
+//! `steps_made_are_those_of_lines` that the steps of which the laws speak are those that such lines make.
 #![tactic(auto)]
 
 mod connections;
@@ -40,14 +42,14 @@ mod running;
 
 pub use connections::{
     connections_read_back, connections_read_what_was_written, connections_stand_over_bricks,
-    journals_are_meant, scenarios_have_browsers,
+    journals_are_meant, scenarios_have_browsers, steps_made_are_those_of_lines,
 };
 pub use engine::Engine;
 pub use failure::{LineFailure, UnstartedCause};
 pub use laws::{
     boots_are_sound, boots_rise, commits_are_of_their_boot, failures_are_of_calls, keepers_decide,
-    keepers_tell, lines_are_answered, lines_go_on_by_steps, no_commit_is_kept_partly,
-    no_turns_break_the_order, no_turns_commit_after_a_reboot, nonces_are_of_one_node,
-    scenarios_have_sessions, transcripts_begin_alike,
+    keepers_tell, lines_about_connections_are_taken, lines_are_answered, lines_go_on_by_steps,
+    no_commit_is_kept_partly, no_turns_break_the_order, no_turns_commit_after_a_reboot,
+    nonces_are_of_one_node, scenarios_have_sessions, transcripts_begin_alike,
 };
-pub use resting::runs_come_to_rest;
+pub use resting::{runs_come_to_rest, runs_of_scenarios_come_to_rest};

@@ -1,5 +1,5 @@
-//! A law of the runs of connections: the contract of a function that does nothing. A caller that needs the law calls
-//! the function.
+//! Laws of the runs of connections. Each is the contract of a function that does nothing: a caller that needs the law
+//! calls the function.
 
 ghost use Rattle.std.specs.Prelude.{◌≡◌, ◌≢◌, ◌≤◌, ◌+◌, ℕ, Bool, true, false, List, length, None, Some};
 ghost use Rattle.auction_rows.specs.Parts.{site_parts};
@@ -11,9 +11,13 @@ ghost use Rattle.seat_lines.specs.Lines.{step_line};
 ghost use Rattle.seat_lines.specs.Runs.{can_run, seat_line, steps_from};
 ghost use Rattle.seat_lines.specs.Site.{SiteState};
 ghost use Rattle.scenario_engine.specs.RunsLeft.{RunIsCounted, run_left};
+ghost use Rattle.scenario_engine.specs.State.{RunningState, Running, site_of};
+ghost use Rattle.scenario_engine.specs.Transcript.{Turn, first, end_from, last_state};
 
+use crate::laws::scenarios_have_sessions;
 use seat_laws::seats_come_to_rest;
 use seat_lines::{lines_are_taken, lines_change_one_connection, steps_are_those_of_seats};
+use send_windows::windows_keep_their_limits;
 
 /// A run whose steps are counted (`RunIsCounted`) comes to rest, whatever the keeper replies: with as many replies as
 /// it has steps left (`run_left`) it has an answer; and where it can begin, it is done. It makes no more steps than so
@@ -40,4 +44,18 @@ pub fn runs_come_to_rest()
     lines_change_one_connection();
     steps_are_those_of_seats();
     seats_come_to_rest();
+}
+
+/// Whatever the turns, and whatever the keeper replies, the steps of each run are counted in the boot of the site that
+/// the turns leave running, also where they stop at a line: so each `run` comes to rest (`runs_come_to_rest`).
+pub fn runs_of_scenarios_come_to_rest()
+    ensures { (turns : List Turn) (r : RunningState) (n : ℕ) → r.site ≡ true
+        → last_state (end_from first 1 turns) ≡ Running r → RunIsCounted (site_of r) n }
+{
+    lines_are_taken();
+    lines_change_one_connection();
+    steps_are_those_of_seats();
+    seats_come_to_rest();
+    scenarios_have_sessions();
+    windows_keep_their_limits();
 }
