@@ -6,9 +6,11 @@ mod Attempting
 mod Awaiting
 mod Drawing
 mod Drawn
+mod Expiring
 mod FewerSteps
 mod Hearing
 mod HearingReads
+mod Holding
 mod Lends
 mod LentBricks
 mod Meaning
@@ -16,7 +18,9 @@ mod Meanwhile
 mod Moving
 mod Ordering
 mod Owing
+mod OwnCookies
 mod OwnOrders
+mod OwnReads
 mod Passing
 mod Ranges
 mod ReadBegins
@@ -26,5 +30,6 @@ mod Replying
 mod Running
 mod SeatsFit
 mod SeatsSpell
+mod Spending
 mod Timing
 mod Twinning

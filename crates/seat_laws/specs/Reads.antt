@@ -148,6 +148,13 @@ abbrev pub IsTakenBy : Moment → Cookie → Decision → Stage ActionCall → T
 IsTakenBy now cookie (Refused why) stage = known_outcome stage ≡ Some (item.Refused why)
 IsTakenBy now cookie (Ordered order) stage = AwaitsRead now cookie stage ⊎ FindsNoSerial stage
 
+-- What a request that bears a cookie which has expired is taken as, by what is decided of it: it is refused so; or it
+-- is told that its session has expired, unless no serial number is left for it.
+abbrev pub IsTakenLate : Moment → Cookie → Decision → Stage ActionCall → Type 0
+IsTakenLate now cookie (Refused why) stage = known_outcome stage ≡ Some (item.Refused why)
+IsTakenLate now cookie (Ordered order) stage =
+    (known_outcome stage ≡ Some (item.Expired now cookie.expiry)) ⊎ FindsNoSerial stage
+
 -- a read as it was asked for
 abbrev pub order_of : ReadState → ReadOrder
 order_of r = record { nonce = r.nonce; moment = r.moment; cookie = cookie_asked r }

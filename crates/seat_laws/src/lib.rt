@@ -22,6 +22,8 @@
 //! - `seats_read_what_was_written`: what a seat hears of its session is the value that was acknowledged; or that it has
 //!   expired, or is lost, with the cause of each brick. A request that bears a cookie in time waits for a read by this
 //!   very one, and waits no longer only once it has heard what that came to.
+//! - `seats_read_their_own_sessions`: a read that begins is by the cookie that the request bears, in time, and stays
+//!   this one; a request whose cookie has expired is told so; and what was heard stays until the item is taken.
 //! - `reads_begin_behind_earlier_lanes`: a seat's read had not begun before the seat began to wait for it.
 //! - `seats_acknowledge_what_they_wrote`: a cookie that a seat's write answers is acknowledged with the value written.
 //! - `seats_miss_for_causes`: a write that a seat missed has the cause of each brick.
@@ -52,6 +54,6 @@ pub use lending::{bricks_go_by_lent_steps, seats_begin_with_drawn_nonces};
 pub use owned_writes::requests_order_their_own_writes;
 pub use reading::{
     reads_begin_behind_earlier_lanes, seats_acknowledge_what_they_wrote, seats_miss_for_causes,
-    seats_read_what_was_written,
+    seats_read_their_own_sessions, seats_read_what_was_written,
 };
 pub use resting::seats_come_to_rest;

@@ -1,10 +1,11 @@
 //! Laws of what seats read of their sessions, and of what they write. Each is the contract of a function that does
 //! nothing: a caller that needs the law calls the function.
 
-ghost use Rattle.std.specs.Prelude.{◌≡◌, ◌<◌, ◌≤◌, ℕ, List, length, false, None, Some, Ok, Err};
+ghost use Rattle.std.specs.Prelude.{◌≡◌, ◌<◌, ◌≤◌, ℕ, List, [], length, false, None, Some, Ok, Err};
 ghost use Rattle.session_cookie.specs.declared.cookie.Cookie.{Cookie};
 ghost use Rattle.http_wire.specs.declared.taken.Head.{Head};
 ghost use Rattle.lane_link.specs.Twins.{ByEvents};
+ghost use Rattle.outcome_items.specs.declared.outcome.ItemOutcome.TheVariants.{SerialsSpent};
 ghost use Rattle.session_lanes.specs.Lanes.{LanesState};
 ghost use Rattle.session_lanes.specs.Sound.{LanesAreSound};
 ghost use Rattle.session_way.specs.Reading.{cookie_asked};
@@ -21,7 +22,7 @@ ghost use Rattle.seat_steps.specs.Replies.{SeatHears};
 ghost use Rattle.seat_steps.specs.Seats.{SeatGivens, SeatWorld, readings_under, seat_step};
 ghost use Rattle.seat_steps.specs.Twinned.{way_in};
 ghost use Rattle.seat_steps.specs.declared.seat.Seat.{Seat};
-ghost use Rattle.seat_laws.specs.Reads.{BearsCookie, IsFoundOrLost, IsTakenBy, MissedFor, ReadsRightly, ReadsSince, order_of, read_heard, read_under_way, value_written};
+ghost use Rattle.seat_laws.specs.Reads.{BearsCookie, IsFoundOrLost, IsTakenBy, IsTakenLate, MissedFor, ReadsRightly, ReadsSince, known_outcome, order_of, read_heard, read_under_way, value_written};
 ghost use Rattle.seat_laws.specs.Standing.{SeatStands};
 
 use lane_link::{lanes_go_by_events, steps_are_turns_of_twins, twins_begin, twins_stay};
@@ -86,6 +87,39 @@ pub fn seats_read_what_was_written()
     lanes_go_by_events();
     taken_passes_are_lawful();
     windows_keep_their_limits();
+    requests_are_decided_as_read();
+    cookies_are_accepted_of_their_texts();
+    tokens_are_read_once();
+    cookies_are_of_the_key();
+}
+
+/// A seat reads its session by the cookie of its own request, and by none other. Where a step begins to wait for a
+/// read, it took a request that bears the cookie by which the read asks, at the present moment, and this has not
+/// expired; and while the seat waits it is this read, as it was asked for. A seat with memory tells a request whose
+/// cookie has expired just that, where it does not refuse the request as it is decided, unless no serial number is
+/// left. What a seat heard stays until the item of its request is taken. And the serial number by which a request
+/// hears, as it is taken, that they are spent is the one that is next then.
+pub fn seats_read_their_own_sessions()
+    ensures borne { (g : SeatGivens) (seat : Seat) (w : SeatWorld) (r : ReadState)
+        → read_under_way seat.connection.stage ≡ None
+        → read_under_way (seat_step g seat w).seat.connection.stage ≡ Some r
+        → (head : Head) × (cookie : Cookie) × BearsCookie g.key seat.connection.received head cookie
+        × (cookie_asked r ≡ cookie) × (r.moment ≡ g.now) × (g.now.0 ≤ cookie.expiry.0) }
+    ensures same { (g : SeatGivens) (seat : Seat) (w : SeatWorld) (r after : ReadState)
+        → read_under_way seat.connection.stage ≡ Some r
+        → read_under_way (seat_step g seat w).seat.connection.stage ≡ Some after → order_of after ≡ order_of r }
+    ensures late { (g : SeatGivens) (seat : Seat) (w : SeatWorld) (head : Head) (cookie : Cookie)
+        → seat.connection.stage ≡ Resting → seat.connection.wants_memory ≡ false
+        → BearsCookie g.key seat.connection.received head cookie → cookie.expiry.0 < g.now.0
+        → IsTakenLate g.now cookie (decided_by (readings_under g.key) w.boot.start.boot head)
+        (seat_step g seat w).seat.connection.stage }
+    ensures held { (g : SeatGivens) (seat : Seat) (w : SeatWorld) (outcome : ReadOutcome)
+        → read_heard seat.connection.stage ≡ Some outcome → (seat_step g seat w).items ≡ []
+        → read_heard (seat_step g seat w).seat.connection.stage ≡ Some outcome }
+    ensures spent { (g : SeatGivens) (seat : Seat) (w : SeatWorld) (seen : ℕ) → seat.connection.stage ≡ Resting
+        → known_outcome (seat_step g seat w).seat.connection.stage ≡ Some (SerialsSpent seen)
+        → seen ≡ (seat_step g seat w).world.serial }
+{
     requests_are_decided_as_read();
     cookies_are_accepted_of_their_texts();
     tokens_are_read_once();
