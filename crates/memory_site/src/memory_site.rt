@@ -106,7 +106,10 @@ impl MemorySite {
         let at = self.shepherds.len();
         match self.shepherds.push(self.around.connect(alloc)) {
             Ok(()) => Ok(at),
-            Err(_) => Err(OutOfMemory),
+            Err(unpushed) => {
+                drop(unpushed);
+                Err(OutOfMemory)
+            }
         }
     }
 

@@ -287,6 +287,8 @@ impl Surroundings {
     {
         shepherd.drop_call(&mut self.container);
         shepherd.drop_passes(&mut self.windows);
-        item_left(&mut shepherd)
+        let item = item_left(&mut shepherd);
+        drop(shepherd);
+        item
     }
 }

@@ -137,14 +137,14 @@ impl<P: Drop> Visit<P> {
     pub(crate) fn set_work(&mut self, work: Work<P>)
         ensures { self.new ≡ record self.old { work = work } }
     {
-        self.work = work;
+        drop(mem::replace(&mut self.work, work));
     }
 
     /// This is done with its session.
     pub(crate) fn set_way(&mut self, way: SessionWay)
         ensures { self.new ≡ record self.old { way = way } }
     {
-        self.way = way;
+        drop(mem::replace(&mut self.way, way));
     }
 
     /// Its session, or none.

@@ -95,6 +95,13 @@ fn begin(
     Ok(SessionWrite::begin(alloc, order, least, passes))
 }
 
+/// Puts what is done with a session in place of what was, which is let go.
+fn put(way: &mut SessionWay, next: SessionWay)
+    ensures { way.new ≡ next }
+{
+    drop(mem::replace(way, next));
+}
+
 impl SessionWay {
     /// Whose step is next. It takes no memory.
     pub fn wants(&self) -> Wants
@@ -148,11 +155,11 @@ impl SessionWay {
                 let begun = begin(alloc, order, windows)?;
                 match begun {
                     Ok(write) => {
-                        *self = SessionWay::Writing(write);
+                        put(self, SessionWay::Writing(write));
                         Ok(None)
                     }
                     Err(passes) => {
-                        *self = SessionWay::Holding(passes);
+                        put(self, SessionWay::Holding(passes));
                         Err(TakeRefusal::OutOfMemory)
                     }
                 }
@@ -194,8 +201,8 @@ impl SessionWay {
         ensures { self.new ≡ settled self.old }
     {
         match mem::replace(self, SessionWay::Resting) {
-            SessionWay::Writing(write) => *self = SessionWay::Settling(write),
-            other => *self = other,
+            SessionWay::Writing(write) => put(self, SessionWay::Settling(write)),
+            other => put(self, other),
         }
     }
 

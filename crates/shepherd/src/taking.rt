@@ -18,6 +18,7 @@ use request_visit::{Visit, VisitFacts};
 use site_responses::{Untaken, untaken_response};
 use site_routes::SiteRouter;
 use std::alloc::Global;
+use std::mem;
 
 /// Whether a request asks for the head of its response alone.
 fn is_head_only(method: MethodKind) -> bool
@@ -126,7 +127,7 @@ impl<P: Drop> Shepherd<P> {
     pub(crate) fn set_stage(&mut self, stage: Stage<P>)
         ensures { self.new ≡ record self.old { stage = stage } }
     {
-        self.stage = stage;
+        drop(mem::replace(&mut self.stage, stage));
     }
 
     /// No further request is taken.

@@ -14,6 +14,6 @@ returns-clause-given c =
       stage = c.drop_passes.new.self.stage;
       back = subst (λ (stage : Stage ActionCall). GivesBack stage c.args.self.now.windows c.drop_passes.new.self.stage c.drop_passes.new.windows)
           (ap (λ (s : Shepherd ActionCall). s.stage) c.drop_call.ensures.stage) c.drop_passes.ensures.stage;
-      left = c.item_left.ensures;
+      left = c.item_left-item.ensures;
       rest = ap after c.drop_call.ensures.same;
     }
