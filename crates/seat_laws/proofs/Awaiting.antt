@@ -47,7 +47,7 @@ use Rattle.seat_steps.specs.declared.seat.Seat.{Seat}
 use Rattle.seat_laws.proofs.Asking.{AskLaws, BearLaws, asked-holders, borne-cookie}
 use Rattle.seat_laws.proofs.AtOnce.{rest-none, unasked-rest}
 use Rattle.seat_laws.proofs.Drawing.{spent-past}
-use Rattle.seat_laws.proofs.HearingReads.{gone-waits, waits}
+use Rattle.seat_laws.proofs.HearingReads.{gone-waits}
 use Rattle.seat_laws.proofs.Passing.{admitted, drawing, undrawn}
 use Rattle.seat_laws.specs.Reads.{AwaitsRead, BearsCookie, IsTakenBy, read_under_way}
 

@@ -18,6 +18,7 @@ mod Meanwhile
 mod Moving
 mod Ordering
 mod Owing
+mod PagesWritten
 mod OwnCookies
 mod OwnOrders
 mod OwnReads
@@ -30,6 +31,10 @@ mod Replying
 mod Running
 mod SeatsFit
 mod SeatsSpell
+mod ServingCalls
+mod ServingDraws
+mod ServingGone
+mod ServingSteps
 mod Spending
 mod Timing
 mod Twinning

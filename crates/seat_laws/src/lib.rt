@@ -28,6 +28,11 @@
 //! - `seats_acknowledge_what_they_wrote`: a cookie that a seat's write answers is acknowledged with the value written.
 //! - `seats_miss_for_causes`: a write that a seat missed has the cause of each brick.
 //! - `seats_come_to_rest`: each step leaves fewer, until the seat waits for bytes or is gone.
+//! - `seats_serve_their_requests`: behind each step, what a connection put out are the responses to its items, and each
+//!   item is for its own request, with what was decided of that and drawn for it. Its items come in order
+//!   (`items_of_seats_come_in_order`), its pages are what the site means (`pages_of_seats_are_meant`), and what it drew
+//!   came next (`drawn_numbers_come_next`). A cookie that its write answers is acknowledged with the value that its
+//!   page sets (`seats_write_what_their_pages_set`).
 //! - `replies_matter_where_handed`: where a step hands nothing to the keeper, its reply changes nothing.
 //!
 //! Two things are asked of whoever drives the seats. What a seat hears is spelled by its bytes (`SeatHears`): the
@@ -41,6 +46,7 @@ mod lending;
 mod owned_writes;
 mod reading;
 mod resting;
+mod serving;
 
 pub use fitting::{
     attempts_fit, boots_stay_sound_at_seats, moments_stay_in_time, replies_matter_where_handed,
@@ -57,3 +63,7 @@ pub use reading::{
     seats_read_their_own_sessions, seats_read_what_was_written,
 };
 pub use resting::seats_come_to_rest;
+pub use serving::{
+    drawn_numbers_come_next, items_of_seats_come_in_order, pages_of_seats_are_meant,
+    seats_serve_their_requests, seats_write_what_their_pages_set,
+};
