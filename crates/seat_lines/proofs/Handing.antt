@@ -1,5 +1,5 @@
 -- What a step hands to the keeper, by what the keeper replied to it.
-use Rattle.std.proofs.Common.{◌≡◌, ◌≢◌, ◌⊎◌, ◌∙◌, inl, inr, refl, sym, ap, subst, ℕ, ◌≤◌, Bool, true, false, List, [], ◌∷◌, Option, Some, None, arith}
+use Rattle.std.proofs.Common.{◌≡◌, ◌≢◌, ◌⊎◌, ◌∙◌, inl, inr, refl, sym, ap, subst, ℕ, ◌≤◌, ◌<◌, ◌^◌, Bool, true, false, List, [], ◌∷◌, Option, Some, None, arith}
 use Rattle.std.proofs.lemmas.List.{append-nil}
 use Rattle.auction_calls.specs.declared.action.ActionCall.{ActionCall}
 use Rattle.auction_site.specs.Actions.{steps_of}
@@ -12,6 +12,7 @@ use Rattle.crash_base.specs.declared.rows.RowWrite.{RowWrite}
 use Rattle.journal_model.specs.declared.entry.Entry.{Entry}
 use Rattle.lane_link.specs.declared.link.LaneLink.{LaneLink}
 use Rattle.outside.specs.Faults.{Rose}
+use Rattle.outside.specs.declared.clock.TheConstants.{MOMENTS_END}
 use Rattle.outside.specs.Keeper.{KeeperTold, TellsRefusal}
 use Rattle.outside.specs.declared.keeper.KeeperFault.TheVariants as faults
 use Rattle.request_tries.specs.Steps.{KeepsNothing}
@@ -22,10 +23,12 @@ use Rattle.scenario_text.specs.declared.answer.LineAnswer.{LineAnswer}
 use Rattle.scenario_text.specs.declared.answer.LineAnswer.TheVariants as answers
 use Rattle.seat_steps.specs.Replies.{SeatHears}
 use Rattle.seat_steps.specs.Seats.{SeatGivens, SeatOutcome, SeatWorld, givens_in, seat_step, seen_by}
-use Rattle.seat_steps.specs.Stepped.{BreaksOff, CallsAt, HasStepped, KeeperReplied, MakesEvent, SeatCalling, calling, kept_between, seat_writes, world_from, writes_at}
+use Rattle.seat_steps.specs.Stepped.{BreaksOff, CallsAt, HasStepped, KeeperReplied, MakesCalls, MakesEvent, SeatCalling, calling, kept_between, seat_writes, world_from, writes_at}
 use Rattle.seat_steps.specs.declared.seat.NextDraws.{NextDraws}
 use Rattle.seat_steps.specs.declared.seat.Seat.{Seat}
+use Rattle.send_windows.specs.Windows.{KeepLimits}
 use Rattle.session_lanes.specs.Lanes.{LanesState}
+use Rattle.session_steps.specs.Kept.{HasSoundStore}
 use Rattle.shepherd.specs.Shepherds.{turn}
 use Rattle.shepherd.specs.Steps.{OnVisit, StepsVisit}
 use Rattle.shepherd.specs.declared.shepherd.AskedCall.{AskedCall}
@@ -37,20 +40,75 @@ use Rattle.shepherd.specs.declared.shepherd.Stage.TheVariants.{Resting, Serving,
 use Rattle.shepherd_steps.specs.Inside.{HasReplied, Inside, TellsReply, added_to, handed, inside}
 use Rattle.shepherd_steps.specs.Stepping.{World, event_at, step, step_inside, steps_in}
 use Rattle.seat_lines.specs.Handing.{AreCounted, AreHanded, AreSomeHanded, BreaksIn, Handed, HasMovedIn, TellsHanded, handed_first, writes_by}
-use Rattle.seat_lines.specs.Hearing.{PlaceHears}
+use Rattle.seat_lines.specs.Making.{PlaceHearsSpelled, WasStepped}
 use Rattle.seat_lines.specs.Lines.{Place, moved, moves, place_step, step_text, steps_at, still_by, end_of, worker_of}
 
 -- what a connection that is there hears in its place is what it hears
-one_hears : (seat : Seat) (st : LanesState) → SeatHears seat st → PlaceHears (Some seat) st
+one_hears : (seat : Seat) (st : LanesState) → SeatHears seat st → PlaceHearsSpelled (Some seat) st
 one_hears seat st heard there is = let same : seat ≡ there = cc in subst (λ (x : Seat). SeatHears x st) same heard
 
 -- one that is not there hears nothing
-none_hears : (st : LanesState) → PlaceHears None st
+none_hears : (st : LanesState) → PlaceHearsSpelled None st
 none_hears st there is = absurd (cc)
 
 -- nor does one that makes no step
 still_hears : (seat : Seat) (st : LanesState) → moves (turn seat.connection) ≡ false → SeatHears seat st
 still_hears seat st rests outside = let clash : true ≡ false = sym (ap moves outside) ∙ rests in absurd (cc)
+
+-- What is told around the step of a seat that was made.
+pub record AroundStep (now : Moment) (old : ContainerValue) (w : SeatWorld) (new : ContainerValue) (o : SeatOutcome) : Type 0 where
+  pub boot_is : old.boot ≡ w.boot
+  pub since_is : old.since ≡ w.since
+  pub entries_are : entries_in w.since ≡ w.boot.entries
+  pub in_time : now.0 < MOMENTS_END
+  pub word : w.word < 2 ^ 64
+  pub sound : HasSoundStore (Some w.store)
+  pub limits : KeepLimits w.store.windows
+  pub grown : HasGrownBy old new
+  pub new_boot : new.boot ≡ o.world.boot
+  pub new_since : new.since ≡ o.world.since
+
+-- so it was made by its calls
+was_stepped : (key : List ℕ) (now : Moment) (n : ℕ) (seat : Seat) (old : ContainerValue) (w : SeatWorld) (new : ContainerValue) (o : SeatOutcome) → (stepped : HasStepped key (worker_of n) now seat old w new o) → AroundStep now old w new o
+    → WasStepped (record { key = key; worker = worker_of n; now = now; keeps = stepped.keeps }) seat w
+was_stepped key now n seat old w new o stepped around =
+    let g : SeatGivens = record { key = key; worker = worker_of n; now = now; keeps = stepped.keeps } in
+    record {
+      old = old;
+      new = new;
+      boot_is = around.boot_is;
+      since_is = around.since_is;
+      entries_are = around.entries_are;
+      in_time = around.in_time;
+      word = around.word;
+      sound = around.sound;
+      limits = around.limits;
+      stepped = record {
+        keeps = stepped.keeps;
+        keeper = stepped.keeper;
+        heard = stepped.heard;
+        calls = subst (λ (x : SeatOutcome). MakesCalls g seat old w new x) stepped.step_is stepped.calls;
+        step_is = refl;
+      };
+      keeps_is = refl;
+      grown = around.grown;
+      new_boot = around.new_boot ∙ ap (λ (x : SeatOutcome). x.world.boot) stepped.step_is;
+      new_since = around.new_since ∙ ap (λ (x : SeatOutcome). x.world.since) stepped.step_is;
+    }
+
+-- a connection that is there made a step in its place
+one_made : (g : SeatGivens) (seat : Seat) (w : SeatWorld) → WasStepped g seat w → (there : Seat) → Some seat ≡ Some there → moves (turn there.connection) ≡ true → WasStepped g there w
+one_made g seat w made there is moving = let same : seat ≡ there = cc in subst (λ (x : Seat). WasStepped g x w) same made
+
+-- one that is not there made none
+none_made : (g : SeatGivens) (w : SeatWorld) (there : Seat) → (let none : Option Seat = None in none) ≡ Some there → moves (turn there.connection) ≡ true → WasStepped g there w
+none_made g w there is moving = absurd (cc)
+
+-- nor did one that rests
+still_made : (g : SeatGivens) (seat : Seat) (w : SeatWorld) → moves (turn seat.connection) ≡ false → (there : Seat) → Some seat ≡ Some there → moves (turn there.connection) ≡ true → WasStepped g there w
+still_made g seat w rests there is moving =
+    let same : seat ≡ there = cc in
+    let clash : true ≡ false = sym moving ∙ (ap (λ (x : Seat). moves (turn x.connection)) (sym same) ∙ rests) in absurd (cc)
 
 -- what the keeper tells of its reply to one step
 told_once : (writes : List RowWrite) (keeps : Bool) (old new : Option KeeperTold) → TellsReply writes keeps old new → TellsHanded (handed_first writes keeps []) old new
@@ -216,15 +274,17 @@ done_keeps answers.Done old new text is = tt
 done_keeps (answers.Wrote out) old new text is = tt
 
 -- a connection that made a step at its turn came to what the function says
-pub moved_in : (key : List ℕ) (now : Moment) (n : ℕ) (seat : Seat) (old : ContainerValue) (w : SeatWorld) (new : ContainerValue) (o : SeatOutcome) (a : Answer Place) → HasStepped key (worker_of n) now seat old w new o → moves (turn seat.connection) ≡ true → old.faults ≤ new.faults → a ≡ moved (turn seat.connection) n o → HasMovedIn key now n (Some seat) old w a new
+pub moved_in : (key : List ℕ) (now : Moment) (n : ℕ) (seat : Seat) (old : ContainerValue) (w : SeatWorld) (new : ContainerValue) (o : SeatOutcome) (a : Answer Place) → HasStepped key (worker_of n) now seat old w new o → AroundStep now old w new o → moves (turn seat.connection) ≡ true → old.faults ≤ new.faults → a ≡ moved (turn seat.connection) n o
+    → HasMovedIn key now n (Some seat) old w a new
 unfolding place_step
-moved_in key now n seat old w new o a stepped moving count is =
+moved_in key now n seat old w new o a stepped around moving count is =
     let g : SeatGivens = record { key = key; worker = worker_of n; now = now; keeps = stepped.keeps } in
     record {
       keeps = stepped.keeps;
       answers = is ∙ (ap (λ (x : SeatOutcome). moved (turn seat.connection) n x) stepped.step_is ∙ sym (moved_at (turn seat.connection) g n seat w moving));
       handed = handed_once (seat_writes seat.connection old.boot) stepped.keeps old new stepped.keeper count;
       heard = one_hears seat w.store stepped.heard;
+      made = one_made g seat w (was_stepped key now n seat old w new o stepped around);
     }
 
 -- what a connection hands at a turn at which it makes no step
@@ -244,7 +304,14 @@ no_writes (turns.Ended end) seat boot is at = ap (λ (x : ShepherdTurn). writes_
 -- a connection that is not there is refused
 pub none_moves : (key : List ℕ) (now : Moment) (n : ℕ) (c : ContainerValue) (w : SeatWorld) → HasMovedIn key now n None c w Refused c
 unfolding place_step
-none_moves key now n c w = record { keeps = true; answers = refl; handed = handed_none c; heard = none_hears w.store }
+none_moves key now n c w =
+    record {
+      keeps = true;
+      answers = refl;
+      handed = handed_none c;
+      heard = none_hears w.store;
+      made = none_made (record { key = key; worker = worker_of n; now = now; keeps = true }) w;
+    }
 
 -- what a connection comes to at a turn at which it makes no step
 still_at : (t : ShepherdTurn) (g : SeatGivens) (n : ℕ) (seat : Seat) (w : SeatWorld) → moves t ≡ false → still_by (end_of t) n seat w ≡ steps_at t g n seat w
@@ -269,6 +336,7 @@ still_moves key now n seat c w a rests is =
       answers = is ∙ still_at (turn seat.connection) g n seat w rests;
       handed = subst (λ (writes : List RowWrite). AreHanded (handed_first writes true []) c c) (sym (no_writes (turn seat.connection) seat c.boot rests refl)) (handed_none c);
       heard = one_hears seat w.store (still_hears seat w.store rests);
+      made = still_made g seat w rests;
     }
 
 -- memory ran out behind a step of a seat that was made

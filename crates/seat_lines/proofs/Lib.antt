@@ -2,9 +2,11 @@ mod Answering
 pub mod GivenUp
 pub mod Going
 mod Handing
-pub mod Hearing
+pub mod Keeping
 mod Leaving
+pub mod Making
 pub mod MoreReplies
+mod NoRuns
 pub mod OneSeat
 pub mod Outs
 mod Placing

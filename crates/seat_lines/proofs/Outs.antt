@@ -69,7 +69,7 @@ text_at turns.Item n o = refl
 text_at (turns.Ended end) n o = refl
 
 -- what is given at a turn at which no step is made
-none_given : (t : ShepherdTurn) (o : SeatOutcome) → moves t ≡ false → (outs_at t o ≡ []) × (items_at t o ≡ [])
+pub none_given : (t : ShepherdTurn) (o : SeatOutcome) → moves t ≡ false → (outs_at t o ≡ []) × (items_at t o ≡ [])
 none_given turns.Bytes o is = (refl, refl)
 none_given turns.Request o is = absurd (cc)
 none_given turns.Outside o is = absurd (cc)

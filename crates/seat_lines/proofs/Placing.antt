@@ -15,9 +15,9 @@ use Rattle.session_steps.specs.Lent.{LentSessionsState, put_back}
 use Rattle.shepherd.specs.Shepherds.{turn}
 use Rattle.shepherd.specs.declared.shepherd.ShepherdTurn.{ShepherdTurn}
 use Rattle.shepherd.specs.declared.shepherd.ShepherdTurn.TheVariants as turns
-use Rattle.seat_lines.specs.Handing.{LeftAsItWas, AreHanded, BreaksIn, BreaksStep, Handed, HasMadeStep, HasMovedIn, IsAsPlaceLeaves, IsAsStepLeaves, handed_first, step_hands, writes_by}
-use Rattle.seat_lines.specs.Hearing.{PlaceHears, StepHears}
-use Rattle.seat_lines.specs.Lines.{Place, givens_of, is_beyond, place_step, step_line, step_over, steps_at, with_place, worker_of, world_of}
+use Rattle.seat_lines.specs.Handing.{LeftAsItWas, AreHanded, BreaksIn, BreaksStep, Handed, HasMadeStep, HasMovedIn, IsAsPlaceLeaves, IsAsStepLeaves, handed_first, step_hands, step_in, writes_by}
+use Rattle.seat_lines.specs.Lines.{Place, givens_of, is_beyond, moves, place_step, step_line, step_over, steps_at, with_place, worker_of, world_of}
+use Rattle.seat_lines.specs.Making.{PlaceHearsSpelled, StepHearsSpelled, WasMade, WasStepped}
 use Rattle.seat_lines.specs.Runs.{rests}
 use Rattle.seat_lines.specs.Site.{SeatsState, SiteState, seat_at, site_in, with_seats}
 use Rattle.seat_lines.proofs.Handing.{none_moves}
@@ -103,15 +103,23 @@ within_answer answers.Done whole part = refl
 within_answer (answers.Wrote text) whole part = refl
 
 -- what a connection hears in its place, over bricks, is what it hears over these
-place_hears : (place : Option Seat) (lanes st : LanesState) (seat : Seat) → PlaceHears place lanes → Some lanes ≡ Some st → place ≡ Some seat → SeatHears seat st
+place_hears : (place : Option Seat) (lanes st : LanesState) (seat : Seat) → PlaceHearsSpelled place lanes → Some lanes ≡ Some st → place ≡ Some seat → SeatHears seat st
 place_hears place lanes st seat heard store there = let same : lanes ≡ st = cc in subst (λ (x : LanesState). SeatHears seat x) same (heard seat there)
+
+-- and a step that was made over bricks was made over these
+made_over : (s : SiteState) (n : ℕ) (keeps : Bool) (lanes st : LanesState) (seat : Seat) → Some lanes ≡ Some st → WasStepped (givens_of s n keeps) seat (world_of s lanes) → WasStepped (givens_of s n keeps) seat (world_of s st)
+made_over s n keeps lanes st seat store made = let same : lanes ≡ st = cc in subst (λ (x : LanesState). WasStepped (givens_of s n keeps) seat (world_of s x)) same made
 
 module _ (n : ℕ) (old : ContainerValue) (lent : LentSessionsState) (lanes : LanesState) (serial : ℕ) (seats : SeatsState) (new : ContainerValue) (fits : n ≤ MAX_SEAT) where
   abbrev s : SiteState
   s = site_in old (put_back lent (Some lanes) serial) seats
 
-  step_hears : PlaceHears (seat_at seats.seats n) lanes → StepHears s n
-  step_hears heard st seat near store there = place_hears (seat_at seats.seats n) lanes st seat heard store there
+  step_hears : (keeps : Bool) → PlaceHearsSpelled (seat_at seats.seats n) lanes → StepHearsSpelled (step_in old (put_back lent (Some lanes) serial) seats n keeps)
+  step_hears keeps heard st seat near store there = place_hears (seat_at seats.seats n) lanes st seat heard store there
+
+  step_was_made : (keeps : Bool) → ((there : Seat) → seat_at seats.seats n ≡ Some there → moves (turn there.connection) ≡ true → WasStepped (givens_of s n keeps) there (world_of s lanes))
+      → WasMade (step_in old (put_back lent (Some lanes) serial) seats n keeps)
+  step_was_made keeps made st seat store there moving = made_over s n keeps lanes st seat store (made seat there moving)
 
   -- a connection that came to this in its place made a step of the site
   pub made_there : (a : LineAnswer) (place : Place) → HasMovedIn lent.key lent.moment n (seat_at seats.seats n) old (world_of s lanes) (answer_of a place) new → HasMadeStep n old (put_back lent (Some lanes) serial) seats (answer_of a (with_place s n place)) new
@@ -119,7 +127,8 @@ module _ (n : ℕ) (old : ContainerValue) (lent : LentSessionsState) (lanes : La
     keeps = moved.keeps;
     answers = within_answer a (with_place s n) place ∙ (ap (within (with_place s n)) moved.answers ∙ sym (step_there s n moved.keeps lanes fits refl));
     handed = subst (λ (handed : List Handed). AreHanded handed old new) (sym (hands_there s n moved.keeps lanes fits refl)) moved.handed;
-    heard = step_hears moved.heard;
+    heard = step_hears moved.keeps moved.heard;
+    made = step_was_made moved.keeps moved.made;
   }
 
   -- so it is where memory ran out
@@ -140,11 +149,11 @@ module _ (n : ℕ) (old : ContainerValue) (lent : LentSessionsState) (lanes : La
     answer : Answer Place
     answer = place_step (record { key = lent.key; worker = worker_of n; now = lent.moment; keeps = broke.keeps }) n (seat_at seats.seats n) (world_of s lanes)
 
-    added : (LeftAsItWas broke.handed.made old new ⊎ ((broke.handed.more ≡ []) × (new.told ≡ broke.handed.between) × IsAsPlaceLeaves answer new × PlaceHears (seat_at seats.seats n) lanes))
-        → (LeftAsItWas broke.handed.made old new ⊎ ((broke.handed.more ≡ []) × (new.told ≡ broke.handed.between) × IsAsStepLeaves (step_line s n broke.keeps) new × StepHears s n))
+    added : (LeftAsItWas broke.handed.made old new ⊎ ((broke.handed.more ≡ []) × (new.told ≡ broke.handed.between) × IsAsPlaceLeaves answer new × PlaceHearsSpelled (seat_at seats.seats n) lanes))
+        → (LeftAsItWas broke.handed.made old new ⊎ ((broke.handed.more ≡ []) × (new.told ≡ broke.handed.between) × IsAsStepLeaves (step_line s n broke.keeps) new × StepHearsSpelled (step_in old (put_back lent (Some lanes) serial) seats n broke.keeps)))
     added (inl none) = inl none
     added (inr (all, told, (place, text, is, boot, since), heard)) =
-        inr (all, told, (with_place s n place, text, step_there s n broke.keeps lanes fits refl ∙ ap (within (with_place s n)) is, boot, since), step_hears heard)
+        inr (all, told, (with_place s n place, text, step_there s n broke.keeps lanes fits refl ∙ ap (within (with_place s n)) is, boot, since), step_hears broke.keeps heard)
 
   -- a connection that is not there makes no step
   pub none_there : (at : new ≡ old) → seat_at seats.seats n ≡ None → HasMadeStep n old (put_back lent (Some lanes) serial) seats Refused new

@@ -1,6 +1,7 @@
 -- Runs, step by step.
 use Rattle.std.proofs.Common.{◌≡◌, ◌∙◌, inl, inr, refl, sym, ap, subst, ℕ, ◌≤◌, Bool, true, false, cond, List, [], ◌∷◌, ◌++◌, Option, Some, None, is_some, not, ◌&&◌, arith}
 use Rattle.std.proofs.lemmas.List.{append-nil, append_assoc}
+use Rattle.std.proofs.lemmas.List.Elements.{All-nil}
 use Rattle.auction_rows.specs.Parts.{site_parts}
 use Rattle.boot_core.specs.declared.boot.Start.{Start}
 use Rattle.container_core.specs.Container.{ContainerValue, HasGrownBy}
@@ -12,6 +13,7 @@ use Rattle.outside.specs.Keeper.{KeeperTold}
 use Rattle.scenario_text.specs.Answer.{Answer, Refused, Done, answer_of, or_refused, refused_if}
 use Rattle.scenario_text.specs.declared.answer.LineAnswer.{LineAnswer}
 use Rattle.scenario_text.specs.declared.answer.LineAnswer.TheVariants as answers
+use Rattle.scenario_text.specs.declared.seat_line.SeatLine.{SeatLine}
 use Rattle.scenario_text.specs.declared.seat_line.SeatLine.TheVariants as lines
 use Rattle.scenario_text.specs.declared.seat_line.TheConstants.{MAX_SEAT}
 use Rattle.session_lanes.specs.Lanes.{LanesState}
@@ -20,14 +22,15 @@ use Rattle.session_steps.specs.Lent.{LentSessionsState, lent_out, put_back}
 use Rattle.session_steps.specs.Sessions.{SessionsState}
 use Rattle.seat_steps.specs.Gone.{seat_gone}
 use Rattle.seat_steps.specs.declared.seat.Seat.{Seat}
+use Rattle.seat_lines.specs.Changing.{makes_steps}
 use Rattle.seat_lines.specs.Giving.{given_back}
 use Rattle.seat_lines.specs.Handing.{AreCounted, AreHanded, BreaksRun, BreaksStep, Handed, HasDone, HasMadeStep, HasRunTo, RunsOnce, TellsHanded, handed_first, run_hands, step_hands, writes_by}
-use Rattle.seat_lines.specs.Hearing.{StepHears}
 use Rattle.seat_lines.specs.Lines.{is_beyond, step_line, step_over, text_of}
-use Rattle.seat_lines.specs.Runs.{can_run, going, rests, run_from, run_line, steps_from}
+use Rattle.seat_lines.specs.Making.{StepHearsSpelled, WasMade}
+use Rattle.seat_lines.specs.Runs.{can_run, going, rests, run_from, run_line, seat_line, steps_from}
 use Rattle.seat_lines.specs.Site.{AllGoOn, SeatsState, SiteState, seat_at, site_in}
 use Rattle.seat_lines.proofs.Handing.{all_handed, handed_none, nothing_kept}
-use Rattle.seat_lines.proofs.Hearing.{hears_once_more}
+use Rattle.seat_lines.proofs.Making.{no_step, one_more, one_step}
 use Rattle.seat_lines.proofs.Placing.{IsDone, not_beyond}
 
 -- what is handed first and then more
@@ -115,7 +118,7 @@ module _ (n : ℕ) (old : ContainerValue) (sessions : SessionsState) (seats : Se
 
   -- a run begins
   pub run_begins : HasRunTo n old sessions seats old sessions seats []
-  run_begins = record { replies = []; steps = refl; comes = λ more. refl; handed = handed_none old; heard = tt }
+  run_begins = record { replies = []; steps = refl; comes = λ more. refl; handed = handed_none old; heard = All-nil StepHearsSpelled; made = All-nil WasMade }
 
   module _ (mid : ContainerValue) (mid_sessions : SessionsState) (mid_seats : SeatsState) (text : List ℕ) (run : HasRunTo n old sessions seats mid mid_sessions mid_seats text) where
     abbrev here : SiteState
@@ -136,7 +139,8 @@ module _ (n : ℕ) (old : ContainerValue) (sessions : SessionsState) (seats : Se
               ∙ ap (λ (x : List ℕ). run_from there x n more) (sym once.text_is)));
           handed = subst (λ (handed : List Handed). AreHanded handed old new) (sym (hands_on start here n run.replies (once.keeps ∷ []) run.steps ∙ ap (λ (x : List Handed). run_hands start n run.replies ++ x) (one_hands here n once.keeps going)))
               (handed_on (run_hands start n run.replies) (step_hands here n (once.keeps ∷ [])) old mid new run.handed once.handed);
-          heard = hears_once_more start here n run.replies once.keeps run.steps run.heard once.heard;
+          heard = one_more StepHearsSpelled start here there n run.replies once.keeps once.out run.steps going once.step_is run.heard once.heard;
+          made = one_more WasMade start here there n run.replies once.keeps once.out run.steps going once.step_is run.made once.made;
         }
 
     -- memory runs out in its next step
@@ -149,6 +153,7 @@ module _ (n : ℕ) (old : ContainerValue) (sessions : SessionsState) (seats : Se
       steps = run.steps;
       handed = run.handed;
       heard = run.heard;
+      made = run.made;
       there = can;
       goes_on = going;
       last = broke;
@@ -175,6 +180,7 @@ module _ (n : ℕ) (old : ContainerValue) (sessions : SessionsState) (seats : Se
           );
       handed = run.handed;
       heard = run.heard;
+      made = run.made;
     }
 
   -- a run that cannot begin is refused
@@ -184,7 +190,8 @@ module _ (n : ℕ) (old : ContainerValue) (sessions : SessionsState) (seats : Se
     replies = [];
     answers = sym (ap (λ (b : Bool). cond b (run_from start [] n []) (Some Refused)) can);
     handed = handed_none old;
-    heard = tt;
+    heard = All-nil StepHearsSpelled;
+    made = All-nil WasMade;
   }
 
   -- a step is a line
@@ -193,17 +200,19 @@ module _ (n : ℕ) (old : ContainerValue) (sessions : SessionsState) (seats : Se
     replies = made.keeps ∷ [];
     answers = ap (λ (x : Answer SiteState). Some x) made.answers;
     handed = made.handed;
-    heard = made.heard;
+    heard = one_step StepHearsSpelled start n made.keeps made.heard;
+    made = one_step WasMade start n made.keeps made.made;
   }
 
   -- the line by which a connection goes is refused, where its step is
-  pub going_refused : (to_rest : Bool) → step_line start n true ≡ Refused → can_run start n ≡ false → StepHears start n → HasDone (going to_rest n) old sessions seats Refused old
-  going_refused true step can heard = run_refused can
-  going_refused false step can heard = record {
+  pub going_refused : (to_rest : Bool) → step_line start n true ≡ Refused → can_run start n ≡ false → HasDone (going to_rest n) old sessions seats Refused old
+  going_refused true step can = run_refused can
+  going_refused false step can = record {
     replies = true ∷ [];
     answers = ap (λ (x : Answer SiteState). Some x) (sym step);
     handed = subst (λ (handed : List Handed). AreHanded handed old old) (sym (ap (λ (x : Answer SiteState). elim x [ Refused ↦ [] | Done t out ↦ handed_first (writes_by (seat_at start.seats.seats n) start.boot) true [] ]) step)) (handed_none old);
-    heard = heard;
+    heard = no_step StepHearsSpelled start n true step;
+    made = no_step WasMade start n true step;
   }
 
 -- what a step that is done wrote
@@ -219,6 +228,7 @@ runs_once n old sessions seats text new new_sessions new_seats new_text a made d
   text_is = is;
   handed = made.handed;
   heard = made.heard;
+  made = made.made;
 }
 
 -- memory ran out behind a step that was made
@@ -308,7 +318,6 @@ beyond_going n old sessions seats to_rest beyond =
     going_refused n old sessions seats to_rest
     (beyond_by (is_beyond n) (or_refused sessions.store (λ (store : LanesState). step_over s n true store)) beyond)
     ((no_run (is_beyond n) (is_some sessions.store && is_some (seat_at seats.seats n))).0 beyond)
-    (λ st seat near store there. let clash : true ≡ false = sym beyond ∙ near in absurd (cc))
 
 -- and where there are no bricks
 pub bare_going : (n : ℕ) (old : ContainerValue) (sessions : SessionsState) (seats : SeatsState) (to_rest : Bool) → sessions.store ≡ None → HasDone (going to_rest n) old sessions seats Refused old
@@ -318,7 +327,14 @@ bare_going n old sessions seats to_rest bare =
     going_refused n old sessions seats to_rest
     (ap (λ (o : Option LanesState). refused_if (is_beyond n) (or_refused o (λ (store : LanesState). step_over s n true store))) bare ∙ bare_by (is_beyond n))
     ((no_run (is_beyond n) (is_some sessions.store && is_some (seat_at seats.seats n))).1 (ap (λ (o : Option LanesState). is_some o && is_some (seat_at seats.seats n)) bare))
-    (λ st seat near store there. let clash : None ≡ Some st = sym bare ∙ store in absurd (cc))
+
+-- a line that makes no step comes to this, and hands nothing
+pub still_done : (line : SeatLine) (c : ContainerValue) (sessions : SessionsState) (seats : SeatsState) (answer : Answer SiteState) → makes_steps line ≡ false → Some answer ≡ seat_line (site_in c sessions seats) line [] → HasDone line c sessions seats answer c
+still_done (lines.Conn n) c sessions seats answer still is = record { replies = []; answers = is; handed = handed_none c; heard = All-nil StepHearsSpelled; made = All-nil WasMade }
+still_done (lines.Bytes n bytes) c sessions seats answer still is = record { replies = []; answers = is; handed = handed_none c; heard = All-nil StepHearsSpelled; made = All-nil WasMade }
+still_done (lines.End n) c sessions seats answer still is = record { replies = []; answers = is; handed = handed_none c; heard = All-nil StepHearsSpelled; made = All-nil WasMade }
+still_done (lines.Step n) c sessions seats answer still is = absurd (cc)
+still_done (lines.Run n) c sessions seats answer still is = absurd (cc)
 
 -- bricks to which connections gave back what they held are sound
 pub given_sound : ((seat : Seat) (st : LanesState) → HasSoundStore (Some st) → HasSoundStore (Some (seat_gone seat st).store)) → (seats : List (Option Seat)) (st : LanesState) → HasSoundStore (Some st) → HasSoundStore (Some (given_back seats st))

@@ -22,7 +22,7 @@ pub is_near : (n : ℕ) → n ≤ MAX_SEAT → is_beyond n ≡ false
 is_near n near = grind (arith, nat_tests, near)
 
 -- and one that none may have
-is_far : (n : ℕ) → MAX_SEAT < n → is_beyond n ≡ true
+pub is_far : (n : ℕ) → MAX_SEAT < n → is_beyond n ≡ true
 is_far n far = grind (arith, nat_tests, far)
 
 -- what is done of a part is done of the whole

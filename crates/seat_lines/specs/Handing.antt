@@ -1,5 +1,5 @@
 -- What lines about connections hand to the keeper, and what it tells then.
-use Rattle.std.specs.Prelude.{◌≡◌, ◌⊎◌, ℕ, ◌≤◌, Bool, true, false, if◌then◌else◌, List, [], ◌∷◌, ◌++◌, Option, Some, None}
+use Rattle.std.specs.Prelude.{◌≡◌, ◌⊎◌, ℕ, ◌≤◌, All, Bool, true, false, if◌then◌else◌, List, [], ◌∷◌, ◌++◌, Option, Some, None}
 use Rattle.boot_core.specs.Boot.{BootValue}
 use Rattle.container_core.specs.Container.{ContainerValue}
 use Rattle.crash_base.specs.declared.numbers.Moment.{Moment}
@@ -13,9 +13,10 @@ use Rattle.scenario_text.specs.declared.seat_line.SeatLine.TheVariants as lines
 use Rattle.seat_steps.specs.Seats.{SeatWorld}
 use Rattle.seat_steps.specs.Stepped.{seat_writes}
 use Rattle.seat_steps.specs.declared.seat.Seat.{Seat}
+use Rattle.shepherd.specs.Shepherds.{turn}
 use Rattle.shepherd_steps.specs.Inside.{TellsReply}
-use Rattle.seat_lines.specs.Hearing.{LineHears, PlaceHears, RunHears, StepHears}
-use Rattle.seat_lines.specs.Lines.{Place, place_step, step_line, worker_of}
+use Rattle.seat_lines.specs.Lines.{Place, moves, place_step, step_line, worker_of}
+use Rattle.seat_lines.specs.Making.{LineHearsSpelled, LineWasMade, PlaceHearsSpelled, StepHearsSpelled, StepMade, WasMade, WasStepped, run_makes}
 use Rattle.seat_lines.specs.Runs.{can_run, rests, run_from, seat_line, steps_from}
 use Rattle.seat_lines.specs.declared.lending.Lending.{Lending}
 use Rattle.seat_lines.specs.Site.{SeatsState, SiteState, seat_at, site_in}
@@ -118,12 +119,20 @@ abbrev pub IsAsStepLeaves : Answer SiteState → ContainerValue → Type 0
 IsAsStepLeaves answer new =
     (site : SiteState) × (text : List ℕ) × (answer ≡ Done site text) × (new.boot ≡ site.boot) × (new.since ≡ site.since)
 
--- A connection came to this in its place, where the keeper replied so, and what it heard is spelled by its bytes.
+-- A connection came to this in its place, where the keeper replied so. What it heard is spelled by its bytes, and its
+-- step, if it had one to make, was made by its calls.
 pub record HasMovedIn (key : List ℕ) (now : Moment) (n : ℕ) (seat : Option Seat) (old : ContainerValue) (w : SeatWorld) (answer : Answer Place) (new : ContainerValue) : Type 0 where
   pub keeps : Bool
   pub answers : answer ≡ place_step (record { key = key; worker = worker_of n; now = now; keeps = keeps }) n seat w
   pub handed : AreHanded (handed_first (writes_by seat old.boot) keeps []) old new
-  pub heard : PlaceHears seat w.store
+  pub heard : PlaceHearsSpelled seat w.store
+  pub made : (there : Seat) → seat ≡ Some there → moves (turn there.connection) ≡ true
+      → WasStepped (record { key = key; worker = worker_of n; now = now; keeps = keeps }) there w
+
+-- the step of a connection over a container, where the keeper replies so
+abbrev pub step_in : ContainerValue → SessionsState → SeatsState → ℕ → Bool → StepMade
+step_in container sessions seats n keeps =
+    record { site = site_in container sessions seats; number = n; keeps = keeps }
 
 -- Memory ran out in the step of a connection in its place: before anything was added; or behind what it does in the
 -- container, and then the keeper replied so to all that the step hands to it, and what it heard is spelled.
@@ -133,41 +142,46 @@ pub record BreaksIn (key : List ℕ) (now : Moment) (n : ℕ) (seat : Option Sea
   pub added : LeftAsItWas handed.made old new
       ⊎ ((handed.more ≡ []) × (new.told ≡ handed.between)
       × IsAsPlaceLeaves (place_step (record { key = key; worker = worker_of n; now = now; keeps = keeps }) n seat w) new
-      × PlaceHears seat w.store)
+      × PlaceHearsSpelled seat w.store)
 
 -- The step of a connection came to this answer in a container, and left the keeper so, where it replied so. What it
--- heard is spelled.
+-- heard is spelled, and it was made by its calls.
 pub record HasMadeStep (n : ℕ) (old : ContainerValue) (sessions : SessionsState) (seats : SeatsState) (answer : Answer SiteState) (new : ContainerValue) : Type 0 where
   pub keeps : Bool
   pub answers : answer ≡ step_line (site_in old sessions seats) n keeps
   pub handed : AreHanded (step_hands (site_in old sessions seats) n (keeps ∷ [])) old new
-  pub heard : StepHears (site_in old sessions seats) n
+  pub heard : StepHearsSpelled (step_in old sessions seats n keeps)
+  pub made : WasMade (step_in old sessions seats n keeps)
 
 -- A run made one more step, which wrote something behind its text, where the keeper replied so. What it heard is
--- spelled.
+-- spelled, and it was made by its calls.
 pub record RunsOnce (n : ℕ) (old : ContainerValue) (sessions : SessionsState) (seats : SeatsState) (text : List ℕ) (new : ContainerValue) (new_sessions : SessionsState) (new_seats : SeatsState) (new_text : List ℕ) : Type 0 where
   pub keeps : Bool
   pub out : List ℕ
   pub step_is : step_line (site_in old sessions seats) n keeps ≡ Done (site_in new new_sessions new_seats) out
   pub text_is : new_text ≡ text ++ out
   pub handed : AreHanded (step_hands (site_in old sessions seats) n (keeps ∷ [])) old new
-  pub heard : StepHears (site_in old sessions seats) n
+  pub heard : StepHearsSpelled (step_in old sessions seats n keeps)
+  pub made : WasMade (step_in old sessions seats n keeps)
 
--- Steps of a run led to these, with this text, where the keeper replied so to them. What they heard is spelled.
+-- Steps of a run led to these, with this text, where the keeper replied so to them. What they heard is spelled, and
+-- they were made by their calls.
 pub record HasRunTo (n : ℕ) (old : ContainerValue) (sessions : SessionsState) (seats : SeatsState) (mid : ContainerValue) (mid_sessions : SessionsState) (mid_seats : SeatsState) (text : List ℕ) : Type 0 where
   pub replies : List Bool
   pub steps : steps_from (site_in old sessions seats) n replies ≡ Some (site_in mid mid_sessions mid_seats)
   pub comes : (more : List Bool) → run_from (site_in old sessions seats) [] n (replies ++ more) ≡ run_from (site_in mid mid_sessions mid_seats) text n more
   pub handed : AreHanded (run_hands (site_in old sessions seats) n replies) old mid
-  pub heard : RunHears (site_in old sessions seats) n replies
+  pub heard : All StepHearsSpelled (run_makes (site_in old sessions seats) n replies)
+  pub made : All WasMade (run_makes (site_in old sessions seats) n replies)
 
 -- A line about connections came to this answer in a container, and left the keeper so, where the keeper replied so to
--- its steps. What they heard is spelled.
+-- its steps. What they heard is spelled, and they were made by their calls.
 pub record HasDone (line : SeatLine) (old : ContainerValue) (sessions : SessionsState) (seats : SeatsState) (answer : Answer SiteState) (new : ContainerValue) : Type 0 where
   pub replies : List Bool
   pub answers : Some answer ≡ seat_line (site_in old sessions seats) line replies
   pub handed : AreHanded (line_hands (site_in old sessions seats) line replies) old new
-  pub heard : LineHears (site_in old sessions seats) line replies
+  pub heard : LineHearsSpelled (site_in old sessions seats) line replies
+  pub made : LineWasMade (site_in old sessions seats) line replies
 
 -- Memory ran out in the step of a connection: before anything was added; or behind what it does in the container, and
 -- then the keeper replied so to all that the step hands to it, and what it heard is spelled. So a commit that was kept
@@ -178,10 +192,10 @@ pub record BreaksStep (n : ℕ) (old : ContainerValue) (sessions : SessionsState
   pub added : LeftAsItWas handed.made old new
       ⊎ ((handed.more ≡ []) × (new.told ≡ handed.between)
       × IsAsStepLeaves (step_line (site_in old sessions seats) n keeps) new
-      × StepHears (site_in old sessions seats) n)
+      × StepHearsSpelled (step_in old sessions seats n keeps))
 
--- Memory ran out in the run of a connection: whole steps of it were made, where the keeper replied so, and what they
--- heard is spelled; it could go on and was not at its end; and then memory ran out in a step.
+-- Memory ran out in the run of a connection: whole steps of it were made by their calls, where the keeper replied so,
+-- and what they heard is spelled; it could go on and was not at its end; and then memory ran out in a step.
 pub record BreaksRun (n : ℕ) (old : ContainerValue) (sessions : SessionsState) (seats : SeatsState) (new : ContainerValue) : Type 0 where
   pub replies : List Bool
   pub mid : ContainerValue
@@ -189,7 +203,8 @@ pub record BreaksRun (n : ℕ) (old : ContainerValue) (sessions : SessionsState)
   pub mid_seats : SeatsState
   pub steps : steps_from (site_in old sessions seats) n replies ≡ Some (site_in mid mid_sessions mid_seats)
   pub handed : AreHanded (run_hands (site_in old sessions seats) n replies) old mid
-  pub heard : RunHears (site_in old sessions seats) n replies
+  pub heard : All StepHearsSpelled (run_makes (site_in old sessions seats) n replies)
+  pub made : All WasMade (run_makes (site_in old sessions seats) n replies)
   pub there : can_run (site_in mid mid_sessions mid_seats) n ≡ true
   pub goes_on : rests (seat_at mid_seats.seats n) ≡ false
   pub last : BreaksStep n mid mid_sessions mid_seats new

@@ -1,9 +1,9 @@
 pub mod Changing
 pub mod Giving
 pub mod Handing
-pub mod Hearing
 pub mod Items
 pub mod Lines
+pub mod Making
 pub mod Responding
 pub mod Runs
 pub mod Site

@@ -1,6 +1,6 @@
 //! Laws of the definitions of lines about connections. Their functions do nothing.
 
-ghost use Rattle.std.specs.Prelude.{◌≡◌, ◌≢◌, ◌⊎◌, ◌+◌, ◌<◌, ◌≤◌, ◌++◌, ℕ, Bool, true, false, List, [], Option, Some, None, IfSome};
+ghost use Rattle.std.specs.Prelude.{◌≡◌, ◌≢◌, ◌⊎◌, ◌+◌, ◌<◌, ◌≤◌, ◌++◌, ◌∷◌, ℕ, All, Bool, true, false, List, [], Option, Some, None, IfSome};
 ghost use Rattle.std.specs.List.{flat_map};
 ghost use Rattle.outcome_items.specs.declared.item.Item.{Item};
 ghost use Rattle.scenario_text.specs.Answer.{Answer, Done, Refused};
@@ -19,7 +19,8 @@ ghost use Rattle.seat_lines.specs.Changing.{ChangesSeatsAlone, IsLeftBySeat, Sea
 ghost use Rattle.seat_lines.specs.Giving.{items_at_giving_up, items_if, left_by, without_seats};
 ghost use Rattle.seat_lines.specs.Items.{line_items, line_outs};
 ghost use Rattle.seat_lines.specs.Lines.{givens_of, moves, step_line, step_text, world_of};
-ghost use Rattle.seat_lines.specs.Runs.{can_run, seat_line};
+ghost use Rattle.seat_lines.specs.Making.{StepMade, line_makes};
+ghost use Rattle.seat_lines.specs.Runs.{can_run, rests, seat_line, steps_from};
 ghost use Rattle.seat_lines.specs.Site.{SeatsState, SiteState, no_seats, seat_at, with_seat};
 ghost use Rattle.seat_lines.specs.PuttingOut.{HasAccounted, HasPutOut, PutsOutMore};
 ghost use Rattle.seat_lines.specs.Texts.{gone_text, out_text};
@@ -77,9 +78,9 @@ pub fn steps_are_those_of_seats()
 
 /// A line about a connection leaves all others as they are. Where it makes no step, it changes connections alone: one
 /// that opens was not there, has a number up to `MAX_SEAT` and has done nothing yet, and bytes and the end of the input
-/// come to one that is there and whose input has not ended. A run is refused where the connection is not there, where
-/// none has its number, and where there are no bricks (`can_run`). Behind a run that is done, the connection waits for
-/// bytes or is gone.
+/// come to one that is there and whose input has not ended. A run is refused that cannot begin (`can_run`): where the
+/// connection is not there, where none has its number, and where there are no bricks. Behind a run that is done, the
+/// connection waits for bytes or is gone.
 pub fn lines_change_one_connection()
     ensures others { (s t : SiteState) (line : SeatLine) (replies : List Bool) (text : List ℕ) (m : ℕ)
         → seat_line s line replies ≡ Some (Done t text) → m ≢ number_in line
@@ -91,6 +92,12 @@ pub fn lines_change_one_connection()
     ensures beyond { (s : SiteState) (n : ℕ) (replies : List Bool) → MAX_SEAT < n
         → seat_line s (lines.Conn n) replies ≡ Some Refused }
     ensures unable { (s : SiteState) (n : ℕ) (replies : List Bool) → can_run s n ≡ false
+        → seat_line s (lines.Run n) replies ≡ Some Refused }
+    ensures absent { (s : SiteState) (n : ℕ) (replies : List Bool) → seat_at s.seats.seats n ≡ None
+        → seat_line s (lines.Run n) replies ≡ Some Refused }
+    ensures past { (s : SiteState) (n : ℕ) (replies : List Bool) → MAX_SEAT < n
+        → seat_line s (lines.Run n) replies ≡ Some Refused }
+    ensures bare { (s : SiteState) (n : ℕ) (replies : List Bool) → s.sessions.store ≡ None
         → seat_line s (lines.Run n) replies ≡ Some Refused }
     ensures opens { (s t : SiteState) (n : ℕ) (replies : List Bool) (text : List ℕ)
         → seat_line s (lines.Conn n) replies ≡ Some (Done t text)
@@ -106,6 +113,24 @@ pub fn lines_change_one_connection()
     ensures rests { (s t : SiteState) (n : ℕ) (replies : List Bool) (text : List ℕ)
         → seat_line s (lines.Run n) replies ≡ Some (Done t text)
         → IfSome (seat_at t.seats.seats n) (λ seat. turn seat.connection ≡ turns.Bytes) }
+{}
+
+/// The steps that a line makes (`line_makes`) are its own, one after the other, each of its connection. A `step` that
+/// is done makes one, over the site as it is. A run makes, behind the steps that led to a site, one more there, where
+/// it is not at its end. No other line makes any.
+pub fn steps_made_are_those_of_a_line()
+    ensures step { (s t : SiteState) (n : ℕ) (keeps : Bool) (more : List Bool) (out : List ℕ)
+        → step_line s n keeps ≡ Done t out
+        → line_makes s (lines.Step n) (keeps ∷ more) ≡ record { site = s; number = n; keeps = keeps } ∷ [] }
+    ensures run { (s mid t : SiteState) (n : ℕ) (before : List Bool) (keeps : Bool) (out : List ℕ)
+        → steps_from s n before ≡ Some mid → rests (seat_at mid.seats.seats n) ≡ false
+        → step_line mid n keeps ≡ Done t out
+        → line_makes s (lines.Run n) (before ++ keeps ∷ [])
+        ≡ line_makes s (lines.Run n) before ++ record { site = mid; number = n; keeps = keeps } ∷ [] }
+    ensures still { (s : SiteState) (line : SeatLine) (replies : List Bool) → makes_steps line ≡ false
+        → line_makes s line replies ≡ [] }
+    ensures own { (s : SiteState) (line : SeatLine) (replies : List Bool)
+        → All (λ (step : StepMade). step.number ≡ number_in line) (line_makes s line replies) }
 {}
 
 /// A line about a connection is refused for no other cause: a connection of a number up to `MAX_SEAT` opens that is not

@@ -20,16 +20,18 @@
 //! A line is refused whose number no connection has (`MAX_SEAT`), and a step or a run where the sessions have no
 //! bricks.
 //!
-//! Each contract also tells that what the steps of a line heard is spelled by its bytes (`specs/Hearing.antt`), as each
-//! frame of the code is: the laws about what connections read take it so.
+//! Each contract also tells of the steps that a line makes (`specs/Making.antt`) that each was made by its calls, and
+//! that what it heard is spelled by its bytes, as each frame of the code is: the laws about what connections read,
+//! answer and serve take it so.
 //!
 //! The random words of a scenario are 1, 2, 3 and so on over all its boots, and the serials are those of its sessions,
 //! which are lent to each step and put back.
 //!
 //! The laws hold of every site. `steps_are_those_of_seats` says what a step leaves and writes,
 //! `lines_change_one_connection` what a line leaves as it was, and `lines_are_taken` where it is not refused;
-//! `lines_come_to_one_answer` says that replies behind the last one change nothing, and
-//! `responses_are_put_out_in_order` what a connection puts out over all its lines.
+//! `lines_come_to_one_answer` says that replies behind the last one change nothing, `steps_made_are_those_of_a_line`
+//! which steps a line makes, `responses_are_put_out_in_order` what a connection puts out over all its lines, and
+//! `responses_are_those_of_their_items` that it answers its requests.
 #![tactic(auto)]
 
 mod giving;
@@ -43,7 +45,7 @@ mod texts;
 
 pub use laws::{
     lines_are_taken, lines_change_one_connection, lines_come_to_one_answer,
-    responses_are_put_out_in_order, steps_are_those_of_seats,
+    responses_are_put_out_in_order, steps_are_those_of_seats, steps_made_are_those_of_a_line,
 };
 pub use responding::responses_are_those_of_their_items;
 pub use seats::{FIRST_WORD, FIRST_WORKER, Seats};

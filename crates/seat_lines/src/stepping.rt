@@ -1,6 +1,6 @@
 //! One step of a connection.
 
-ghost use Rattle.std.specs.Prelude.{◌≡◌, ◌≤◌, true, false, IfOk, IfSome, OnErr, OnOk, Some};
+ghost use Rattle.std.specs.Prelude.{◌≡◌, ◌≤◌, ◌<◌, ◌^◌, true, false, IfOk, IfSome, OnErr, OnOk, Some};
 ghost use Rattle.auction_rows.specs.Parts.{site_parts};
 ghost use Rattle.container_core.specs.Container.{ContainerValue, HasGrownBy};
 ghost use Rattle.container_core.specs.History.{entries_in};
@@ -64,6 +64,14 @@ fn tell_entries<K: Keeper + Drop>(container: &Container<K>)
     container.as_boot();
 }
 
+/// The random word that is drawn next: it is one of 64 bits.
+fn word_of(word: u64) -> u64
+    ensures value { result ≡ word }
+    ensures small { result < 2 ^ 64 }
+{
+    word
+}
+
 /// A step of a connection that is there and has not ended, and waits for no bytes. What it writes is told by its turn.
 fn make_step<K: Keeper + Drop>(
     alloc: Global,
@@ -95,6 +103,8 @@ fn make_step<K: Keeper + Drop>(
     bricks_stay_sound();
     steps_inside_are_fixed::<ActionProgram>();
     let Lending { lanes, serial } = lending;
+    lanes.keeps_limits();
+    word_of(*word);
     tell_entries(container);
     let turn = seat.turn();
     let worker = WorkerNo(FIRST_WORKER + number as u32);

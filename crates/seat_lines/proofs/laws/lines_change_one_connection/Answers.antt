@@ -1,3 +1,4 @@
+use Rattle.seat_lines.proofs.NoRuns.{absent_refused, bare_refused, past_refused}
 use Rattle.seat_lines.proofs.OneSeat.{bytes_fed, input_ended, opens_fresh, others_stay, run_at_rest, still_alone, there_refused}
 use Rattle.seat_lines.proofs.Taken.{opens_none, run_refused}
 use Rattle.seat_lines.proofs.laws.lines_change_one_connection.Goals as goal
@@ -16,6 +17,15 @@ returns-clause-beyond c = opens_none
 
 pub returns-clause-unable : goal.returns-clause-unable
 returns-clause-unable c = run_refused
+
+pub returns-clause-absent : goal.returns-clause-absent
+returns-clause-absent c = absent_refused
+
+pub returns-clause-past : goal.returns-clause-past
+returns-clause-past c = past_refused
+
+pub returns-clause-bare : goal.returns-clause-bare
+returns-clause-bare c = bare_refused
 
 pub returns-clause-opens : goal.returns-clause-opens
 returns-clause-opens c = opens_fresh

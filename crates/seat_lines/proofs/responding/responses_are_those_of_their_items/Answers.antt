@@ -11,6 +11,7 @@ returns-clause-opens c =
       step_is = c.seats_answer_their_requests.ensures.step;
       grows = c.seats_answer_their_requests.ensures.grows;
       gone = c.seats_answer_their_requests.ensures.gone;
+      shows = c.made_steps_show_texts.ensures;
     } in
     λ s t n replies text is. opens-answers laws s t n replies text is
 
@@ -24,8 +25,9 @@ returns-clause-line c =
       step_is = c.seats_answer_their_requests.ensures.step;
       grows = c.seats_answer_their_requests.ensures.grows;
       gone = c.seats_answer_their_requests.ensures.gone;
+      shows = c.made_steps_show_texts.ensures;
     } in
-    λ s t line replies text bytes heads written items seat small is shows there h. line-more laws s t line replies text bytes heads written items seat small is shows there h
+    λ s t line replies text bytes heads written items seat is made there h. line-more laws s t line replies text bytes heads written items seat is made there h
 
 pub returns-clause-others : goal.returns-clause-others
 returns-clause-others c =
@@ -37,6 +39,7 @@ returns-clause-others c =
       step_is = c.seats_answer_their_requests.ensures.step;
       grows = c.seats_answer_their_requests.ensures.grows;
       gone = c.seats_answer_their_requests.ensures.gone;
+      shows = c.made_steps_show_texts.ensures;
     } in
     λ s t line replies text bytes heads written items m is other h. others-more laws s t line replies text bytes heads written items m is other h
 
@@ -50,5 +53,6 @@ returns-clause-gone c =
       step_is = c.seats_answer_their_requests.ensures.step;
       grows = c.seats_answer_their_requests.ensures.grows;
       gone = c.seats_answer_their_requests.ensures.gone;
+      shows = c.made_steps_show_texts.ensures;
     } in
     λ key history bytes heads written items seat st h. given-up laws key history bytes heads written items seat st h

@@ -1,4 +1,4 @@
-use Rattle.std.proofs.Common.{Some, List, ℕ, ◌∙◌, refl, ap, subst}
+use Rattle.std.proofs.Common.{Some, List, ℕ, ◌<◌, ◌^◌, ◌∙◌, refl, ap, subst, arith}
 use Rattle.std.proofs.lemmas.Result.{IfErr-at_err, IfOk-at_ok}
 use Rattle.container_core.specs.Container.{ContainerValue}
 use Rattle.crash_base.specs.declared.numbers.Moment.{Moment}
@@ -11,7 +11,7 @@ use Rattle.seat_steps.specs.declared.step.SeatStepped.{SeatStepped}
 use Rattle.shepherd.specs.declared.shepherd.ShepherdTurn.{ShepherdTurn}
 use Rattle.seat_lines.specs.Handing.{HasMovedIn, place_from}
 use Rattle.seat_lines.specs.Lines.{Place, step_text, worker_of}
-use Rattle.seat_lines.proofs.Handing.{boot_stays, breaks_lent, broke_in, done_keeps, moved_in, stepped_breaks}
+use Rattle.seat_lines.proofs.Handing.{AroundStep, boot_stays, breaks_lent, broke_in, done_keeps, moved_in, stepped_breaks}
 use Rattle.seat_lines.proofs.stepping.make_step.Goals as goal
 
 pub returns-in-Ok-step_text-clause-step : goal.returns-in-Ok-step_text-clause-step
@@ -23,8 +23,20 @@ returns-in-Ok-step_text-clause-step g c =
     let a : Answer Place = answer_of c.in-Ok-step_text.answer place in
     let P : SeatStepped → Type 0 = λ s. HasStepped c.key.result.now (worker_of n) c.moment.result c.args.seat.now c.args.container.now w c.step-lanes.new.container (record o { bytes = s.bytes; items = s.items }) in
     let stepped : P c.in-Ok.stepped = IfOk-at_ok P c.in-Ok.is c.step-lanes.ensures.step in
+    let around : AroundStep c.moment.result c.args.container.now w c.step-lanes.new.container o = record {
+      boot_is = refl;
+      since_is = refl;
+      entries_are = c.tell_entries.ensures;
+      in_time = omega (arith, c.moment.ensures.in_time);
+      word = subst (λ (x : ℕ). x < 2 ^ 64) c.word_of.ensures.value c.word_of.ensures.small;
+      sound = c.requires.sound;
+      limits = c.keeps_limits.ensures;
+      grown = c.step-lanes.ensures.grown;
+      new_boot = refl;
+      new_since = refl;
+    } in
     let at : HasMovedIn c.key.result.now c.moment.result n (Some c.args.seat.now) c.args.container.now w a c.step-lanes.new.container =
-    moved_in c.key.result.now c.moment.result n c.args.seat.now c.args.container.now w c.step-lanes.new.container o a stepped c.requires.moves c.step-lanes.ensures.count
+    moved_in c.key.result.now c.moment.result n c.args.seat.now c.args.container.now w c.step-lanes.new.container o a stepped around c.requires.moves c.step-lanes.ensures.count
     (c.in-Ok-step_text.ensures place ∙ ap (λ (t : ShepherdTurn). Done place (step_text t n o.bytes)) c.turn-turn.ensures) in
     subst (λ (k : List ℕ). HasMovedIn k c.args.lent.now.moment n (Some c.args.seat.now) c.args.container.now w a c.step-lanes.new.container) c.key.ensures
     (subst (λ (m : Moment). HasMovedIn c.key.result.now m n (Some c.args.seat.now) c.args.container.now w a c.step-lanes.new.container) c.moment.ensures.moment at)
