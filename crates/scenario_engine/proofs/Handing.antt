@@ -1,6 +1,6 @@
 -- What lines about connections hand to the keeper, as calls of it; and how they end.
 use Rattle.std.proofs.Common.{◌≡◌, ◌⊎◌, inl, inr, ℕ, Bool, true, false, cond, List, [], ◌∷◌, ◌++◌, Option, Some, None, is_some, Result, Ok, Err, MatchResult, refl, sym, ap, ◌∙◌, subst, append_assoc, arith}
-use Rattle.std.specs.Prelude.{◌&&◌, not}
+use Rattle.std.specs.Prelude.{◌&&◌, All, not}
 use Rattle.crash_base.specs.declared.memory.OutOfMemory.{OutOfMemory}
 use Rattle.crash_base.specs.declared.rows.RowWrite.{RowWrite}
 use Rattle.container_core.specs.Container.{ContainerValue}
@@ -12,17 +12,17 @@ use Rattle.scenario_text.specs.declared.answer.LineAnswer.{LineAnswer}
 use Rattle.scenario_text.specs.declared.answer.LineAnswer.TheVariants as answers
 use Rattle.scenario_text.specs.declared.seat_line.SeatLine.{SeatLine}
 use Rattle.scenario_text.specs.declared.seat_line.SeatLine.TheVariants as lines
-use Rattle.seat_lines.specs.Handing.{Handed, TellsHanded, AreCounted as CountedEach, AreHanded, AreSomeHanded, HasDone, LeftAsItWas, BreaksStep, BreaksRun, BreaksOff, IsAsStepLeaves, line_hands, step_hands, run_hands}
-use Rattle.seat_lines.specs.Hearing.{StepHears}
+use Rattle.seat_lines.specs.Handing.{Handed, TellsHanded, AreCounted as CountedEach, AreHanded, AreSomeHanded, HasDone, LeftAsItWas, BreaksStep, BreaksRun, BreaksOff, IsAsStepLeaves, line_hands, step_hands, step_in, run_hands}
 use Rattle.seat_lines.specs.Lines.{is_beyond, step_line, step_over}
+use Rattle.seat_lines.specs.Making.{StepHearsSpelled}
 use Rattle.session_lanes.specs.Lanes.{LanesState}
 use Rattle.seat_lines.specs.Runs.{can_run, rests, run_from, run_line, steps_from}
 use Rattle.seat_lines.specs.Site.{SeatsState, SiteState, seat_at, site_in}
-use Rattle.seat_lines.proofs.Hearing.{hears_once_more}
+use Rattle.seat_lines.proofs.Making.{one_step}
 use Rattle.seat_steps.specs.declared.seat.Seat.{Seat}
 use Rattle.session_steps.specs.Sessions.{SessionsState}
 use Rattle.shepherd_steps.specs.Inside.{TellsReply}
-use Rattle.scenario_engine.specs.Hearing.{SeatLineHears}
+use Rattle.scenario_engine.specs.Connections.{seat_makes}
 use Rattle.scenario_engine.specs.KeeperCalls.{KeeperCall, seen, TellsCalls, has_failed, AreCounted, AreMade, AreSomeAsked}
 use Rattle.scenario_engine.specs.Running.{keep_calls}
 use Rattle.scenario_engine.specs.Seats.{in_boot, after_steps, by_replies, seat_over, handed_calls, seat_calls, DoesSite, BreaksSite}
@@ -30,6 +30,8 @@ use Rattle.scenario_engine.specs.State.{RunningState, Running, UnderWayIn, with_
 use Rattle.scenario_engine.specs.Telling.{AnswersSeat, BreaksSeat, EndsSeat}
 use Rattle.scenario_engine.proofs.Calls.{none_made, then_calls, rose_later, rose_before}
 use Rattle.scenario_engine.proofs.Rebooting.{run_of}
+use Rattle.scenario_engine.proofs.StepsMade.{run_once_more}
+use Rattle.scenario_engine.proofs.Stepping.{no_steps}
 
 -- what the keeper tells
 
@@ -109,11 +111,11 @@ nothing_asked handed old new h none =
     last_of (inr (first, tells)) = inr (refl, tells)
 
 -- of a step that broke off nothing was asked, or what it heard is spelled
-broken_heard : (n : ℕ) (old new : ContainerValue) (sessions : SessionsState) (seats : SeatsState) → BreaksStep n old sessions seats new → AreSomeAsked [] (seen old.told old.faults) (seen new.told new.faults) ⊎ StepHears (site_in old sessions seats) n
+broken_heard : (n : ℕ) (old new : ContainerValue) (sessions : SessionsState) (seats : SeatsState) (h : BreaksStep n old sessions seats new) → AreSomeAsked [] (seen old.told old.faults) (seen new.told new.faults) ⊎ StepHearsSpelled (step_in old sessions seats n h.keeps)
 broken_heard n old new sessions seats h = go h.added
   where
-    go : (LeftAsItWas h.handed.made old new ⊎ ((h.handed.more ≡ []) × (new.told ≡ h.handed.between) × IsAsStepLeaves (step_line (site_in old sessions seats) n h.keeps) new × StepHears (site_in old sessions seats) n))
-        → AreSomeAsked [] (seen old.told old.faults) (seen new.told new.faults) ⊎ StepHears (site_in old sessions seats) n
+    go : (LeftAsItWas h.handed.made old new ⊎ ((h.handed.more ≡ []) × (new.told ≡ h.handed.between) × IsAsStepLeaves (step_line (site_in old sessions seats) n h.keeps) new × StepHearsSpelled (step_in old sessions seats n h.keeps)))
+        → AreSomeAsked [] (seen old.told old.faults) (seen new.told new.faults) ⊎ StepHearsSpelled (step_in old sessions seats n h.keeps)
     go (inl (none, boot, since)) = inl (nothing_asked (step_hands (site_in old sessions seats) n (h.keeps ∷ [])) old new h.handed none)
     go (inr (all, told, left, heard)) = inr heard
 
@@ -207,7 +209,7 @@ answers_seat k n callers sessions after seats left line a h =
       keeps = h.replies;
       answers = answered_so r (site_in n after left) a ∙ ap (by_replies r line h.replies) h.answers;
       made = handed_made (line_hands (site_in k sessions seats) line h.replies) k n h.handed;
-      heard = λ site. h.heard;
+      steps = record { spelled = h.heard; made = h.made };
     }
 
 refused_seat : (k n : ContainerValue) (callers : List Caller) (sessions after : SessionsState) (seats left : SeatsState) (line : SeatLine) (a : LineAnswer) → DoesSite false line k sessions seats (answer_of a (site_in n after left)) n → AnswersSeat (run_of k callers sessions seats false) line (answer_of a (run_of n callers after left false)) (seen k.told k.faults) (seen n.told n.faults)
@@ -219,7 +221,7 @@ refused_seat k n callers sessions after seats left line a h =
       keeps = [];
       answers = answered_so r (site_in n after left) a ∙ ap (λ (b : Answer SiteState). in_boot r (within (with_site r) b)) h.0;
       made = subst P (sym h.1) (none_made (seen k.told k.faults));
-      heard = λ site. let clash : false ≡ true = site in absurd (cc);
+      steps = no_steps;
     }
 
 breaks_step : (k n : ContainerValue) (callers : List Caller) (sessions : SessionsState) (seats : SeatsState) (number : ℕ) → BreaksStep number k sessions seats n → BreaksSeat (run_of k callers sessions seats true) (lines.Step number) (seen k.told k.faults) (seen n.told n.faults)
@@ -232,16 +234,16 @@ breaks_step k n callers sessions seats number h = record {
   whole = none_made (seen k.told k.faults);
   next = h.keeps;
   last = some_asked (step_hands (site_in k sessions seats) number (h.keeps ∷ [])) k n h.handed;
-  heard = λ site. tt;
+  steps = no_steps;
   last_heard = by (broken_heard number k n sessions seats h);
 }
   where
     Asked : Type 0
     Asked = AreSomeAsked [] (seen k.told k.faults) (seen n.told n.faults)
 
-    by : Asked ⊎ StepHears (site_in k sessions seats) number → Asked ⊎ SeatLineHears (run_of k callers sessions seats true) (lines.Step number) (h.keeps ∷ [])
+    by : Asked ⊎ StepHearsSpelled (step_in k sessions seats number h.keeps) → Asked ⊎ All StepHearsSpelled (seat_makes (run_of k callers sessions seats true) (lines.Step number) (h.keeps ∷ []))
     by (inl none) = inl none
-    by (inr heard) = inr (λ site. heard)
+    by (inr heard) = inr (one_step StepHearsSpelled (site_in k sessions seats) number h.keeps heard)
 
 breaks_run : (k n : ContainerValue) (callers : List Caller) (sessions : SessionsState) (seats : SeatsState) (number : ℕ) → BreaksRun number k sessions seats n → BreaksSeat (run_of k callers sessions seats true) (lines.Run number) (seen k.told k.faults) (seen n.told n.faults)
 unfolding seat_over seat_calls run_line
@@ -259,16 +261,16 @@ breaks_run k n callers sessions seats number h =
       whole = handed_made (run_hands s number h.replies) k h.mid h.handed;
       next = h.last.keeps;
       last = some_asked (step_hands t number (h.last.keeps ∷ [])) h.mid n h.last.handed;
-      heard = λ site. h.heard;
+      steps = record { spelled = h.heard; made = h.made };
       last_heard = by (broken_heard number h.mid n h.mid_sessions h.mid_seats h.last);
     }
   where
     Asked : Type 0
     Asked = AreSomeAsked [] (seen h.mid.told h.mid.faults) (seen n.told n.faults)
 
-    by : Asked ⊎ StepHears (site_in h.mid h.mid_sessions h.mid_seats) number → Asked ⊎ SeatLineHears (run_of k callers sessions seats true) (lines.Run number) (h.replies ++ h.last.keeps ∷ [])
+    by : Asked ⊎ StepHearsSpelled (step_in h.mid h.mid_sessions h.mid_seats number h.last.keeps) → Asked ⊎ All StepHearsSpelled (seat_makes (run_of k callers sessions seats true) (lines.Run number) (h.replies ++ h.last.keeps ∷ []))
     by (inl none) = inl none
-    by (inr heard) = inr (λ site. hears_once_more (site_in k sessions seats) (site_in h.mid h.mid_sessions h.mid_seats) number h.replies h.last.keeps h.steps h.heard heard)
+    by (inr heard) = inr (run_once_more StepHearsSpelled (site_in k sessions seats) (site_in h.mid h.mid_sessions h.mid_seats) number h.replies h.last.keeps h.steps h.heard heard)
 
 breaks_seat : (k n : ContainerValue) (callers : List Caller) (sessions : SessionsState) (seats : SeatsState) (line : SeatLine) → BreaksOff line k sessions seats n → EndsSeat (run_of k callers sessions seats true) line (seen k.told k.faults) (seen n.told n.faults)
 breaks_seat k n callers sessions seats (lines.Conn number) h = inl (handed_made [] k n h)

@@ -1,15 +1,18 @@
 pub mod BricksKept
 pub mod Calls
 pub mod Committing
+mod Continuing
 pub mod Deciding
 pub mod Giving
 pub mod Going
 pub mod Handing
 pub mod Keeping
+mod Followed
 mod Leading
 pub mod Meant
 pub mod Numbering
 pub mod OfSite
+mod Onward
 mod Pausing
 pub mod Rebooting
 pub mod Requesting
@@ -19,12 +22,15 @@ pub mod SeatsFit
 mod SeatsHold
 pub mod SeatsLead
 pub mod SeatsStand
+mod ServedLines
+mod ServedSteps
+mod ServedTurns
 pub mod SessionSerials
 pub mod Soundness
 mod Standing
 pub mod Starting
 pub mod Stepping
-mod StepsMade
+pub mod StepsMade
 pub mod Telling
 pub mod TellingCalls
 pub mod Turns

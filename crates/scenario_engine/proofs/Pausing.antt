@@ -2,13 +2,14 @@
 -- bricks, and what they begin is none of the calls of the bricks then.
 use Rattle.std.proofs.Common.{◌≡◌, ℕ, suc, ◌+◌, ◌-◌, ◌^◌, ◌<◌, ◌≤◌, Bool, true, false, if◌then◌else◌, append-nil, append_assoc, nat_lt, List, [], ◌∷◌, ◌++◌, length, Option, Some, None, refl, sym, ap, ◌∙◌, subst, arith}
 use Rattle.std.specs.Prelude.{All, slice_get}
-use Rattle.std.proofs.lemmas.Bool.Decides.{nat_tests}
-use Rattle.std.proofs.lemmas.List.Elements.{All-append, All-nil, All-weaker}
+use Rattle.std.proofs.lemmas.List.Elements.{All-append, All-nil, All-tail, All-weaker}
 use Rattle.lane_link.specs.Twins.{ByEvents}
 use Rattle.scenario_text.specs.declared.line.TheConstants.{MAX_LINE_BYTES}
+use Rattle.scenario_text.proofs.Cuts.{all_left}
 use Rattle.seat_laws.specs.Reads.{ReadsSince, read_under_way}
 use Rattle.seat_laws.specs.Standing.{SeatStands}
-use Rattle.seat_lines.specs.Site.{seat_at}
+use Rattle.seat_lines.specs.Making.{StepHearsSpelled, StepMade}
+use Rattle.seat_lines.specs.Site.{SeatsState, seat_at}
 use Rattle.seat_steps.specs.declared.seat.Seat.{Seat}
 use Rattle.session_lanes.specs.Lanes.{LanesState}
 use Rattle.session_lanes.specs.Sound.{LanesAreSound}
@@ -19,8 +20,8 @@ use Rattle.ssm_world.specs.Sound.{Grows}
 use Rattle.ssm_world.specs.Worlds.{IsMade, WorldValue, after, new_world}
 use Rattle.ssm_world.specs.declared.call.Call.{Call}
 use Rattle.ssm_world.specs.declared.event.WorldEvent.{WorldEvent}
-use Rattle.scenario_engine.specs.Connections.{IsIdle, Pause, StepMade, StepStands, made_from, steps_behind, turn_makes}
-use Rattle.scenario_engine.specs.Hearing.{AllHeard}
+use Rattle.scenario_engine.specs.Connections.{IsIdle, Pause, StepStands, made_from, steps_behind, turn_makes}
+use Rattle.scenario_engine.specs.Hearing.{AllHeardSpelled}
 use Rattle.scenario_engine.specs.Sessions.{session_turns, starts_on, turn_on_sessions}
 use Rattle.scenario_engine.specs.State.{RunningState, State, Running, Outcome, RefusedIn, DoneTo, UnstartedIn, UnderWayIn}
 use Rattle.scenario_engine.specs.Transcript.{Turn, End, Ended, RefusedAt, TooLong, UnderWay, Unstarted, end_from, first, last_state, turn_outcome}
@@ -36,7 +37,7 @@ pub record IsAt (L : LanesState → Type 0) (K : ℕ → Option ℕ → Type 0) 
   pub story : StoryOf L before s
   pub stand : StandAt K s
   pub rise : BootsRise 0 (before ++ session_turns s turns)
-  pub heard : AllHeard s turns
+  pub heard : AllHeardSpelled s turns
 
 -- connections stand where turns end, over bricks as events keep them
 abbrev pub EndsAt : (LanesState → Type 0) → (ℕ → Option ℕ → Type 0) → State → Type 0
@@ -44,12 +45,6 @@ EndsAt L K s = StandAt K s × LaterAt L s
 
 abbrev pub is_long : Turn → Bool
 is_long turn = nat_lt MAX_LINE_BYTES (length turn.line)
-
-not_less : (a b : ℕ) → nat_lt a b ≡ false → b ≤ a
-not_less a b is = grind (arith, nat_tests)
-
-short : (turn : Turn) → is_long turn ≡ false → length turn.line ≤ MAX_LINE_BYTES
-short turn is = not_less MAX_LINE_BYTES (length turn.line) is
 
 -- what turns do to sessions, by what the first one comes to
 abbrev turns_if : State → Turn → List Turn → Bool → Outcome → List SessionTurn
@@ -63,6 +58,18 @@ turns_if s turn turns long o = if long then [] else (elim o [
 as_turns : (s : State) (turn : Turn) (turns : List Turn) (o : Outcome) → is_long turn ≡ false → turn_outcome s turn ≡ o → session_turns s (turn ∷ turns) ≡ turns_if s turn turns false o
 as_turns s turn turns o is comes =
     ap (λ (b : Bool). turns_if s turn turns b (turn_outcome s turn)) is ∙ ap (λ (x : Outcome). turns_if s turn turns false x) comes
+
+-- the steps behind a turn, by what it comes to
+abbrev made_behind : List Turn → Outcome → List StepMade
+made_behind turns o = elim o [ RefusedIn t ↦ [] | DoneTo t text ↦ made_from t turns | UnstartedIn t cause ↦ [] | UnderWayIn t ↦ [] ]
+
+as_made : (s : State) (turn : Turn) (turns : List Turn) → is_long turn ≡ false → made_from s (turn ∷ turns) ≡ turn_makes s turn ++ made_behind turns (turn_outcome s turn)
+as_made s turn turns is = ap (λ (b : Bool). if b then [] else (turn_makes s turn ++ made_behind turns (turn_outcome s turn))) is
+
+-- what holds of each of two lists together holds of each behind the first
+pub all_behind : {X : Type 0} (P : X → Type 0) (xs ys : List X) → All P (xs ++ ys) → All P ys
+all_behind P [] ys all = all
+all_behind P (x ∷ xs) ys all = all_behind P xs ys (All-tail P x (xs ++ ys) all)
 
 ended_in : (s t : State) → Ended s ≡ Ended t → s ≡ t
 ended_in s t is = cc
@@ -80,10 +87,13 @@ module _ (L : LanesState → Type 0) (K : ℕ → Option ℕ → Type 0) (kept :
         rise_at L K kept draw laws sessions_laws at.before s turn t [] []
         (subst (λ (xs : List SessionTurn). BootsRise 0 (at.before ++ xs)) (sym (append-nil (turn_on_sessions s turn t []))) rise)
 
+    hears : All StepHearsSpelled (turn_makes s turn ++ made_behind turns (turn_outcome s turn))
+    hears = subst (All StepHearsSpelled) (as_made s turn turns is) at.heard
+
     pub stands : LeavesTo (StandAt K) (turn_outcome s turn) × All (IsStep L K) (turn_makes s turn)
     stands =
         stand_turn L K kept draw laws sessions_laws s at.before at.story at.stand turn
-        (starts_rise (turn_outcome s turn) (rises (turn_outcome s turn) refl)) (at.heard (short turn is)).0
+        (starts_rise (turn_outcome s turn) (rises (turn_outcome s turn) refl)) (all_left StepHearsSpelled (turn_makes s turn) (made_behind turns (turn_outcome s turn)) hears)
 
     leads : LeadsTo s (starts_on s turn) (turn_on_sessions s turn) (turn_outcome s turn)
     leads = leads_turn counts draw s (drawn_in L K kept draw laws sessions_laws s at.before at.story) turn
@@ -97,7 +107,9 @@ module _ (L : LanesState → Type 0) (K : ℕ → Option ℕ → Type 0) (kept :
           story = goes_on_story L K kept draw laws sessions_laws s t at.before xs at.story (subst (λ (o : Outcome). LeadsTo s (starts_on s turn) (turn_on_sessions s turn) o) comes leads);
           stand = subst (λ (o : Outcome). LeavesTo (StandAt K) o) comes stands.0;
           rise = subst (BootsRise 0) (sym (append_assoc at.before xs (session_turns t turns))) (rises (DoneTo t text) comes);
-          heard = (at.heard (short turn is)).1 t text comes;
+          heard =
+              subst (λ (o : Outcome). All StepHearsSpelled (made_behind turns o)) comes
+              (all_behind StepHearsSpelled (turn_makes s turn) (made_behind turns (turn_outcome s turn)) hears);
         }
 
     both : (o : Outcome) → LeavesTo (StandAt K) o → LeavesTo (LaterAt L) o → LeavesTo (EndsAt L K) o
@@ -201,16 +213,16 @@ AnyTwin place twin = Unit {0}
 pub any_kept : KeptLaws AnyBricks AnyTwin
 any_kept = record { goes = λ st later on its. tt; none = λ place. tt; begins = λ st place its. tt }
 
-pub first_at : CountsLaw → (turns : List Turn) → BootsRise 0 (session_turns first turns) → AllHeard first turns → IsAt AnyBricks AnyTwin turns first
+pub first_at : CountsLaw → (turns : List Turn) → BootsRise 0 (session_turns first turns) → AllHeardSpelled first turns → IsAt AnyBricks AnyTwin turns first
 first_at counts turns rise heard = record { before = []; story = (refl, counts.none, λ st. tt); stand = tt; rise = rise; heard = heard }
 
 -- from a pause on the bricks are later ones, and a connection that was idle begins behind their calls
 
-abbrev LaterThan : LanesState → LanesState → Type 0
+abbrev pub LaterThan : LanesState → LanesState → Type 0
 LaterThan earlier st = ByEvents earlier st
 
-abbrev BeginsBehind : RunningState → LanesState → ℕ → Option ℕ → Type 0
-BeginsBehind r earlier place twin = IsIdle r place → (number : ℕ) → twin ≡ Some number → length earlier.world.calls ≤ number
+abbrev pub BeginsBehind : SeatsState → LanesState → ℕ → Option ℕ → Type 0
+BeginsBehind past earlier place twin = IsIdle past place → (number : ℕ) → twin ≡ Some number → length earlier.world.calls ≤ number
 
 -- worlds that only grow have as many calls
 abbrev pub GrowsLaw : Type 0
@@ -234,11 +246,11 @@ calls_rise law earlier st sound later =
     let grows : Grows earlier.world st.world = grows_by law earlier.world st.world sound.made later in
     as_many earlier.world.calls st.world.calls (λ i c is. (let on = grows.calls i c is in (on.0, on.1)))
 
-no_number : (number : ℕ) → None ≡ Some number → ⊥
+pub no_number : (number : ℕ) → None ≡ Some number → ⊥
 no_number number is = cc
 
-pause_kept : GrowsLaw → (r : RunningState) (earlier : LanesState) → LanesAreSound earlier → KeptLaws (LaterThan earlier) (BeginsBehind r earlier)
-pause_kept law r earlier sound = record {
+pub pause_kept : GrowsLaw → (past : SeatsState) (earlier : LanesState) → LanesAreSound earlier → KeptLaws (LaterThan earlier) (BeginsBehind past earlier)
+pause_kept law past earlier sound = record {
   goes = λ st later on its. later_on earlier st later its on;
   none = λ place idle number is. absurd (no_number number is);
   begins = λ st place its idle number is.
@@ -249,9 +261,21 @@ pause_kept law r earlier sound = record {
     one : (a b : ℕ) → Some a ≡ Some b → a ≡ b
     one a b is = cc
 
+-- what is known of a step by then
+pub stands_since : (past : SeatsState) (earlier : LanesState) → LanesAreSound earlier → (step : StepMade) → IsStep (LaterThan earlier) (BeginsBehind past earlier) step → StepStands past earlier step
+stands_since past earlier sound step its = λ seat bricks made.
+    let whole : IsWhole (LaterThan earlier) (BeginsBehind past earlier) step.site bricks = its.whole bricks made.bricks_are made.unspent in
+    record {
+      stands = (whole.all.each step.number seat made.seat_is).stands;
+      spelled = its.hears bricks seat its.near made.bricks_are made.seat_is;
+      sound = sound;
+      events = whole.later;
+      begins = λ idle. whole.twins step.number seat made.seat_is idle;
+    }
+
 module _ (draw : DrawLaws) (laws : StandLaws) (sessions_laws : TurnLaws) (counts : CountsLaw) (grows : GrowsLaw) where
   -- all connections stand at the end
-  pub all_stand : (turns : List Turn) (r : RunningState) (st : LanesState) (n : ℕ) (seat : Seat) → BootsRise 0 (session_turns first turns) → AllHeard first turns
+  pub all_stand : (turns : List Turn) (r : RunningState) (st : LanesState) (n : ℕ) (seat : Seat) → BootsRise 0 (session_turns first turns) → AllHeardSpelled first turns
       → last_state (end_from first 1 turns) ≡ Running r → r.sessions.store ≡ Some st → r.sessions.serial < 2 ^ 64 - 1 → seat_at r.seats.seats n ≡ Some seat → SeatStands seat st
   all_stand turns r st n seat rise heard last is left there =
       let end : EndsAt AnyBricks AnyTwin (last_state (end_from first 1 turns)) = ends AnyBricks AnyTwin any_kept draw laws sessions_laws counts 1 turns first (first_at counts turns rise heard) in
@@ -259,20 +283,20 @@ module _ (draw : DrawLaws) (laws : StandLaws) (sessions_laws : TurnLaws) (counts
       let placed : ArePlaced AnyTwin r.seats.seats st = here.0 st is left in
       (placed.all.each n seat there).stands
 
-  module _ (turns more : List Turn) (r : RunningState) (st : LanesState) (rise : BootsRise 0 (session_turns first (turns ++ more))) (heard : AllHeard first (turns ++ more)) (done : end_from first 1 turns ≡ Ended (Running r)) (is : r.sessions.store ≡ Some st) where
+  module _ (turns more : List Turn) (r : RunningState) (st : LanesState) (rise : BootsRise 0 (session_turns first (turns ++ more))) (heard : AllHeardSpelled first (turns ++ more)) (done : end_from first 1 turns ≡ Ended (Running r)) (is : r.sessions.store ≡ Some st) where
     at : IsAt AnyBricks AnyTwin more (Running r)
     at = pauses AnyBricks AnyTwin any_kept draw laws sessions_laws counts 1 turns more first r (first_at counts (turns ++ more) rise heard) done
 
     sound : LanesAreSound st
     sound = all_sound at.story.setup 0 at.before r.sessions st at.story.lead is
 
-    kept : KeptLaws (LaterThan st) (BeginsBehind r st)
-    kept = pause_kept grows r st sound
+    kept : KeptLaws (LaterThan st) (BeginsBehind r.seats st)
+    kept = pause_kept grows r.seats st sound
 
     same_bricks : (now : LanesState) → r.sessions.store ≡ Some now → st ≡ now
     same_bricks now its = let both : Some st ≡ Some now = sym is ∙ its in cc
 
-    since_at : IsAt (LaterThan st) (BeginsBehind r st) more (Running r)
+    since_at : IsAt (LaterThan st) (BeginsBehind r.seats st) more (Running r)
     since_at = record {
       before = at.before;
       story = record {
@@ -290,35 +314,24 @@ module _ (draw : DrawLaws) (laws : StandLaws) (sessions_laws : TurnLaws) (counts
     }
 
     -- a connection that was idle reads behind the pause
-    pub reads_since : (q : RunningState) (now : LanesState) (n : ℕ) (seat : Seat) (read : ReadState) → IsIdle r n → last_state (end_from first 1 (turns ++ more)) ≡ Running q → q.sessions.store ≡ Some now → q.sessions.serial < 2 ^ 64 - 1
+    pub reads_since : (q : RunningState) (now : LanesState) (n : ℕ) (seat : Seat) (read : ReadState) → IsIdle r.seats n → last_state (end_from first 1 (turns ++ more)) ≡ Running q → q.sessions.store ≡ Some now → q.sessions.serial < 2 ^ 64 - 1
         → seat_at q.seats.seats n ≡ Some seat → read_under_way seat.connection.stage ≡ Some read → ReadsSince st seat now read
     reads_since q now n seat read idle last there left its waits =
         let behind = end_behind 1 turns more first r done in
-        let end : EndsAt (LaterThan st) (BeginsBehind r st) (last_state (end_from (Running r) behind.0 more)) =
-        ends (LaterThan st) (BeginsBehind r st) kept draw laws sessions_laws counts behind.0 more (Running r) since_at in
-        let here : EndsAt (LaterThan st) (BeginsBehind r st) (Running q) = subst (EndsAt (LaterThan st) (BeginsBehind r st)) (ap last_state (sym behind.1) ∙ last) end in
-        let placed : ArePlaced (BeginsBehind r st) q.seats.seats now = here.0 now there left in
+        let end : EndsAt (LaterThan st) (BeginsBehind r.seats st) (last_state (end_from (Running r) behind.0 more)) =
+        ends (LaterThan st) (BeginsBehind r.seats st) kept draw laws sessions_laws counts behind.0 more (Running r) since_at in
+        let here : EndsAt (LaterThan st) (BeginsBehind r.seats st) (Running q) = subst (EndsAt (LaterThan st) (BeginsBehind r.seats st)) (ap last_state (sym behind.1) ∙ last) end in
+        let placed : ArePlaced (BeginsBehind r.seats st) q.seats.seats now = here.0 now there left in
         record { waits = waits; sound = sound; events = here.1 now there; begins = placed.twins n seat its idle }
 
-    step_stands : (step : StepMade) → IsStep (LaterThan st) (BeginsBehind r st) step → StepStands r st step
-    step_stands step its = λ seat bricks made.
-        let whole : IsWhole (LaterThan st) (BeginsBehind r st) step.site bricks = its.whole bricks made.bricks_are made.left in
-        record {
-          stands = (whole.all.each step.number seat made.seat_is).stands;
-          hears = its.hears bricks seat its.near made.bricks_are made.seat_is;
-          sound = sound;
-          events = whole.later;
-          begins = λ idle. whole.twins step.number seat made.seat_is idle;
-        }
-
-    steps_stand : All (StepStands r st) (made_from (Running r) more)
+    steps_stand : All (StepStands r.seats st) (made_from (Running r) more)
     steps_stand =
-        All-weaker (IsStep (LaterThan st) (BeginsBehind r st)) (StepStands r st) step_stands (made_from (Running r) more)
-        (known (LaterThan st) (BeginsBehind r st) kept draw laws sessions_laws counts more (Running r) since_at)
+        All-weaker (IsStep (LaterThan st) (BeginsBehind r.seats st)) (StepStands r.seats st) (stands_since r.seats st sound) (made_from (Running r) more)
+        (known (LaterThan st) (BeginsBehind r.seats st) kept draw laws sessions_laws counts more (Running r) since_at)
 
   -- each step behind a pause
-  pub pause_stands : (turns : List Turn) (pause : Pause turns) → BootsRise 0 (session_turns first turns) → AllHeard first turns → All (StepStands pause.running pause.bricks) (steps_behind pause)
+  pub pause_stands : (turns : List Turn) (pause : Pause turns) → BootsRise 0 (session_turns first turns) → AllHeardSpelled first turns → All (StepStands pause.running.seats pause.bricks) (steps_behind pause)
   pause_stands turns pause rise heard =
       steps_stand pause.before pause.more pause.running pause.bricks
       (subst (λ (xs : List Turn). BootsRise 0 (session_turns first xs)) pause.turns_are rise)
-      (subst (λ (xs : List Turn). AllHeard first xs) pause.turns_are heard) pause.done pause.bricks_are
+      (subst (λ (xs : List Turn). AllHeardSpelled first xs) pause.turns_are heard) pause.done pause.bricks_are

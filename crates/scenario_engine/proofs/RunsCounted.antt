@@ -254,3 +254,13 @@ runs_in_all laws limit new turns r n has site ends = record { seat = (run site).
       let within = keep.within in
       let few = keep.few in
       omega (arith, within, few)
+
+-- A boot of the site has its parts.
+pub site_in_all : CountedLaws → (turns : List Turn) (r : RunningState) → r.site ≡ true → last_state (end_from first 1 turns) ≡ Running r → r.boot.start.deployment ≡ site_parts
+site_in_all laws turns r site ends = its.of_site
+  where
+    run : CountedRun r
+    run = subst (HoldsIn IsOfSite CountedRun) ends (kept_ending IsOfSite CountedRun (λ b. Unit {0}) (counted_keeps laws) (λ r run. tt) first 1 turns first_of_site)
+
+    its : SeatsCounted (site_of r)
+    its = run site

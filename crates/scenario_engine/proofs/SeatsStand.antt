@@ -3,7 +3,7 @@
 use Rattle.std.proofs.Common.{◌≡◌, ◌≢◌, ◌⊎◌, inl, inr, ℕ, zero, suc, ◌+◌, ◌-◌, ◌^◌, ◌<◌, ◌≤◌, Bool, true, false, cond, List, [], ◌∷◌, ◌++◌, length, Option, Some, None, is_some, refl, sym, ap, ◌∙◌, subst, arith}
 use Rattle.std.specs.Prelude.{All, IfSome, replicate, slice_get, slice_set}
 use Rattle.std.specs.Option.{option_map}
-use Rattle.std.proofs.lemmas.List.Elements.{All-cons, All-nil}
+use Rattle.std.proofs.lemmas.List.Elements.{All-cons, All-head, All-nil, All-tail}
 use Rattle.crash_base.specs.declared.numbers.Version.{Version}
 use Rattle.lane_link.specs.Twins.{ByEvents, call_held}
 use Rattle.scenario_text.specs.Answer.{Answer, Refused, Done, or_refused, refused_if, within}
@@ -33,9 +33,8 @@ use Rattle.shepherd.specs.declared.shepherd.ShepherdTurn.{ShepherdTurn}
 use Rattle.shepherd.specs.declared.shepherd.ShepherdTurn.TheVariants as turns
 use Rattle.ssm_world.specs.Worlds.{is_new, nonce_of}
 use Rattle.ssm_world.specs.declared.call.Call.{Call}
-use Rattle.scenario_engine.specs.Connections.{StepMade, line_makes, run_makes, step_makes}
 use Rattle.scenario_engine.specs.Lending.{lends_by}
-use Rattle.seat_lines.specs.Hearing.{HearsOnce, LineHears, RunHears, StepHears}
+use Rattle.seat_lines.specs.Making.{LineHearsSpelled, StepHearsSpelled, StepMade, line_makes, run_makes, step_makes}
 use Rattle.scenario_engine.specs.Seats.{after_steps}
 use Rattle.scenario_engine.proofs.SeatsLead.{DrawLaws, Goes, IfDrew, SiteHasDrawn, drew_here, goes_step}
 
@@ -233,7 +232,7 @@ WholeIf L K s = (st : LanesState) → s.sessions.store ≡ Some st → s.session
 pub record IsStep (L : LanesState → Type 0) (K : ℕ → Option ℕ → Type 0) (step : StepMade) : Type 0 where
   pub near : is_beyond step.number ≡ false
   pub whole : WholeIf L K step.site
-  pub hears : StepHears step.site step.number
+  pub hears : StepHearsSpelled step
 
 pub under : (a b : ℕ) → a ≤ b → b < 2 ^ 64 - 1 → a < 2 ^ 64 - 1
 under a b up less = omega (arith, up, less)
@@ -409,7 +408,7 @@ module _ (L : LanesState → Type 0) (K : ℕ → Option ℕ → Type 0) (kept :
     at_turn turns.Item = moved_whole
     at_turn (turns.Ended end) = goes_whole
 
-  step_whole : (s : SiteState) (n : ℕ) (keeps : Bool) (st : LanesState) → s.sessions.store ≡ Some st → SiteHasDrawn s → StepHears s n → IsWhole L K s st → Leaves WholeIn (step_line s n keeps)
+  step_whole : (s : SiteState) (n : ℕ) (keeps : Bool) (st : LanesState) → s.sessions.store ≡ Some st → SiteHasDrawn s → StepHearsSpelled (record { site = s; number = n; keeps = keeps }) → IsWhole L K s st → Leaves WholeIn (step_line s n keeps)
   unfolding step_line place_step
   step_whole s n keeps st is has heard whole =
       leaves-refused_if WholeIn (is_beyond n) (or_refused s.sessions.store (λ store. step_over s n keeps store)) (λ near.
@@ -442,53 +441,75 @@ module _ (L : LanesState → Type 0) (K : ℕ → Option ℕ → Type 0) (kept :
           let mid : WholeIn v = each st is (whole st is (under s.sessions.serial v.sessions.serial goes.lent.serials left)) in
           subst (IsWhole L K v) (some_one v.sessions.store mid.0 later mid.1 at) mid.2
 
-  pub step_goes : (s : SiteState) (n : ℕ) (keeps : Bool) → SiteHasDrawn s → StepHears s n → WholeIf L K s → Leaves (WholeIf L K) (step_line s n keeps)
-  step_goes s n keeps has heard whole = go (step_line s n keeps) (goes_step draw s n keeps has) (λ st is here. step_whole s n keeps st is has heard here)
-    where
-      go : (a : Answer SiteState) → Leaves (Goes s (Lends s n keeps)) a → ((st : LanesState) → s.sessions.store ≡ Some st → IsWhole L K s st → Leaves WholeIn a) → Leaves (WholeIf L K) a
-      go Refused goes each = tt
-      go (Done v out) goes each = whole_on s v n keeps goes each whole
+  -- a step that is done hears what is spelled
+  abbrev pub HearsDone : SiteState → ℕ → Bool → Type 0
+  HearsDone s n keeps = (v : SiteState) (out : List ℕ) → step_line s n keeps ≡ Done v out → StepHearsSpelled (record { site = s; number = n; keeps = keeps })
 
-  pub steps_go : (s : SiteState) (n : ℕ) (replies : List Bool) → SiteHasDrawn s → RunHears s n replies → WholeIf L K s → WholeIf L K (after_steps s n replies)
+  pub hears_done : (s : SiteState) (n : ℕ) (keeps : Bool) (more : List Bool) → All StepHearsSpelled (step_makes s n (keeps ∷ more)) → HearsDone s n keeps
+  hears_done s n keeps more heard v out is =
+      All-head StepHearsSpelled (record { site = s; number = n; keeps = keeps }) []
+      (subst (λ (a : Answer SiteState). All StepHearsSpelled (elim a [ Refused ↦ [] | Done u text ↦ record { site = s; number = n; keeps = keeps } ∷ [] ])) is heard)
+
+  pub step_goes : (s : SiteState) (n : ℕ) (keeps : Bool) → SiteHasDrawn s → HearsDone s n keeps → WholeIf L K s → Leaves (WholeIf L K) (step_line s n keeps)
+  step_goes s n keeps has heard whole = go (step_line s n keeps) refl (goes_step draw s n keeps has) (λ hears st is here. step_whole s n keeps st is has hears here)
+    where
+      go : (a : Answer SiteState) → step_line s n keeps ≡ a → Leaves (Goes s (Lends s n keeps)) a
+          → (StepHearsSpelled (record { site = s; number = n; keeps = keeps }) → (st : LanesState) → s.sessions.store ≡ Some st → IsWhole L K s st → Leaves WholeIn a) → Leaves (WholeIf L K) a
+      go Refused is goes each = tt
+      go (Done v out) is goes each = whole_on s v n keeps goes (each (heard v out is)) whole
+
+  pub steps_go : (s : SiteState) (n : ℕ) (replies : List Bool) → SiteHasDrawn s → All StepHearsSpelled (run_makes s n replies) → WholeIf L K s → WholeIf L K (after_steps s n replies)
   steps_go s n [] has heard whole = whole
   steps_go s n (keeps ∷ more) has heard whole =
-      go (λ v its on here. steps_go v n more its on here) (rests (seat_at s.seats.seats n)) refl (step_line s n keeps) refl (goes_step draw s n keeps has) (λ hears. step_goes s n keeps has hears whole)
+      go (λ v its on here. steps_go v n more its on here) (rests (seat_at s.seats.seats n)) (step_line s n keeps) (goes_step draw s n keeps has) (λ hears. step_goes s n keeps has hears whole) heard
     where
-      go : ((v : SiteState) → SiteHasDrawn v → RunHears v n more → WholeIf L K v → WholeIf L K (after_steps v n more))
-          → (b : Bool) → rests (seat_at s.seats.seats n) ≡ b → (a : Answer SiteState) → step_line s n keeps ≡ a → Leaves (Goes s (Lends s n keeps)) a → (StepHears s n → Leaves (WholeIf L K) a)
+      this : StepMade
+      this = record { site = s; number = n; keeps = keeps }
+
+      go : ((v : SiteState) → SiteHasDrawn v → All StepHearsSpelled (run_makes v n more) → WholeIf L K v → WholeIf L K (after_steps v n more))
+          → (b : Bool) (a : Answer SiteState) → Leaves (Goes s (Lends s n keeps)) a → (HearsDone s n keeps → Leaves (WholeIf L K) a)
+          → All StepHearsSpelled (cond b [] (elim a [ Refused ↦ [] | Done v out ↦ this ∷ run_makes v n more ]))
           → WholeIf L K (cond b s (elim a [ Refused ↦ s | Done v out ↦ after_steps v n more ]))
-      go rest true here a is left its = whole
-      go rest false here Refused is left its = whole
-      go rest false here (Done v out) is left its = rest v left.has ((heard here).1 v out is) (its (heard here).0)
+      go rest true a left its heard = whole
+      go rest false Refused left its heard = whole
+      go rest false (Done v out) left its heard =
+          rest v left.has (All-tail StepHearsSpelled this (run_makes v n more) heard) (its (λ u text is. All-head StepHearsSpelled this (run_makes v n more) heard))
 
   -- the steps that are made
 
-  known_run : (s : SiteState) (n : ℕ) (replies : List Bool) → SiteHasDrawn s → RunHears s n replies → WholeIf L K s → All (IsStep L K) (run_makes s n replies)
+  known_run : (s : SiteState) (n : ℕ) (replies : List Bool) → SiteHasDrawn s → All StepHearsSpelled (run_makes s n replies) → WholeIf L K s → All (IsStep L K) (run_makes s n replies)
   known_run s n [] has heard whole = All-nil (IsStep L K)
   known_run s n (keeps ∷ more) has heard whole =
-      go (λ v its on here. known_run v n more its on here) (rests (seat_at s.seats.seats n)) refl (step_line s n keeps) refl (goes_step draw s n keeps has) (λ hears. step_goes s n keeps has hears whole)
+      go (λ v its on here. known_run v n more its on here) (rests (seat_at s.seats.seats n)) (step_line s n keeps) refl (goes_step draw s n keeps has) (λ hears. step_goes s n keeps has hears whole) heard
     where
-      go : ((v : SiteState) → SiteHasDrawn v → RunHears v n more → WholeIf L K v → All (IsStep L K) (run_makes v n more))
-          → (b : Bool) → rests (seat_at s.seats.seats n) ≡ b → (a : Answer SiteState) → step_line s n keeps ≡ a → Leaves (Goes s (Lends s n keeps)) a → (StepHears s n → Leaves (WholeIf L K) a)
-          → All (IsStep L K) (cond b [] (elim a [ Refused ↦ [] | Done v out ↦ record { site = s; number = n; keeps = keeps } ∷ run_makes v n more ]))
-      go rest true here a is left its = All-nil (IsStep L K)
-      go rest false here Refused is left its = All-nil (IsStep L K)
-      go rest false here (Done v out) is left its =
-          All-cons (IsStep L K) (record { site = s; number = n; keeps = keeps }) (run_makes v n more)
-          (record { near = near_done s v n keeps out is; whole = whole; hears = (heard here).0 })
-          (rest v left.has ((heard here).1 v out is) (its (heard here).0))
+      this : StepMade
+      this = record { site = s; number = n; keeps = keeps }
 
-  known_step : (s : SiteState) (n : ℕ) (replies : List Bool) → HearsOnce s n replies → WholeIf L K s → All (IsStep L K) (step_makes s n replies)
+      go : ((v : SiteState) → SiteHasDrawn v → All StepHearsSpelled (run_makes v n more) → WholeIf L K v → All (IsStep L K) (run_makes v n more))
+          → (b : Bool) (a : Answer SiteState) → step_line s n keeps ≡ a → Leaves (Goes s (Lends s n keeps)) a → (HearsDone s n keeps → Leaves (WholeIf L K) a)
+          → All StepHearsSpelled (cond b [] (elim a [ Refused ↦ [] | Done v out ↦ this ∷ run_makes v n more ]))
+          → All (IsStep L K) (cond b [] (elim a [ Refused ↦ [] | Done v out ↦ this ∷ run_makes v n more ]))
+      go rest true a is left its heard = All-nil (IsStep L K)
+      go rest false Refused is left its heard = All-nil (IsStep L K)
+      go rest false (Done v out) is left its heard =
+          let first : StepHearsSpelled this = All-head StepHearsSpelled this (run_makes v n more) heard in
+          All-cons (IsStep L K) this (run_makes v n more)
+          (record { near = near_done s v n keeps out is; whole = whole; hears = first })
+          (rest v left.has (All-tail StepHearsSpelled this (run_makes v n more) heard) (its (λ u text other. first)))
+
+  known_step : (s : SiteState) (n : ℕ) (replies : List Bool) → All StepHearsSpelled (step_makes s n replies) → WholeIf L K s → All (IsStep L K) (step_makes s n replies)
   known_step s n [] heard whole = All-nil (IsStep L K)
-  known_step s n (keeps ∷ more) heard whole = go (step_line s n keeps) refl
+  known_step s n (keeps ∷ more) heard whole = go (step_line s n keeps) refl heard
     where
-      go : (a : Answer SiteState) → step_line s n keeps ≡ a → All (IsStep L K) (elim a [ Refused ↦ [] | Done v out ↦ record { site = s; number = n; keeps = keeps } ∷ [] ])
-      go Refused is = All-nil (IsStep L K)
-      go (Done v out) is =
-          All-cons (IsStep L K) (record { site = s; number = n; keeps = keeps }) []
-          (record { near = near_done s v n keeps out is; whole = whole; hears = heard }) (All-nil (IsStep L K))
+      this : StepMade
+      this = record { site = s; number = n; keeps = keeps }
 
-  pub known_line : (s : SiteState) (line : SeatLine) (replies : List Bool) → SiteHasDrawn s → LineHears s line replies → WholeIf L K s → All (IsStep L K) (line_makes s line replies)
+      go : (a : Answer SiteState) → step_line s n keeps ≡ a → All StepHearsSpelled (elim a [ Refused ↦ [] | Done v out ↦ this ∷ [] ]) → All (IsStep L K) (elim a [ Refused ↦ [] | Done v out ↦ this ∷ [] ])
+      go Refused is heard = All-nil (IsStep L K)
+      go (Done v out) is heard =
+          All-cons (IsStep L K) this [] (record { near = near_done s v n keeps out is; whole = whole; hears = All-head StepHearsSpelled this [] heard }) (All-nil (IsStep L K))
+
+  pub known_line : (s : SiteState) (line : SeatLine) (replies : List Bool) → SiteHasDrawn s → LineHearsSpelled s line replies → WholeIf L K s → All (IsStep L K) (line_makes s line replies)
   known_line s (lines.Conn n) replies has heard whole = All-nil (IsStep L K)
   known_line s (lines.Bytes n bytes) replies has heard whole = All-nil (IsStep L K)
   known_line s (lines.End n) replies has heard whole = All-nil (IsStep L K)

@@ -1,12 +1,14 @@
--- A line about sessions leaves the number of their boot, and their serial never falls.
-use Rattle.std.proofs.Common.{◌≡◌, ◌⊎◌, inl, inr, ℕ, ◌+◌, ◌-◌, ◌^◌, ◌≤◌, Bool, true, false, nat_lt, if◌then◌else◌, not, List, [], length, Option, Some, None, Result, Ok, Err, refl, sym, subst, arith}
+-- A line about sessions leaves the number of their boot and the key, and their serial and their moment never fall.
+use Rattle.std.proofs.Common.{◌≡◌, ◌⊎◌, inl, inr, ℕ, ◌+◌, ◌-◌, ◌^◌, ◌≤◌, Bool, true, false, nat_lt, if◌then◌else◌, not, List, [], length, Option, Some, None, Result, Ok, Err, refl, sym, ap, subst, arith}
 use Rattle.std.specs.Prelude.{min, slice_get, unwrap_or}
+use Rattle.std.proofs.lemmas.Bool.Decides.{nat_tests}
 use Rattle.brick_store.specs.History.{all_held}
+use Rattle.crash_base.specs.declared.numbers.Moment.{Moment}
 use Rattle.scenario_text.specs.Answer.{Answer, Done, or_refused, refused_if}
 use Rattle.scenario_text.specs.declared.session_line.Freed.{Freed}
 use Rattle.scenario_text.specs.declared.session_line.SessionLine.{SessionLine}
 use Rattle.scenario_text.specs.declared.session_line.SessionLine.TheVariants as lines
-use Rattle.scenario_text.proofs.Leaving.{Leaves, leaves-or_refused, leaves-refused_if}
+use Rattle.scenario_text.proofs.Leaving.{Leaves, leaves-or_refused, leaves-refused_if, leaves-weaker}
 use Rattle.send_windows.specs.Facts.{full_facts, open_count}
 use Rattle.send_windows.specs.Windows.{after_pass, chosen, refused}
 use Rattle.send_windows.specs.declared.pass.Pass.{Pass}
@@ -28,24 +30,43 @@ use Rattle.ssm_stub.specs.declared.write_call.WriteRefusal.TheVariants as missin
 abbrev pub Drew : SessionsState → SessionsState → Type 0
 Drew s t = (t.boot ≡ s.boot) × ((t.serial ≡ s.serial) ⊎ (t.serial ≡ (drawn s).serial))
 
+-- sessions that go on: they drew so, the key is the same, and the moment is none before
+pub record GoesOn (s t : SessionsState) : Type 0 where
+  pub drew : Drew s t
+  pub key : t.key ≡ s.key
+  pub later : s.moment.0 ≤ t.moment.0
+
+same_moment : (s t : SessionsState) → t.moment ≡ s.moment → s.moment.0 ≤ t.moment.0
+same_moment s t is = let same : t.moment.0 ≡ s.moment.0 = ap (λ (m : Moment). m.0) is in omega (arith, same)
+
+not_before : (a b : ℕ) → nat_lt a b ≡ false → b ≤ a
+not_before a b is = grind (arith, nat_tests)
+
 module _ (s : SessionsState) where
   abbrev So : Answer SessionsState → Type 0
-  So a = Leaves (Drew s) a
+  So a = Leaves (GoesOn s) a
+
+  -- they drew none, or one, and all else of this is the same
+  none_more : (t : SessionsState) → t.boot ≡ s.boot → t.serial ≡ s.serial → t.key ≡ s.key → t.moment ≡ s.moment → GoesOn s t
+  none_more t boot serial key moment = record { drew = (boot, inl serial); key = key; later = same_moment s t moment }
+
+  one_more : (t : SessionsState) → t.boot ≡ s.boot → t.serial ≡ (drawn s).serial → t.key ≡ s.key → t.moment ≡ s.moment → GoesOn s t
+  one_more t boot serial key moment = record { drew = (boot, inr serial); key = key; later = same_moment s t moment }
 
   on_each : (brick : ℕ) (line : LanesState → LaneState → Answer SessionsState) → ((st : LanesState) (lane : LaneState) → So (line st lane)) → So (on_lane s brick line)
-  on_each brick line each = leaves-or_refused (Drew s) s.store _ (λ st there. leaves-or_refused (Drew s) _ _ (λ lane has. each st lane))
+  on_each brick line each = leaves-or_refused (GoesOn s) s.store _ (λ st there. leaves-or_refused (GoesOn s) _ _ (λ lane has. each st lane))
 
-  written : (d : SessionsState) → d.boot ≡ s.boot → d.serial ≡ (drawn s).serial → (key : ℕ) (o : Result Cookie WriteRefusal) → So (written_as d key o)
-  written d boot serial key (Ok cookie) = (boot, inr serial)
-  written d boot serial key (Err (missing.Missed causes)) = (boot, inr serial)
-  written d boot serial key (Err missing.OutOfMemory) = tt
+  written : (st : LanesState) (key : ℕ) (o : Result Cookie WriteRefusal) → So (written_as (with_store (drawn s) st) key o)
+  written st key (Ok cookie) = one_more _ refl refl refl refl
+  written st key (Err (missing.Missed causes)) = one_more _ refl refl refl refl
+  written st key (Err missing.OutOfMemory) = tt
 
   write_drew : (key : ℕ) (passes : List Pass) (number : ℕ) (st : LanesState) → So (answered_write (drawn s) key passes number st)
   write_drew key passes number st = go (write_of (slice_get st.world.calls number))
     where
       told : (after : LanesState) (o : Option (Result Cookie WriteRefusal)) → So (or_refused o (λ answer. written_as (with_store (drawn s) after) key answer))
       told after None = tt
-      told after (Some answer) = written (with_store (drawn s) after) refl refl key answer
+      told after (Some answer) = written after key answer
 
       go : (o : Option WriteState) → So (or_refused o (λ write. told_write (with_store (drawn s) (spent_by write passes st)) key write))
       go None = tt
@@ -59,7 +80,7 @@ module _ (s : SessionsState) where
           then Done (with_store (drawn s) (record st { windows = refused st.windows })) (overload_text key (full_facts st.windows.facts))
           else answered_write (drawn s) key (chosen st.windows s.serial) (length st.world.calls) (store_written s key value (chosen st.windows s.serial) st)))
       at st true few = tt
-      at st false true = (refl, inr refl)
+      at st false true = one_more _ refl refl refl refl
       at st false false = write_drew key (chosen st.windows s.serial) (length st.world.calls) (store_written s key value (chosen st.windows s.serial) st)
 
       by : (o : Option LanesState) → So (or_refused o (λ st. refused_if (not (is_new st.world (nonce s))) (if nat_lt (open_count st.windows.facts) st.windows.wq
@@ -73,7 +94,7 @@ module _ (s : SessionsState) where
     where
       told : (o : Option (Result (List ℕ) ReadRefusal)) → So (or_refused o (λ answer. Done (with_store (drawn s) st) (fetched_text key answer)))
       told None = tt
-      told (Some answer) = (refl, inr refl)
+      told (Some answer) = one_more _ refl refl refl refl
 
       go : (o : Option ReadState) → So (or_refused o (λ read. told_read (with_store (drawn s) st) key read))
       go None = tt
@@ -97,68 +118,72 @@ module _ (s : SessionsState) where
 
   drew_cookie : (key : ℕ) → So (cookie_line s key)
   unfolding cookie_line
-  drew_cookie key = leaves-or_refused (Drew s) (cookie_of s key) (λ cookie. Done s (cookie_text key (text_of_cookie s.key cookie))) (λ cookie has. (refl, inl refl))
+  drew_cookie key = leaves-or_refused (GoesOn s) (cookie_of s key) (λ cookie. Done s (cookie_text key (text_of_cookie s.key cookie))) (λ cookie has. none_more _ refl refl refl refl)
 
   drew_now : (moment : ℕ) → So (now_line s moment)
   unfolding now_line
   drew_now moment =
-      leaves-refused_if (Drew s) (nat_lt moment s.moment.0) (refused_if (nat_lt MAX_MOMENT moment) (Done (record s { moment = record { 0 = moment } }) [])) (λ early.
-      leaves-refused_if (Drew s) (nat_lt MAX_MOMENT moment) (Done (record s { moment = record { 0 = moment } }) []) (λ late. (refl, inl refl)))
+      leaves-refused_if (GoesOn s) (nat_lt moment s.moment.0) (refused_if (nat_lt MAX_MOMENT moment) (Done (record s { moment = record { 0 = moment } }) [])) (λ early.
+      leaves-refused_if (GoesOn s) (nat_lt MAX_MOMENT moment) (Done (record s { moment = record { 0 = moment } }) []) (λ late.
+      record { drew = (refl, inl refl); key = refl; later = not_before moment s.moment.0 early }))
 
   drew_lose : (brick more : ℕ) → So (lose_line s brick more)
   unfolding lose_line
-  drew_lose brick more = on_each brick _ (λ st lane. (refl, inl refl))
+  drew_lose brick more = on_each brick _ (λ st lane. none_more _ refl refl refl refl)
 
   drew_mute : (brick more : ℕ) → So (mute_line s brick more)
   unfolding mute_line
-  drew_mute brick more = on_each brick _ (λ st lane. (refl, inl refl))
+  drew_mute brick more = on_each brick _ (λ st lane. none_more _ refl refl refl refl)
 
   drew_repeat : (brick number : ℕ) → So (repeat_line s brick number)
   unfolding repeat_line
-  drew_repeat brick number = on_each brick _ (λ st lane. leaves-or_refused (Drew s) (reply_made lane number) (λ packet. Done (with_lane_of s brick st (waiting packet lane)) []) (λ packet has. (refl, inl refl)))
+  drew_repeat brick number = on_each brick _ (λ st lane. leaves-or_refused (GoesOn s) (reply_made lane number) (λ packet. Done (with_lane_of s brick st (waiting packet lane)) []) (λ packet has. none_more _ refl refl refl refl))
 
   drew_crash : (brick : ℕ) → So (crash_line s brick)
   unfolding crash_line
-  drew_crash brick = on_each brick _ (λ st lane. leaves-refused_if (Drew s) (not (may_happen st.world (Crash (brick_no brick)))) (Done (with_store s (after_event st (Crash (brick_no brick)))) []) (λ may. (refl, inl refl)))
+  drew_crash brick = on_each brick _ (λ st lane. leaves-refused_if (GoesOn s) (not (may_happen st.world (Crash (brick_no brick)))) (Done (with_store s (after_event st (Crash (brick_no brick)))) []) (λ may. none_more _ refl refl refl refl))
 
   drew_sweep : (brick moment : ℕ) → So (sweep_line s brick moment)
   unfolding sweep_line
-  drew_sweep brick moment = on_each brick _ (λ st lane. leaves-refused_if (Drew s) (nat_lt MAX_MOMENT moment) (Done (with_store s (after_event st (Sweep (brick_no brick) (record { 0 = moment })))) []) (λ may. (refl, inl refl)))
+  drew_sweep brick moment = on_each brick _ (λ st lane. leaves-refused_if (GoesOn s) (nat_lt MAX_MOMENT moment) (Done (with_store s (after_event st (Sweep (brick_no brick) (record { 0 = moment })))) []) (λ may. none_more _ refl refl refl refl))
 
   drew_values : (brick : ℕ) → So (values_line s brick)
   unfolding values_line
-  drew_values brick = on_each brick _ (λ st lane. leaves-or_refused (Drew s) (history st.world (brick_no brick)) (λ h. Done s (values_text brick (length (all_held h)))) (λ h has. (refl, inl refl)))
+  drew_values brick = on_each brick _ (λ st lane. leaves-or_refused (GoesOn s) (history st.world (brick_no brick)) (λ h. Done s (values_text brick (length (all_held h)))) (λ h has. none_more _ refl refl refl refl))
 
   drew_windows : So (windows_line s)
   unfolding windows_line
-  drew_windows = leaves-or_refused (Drew s) s.store _ (λ st has. (refl, inl refl))
+  drew_windows = leaves-or_refused (GoesOn s) s.store _ (λ st has. none_more _ refl refl refl refl)
 
   drew_hold : (brick : ℕ) → So (hold_line s brick)
   unfolding hold_line
-  drew_hold brick = on_each brick _ (λ st lane. (refl, inl refl))
+  drew_hold brick = on_each brick _ (λ st lane. none_more _ refl refl refl refl)
 
   drew_free : (brick : ℕ) (how : Freed) → So (free_line s brick how)
   unfolding free_line
   drew_free brick how =
-      on_each brick _ (λ st lane. leaves-refused_if (Drew s) (not (nat_lt 0 lane.held))
-      (Done (with_lane_of s brick (record st { windows = after_pass st.windows (freed_pass brick how) }) (record lane { held = lane.held - 1 })) []) (λ held. (refl, inl refl)))
+      on_each brick _ (λ st lane. leaves-refused_if (GoesOn s) (not (nat_lt 0 lane.held))
+      (Done (with_lane_of s brick (record st { windows = after_pass st.windows (freed_pass brick how) }) (record lane { held = lane.held - 1 })) []) (λ held. none_more _ refl refl refl refl))
 
-  -- A line about sessions draws one serial at most.
-  pub session_drew : (line : SessionLine) → So (session_line s line)
-  session_drew (lines.Now moment) = drew_now moment
-  session_drew (lines.Write key value) = drew_write key value
-  session_drew (lines.Fetch key) = drew_fetch key
-  session_drew (lines.Cookie key) = drew_cookie key
-  session_drew (lines.Present text) = (refl, inl refl)
-  session_drew (lines.Lose brick more) = drew_lose brick more
-  session_drew (lines.Mute brick more) = drew_mute brick more
-  session_drew (lines.Repeat brick number) = drew_repeat brick number
-  session_drew (lines.Crash brick) = drew_crash brick
-  session_drew (lines.Sweep brick moment) = drew_sweep brick (unwrap_or moment s.moment.0)
-  session_drew (lines.Values brick) = drew_values brick
-  session_drew lines.Windows = drew_windows
-  session_drew (lines.Hold brick) = drew_hold brick
-  session_drew (lines.Free brick how) = drew_free brick how
+  -- A line about sessions draws one serial at most, keeps the key, and sets no earlier moment.
+  pub session_goes : (line : SessionLine) → So (session_line s line)
+  session_goes (lines.Now moment) = drew_now moment
+  session_goes (lines.Write key value) = drew_write key value
+  session_goes (lines.Fetch key) = drew_fetch key
+  session_goes (lines.Cookie key) = drew_cookie key
+  session_goes (lines.Present text) = none_more _ refl refl refl refl
+  session_goes (lines.Lose brick more) = drew_lose brick more
+  session_goes (lines.Mute brick more) = drew_mute brick more
+  session_goes (lines.Repeat brick number) = drew_repeat brick number
+  session_goes (lines.Crash brick) = drew_crash brick
+  session_goes (lines.Sweep brick moment) = drew_sweep brick (unwrap_or moment s.moment.0)
+  session_goes (lines.Values brick) = drew_values brick
+  session_goes lines.Windows = drew_windows
+  session_goes (lines.Hold brick) = drew_hold brick
+  session_goes (lines.Free brick how) = drew_free brick how
+
+  pub session_drew : (line : SessionLine) → Leaves (Drew s) (session_line s line)
+  session_drew line = leaves-weaker (GoesOn s) (Drew s) (session_line s line) (λ t goes. goes.drew) (session_goes line)
 
 up : (n : ℕ) → n ≤ 2 ^ 64 - 1 → n ≤ min (n + 1) (2 ^ 64 - 1)
 up n small = grind (arith, small)

@@ -21,6 +21,7 @@ use Rattle.scenario_text.proofs.Leaving.{Leaves}
 use Rattle.seat_laws.specs.Drawing.{SeatHasDrawn}
 use Rattle.seat_laws.specs.Owing.{write_owed}
 use Rattle.seat_lines.specs.Lines.{bytes_line, conn_line, end_line, is_beyond, step_line}
+use Rattle.seat_lines.specs.Making.{LineHearsSpelled, StepHearsSpelled, StepMade, line_makes, run_makes}
 use Rattle.seat_lines.specs.Runs.{can_run, run_from, run_line, seat_line}
 use Rattle.seat_lines.specs.Site.{SeatsState, SiteState, no_seats, seat_at}
 use Rattle.seat_steps.specs.declared.seat.Seat.{Seat}
@@ -37,12 +38,10 @@ use Rattle.session_steps.proofs.Leading.{lead_on}
 use Rattle.ssm_world.specs.Worlds.{WorldValue, after, is_new, step as world_step}
 use Rattle.ssm_world.specs.declared.call.Call.{Call}
 use Rattle.ssm_world.specs.declared.event.WorldEvent.{WorldEvent}
-use Rattle.scenario_engine.specs.Connections.{StepMade, line_makes, makes_on, makes_over, makes_to, turn_makes}
+use Rattle.scenario_engine.specs.Connections.{makes_on, makes_over, makes_to, seat_makes, turn_makes}
 use Rattle.scenario_engine.specs.Engine.{Replies, first_keeps, in_head, line_on, line_over, next_opening, opened_target, reopens, step, target_of}
-use Rattle.scenario_engine.specs.Hearing.{HearsOn, HearsOver, HearsTo, TurnHears}
 use Rattle.scenario_engine.specs.Opening.{Opening, Opened, UnstartedBoot, opening}
 use Rattle.scenario_engine.specs.Running.{boot_line, commit_step, started, with_callers, with_sessions}
-use Rattle.seat_lines.specs.Hearing.{LineHears, RunHears}
 use Rattle.scenario_engine.specs.Seats.{after_steps, by_replies, in_boot, seat_over}
 use Rattle.scenario_engine.specs.Sessions.{first_start, starts_by, starts_on, turn_on_sessions, turns_by, turns_to}
 use Rattle.scenario_engine.specs.State.{RunningState, State, Heading, Running, Outcome, RefusedIn, DoneTo, UnstartedIn, UnderWayIn, site_of, with_site}
@@ -52,7 +51,7 @@ use Rattle.scenario_engine.proofs.Keeping.{LeavesTo}
 use Rattle.scenario_engine.proofs.Leading.{LeadsTo, Reaches, SameSessions, StateHasDrawn, first_drew, same_boot, same_called, same_commit}
 use Rattle.scenario_engine.proofs.SeatRows.{RunsTo, bricks_of, line_of_run, near_of, run_to}
 use Rattle.scenario_engine.proofs.SeatsLead.{DrawLaws, IfDrew, SiteHasDrawn, Stays, drew_here, stays_bytes, stays_conn, stays_end}
-use Rattle.scenario_engine.proofs.SeatsStand.{ArePlaced, IsGood, IsStep, IsWhole, KeptLaws, StandLaws, WholeIf, bytes_whole, conn_whole, end_whole, known_line, no_seats_placed, step_goes, steps_go, under}
+use Rattle.scenario_engine.proofs.SeatsStand.{ArePlaced, IsGood, IsStep, IsWhole, KeptLaws, StandLaws, WholeIf, bytes_whole, conn_whole, end_whole, hears_done, known_line, no_seats_placed, step_goes, steps_go, under}
 use Rattle.scenario_engine.proofs.SessionSerials.{Drew, serial_up, session_drew}
 
 -- events lead from bricks to those after calls of them
@@ -167,7 +166,7 @@ module _ (L : LanesState → Type 0) (K : ℕ → Option ℕ → Type 0) (kept :
     stand_step Refused goes = all
     stand_step (Done v text) goes = stand_whole v goes
 
-    stand_run : (n : ℕ) (replies : List Bool) → RunHears S n replies → StandTo (by_replies r (seats.Run n) replies (run_line S n replies))
+    stand_run : (n : ℕ) (replies : List Bool) → All StepHearsSpelled (run_makes S n replies) → StandTo (by_replies r (seats.Run n) replies (run_line S n replies))
     stand_run n replies heard = go (can_run S n) refl
       where
         by : Bool → Outcome
@@ -192,29 +191,29 @@ module _ (L : LanesState → Type 0) (K : ℕ → Option ℕ → Type 0) (kept :
         go : (can : Bool) → can_run S n ≡ can → StandTo (by_replies r (seats.Run n) replies (run_line S n replies))
         go can is = subst (λ (o : Outcome). StandTo o) (ap by (sym is) ∙ as_run) (run can is)
 
-    stand_line : (line : SeatLine) (replies : List Bool) → LineHears S line replies → StandTo (by_replies r line replies (seat_line S line replies))
+    stand_line : (line : SeatLine) (replies : List Bool) → LineHearsSpelled S line replies → StandTo (by_replies r line replies (seat_line S line replies))
     stand_line (seats.Conn n) replies heard = stand_still (conn_line S n) (stays_conn draw S n story.drew) (λ st is here. conn_whole L K kept draw laws S n st (sound_here st is) (limits_here st is) here)
     stand_line (seats.Bytes n bytes) replies heard = stand_still (bytes_line S n bytes) (stays_bytes draw S n bytes story.drew) (λ st is here. bytes_whole L K kept draw laws S n bytes st here)
     stand_line (seats.End n) replies heard = stand_still (end_line S n) (stays_end draw S n story.drew) (λ st is here. end_whole L K kept draw laws S n st here)
     stand_line (seats.Step n) [] heard = all
-    stand_line (seats.Step n) (keeps ∷ more) heard = stand_step (step_line S n keeps) (step_goes L K kept draw laws S n keeps story.drew heard whole_here)
+    stand_line (seats.Step n) (keeps ∷ more) heard = stand_step (step_line S n keeps) (step_goes L K kept draw laws S n keeps story.drew (hears_done L K kept draw laws S n keeps more heard) whole_here)
     stand_line (seats.Run n) replies heard = stand_run n replies heard
 
-    stand_seat : (line : SeatLine) (replies : List Bool) → (r.site ≡ true → LineHears S line replies) → StandTo (seat_over r line replies)
+    stand_seat : (line : SeatLine) (replies : List Bool) → All StepHearsSpelled (seat_makes r line replies) → StandTo (seat_over r line replies)
     unfolding seat_over
-    stand_seat line replies heard = go r.site refl
+    stand_seat line replies heard = go r.site heard
       where
-        go : (site : Bool) → r.site ≡ site → StandTo (cond site (by_replies r line replies (seat_line S line replies)) (RefusedIn (Running r)))
-        go true is = stand_line line replies (heard is)
-        go false is = all
+        go : (site : Bool) → All StepHearsSpelled (if site then line_makes S line replies else []) → StandTo (cond site (by_replies r line replies (seat_line S line replies)) (RefusedIn (Running r)))
+        go true heard = stand_line line replies heard
+        go false heard = all
 
     -- the steps that a line makes
-    known_seat : (line : SeatLine) (replies : List Bool) → (r.site ≡ true → LineHears S line replies) → All (IsStep L K) (if r.site then line_makes S line replies else [])
-    known_seat line replies heard = go r.site refl
+    known_seat : (line : SeatLine) (replies : List Bool) → All StepHearsSpelled (seat_makes r line replies) → All (IsStep L K) (seat_makes r line replies)
+    known_seat line replies heard = go r.site heard
       where
-        go : (site : Bool) → r.site ≡ site → All (IsStep L K) (if site then line_makes S line replies else [])
-        go true is = known_line L K kept draw laws S line replies story.drew (heard is) whole_here
-        go false is = All-nil (IsStep L K)
+        go : (site : Bool) → All StepHearsSpelled (if site then line_makes S line replies else []) → All (IsStep L K) (if site then line_makes S line replies else [])
+        go true heard = known_line L K kept draw laws S line replies story.drew heard whole_here
+        go false heard = All-nil (IsStep L K)
 
     -- lines about sessions
 
@@ -261,7 +260,7 @@ module _ (L : LanesState → Type 0) (K : ℕ → Option ℕ → Type 0) (kept :
     stand_reopen (UnstartedBoot refusal) = all
 
     -- connections stand behind a line over a boot, and so they do before each step that it makes
-    stand_over : (line : Line) (replies : Replies) → HearsOver r line replies → StandTo (line_over r line replies) × All (IsStep L K) (makes_over r line replies)
+    stand_over : (line : Line) (replies : Replies) → All StepHearsSpelled (makes_over r line replies) → StandTo (line_over r line replies) × All (IsStep L K) (makes_over r line replies)
     stand_over lines.Pass replies heard = (all, All-nil (IsStep L K))
     stand_over (lines.Head line) replies heard = (all, All-nil (IsStep L K))
     stand_over (lines.Call n line) replies heard = (stand_same (within (with_callers r) (call_step r.boot r.callers n line)) (same_called r (call_step r.boot r.callers n line)), All-nil (IsStep L K))
@@ -281,7 +280,7 @@ module _ (L : LanesState → Type 0) (K : ℕ → Option ℕ → Type 0) (kept :
   stand_head head Refused = tt
   stand_head head (Done next text) = tt
 
-  stand_opened : (head : Head) (how : Opening) (line : Line) (replies : Replies) → HasCounts head.setup.counts → ((st : LanesState) → L st) → BootsRise 0 (first_start (Heading head) (opened_target head how)) → HearsOn (opened_target head how) line replies
+  stand_opened : (head : Head) (how : Opening) (line : Line) (replies : Replies) → HasCounts head.setup.counts → ((st : LanesState) → L st) → BootsRise 0 (first_start (Heading head) (opened_target head how)) → All StepHearsSpelled (makes_on (opened_target head how) line replies)
       → AllTo (line_on (opened_target head how) line replies) (makes_on (opened_target head how) line replies)
   stand_opened head (Opened start) line replies counts later rise heard =
       let r : RunningState = started (set_up head.setup 0) no_seats head.site start in
@@ -295,23 +294,23 @@ module _ (L : LanesState → Type 0) (K : ℕ → Option ℕ → Type 0) (kept :
       stand_over (Boots start.boot ∷ []) r story rise (λ st is left. no_seats_placed K st) line replies heard
   stand_opened head (UnstartedBoot refusal) line replies counts later rise heard = (tt, All-nil (IsStep L K))
 
-  stand_lines : (s : State) (before : List SessionTurn) → StoryOf L before s → StandAt K s → (line : Line) (replies : Replies) → BootsRise 0 (before ++ first_start s (target_of s (is_event line) replies.first)) → HearsOn (target_of s (is_event line) replies.first) line replies
+  stand_lines : (s : State) (before : List SessionTurn) → StoryOf L before s → StandAt K s → (line : Line) (replies : Replies) → BootsRise 0 (before ++ first_start s (target_of s (is_event line) replies.first)) → All StepHearsSpelled (makes_on (target_of s (is_event line) replies.first) line replies)
       → AllTo (step s line replies) (makes_on (target_of s (is_event line) replies.first) line replies)
   unfolding step
   stand_lines (Running r) before story all line replies rise heard = stand_over before r story (subst (BootsRise 0) (append-nil before) rise) all line replies heard
   stand_lines (Heading head) before (none, counts, later) all line replies rise heard = go (is_event line) (subst (λ (xs : List SessionTurn). BootsRise 0 (xs ++ first_start (Heading head) (target_of (Heading head) (is_event line) replies.first))) none rise) heard
     where
-      go : (event : Bool) → BootsRise 0 (first_start (Heading head) (target_of (Heading head) event replies.first)) → HearsOn (target_of (Heading head) event replies.first) line replies
+      go : (event : Bool) → BootsRise 0 (first_start (Heading head) (target_of (Heading head) event replies.first)) → All StepHearsSpelled (makes_on (target_of (Heading head) event replies.first) line replies)
           → AllTo (line_on (target_of (Heading head) event replies.first) line replies) (makes_on (target_of (Heading head) event replies.first) line replies)
       go false rise heard = (stand_head head (head_line head line), All-nil (IsStep L K))
       go true rise heard = stand_opened head (opening head.parts head.limits replies.first) line replies counts later rise heard
 
-  stand_answer : (s : State) (before : List SessionTurn) → StoryOf L before s → StandAt K s → (o : Option Line) (replies : Replies) → BootsRise 0 (before ++ starts_by s o replies) → HearsTo s o replies → AllTo (answer_to s o replies) (makes_to s o replies)
+  stand_answer : (s : State) (before : List SessionTurn) → StoryOf L before s → StandAt K s → (o : Option Line) (replies : Replies) → BootsRise 0 (before ++ starts_by s o replies) → All StepHearsSpelled (makes_to s o replies) → AllTo (answer_to s o replies) (makes_to s o replies)
   stand_answer s before story all None replies rise heard = (all, All-nil (IsStep L K))
   stand_answer s before story all (Some line) replies rise heard = stand_lines s before story all line replies rise heard
 
-  pub stand_turn : (s : State) (before : List SessionTurn) → StoryOf L before s → StandAt K s → (turn : Turn) → BootsRise 0 (before ++ starts_on s turn) → TurnHears s turn → AllTo (turn_outcome s turn) (turn_makes s turn)
-  unfolding turn_outcome starts_on turn_makes TurnHears
+  pub stand_turn : (s : State) (before : List SessionTurn) → StoryOf L before s → StandAt K s → (turn : Turn) → BootsRise 0 (before ++ starts_on s turn) → All StepHearsSpelled (turn_makes s turn) → AllTo (turn_outcome s turn) (turn_makes s turn)
+  unfolding turn_outcome starts_on turn_makes
   stand_turn s before story all turn rise heard = stand_answer s before story all (line_of turn.line) turn.replies rise heard
 
   -- boots that rise over all turns rise over the first

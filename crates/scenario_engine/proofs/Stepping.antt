@@ -1,5 +1,7 @@
 -- What parts of a line show of the whole line.
-use Rattle.std.proofs.Common.{◌≡◌, ◌⊎◌, ℕ, Bool, true, false, inl, inr, List, [], ◌∷◌, Option, Some, None, Result, Ok, Err, IfOk, MatchResult, refl, sym, ap, ◌∙◌, subst, string_bytes}
+use Rattle.std.proofs.Common.{◌≡◌, ◌⊎◌, ℕ, Bool, true, false, cond, inl, inr, List, [], ◌∷◌, Option, Some, None, Result, Ok, Err, IfOk, MatchResult, refl, sym, ap, ◌∙◌, subst, string_bytes}
+use Rattle.std.specs.Prelude.{All}
+use Rattle.std.proofs.lemmas.List.Elements.{All-nil}
 use Rattle.crash_base.specs.declared.memory.OutOfMemory.{OutOfMemory}
 use Rattle.boot_core.specs.declared.boot.Start.{Start}
 use Rattle.scenario_text.specs.Answer.{Answer, KeepsRefused, answer_of}
@@ -18,16 +20,16 @@ use Rattle.scenario_engine.specs.Engine.{Replies, Target, TheHead, TheBoot, TheU
 use Rattle.scenario_engine.specs.Seats.{in_boot}
 use Rattle.scenario_text.specs.declared.seat_line.SeatLine.{SeatLine}
 use Rattle.scenario_text.specs.declared.seat_line.SeatLine.TheVariants as seats
-use Rattle.seat_lines.specs.Hearing.{LineHears}
+use Rattle.seat_lines.specs.Making.{StepHearsSpelled, WasMade, line_makes}
 use Rattle.seat_lines.specs.Site.{SiteState, no_seats}
-use Rattle.scenario_engine.specs.Hearing.{HearsOn, HearsOver, HearsTo}
+use Rattle.scenario_engine.specs.Connections.{makes_on, makes_over, makes_to, seat_makes}
 use Rattle.scenario_engine.specs.KeeperCalls.{KeeperSeen, AreMade, AreSomeMade, AreSomeAsked}
 use Rattle.scenario_engine.specs.Opening.{StartReplies, Opened, start_calls}
 use Rattle.session_steps.specs.Setup.{set_up}
 use Rattle.scenario_engine.specs.Running.{started, reopened_over}
 use Rattle.scenario_engine.specs.Transcript.{calls_to}
 use Rattle.scenario_engine.specs.State.{RunningState, RunningValue, EngineValue, State, Heading, Running, Outcome, RefusedIn, DoneTo, UnstartedIn, site_of}
-use Rattle.scenario_engine.specs.Telling.{Opens, FailsToOpen, Commits, CommitsPartly, AnswersSeat, BreaksSeat, EndsSeat, Reaches, FailsToReach, DoesOn, DoesPartlyOn, BreaksOffOn, AnswersOn, EndsOn, Does, DoesPartly, BreaksOff, Answers, Ends}
+use Rattle.scenario_engine.specs.Telling.{Opens, FailsToOpen, Commits, CommitsPartly, AnswersSeat, BreaksSeat, EndsSeat, Reaches, FailsToReach, DoesOn, DoesPartlyOn, BreaksOffOn, AnswersOn, EndsOn, Does, DoesPartly, BreaksOff, Answers, Ends, WereMade}
 use Rattle.scenario_engine.proofs.Calls.{none_made, none_of, all_made, then_made, then_some, some_first}
 
 -- replies that nobody asks for
@@ -36,6 +38,10 @@ no_start = record { rows = None; keeps = true }
 
 abbrev no_replies : Replies
 no_replies = record { first = no_start; again = no_start; keeps = [] }
+
+-- no step is made
+pub no_steps : WereMade []
+no_steps = record { spelled = All-nil StepHearsSpelled; made = All-nil WasMade }
 
 -- a state that has a boot, or whose line is no event line, needs no start
 pub reached : (s : State) (k : KeeperSeen) → Reaches s false (target_in s) k k
@@ -65,9 +71,9 @@ fails_to_reach head failures.OutOfMemory old new h = record { replies = h.replie
 
 -- a line of the head
 pub in_the_head : (a : LineAnswer) (line : Line) (head next : Head) (k : KeeperSeen) → answer_of a next ≡ head_line head line → KeepsRefused a head next → AnswersOn a (Heading next) (TheHead head) line k k
-in_the_head answers.Refused line head next k is kept = record { replies = no_replies; answers = ap (λ h. RefusedIn (Heading h)) kept ∙ ap (in_head head) is; made = none_made k; heard = tt }
-in_the_head answers.Done line head next k is kept = record { replies = no_replies; answers = ap (in_head head) is; made = none_made k; heard = tt }
-in_the_head (answers.Wrote text) line head next k is kept = record { replies = no_replies; answers = ap (in_head head) is; made = none_made k; heard = tt }
+in_the_head answers.Refused line head next k is kept = record { replies = no_replies; answers = ap (λ h. RefusedIn (Heading h)) kept ∙ ap (in_head head) is; made = none_made k; steps = no_steps }
+in_the_head answers.Done line head next k is kept = record { replies = no_replies; answers = ap (in_head head) is; made = none_made k; steps = no_steps }
+in_the_head (answers.Wrote text) line head next k is kept = record { replies = no_replies; answers = ap (in_head head) is; made = none_made k; steps = no_steps }
 
 -- a boot that is started needs no start
 pub reached_run : (s : State) (event : Bool) (k : KeeperSeen) → is_heading s ≡ false → Reaches s event (target_in s) k k
@@ -75,24 +81,24 @@ reached_run (Running r) event k is = record { replies = no_start; is = refl; mad
 reached_run (Heading head) event k is = absurd (cc)
 
 -- a line over a boot, by the answer of its part
-over_boot : (a : LineAnswer) (line : Line) (r next : RunningState) (replies : Replies) (answer : Answer RunningState) (old new : KeeperSeen) → in_boot r answer ≡ line_on (TheBoot r) line replies → AreMade (calls_on (TheBoot r) line replies) old new → HearsOver r line replies → answer_of a next ≡ answer → KeepsRefused a r next → AnswersOn a (Running next) (TheBoot r) line old new
-over_boot answers.Refused line r next replies answer old new whole made heard is kept = record { replies = replies; answers = ap (λ s. RefusedIn (Running s)) kept ∙ (ap (in_boot r) is ∙ whole); made = made; heard = heard }
-over_boot answers.Done line r next replies answer old new whole made heard is kept = record { replies = replies; answers = ap (in_boot r) is ∙ whole; made = made; heard = heard }
-over_boot (answers.Wrote text) line r next replies answer old new whole made heard is kept = record { replies = replies; answers = ap (in_boot r) is ∙ whole; made = made; heard = heard }
+over_boot : (a : LineAnswer) (line : Line) (r next : RunningState) (replies : Replies) (answer : Answer RunningState) (old new : KeeperSeen) → in_boot r answer ≡ line_on (TheBoot r) line replies → AreMade (calls_on (TheBoot r) line replies) old new → WereMade (makes_over r line replies) → answer_of a next ≡ answer → KeepsRefused a r next → AnswersOn a (Running next) (TheBoot r) line old new
+over_boot answers.Refused line r next replies answer old new whole made steps is kept = record { replies = replies; answers = ap (λ s. RefusedIn (Running s)) kept ∙ (ap (in_boot r) is ∙ whole); made = made; steps = steps }
+over_boot answers.Done line r next replies answer old new whole made steps is kept = record { replies = replies; answers = ap (in_boot r) is ∙ whole; made = made; steps = steps }
+over_boot (answers.Wrote text) line r next replies answer old new whole made steps is kept = record { replies = replies; answers = ap (in_boot r) is ∙ whole; made = made; steps = steps }
 
 -- a line of the head that is passed over or refused, over a boot
 pub passed : (r : RunningState) (k : KeeperSeen) → AnswersOn answers.Done (Running r) (TheBoot r) lines.Pass k k
-passed r k = record { replies = no_replies; answers = refl; made = none_made k; heard = tt }
+passed r k = record { replies = no_replies; answers = refl; made = none_made k; steps = no_steps }
 
 pub head_refused : (r : RunningState) (line : HeadLine) (k : KeeperSeen) → AnswersOn answers.Refused (Running r) (TheBoot r) (lines.Head line) k k
-head_refused r line k = record { replies = no_replies; answers = refl; made = none_made k; heard = tt }
+head_refused r line k = record { replies = no_replies; answers = refl; made = none_made k; steps = no_steps }
 
 -- replies to a commit
 abbrev to_commit : Bool → Replies
 to_commit keeps = record { first = no_start; again = no_start; keeps = keeps ∷ [] }
 
 pub committed : (a : LineAnswer) (r next : RunningState) (caller : ℕ) (old new : KeeperSeen) → Commits r caller (answer_of a next) old new → KeepsRefused a r next → AnswersOn a (Running next) (TheBoot r) (lines.Commit caller) old new
-committed a r next caller old new h kept = over_boot a (lines.Commit caller) r next (to_commit h.keeps) _ old new refl h.made tt h.answers kept
+committed a r next caller old new h kept = over_boot a (lines.Commit caller) r next (to_commit h.keeps) _ old new refl h.made no_steps h.answers kept
 
 pub commit_partly : (r : RunningState) (caller : ℕ) (old new : KeeperSeen) → CommitsPartly r caller old new → DoesPartlyOn (TheBoot r) (lines.Commit caller) old new
 commit_partly r caller old new h = record { replies = no_replies; unkept = refl; made = h }
@@ -108,7 +114,7 @@ reopened r next start text old new is h wrote =
       replies = to_reopen h.replies;
       answers = ap (DoneTo (Running (reopened_over r start))) w ∙ ap (reopens r) h.opens;
       made = h.made;
-      heard = tt;
+      steps = no_steps;
     }) wrote
 
 pub reopened_partly : (r : RunningState) (start : Start) (old new : KeeperSeen) → Opens r.boot.start.deployment r.boot.start.limits (Opened start) old new → DoesPartlyOn (TheBoot r) lines.Reopen old new
@@ -117,7 +123,7 @@ reopened_partly r start old new h =
 
 pub reopen_ends : (r : RunningState) (failure : LineFailure) (old new : KeeperSeen) → FailsToOpen failure r.boot.start.deployment r.boot.start.limits old new → EndsOn failure (TheBoot r) lines.Reopen old new
 reopen_ends r (failures.Unstarted cause) old new h =
-    (Running r, record { replies = to_reopen h.replies; answers = ap (reopens r) h.opens; made = h.made; heard = tt })
+    (Running r, record { replies = to_reopen h.replies; answers = ap (reopens r) h.opens; made = h.made; steps = no_steps })
 reopen_ends r failures.OutOfMemory old new h =
     inl (record { replies = to_reopen h.replies; unkept = refl; made = h.made })
 
@@ -155,38 +161,45 @@ same_calls (TheBoot r) line first rest = go line
     go (lines.Session line) = refl
     go (lines.Seat line) = refl
 
-same_hears : (target : Target) (line : Line) (first : StartReplies) (rest : Replies) → HearsOn target line rest → HearsOn target line (both first rest)
-same_hears (TheHead head) line first rest heard = tt
-same_hears (TheUnstarted head cause) line first rest heard = tt
-same_hears (TheBoot r) line first rest heard = go line heard
+same_makes : (target : Target) (line : Line) (first : StartReplies) (rest : Replies) → makes_on target line rest ≡ makes_on target line (both first rest)
+same_makes (TheHead head) line first rest = refl
+same_makes (TheUnstarted head cause) line first rest = refl
+same_makes (TheBoot r) line first rest = go line
   where
-    go : (line : Line) → HearsOver r line rest → HearsOver r line (both first rest)
-    go lines.Pass heard = tt
-    go (lines.Head line) heard = tt
-    go (lines.Call caller line) heard = tt
-    go (lines.Commit caller) heard = tt
-    go (lines.Boot line) heard = tt
-    go lines.Reopen heard = tt
-    go (lines.Session line) heard = tt
-    go (lines.Seat line) heard = heard
+    go : (line : Line) → makes_over r line rest ≡ makes_over r line (both first rest)
+    go lines.Pass = refl
+    go (lines.Head line) = refl
+    go (lines.Call caller line) = refl
+    go (lines.Commit caller) = refl
+    go (lines.Boot line) = refl
+    go lines.Reopen = refl
+    go (lines.Session line) = refl
+    go (lines.Seat line) = refl
 
--- where no step is replied to, nothing is heard
-none_heard : (s : SiteState) (line : SeatLine) → LineHears s line []
-none_heard s (seats.Conn n) = tt
-none_heard s (seats.Bytes n bytes) = tt
-none_heard s (seats.End n) = tt
-none_heard s (seats.Step n) = tt
-none_heard s (seats.Run n) = tt
+-- where no step is replied to, none is made
+none_replied : (s : SiteState) (line : SeatLine) → line_makes s line [] ≡ []
+none_replied s (seats.Conn n) = refl
+none_replied s (seats.Bytes n bytes) = refl
+none_replied s (seats.End n) = refl
+none_replied s (seats.Step n) = refl
+none_replied s (seats.Run n) = refl
 
-unheard : (r : RunningState) (line : Line) → HearsOver r line no_replies
-unheard r lines.Pass = tt
-unheard r (lines.Head line) = tt
-unheard r (lines.Call caller line) = tt
-unheard r (lines.Commit caller) = tt
-unheard r (lines.Boot line) = tt
-unheard r lines.Reopen = tt
-unheard r (lines.Session line) = tt
-unheard r (lines.Seat line) = λ site. none_heard (site_of r) line
+none_in_boot : (r : RunningState) (line : SeatLine) → seat_makes r line [] ≡ []
+none_in_boot r line = go r.site
+  where
+    go : (site : Bool) → cond site (line_makes (site_of r) line []) [] ≡ []
+    go true = none_replied (site_of r) line
+    go false = refl
+
+unreplied : (r : RunningState) (line : Line) → WereMade (makes_over r line no_replies)
+unreplied r lines.Pass = no_steps
+unreplied r (lines.Head line) = no_steps
+unreplied r (lines.Call caller line) = no_steps
+unreplied r (lines.Commit caller) = no_steps
+unreplied r (lines.Boot line) = no_steps
+unreplied r lines.Reopen = no_steps
+unreplied r (lines.Session line) = no_steps
+unreplied r (lines.Seat line) = subst WereMade (sym (none_in_boot r line)) no_steps
 
 -- a line, by what it is done to
 does : (s : State) (line : Line) (target : Target) (outcome : Outcome) (old between new : KeeperSeen) → Reaches s (is_event line) target old between → DoesOn target line outcome between new → Does s (Some line) outcome old new
@@ -195,11 +208,12 @@ does s line target outcome old between new reach h =
     let replies : Replies = both reach.replies h.replies in
     let first = target_calls s (is_event line) reach.replies in
     let calls : calls_on target line h.replies ≡ calls_on (target_of s (is_event line) reach.replies) line replies = same_calls target line reach.replies h.replies ∙ ap (λ t. calls_on t line replies) reach.is in
+    let makes : makes_on target line h.replies ≡ makes_on (target_of s (is_event line) reach.replies) line replies = same_makes target line reach.replies h.replies ∙ ap (λ t. makes_on t line replies) reach.is in
     record {
       replies = replies;
       answers = h.answers ∙ same_line target line reach.replies h.replies ∙ ap (λ t. line_on t line replies) reach.is;
       made = then_made first _ old between new reach.made (subst (λ cs. AreMade cs between new) calls h.made);
-      heard = subst (λ t. HearsOn t line replies) reach.is (same_hears target line reach.replies h.replies h.heard);
+      steps = subst WereMade makes h.steps;
     }
 
 does_partly : (s : State) (line : Line) (target : Target) (old between new : KeeperSeen) → Reaches s (is_event line) target old between → DoesPartlyOn target line between new → DoesPartly s (Some line) old new
@@ -220,6 +234,7 @@ does_break s line target old between new reach h =
     let replies : Replies = both reach.replies h.replies in
     let first = target_calls s (is_event line) reach.replies in
     let calls : calls_on target line h.replies ≡ calls_on (target_of s (is_event line) reach.replies) line replies = same_calls target line reach.replies h.replies ∙ ap (λ t. calls_on t line replies) reach.is in
+    let makes : makes_on target line h.replies ≡ makes_on (target_of s (is_event line) reach.replies) line replies = same_makes target line reach.replies h.replies ∙ ap (λ t. makes_on t line replies) reach.is in
     record {
       replies = replies;
       mid = h.mid;
@@ -228,13 +243,19 @@ does_break s line target old between new reach h =
       whole = then_made first _ old between h.between reach.made (subst (λ cs. AreMade cs between h.between) calls h.whole);
       next = h.next;
       last = h.last;
-      heard = subst (λ t. HearsOn t line replies) reach.is (same_hears target line reach.replies h.replies h.heard);
+      steps = subst WereMade makes h.steps;
       last_heard = by h.last_heard;
     }
   where
-    by : AreSomeAsked [] h.between new ⊎ HearsOn target line (with_reply h.replies h.next) → AreSomeAsked [] h.between new ⊎ HearsTo s (Some line) (with_reply (both reach.replies h.replies) h.next)
+    rest : Replies
+    rest = with_reply h.replies h.next
+
+    makes_last : makes_on target line rest ≡ makes_to s (Some line) (both reach.replies rest)
+    makes_last = same_makes target line reach.replies rest ∙ ap (λ t. makes_on t line (both reach.replies rest)) reach.is
+
+    by : AreSomeAsked [] h.between new ⊎ All StepHearsSpelled (makes_on target line rest) → AreSomeAsked [] h.between new ⊎ All StepHearsSpelled (makes_to s (Some line) (both reach.replies rest))
     by (inl none) = inl none
-    by (inr heard) = inr (subst (λ t. HearsOn t line (with_reply (both reach.replies h.replies) h.next)) reach.is (same_hears target line reach.replies (with_reply h.replies h.next) heard))
+    by (inr heard) = inr (subst (All StepHearsSpelled) makes_last heard)
 
 pub does_line : (a : LineAnswer) (s after : State) (line : Line) (target : Target) (old between new : KeeperSeen) → Reaches s (is_event line) target old between → AnswersOn a after target line between new → Answers a after s (Some line) old new
 does_line answers.Refused s after line target old between new reach h = does s line target (RefusedIn after) old between new reach h
@@ -250,7 +271,7 @@ ends_line failures.OutOfMemory s line target old between new reach (inr h) = inr
 pub ends_before : (failure : LineFailure) (s : State) (line : Line) (old new : KeeperSeen) → FailsToReach failure s (is_event line) old new → Ends failure s (Some line) old new
 unfolding line_calls
 ends_before (failures.Unstarted cause) s line old new (head, h) =
-    (Heading head, does s line (TheUnstarted head cause) (UnstartedIn (Heading head) cause) old new new h (record { replies = no_replies; answers = refl; made = none_made new; heard = tt }))
+    (Heading head, does s line (TheUnstarted head cause) (UnstartedIn (Heading head) cause) old new new h (record { replies = no_replies; answers = refl; made = none_made new; steps = no_steps }))
 ends_before failures.OutOfMemory s line old new h =
     let replies : Replies = both h.replies no_replies in
     inl (record { replies = replies; unkept = refl; made = some_first (target_calls s (is_event line) h.replies) _ old new h.made })
@@ -306,7 +327,7 @@ uncalled target line k = record { replies = no_replies; unkept = refl; made = no
 
 -- a text that spells no line
 pub spells_none : (s : State) (line : Option Line) (k : KeeperSeen) → line ≡ None → Answers answers.Refused s s line k k
-spells_none s line k none = subst (λ o. Answers answers.Refused s s o k k) (sym none) (record { replies = no_replies; answers = refl; made = none_made k; heard = tt })
+spells_none s line k none = subst (λ o. Answers answers.Refused s s o k k) (sym none) (record { replies = no_replies; answers = refl; made = none_made k; steps = no_steps })
 
 -- how a part of a line ended, for which memory may have run out
 abbrev pub PartEnded : Result LineAnswer OutOfMemory → EngineValue → EngineValue → Line → Type 0
@@ -325,9 +346,9 @@ abbrev to_seat : List Bool → Replies
 to_seat keeps = record { first = no_start; again = no_start; keeps = keeps }
 
 seat_done : (a : LineAnswer) (line : SeatLine) (r next : RunningState) (old new : KeeperSeen) → AnswersSeat r line (answer_of a next) old new → KeepsRefused a r next → AnswersOn a (Running next) (TheBoot r) (lines.Seat line) old new
-seat_done answers.Refused line r next old new h kept = record { replies = to_seat h.keeps; answers = ap (λ s. RefusedIn (Running s)) kept ∙ h.answers; made = h.made; heard = h.heard }
-seat_done answers.Done line r next old new h kept = record { replies = to_seat h.keeps; answers = h.answers; made = h.made; heard = h.heard }
-seat_done (answers.Wrote text) line r next old new h kept = record { replies = to_seat h.keeps; answers = h.answers; made = h.made; heard = h.heard }
+seat_done answers.Refused line r next old new h kept = record { replies = to_seat h.keeps; answers = ap (λ s. RefusedIn (Running s)) kept ∙ h.answers; made = h.made; steps = h.steps }
+seat_done answers.Done line r next old new h kept = record { replies = to_seat h.keeps; answers = h.answers; made = h.made; steps = h.steps }
+seat_done (answers.Wrote text) line r next old new h kept = record { replies = to_seat h.keeps; answers = h.answers; made = h.made; steps = h.steps }
 
 -- memory ran out and nothing was handed to the keeper
 nothing_made : (target : Target) (line : Line) (old new : KeeperSeen) → AreMade [] old new → DoesPartlyOn target line old new
@@ -347,7 +368,7 @@ nothing_made target line old new h = record {
 
 broken_seat : (line : SeatLine) (r : RunningState) (old new : KeeperSeen) → BreaksSeat r line old new → BreaksOffOn (TheBoot r) (lines.Seat line) old new
 unfolding next_calls
-broken_seat line r old new h = record { replies = to_seat h.keeps; mid = Running h.mid; comes = h.comes; between = h.between; whole = h.whole; next = h.next; last = h.last; heard = h.heard; last_heard = h.last_heard }
+broken_seat line r old new h = record { replies = to_seat h.keeps; mid = Running h.mid; comes = h.comes; between = h.between; whole = h.whole; next = h.next; last = h.last; steps = h.steps; last_heard = h.last_heard }
 
 seat_broken : (line : SeatLine) (r : RunningState) (old new : KeeperSeen) → EndsSeat r line old new → EndsOn failures.OutOfMemory (TheBoot r) (lines.Seat line) old new
 seat_broken line r old new (inl none) = inl (nothing_made (TheBoot r) (lines.Seat line) old new none)
@@ -368,7 +389,7 @@ uncalled_ended part line r next answer whole none is kept same =
     subst P (sym same) (go part is kept)
   where
     go : (part : Result LineAnswer OutOfMemory) → IfOk part (λ a. answer_of a next.running ≡ answer) → IfOk part (λ a. KeepsRefused a r.running next.running) → PartEnded part (record { state = Running next.running; keeper = r.keeper }) (in_run r) line
-    go (Ok a) is kept = over_boot a line r.running next.running no_replies answer r.keeper r.keeper whole (subst (λ cs. AreMade cs r.keeper r.keeper) (sym none) (none_made r.keeper)) (unheard r.running line) is kept
+    go (Ok a) is kept = over_boot a line r.running next.running no_replies answer r.keeper r.keeper whole (subst (λ cs. AreMade cs r.keeper r.keeper) (sym none) (none_made r.keeper)) (unreplied r.running line) is kept
     go (Err e) is kept = uncalled (TheBoot r.running) line r.keeper
 
 pub commit_ended : (part : Result LineAnswer OutOfMemory) (r next : RunningValue) (caller : ℕ) → MatchResult part (λ a. Commits r.running caller (answer_of a next.running) r.keeper next.keeper) (λ none. CommitsPartly r.running caller r.keeper next.keeper) → IfOk part (λ a. KeepsRefused a r.running next.running) → PartEnded part (in_run next) (in_run r) (lines.Commit caller)

@@ -1,57 +1,54 @@
--- The steps that lines about connections make, one after the other; and over a boot such lines are taken.
-use Rattle.std.proofs.Common.{◌≡◌, ◌≢◌, ℕ, ◌+◌, ◌≤◌, Bool, true, false, cond, nat_lt, List, [], ◌∷◌, ◌++◌, length, Option, Some, None, append-nil, append_assoc, arith, refl, ap, sym, ◌∙◌}
+-- The steps that turns make, one after the other; and over a boot lines about connections are taken.
+use Rattle.std.proofs.Common.{◌≡◌, ◌≢◌, ℕ, ◌+◌, ◌≤◌, Bool, true, false, cond, nat_lt, List, [], ◌∷◌, ◌++◌, length, Option, Some, None, append-nil, append_assoc, arith, refl, ap, sym, subst, ◌∙◌}
+use Rattle.std.specs.Prelude.{All}
 use Rattle.std.proofs.lemmas.Bool.Decides.{nat_tests}
-use Rattle.scenario_text.specs.Answer.{Answer, Refused, Done, within}
+use Rattle.std.proofs.lemmas.List.Elements.{All-append, All-cons, All-head, All-nil, All-tail}
+use Rattle.scenario_text.specs.Answer.{Answer, Refused, Done}
 use Rattle.scenario_text.specs.Reading.{line_of}
 use Rattle.scenario_text.specs.declared.line.Line.{Line}
 use Rattle.scenario_text.specs.declared.line.Line.TheVariants as lines
 use Rattle.scenario_text.specs.declared.line.TheConstants.{MAX_LINE_BYTES}
 use Rattle.scenario_text.specs.declared.seat_line.SeatLine.{SeatLine}
-use Rattle.scenario_text.specs.declared.seat_line.SeatLine.TheVariants as seats
 use Rattle.seat_lines.specs.Lines.{step_line}
+use Rattle.seat_lines.specs.Making.{StepMade, line_makes, run_makes}
 use Rattle.seat_lines.specs.Runs.{rests, seat_line, steps_from}
 use Rattle.seat_lines.specs.Site.{SiteState, seat_at}
-use Rattle.scenario_engine.specs.Connections.{StepMade, line_makes, made_from, makes_to, run_makes, turn_makes}
+use Rattle.scenario_engine.specs.Connections.{made_from, makes_to, turn_makes}
 use Rattle.scenario_engine.specs.Seats.{by_replies, seat_over}
 use Rattle.scenario_engine.specs.State.{RunningState, State, Running, Outcome, RefusedIn, DoneTo, UnstartedIn, UnderWayIn, site_of, with_site}
-use Rattle.scenario_engine.specs.Transcript.{Turn, End, Ended, RefusedAt, TooLong, Unstarted, UnderWay, end_from, first, turn_outcome}
+use Rattle.scenario_engine.specs.Transcript.{Turn, Ended, RefusedAt, TooLong, Unstarted, UnderWay, end_from, first, turn_outcome}
 
--- a step that is done is made
-pub step_made : (s t : SiteState) (n : ℕ) (keeps : Bool) (more : List Bool) (out : List ℕ) → step_line s n keeps ≡ Done t out
-    → line_makes s (seats.Step n) (keeps ∷ more) ≡ record { site = s; number = n; keeps = keeps } ∷ []
-step_made s t n keeps more out is = ap (λ (a : Answer SiteState). elim a [ Refused ↦ [] | Done u text ↦ record { site = s; number = n; keeps = keeps } ∷ [] ]) is
-
--- a run that is not at its end makes one step
-one_made : (s t : SiteState) (n : ℕ) (keeps : Bool) (out : List ℕ) → rests (seat_at s.seats.seats n) ≡ false → step_line s n keeps ≡ Done t out
-    → run_makes s n (keeps ∷ []) ≡ record { site = s; number = n; keeps = keeps } ∷ []
-one_made s t n keeps out going is =
-    ap (λ (b : Bool). cond b [] (elim (step_line s n keeps) [ Refused ↦ [] | Done u text ↦ record { site = s; number = n; keeps = keeps } ∷ [] ])) going
-    ∙ ap (λ (a : Answer SiteState). elim a [ Refused ↦ [] | Done u text ↦ record { site = s; number = n; keeps = keeps } ∷ [] ]) is
-
--- and behind its steps it makes one more
-pub run_made : (before : List Bool) (s mid t : SiteState) (n : ℕ) (keeps : Bool) (out : List ℕ) → steps_from s n before ≡ Some mid → rests (seat_at mid.seats.seats n) ≡ false → step_line mid n keeps ≡ Done t out
-    → run_makes s n (before ++ keeps ∷ []) ≡ run_makes s n before ++ record { site = mid; number = n; keeps = keeps } ∷ []
-run_made [] s mid t n keeps out comes going is =
-    let same : s ≡ mid = cc in
-    ap (λ (x : SiteState). run_makes x n (keeps ∷ [])) same ∙ one_made mid t n keeps out going is
-run_made (k ∷ before) s mid t n keeps out comes going is =
-    go (rests (seat_at s.seats.seats n)) (step_line s n k) (λ u on. run_made before u mid t n keeps out on going is) comes
+-- steps of a run are such, and so is one more behind them, if it is made
+pub run_once_more : (P : StepMade → Type 0) (s t : SiteState) (n : ℕ) (replies : List Bool) (last : Bool) → steps_from s n replies ≡ Some t → All P (run_makes s n replies) → P (record { site = t; number = n; keeps = last }) → All P (run_makes s n (replies ++ last ∷ []))
+run_once_more P s t n [] last is all one =
+    let same : s ≡ t = cc in
+    one_more (rests (seat_at s.seats.seats n)) (step_line s n last) (subst (λ (x : SiteState). P (record { site = x; number = n; keeps = last })) (sym same) one)
   where
-    last : StepMade
-    last = record { site = mid; number = n; keeps = keeps }
-
     this : StepMade
-    this = record { site = s; number = n; keeps = k }
+    this = record { site = s; number = n; keeps = last }
 
-    go : (b : Bool) (a : Answer SiteState) → ((u : SiteState) → steps_from u n before ≡ Some mid → run_makes u n (before ++ keeps ∷ []) ≡ run_makes u n before ++ last ∷ [])
-        → cond b None (elim a [ Refused ↦ None | Done u text ↦ steps_from u n before ]) ≡ Some mid
-        → cond b [] (elim a [ Refused ↦ [] | Done u text ↦ this ∷ run_makes u n (before ++ keeps ∷ []) ]) ≡ cond b [] (elim a [ Refused ↦ [] | Done u text ↦ this ∷ run_makes u n before ]) ++ last ∷ []
-    go true a later on = absurd (cc)
-    go false Refused later on = absurd (cc)
-    go false (Done u text) later on = ap (λ (xs : List StepMade). this ∷ xs) (later u on)
+    one_more : (b : Bool) (a : Answer SiteState) → P this → All P (cond b [] (elim a [ Refused ↦ [] | Done u out ↦ this ∷ [] ]))
+    one_more true a its = All-nil P
+    one_more false Refused its = All-nil P
+    one_more false (Done u out) its = All-cons P this [] its (All-nil P)
+run_once_more P s t n (keeps ∷ replies) last is all one =
+    go (λ u on each. run_once_more P u t n replies last on each one) (rests (seat_at s.seats.seats n)) (step_line s n keeps) is all
+  where
+    this : StepMade
+    this = record { site = s; number = n; keeps = keeps }
+
+    go : ((u : SiteState) → steps_from u n replies ≡ Some t → All P (run_makes u n replies) → All P (run_makes u n (replies ++ last ∷ []))) → (b : Bool) (a : Answer SiteState)
+        → cond b None (elim a [ Refused ↦ None | Done u out ↦ steps_from u n replies ]) ≡ Some t
+        → All P (cond b [] (elim a [ Refused ↦ [] | Done u out ↦ this ∷ run_makes u n replies ]))
+        → All P (cond b [] (elim a [ Refused ↦ [] | Done u out ↦ this ∷ run_makes u n (replies ++ last ∷ []) ]))
+    go later true a on each = absurd (cc)
+    go later false Refused on each = absurd (cc)
+    go later false (Done u out) on each =
+        All-cons P this (run_makes u n (replies ++ last ∷ [])) (All-head P this (run_makes u n replies) each)
+        (later u on (All-tail P this (run_makes u n replies) each))
 
 -- the steps of turns that were done, and of more behind them
-made-more : (s t : State) (n : ℕ) (turns more : List Turn) → end_from s n turns ≡ Ended t → made_from s (turns ++ more) ≡ made_from s turns ++ made_from t more
+pub made-more : (s t : State) (n : ℕ) (turns more : List Turn) → end_from s n turns ≡ Ended t → made_from s (turns ++ more) ≡ made_from s turns ++ made_from t more
 made-more s t n [] more h = let same : s ≡ t = cc in ap (λ (u : State). made_from u more) same
 made-more s t n (turn ∷ turns) more h = go (nat_lt MAX_LINE_BYTES (length turn.line)) (turn_outcome s turn) (λ u k. made-more u t (n + 1) turns more k) h
   where
@@ -78,6 +75,11 @@ made-turn s turn short = ap (λ (b : Bool). cond b [] (turn_makes s turn ++ elim
 -- turns that were done, and one more
 pub made-push : (turns : List Turn) (turn : Turn) (s : State) → end_from first 1 turns ≡ Ended s → length turn.line ≤ MAX_LINE_BYTES → made_from first (turns ++ turn ∷ []) ≡ made_from first turns ++ turn_makes s turn
 made-push turns turn s h short = made-more first s 1 turns (turn ∷ []) h ∙ ap (λ (xs : List StepMade). made_from first turns ++ xs) (made-turn s turn short)
+
+-- steps of turns that were done are such, and so are those of one more, however it ends
+pub all-push : (P : StepMade → Type 0) (s : State) (turns : List Turn) (turn : Turn) → end_from first 1 turns ≡ Ended s → length turn.line ≤ MAX_LINE_BYTES → All P (made_from first turns) → All P (turn_makes s turn) → All P (made_from first (turns ++ turn ∷ []))
+all-push P s turns turn h short all last =
+    subst (All P) (sym (made-push turns turn s h short)) (All-append P (made_from first turns) (turn_makes s turn) all last)
 
 -- a turn over a boot makes the steps of its line
 pub turn_made : (r : RunningState) (turn : Turn) (line : SeatLine) → line_of turn.line ≡ Some (lines.Seat line) → r.site ≡ true → turn_makes (Running r) turn ≡ line_makes (site_of r) line turn.replies.keeps

@@ -5,11 +5,11 @@ use Rattle.std.proofs.lemmas.List.{map-append}
 use Rattle.scenario_engine.specs.declared.failure.UnstartedCause.{UnstartedCause}
 use Rattle.scenario_text.specs.Reading.{line_of}
 use Rattle.scenario_text.specs.declared.line.TheConstants.{MAX_LINE_BYTES}
+use Rattle.scenario_engine.specs.Connections.{turn_makes}
 use Rattle.scenario_engine.specs.Engine.{Replies}
-use Rattle.scenario_engine.specs.Hearing.{AllHeard, TurnHears}
 use Rattle.scenario_engine.specs.KeeperCalls.{KeeperCall, KeeperSeen, AreMade}
 use Rattle.scenario_engine.specs.State.{State, Outcome, RefusedIn, DoneTo, UnstartedIn, UnderWayIn}
-use Rattle.scenario_engine.specs.Telling.{Does}
+use Rattle.scenario_engine.specs.Telling.{Does, WereMade}
 use Rattle.scenario_engine.specs.Transcript.{Turn, lines_in, first, turn_outcome, turn_calls, transcript, End, Ended, RefusedAt, TooLong, Unstarted, UnderWay, end_from, calls_from}
 use Rattle.scenario_engine.proofs.Calls.{then_made}
 
@@ -158,33 +158,15 @@ transcript-push s t turns turn text h done = transcript-more first s 1 turns (tu
 pub calls_from-push : (s : State) (turns : List Turn) (turn : Turn) → end_from first 1 turns ≡ Ended s → length turn.line ≤ MAX_LINE_BYTES → calls_from first (turns ++ turn ∷ []) ≡ calls_from first turns ++ turn_calls s turn
 calls_from-push s turns turn h short = calls_from-more first s 1 turns (turn ∷ []) h ∙ ap (λ cs. calls_from first turns ++ cs) (calls_from-turn s turn short)
 
--- what connections hear in turns, and in more behind them
-pub heard-more : (s t : State) (n : ℕ) (turns more : List Turn) → end_from s n turns ≡ Ended t → AllHeard s turns → AllHeard t more → AllHeard s (turns ++ more)
-heard-more s t n [] more h heard later = let same : s ≡ t = cc in subst (λ (u : State). AllHeard u more) (sym same) later
-heard-more s t n (turn ∷ turns) more h heard later = λ short. (
-  (heard short).0,
-  λ u text done. heard-more u t (n + 1) turns more (behind u text short done) ((heard short).1 u text done) later,
-)
-  where
-    after : Outcome → End
-    after o = elim o [ RefusedIn u ↦ RefusedAt u n | DoneTo u text ↦ end_from u (n + 1) turns | UnstartedIn u r ↦ Unstarted u r | UnderWayIn u ↦ UnderWay u n ]
-
-    behind : (u : State) (text : List ℕ) → length turn.line ≤ MAX_LINE_BYTES → turn_outcome s turn ≡ DoneTo u text → end_from u (n + 1) turns ≡ Ended t
-    behind u text short done = sym (ap (λ b. cond b (TooLong s n) (after (turn_outcome s turn))) (short_test turn.line short) ∙ ap after done) ∙ h
-
--- in turns that were done, and in one more, however it ends
-pub heard-push : (s : State) (turns : List Turn) (turn : Turn) → end_from first 1 turns ≡ Ended s → AllHeard first turns → TurnHears s turn → AllHeard first (turns ++ turn ∷ [])
-heard-push s turns turn h heard last = heard-more first s 1 turns (turn ∷ []) h heard (λ short. (last, λ u text done. tt))
-
 -- a text that was done is a turn
 pub turn_done : (s : State) (line : List ℕ) (o : Outcome) (old new : KeeperSeen) (d : Does s (line_of line) o old new) → turn_outcome s (record { line = line; replies = d.replies }) ≡ o
 unfolding turn_outcome
 turn_done s line o old new d = sym d.answers
 
--- what connections heard by it
-pub turn_heard : (s : State) (line : List ℕ) (o : Outcome) (old new : KeeperSeen) (d : Does s (line_of line) o old new) → TurnHears s (record { line = line; replies = d.replies })
-unfolding TurnHears
-turn_heard s line o old new d = d.heard
+-- the steps of connections by it
+pub turn_steps : (s : State) (line : List ℕ) (o : Outcome) (old new : KeeperSeen) (d : Does s (line_of line) o old new) → WereMade (turn_makes s (record { line = line; replies = d.replies }))
+unfolding turn_makes
+turn_steps s line o old new d = d.steps
 
 -- calls that were made as turns say, and for a text that was done after them
 pub made-push : (s : State) (turns : List Turn) (line : List ℕ) (o : Outcome) (old between new : KeeperSeen) → end_from first 1 turns ≡ Ended s → length line ≤ MAX_LINE_BYTES → AreMade (calls_from first turns) old between → (d : Does s (line_of line) o between new) → AreMade (calls_from first (turns ++ record { line = line; replies = d.replies } ∷ [])) old new

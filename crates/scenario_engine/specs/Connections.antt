@@ -1,19 +1,17 @@
 -- The steps that connections of browsers make in a scenario, and what they read of their sessions.
 use Rattle.std.specs.Prelude.{◌≡◌, ℕ, ◌-◌, ◌^◌, ◌<◌, ◌≤◌, All, nat_lt, Bool, if◌then◌else◌, List, [], ◌∷◌, ◌++◌, length, Option, Some, None, Ok}
 use Rattle.lane_link.specs.Twins.{ByEvents}
-use Rattle.scenario_text.specs.Answer.{Refused, Done}
 use Rattle.scenario_text.specs.Line.{is_event}
 use Rattle.scenario_text.specs.Reading.{line_of}
 use Rattle.scenario_text.specs.declared.line.Line.{Line}
 use Rattle.scenario_text.specs.declared.line.Line.TheVariants as lines
 use Rattle.scenario_text.specs.declared.line.TheConstants.{MAX_LINE_BYTES}
 use Rattle.scenario_text.specs.declared.seat_line.SeatLine.{SeatLine}
-use Rattle.scenario_text.specs.declared.seat_line.SeatLine.TheVariants as seats
 use Rattle.seat_laws.specs.Reads.{IsFoundOrLost, ReadsRightly, order_of, read_heard, read_under_way, value_written}
 use Rattle.seat_laws.specs.Standing.{SeatStands}
-use Rattle.seat_lines.specs.Lines.{givens_of, step_line, world_of}
-use Rattle.seat_lines.specs.Runs.{rests}
-use Rattle.seat_lines.specs.Site.{SiteState, seat_at}
+use Rattle.seat_lines.specs.Lines.{givens_of, world_of}
+use Rattle.seat_lines.specs.Making.{StepMade, line_makes}
+use Rattle.seat_lines.specs.Site.{SeatsState, seat_at}
 use Rattle.seat_steps.specs.Replies.{SeatHears}
 use Rattle.seat_steps.specs.Seats.{SeatOutcome, seat_step}
 use Rattle.seat_steps.specs.Twinned.{way_in}
@@ -30,40 +28,11 @@ use Rattle.scenario_engine.specs.Engine.{Replies, Target, TheHead, TheBoot, TheU
 use Rattle.scenario_engine.specs.State.{RunningState, State, Running, RefusedIn, DoneTo, UnstartedIn, UnderWayIn, site_of}
 use Rattle.scenario_engine.specs.Transcript.{Turn, Ended, first, end_from, turn_outcome}
 
--- A step that a connection makes: over this site, the connection of this number, where the keeper keeps what it is
--- handed or not.
-pub record StepMade : Type 0 where
-  pub site : SiteState
-  pub number : ℕ
-  pub keeps : Bool
+-- the steps that a line about connections makes over a boot: none where the deployment is not that of the site
+abbrev pub seat_makes : RunningState → SeatLine → List Bool → List StepMade
+seat_makes r line replies = if r.site then line_makes (site_of r) line replies else []
 
--- the step that is made where the keeper replies so first, if it is not refused
-abbrev pub step_makes : SiteState → ℕ → List Bool → List StepMade
-step_makes s n [] = []
-step_makes s n (keeps ∷ more) = elim (step_line s n keeps) [
-  | Refused ↦ []
-  | Done t out ↦ record { site = s; number = n; keeps = keeps } ∷ []
-]
-
--- the steps that a run makes from here on, where the keeper replies so to one after the other
-abbrev pub run_makes : SiteState → ℕ → List Bool → List StepMade
-run_makes s n [] = []
-run_makes s n (keeps ∷ more) =
-    if rests (seat_at s.seats.seats n) then [] else
-    (elim (step_line s n keeps) [
-      | Refused ↦ []
-      | Done t out ↦ record { site = s; number = n; keeps = keeps } ∷ run_makes t n more
-    ])
-
--- The steps that a line about connections makes, where the keeper replies so to one after the other.
-abbrev pub line_makes : SiteState → SeatLine → List Bool → List StepMade
-line_makes s (seats.Conn n) replies = []
-line_makes s (seats.Bytes n bytes) replies = []
-line_makes s (seats.End n) replies = []
-line_makes s (seats.Step n) replies = step_makes s n replies
-line_makes s (seats.Run n) replies = run_makes s n replies
-
--- the steps of connections that a line over a boot makes: none where the deployment is not that of the site
+-- the steps of connections that any line over a boot makes
 abbrev pub makes_over : RunningState → Line → Replies → List StepMade
 makes_over r lines.Pass replies = []
 makes_over r (lines.Head line) replies = []
@@ -72,7 +41,7 @@ makes_over r (lines.Commit caller) replies = []
 makes_over r (lines.Boot line) replies = []
 makes_over r lines.Reopen replies = []
 makes_over r (lines.Session line) replies = []
-makes_over r (lines.Seat line) replies = if r.site then line_makes (site_of r) line replies.keeps else []
+makes_over r (lines.Seat line) replies = seat_makes r line replies.keeps
 
 -- the same of a line that is done to a target
 abbrev pub makes_on : Target → Line → Replies → List StepMade
@@ -106,15 +75,15 @@ made_from s (turn ∷ turns) =
 pub record IsMadeBy (step : StepMade) (seat : Seat) (bricks : LanesState) : Type 0 where
   pub seat_is : seat_at step.site.seats.seats step.number ≡ Some seat
   pub bricks_are : step.site.sessions.store ≡ Some bricks
-  pub left : step.site.sessions.serial < 2 ^ 64 - 1
+  pub unspent : step.site.sessions.serial < 2 ^ 64 - 1
 
 -- what it leaves of the connection and of the bricks
 abbrev pub step_leaves : StepMade → Seat → LanesState → SeatOutcome
 step_leaves step seat bricks = seat_step (givens_of step.site step.number step.keeps) seat (world_of step.site bricks)
 
--- the connection of a number has no read and no write of its session under way in a boot, if it is there
-abbrev pub IsIdle : RunningState → ℕ → Type 0
-IsIdle r n = (seat : Seat) → seat_at r.seats.seats n ≡ Some seat → seat.twin ≡ None
+-- the connection of a number has no read and no write of its session under way, if it is there
+abbrev pub IsIdle : SeatsState → ℕ → Type 0
+IsIdle seats n = (seat : Seat) → seat_at seats.seats n ≡ Some seat → seat.twin ≡ None
 
 -- The read or the write of its session that a connection has under way, if it has one, began over later bricks than
 -- these: it is none of their calls.
@@ -123,16 +92,16 @@ BeganSince earlier seat = (number : ℕ) → seat.twin ≡ Some number → lengt
 
 -- A step is made by a connection that stands over bricks and hears what is spelled by its bytes. Events led to the
 -- bricks from earlier ones, which are sound; and what the connection has under way began since then, where it was idle
--- in the boot of that time.
-pub record StandsSince (past : RunningState) (earlier : LanesState) (step : StepMade) (seat : Seat) (bricks : LanesState) : Type 0 where
+-- among the connections of that time.
+pub record StandsSince (past : SeatsState) (earlier : LanesState) (step : StepMade) (seat : Seat) (bricks : LanesState) : Type 0 where
   pub stands : SeatStands seat bricks
-  pub hears : SeatHears seat bricks
+  pub spelled : SeatHears seat bricks
   pub sound : LanesAreSound earlier
   pub events : ByEvents earlier bricks
   pub begins : IsIdle past step.number → BeganSince earlier seat
 
 -- so is a step, whatever connection makes it over whatever bricks
-abbrev pub StepStands : RunningState → LanesState → StepMade → Type 0
+abbrev pub StepStands : SeatsState → LanesState → StepMade → Type 0
 StepStands past earlier step =
     (seat : Seat) (bricks : LanesState) → IsMadeBy step seat bricks → StandsSince past earlier step seat bricks
 
@@ -187,13 +156,32 @@ steps_before pause = made_from first pause.before
 abbrev pub steps_behind : {turns : List Turn} → Pause turns → List StepMade
 steps_behind pause = made_from (Running pause.running) pause.more
 
--- What browsers read of their sessions was written, in each step that is made while serials are left. At each pause the
--- cookies that writes of theirs have answered are acknowledged with what these wrote (`writes`). Behind the pause, each
--- step that hears what a read came to hears rightly, where the read's cookie was acknowledged at the pause and the read
--- began since (`reads`). Of a connection that was idle at the pause, or was not there, each read behind it began since;
--- and each step behind it is made by a connection that stands over the bricks, to which events led from those of the
--- pause (`stand`).
+-- A step among those that connections make in turns, with the steps before it and those behind it, which may be of its
+-- own line: it is made by this connection over these bricks.
+pub record StepAmong (turns : List Turn) : Type 0 where
+  pub before : List StepMade
+  pub step : StepMade
+  pub behind : List StepMade
+  pub steps_are : made_from first turns ≡ before ++ step ∷ behind
+  pub seat : Seat
+  pub bricks : LanesState
+  pub made : IsMadeBy step seat bricks
+
+-- What browsers read of their sessions was written, seen from a time: there were these connections over these bricks.
+-- The steps `before` were made up to then, and the steps `behind` from then on. The cookies that writes had answered by
+-- then are acknowledged then with what these wrote (`writes`). Each step behind that hears what a read came to hears
+-- rightly, where the read's cookie was acknowledged then and the read began since (`reads`). Of a connection that was
+-- idle then, or was not there, each read behind began since; and each step behind is made by a connection that stands
+-- over its bricks, to which events led from those of then (`stand`).
+pub record HasBrowsersAt (past : SeatsState) (bricks : LanesState) (before behind : List StepMade) : Type 0 where
+  pub writes : All (Wrote bricks) before
+  pub reads : All (ReadsBack bricks) behind
+  pub stand : All (StepStands past bricks) behind
+
+-- What browsers read of their sessions was written, in each step that is made while serials are left: by each pause
+-- between two turns (`pauses`), and by the begin of each step, also inside a run (`steps`).
 pub record HasBrowsers (turns : List Turn) : Type 0 where
-  pub writes : (pause : Pause turns) → All (Wrote pause.bricks) (steps_before pause)
-  pub reads : (pause : Pause turns) → All (ReadsBack pause.bricks) (steps_behind pause)
-  pub stand : (pause : Pause turns) → All (StepStands pause.running pause.bricks) (steps_behind pause)
+  pub pauses : (pause : Pause turns)
+      → HasBrowsersAt pause.running.seats pause.bricks (steps_before pause) (steps_behind pause)
+  pub steps : (at : StepAmong turns)
+      → HasBrowsersAt at.step.site.seats at.bricks (at.before ++ at.step ∷ []) (at.step ∷ at.behind)

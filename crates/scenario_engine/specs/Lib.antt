@@ -10,6 +10,7 @@ pub mod Engine
 pub mod Transcript
 pub mod Hearing
 pub mod Connections
+pub mod Serving
 pub mod Telling
 pub mod Told
 pub mod Sound

@@ -1,6 +1,6 @@
 -- What a line answers and asks of the keeper: that there are replies of the keeper by which it is so. Where memory runs
 -- out, what a line has asked of the keeper by then.
-use Rattle.std.specs.Prelude.{◌≡◌, ◌⊎◌, ℕ, Bool, false, List, [], ◌∷◌, ◌++◌, map, Option, Some, IfSome, string_bytes}
+use Rattle.std.specs.Prelude.{◌≡◌, ◌⊎◌, ℕ, All, Bool, false, List, [], ◌∷◌, ◌++◌, map, Option, Some, IfSome, string_bytes}
 use Rattle.boot_core.specs.declared.refusals.StartRefusal.{StartRefusal}
 use Rattle.boot_core.specs.declared.refusals.StartRefusal.TheVariants as refusals
 use Rattle.container_core.specs.Start.{boot_row}
@@ -17,8 +17,9 @@ use Rattle.scenario_text.specs.declared.seat_line.SeatLine.{SeatLine}
 use Rattle.scenario_engine.specs.declared.failure.UnstartedCause.TheVariants as causes
 use Rattle.scenario_engine.specs.declared.failure.LineFailure.{LineFailure}
 use Rattle.scenario_engine.specs.declared.failure.LineFailure.TheVariants as failures
+use Rattle.seat_lines.specs.Making.{StepHearsSpelled, StepMade, WasMade}
+use Rattle.scenario_engine.specs.Connections.{makes_on, makes_to, seat_makes}
 use Rattle.scenario_engine.specs.Engine.{Replies, Target, TheUnstarted, target_of, target_calls, line_on, calls_on, next_calls, with_reply}
-use Rattle.scenario_engine.specs.Hearing.{HearsOn, HearsTo, SeatLineHears}
 use Rattle.scenario_engine.specs.KeeperCalls.{KeeperSeen, AreMade, AreSomeMade, AreSomeAsked}
 use Rattle.scenario_engine.specs.Opening.{StartReplies, Opening, UnstartedBoot, opening, start_calls}
 use Rattle.scenario_engine.specs.Running.{commit_step, commit_calls}
@@ -54,12 +55,18 @@ pub record Commits (r : RunningState) (caller : ℕ) (answer : Answer RunningSta
 abbrev pub CommitsPartly : RunningState → ℕ → KeeperSeen → KeeperSeen → Type 0
 CommitsPartly r caller old new = AreSomeMade (commit_calls r caller false) old new
 
--- A line about connections came to this answer, and what they heard is spelled by its bytes.
+-- What these steps heard is spelled by its bytes, and they were made by their calls.
+pub record WereMade (steps : List StepMade) : Type 0 where
+  pub spelled : All StepHearsSpelled steps
+  pub made : All WasMade steps
+
+-- A line about connections came to this answer, where what its steps heard is spelled, and they were made by their
+-- calls.
 pub record AnswersSeat (r : RunningState) (line : SeatLine) (answer : Answer RunningState) (old new : KeeperSeen) : Type 0 where
   pub keeps : List Bool
   pub answers : in_boot r answer ≡ seat_over r line keeps
   pub made : AreMade (seat_calls r line keeps) old new
-  pub heard : SeatLineHears r line keeps
+  pub steps : WereMade (seat_makes r line keeps)
 
 -- Memory ran out in a step of a connection that a line makes over a boot: the whole steps before it led to this boot;
 -- then the first calls of the keeper by that step were made. What the whole steps heard is spelled; and what that step
@@ -72,8 +79,8 @@ pub record BreaksSeat (r : RunningState) (line : SeatLine) (old new : KeeperSeen
   pub whole : AreMade (seat_calls r line keeps) old between
   pub next : Bool
   pub last : AreSomeAsked (next_calls_over mid line next) between new
-  pub heard : SeatLineHears r line keeps
-  pub last_heard : AreSomeAsked [] between new ⊎ SeatLineHears r line (keeps ++ next ∷ [])
+  pub steps : WereMade (seat_makes r line keeps)
+  pub last_heard : AreSomeAsked [] between new ⊎ All StepHearsSpelled (seat_makes r line (keeps ++ next ∷ []))
 
 -- Memory ran out in a line about connections over a boot: the keeper was handed nothing, or in a step.
 abbrev pub EndsSeat : RunningState → SeatLine → KeeperSeen → KeeperSeen → Type 0
@@ -97,12 +104,12 @@ FailsToReach (failures.Unstarted cause) s event old new =
     (head : Head) × Reaches s event (TheUnstarted head cause) old new
 FailsToReach failures.OutOfMemory s event old new = ReachesPartly s event old new
 
--- A line was done to a target, with this outcome, and what connections heard is spelled.
+-- A line was done to a target, with this outcome, by steps of connections that were made by their calls.
 pub record DoesOn (target : Target) (line : Line) (outcome : Outcome) (old new : KeeperSeen) : Type 0 where
   pub replies : Replies
   pub answers : outcome ≡ line_on target line replies
   pub made : AreMade (calls_on target line replies) old new
-  pub heard : HearsOn target line replies
+  pub steps : WereMade (makes_on target line replies)
 
 -- A line was done to a target, which leaves this state: it was refused, or writes what the code answers.
 abbrev pub AnswersOn : LineAnswer → State → Target → Line
@@ -129,8 +136,8 @@ pub record BreaksOffOn (target : Target) (line : Line) (old new : KeeperSeen) : 
   pub whole : AreMade (calls_on target line replies) old between
   pub next : Bool
   pub last : AreSomeAsked (next_calls mid (Some line) next) between new
-  pub heard : HearsOn target line replies
-  pub last_heard : AreSomeAsked [] between new ⊎ HearsOn target line (with_reply replies next)
+  pub steps : WereMade (makes_on target line replies)
+  pub last_heard : AreSomeAsked [] between new ⊎ All StepHearsSpelled (makes_on target line (with_reply replies next))
 
 -- why a line was not done, whose boot was refused so
 abbrev pub failure_of : StartRefusal → LineFailure
@@ -145,12 +152,13 @@ EndsOn (failures.Unstarted cause) target line old new =
     (state : State) × DoesOn target line (UnstartedIn state cause) old new
 EndsOn failures.OutOfMemory target line old new = DoesPartlyOn target line old new ⊎ BreaksOffOn target line old new
 
--- A text that spells this line, or none, was done, with this outcome, and what connections heard is spelled.
+-- A text that spells this line, or none, was done, with this outcome, by steps of connections that were made by their
+-- calls.
 pub record Does (s : State) (line : Option Line) (outcome : Outcome) (old new : KeeperSeen) : Type 0 where
   pub replies : Replies
   pub answers : outcome ≡ answer_to s line replies
   pub made : AreMade (calls_to s line replies) old new
-  pub heard : HearsTo s line replies
+  pub steps : WereMade (makes_to s line replies)
 
 -- A text that spells this line, or none, was done, which leaves this state: it was refused, or writes what the code
 -- answers.
@@ -180,8 +188,8 @@ pub record BreaksOff (s : State) (line : Option Line) (old new : KeeperSeen) : T
   pub whole : AreMade (calls_to s line replies) old between
   pub next : Bool
   pub last : AreSomeAsked (next_calls mid line next) between new
-  pub heard : HearsTo s line replies
-  pub last_heard : AreSomeAsked [] between new ⊎ HearsTo s line (with_reply replies next)
+  pub steps : WereMade (makes_to s line replies)
+  pub last_heard : AreSomeAsked [] between new ⊎ All StepHearsSpelled (makes_to s line (with_reply replies next))
 
 -- Of the rows that the keeper held, where it tells, at most that of the boot's number is another.
 abbrev pub HoldsRowsButNumber : Option KeeperTold → Option KeeperTold → Type 0

@@ -1,19 +1,17 @@
 //! Laws of what connections do in scenarios. Each is the contract of a function that does nothing: a caller that needs
 //! the law calls the function.
 
-ghost use Rattle.std.specs.Prelude.{◌≡◌, ◌<◌, ◌≤◌, ◌-◌, ◌^◌, ◌++◌, ◌∷◌, [], ℕ, All, Bool, List, length, Some, false, true};
+ghost use Rattle.std.specs.Prelude.{◌≡◌, ◌<◌, ◌≤◌, ◌-◌, ◌^◌, ◌++◌, ◌∷◌, [], ℕ, All, Bool, List, length, Some, true};
 ghost use Rattle.outside.specs.Keeper.{KeeperTold};
-ghost use Rattle.scenario_text.specs.Answer.{Done};
 ghost use Rattle.scenario_text.specs.Reading.{line_of};
 ghost use Rattle.scenario_text.specs.declared.line.Line.TheVariants as lines;
 ghost use Rattle.scenario_text.specs.declared.line.TheConstants.{MAX_LINE_BYTES};
 ghost use Rattle.scenario_text.specs.declared.seat_line.SeatLine.{SeatLine};
-ghost use Rattle.scenario_text.specs.declared.seat_line.SeatLine.TheVariants as seats;
 ghost use Rattle.seat_laws.specs.Reads.{IsFoundOrLost, ReadsRightly, ReadsSince, order_of, read_heard, read_under_way};
 ghost use Rattle.seat_laws.specs.Standing.{SeatStands};
-ghost use Rattle.seat_lines.specs.Lines.{givens_of, step_line, world_of};
-ghost use Rattle.seat_lines.specs.Runs.{rests, steps_from};
-ghost use Rattle.seat_lines.specs.Site.{SiteState, seat_at};
+ghost use Rattle.seat_lines.specs.Lines.{givens_of, world_of};
+ghost use Rattle.seat_lines.specs.Making.{line_makes};
+ghost use Rattle.seat_lines.specs.Site.{seat_at};
 ghost use Rattle.seat_steps.specs.Replies.{SeatHears};
 ghost use Rattle.seat_steps.specs.Seats.{seat_step};
 ghost use Rattle.seat_steps.specs.declared.seat.Seat.{Seat};
@@ -22,8 +20,8 @@ ghost use Rattle.session_way.specs.Reading.{cookie_asked};
 ghost use Rattle.session_way.specs.declared.session_read.ReadOutcome.{ReadOutcome};
 ghost use Rattle.ssm_stub.specs.Reads.{ReadState};
 ghost use Rattle.ssm_world.specs.Claims.{IsAcknowledged};
-ghost use Rattle.scenario_engine.specs.Connections.{HasBrowsers, IsIdle, Pause, StepStands, Wrote, line_makes, made_from, steps_before, steps_behind, turn_makes};
-ghost use Rattle.scenario_engine.specs.Hearing.{AllHeard};
+ghost use Rattle.scenario_engine.specs.Connections.{HasBrowsers, IsIdle, Pause, StepAmong, StepStands, Wrote, made_from, steps_before, steps_behind, turn_makes};
+ghost use Rattle.scenario_engine.specs.Hearing.{AllHeardSpelled};
 ghost use Rattle.scenario_engine.specs.KeeperCalls.{TellsCalls};
 ghost use Rattle.scenario_engine.specs.Sound.{CommitsAsMeant};
 ghost use Rattle.scenario_engine.specs.State.{RunningState, State, Running, site_of};
@@ -61,27 +59,34 @@ pub fn journals_are_meant()
 /// turns: so the laws of `lane_link` say of its session that it reads what was written, and that `Lost` is answered
 /// only with a cause for each brick. And a connection that was idle at the end of the first turns, or was not there,
 /// waits behind further ones only for a read that began since. So it is of each step that connections make behind a
-/// pause; and what a write had answered to one before the pause is acknowledged then. It asks that what the steps of
-/// connections heard is spelled by its bytes (`AllHeard`), as each frame of the code is.
+/// pause, or from any step on, also of one line; and what a write had answered to one before the pause, or when that
+/// step begins, is acknowledged then. It asks that what the steps of connections heard is spelled by its bytes
+/// (`AllHeardSpelled`), as each frame of the code is.
 pub fn connections_stand_over_bricks()
     ensures stands { (turns : List Turn) (t u : KeeperTold) (r : RunningState) (st : LanesState) (n : ℕ)
         (seat : Seat) →
-        TellsCalls (calls_from first turns) (Some t) (Some u) → AllHeard first turns →
+        TellsCalls (calls_from first turns) (Some t) (Some u) → AllHeardSpelled first turns →
         last_state (end_from first 1 turns) ≡ Running r → r.sessions.store ≡ Some st →
         r.sessions.serial < 2 ^ 64 - 1 → seat_at r.seats.seats n ≡ Some seat → SeatStands seat st }
     ensures since { (turns more : List Turn) (t u : KeeperTold) (r q : RunningState) (st now : LanesState) (n : ℕ)
         (seat : Seat) (read : ReadState) →
-        TellsCalls (calls_from first (turns ++ more)) (Some t) (Some u) → AllHeard first (turns ++ more) →
-        end_from first 1 turns ≡ Ended (Running r) → r.sessions.store ≡ Some st → IsIdle r n →
+        TellsCalls (calls_from first (turns ++ more)) (Some t) (Some u) → AllHeardSpelled first (turns ++ more) →
+        end_from first 1 turns ≡ Ended (Running r) → r.sessions.store ≡ Some st → IsIdle r.seats n →
         last_state (end_from first 1 (turns ++ more)) ≡ Running q → q.sessions.store ≡ Some now →
         q.sessions.serial < 2 ^ 64 - 1 → seat_at q.seats.seats n ≡ Some seat →
         read_under_way seat.connection.stage ≡ Some read → ReadsSince st seat now read }
     ensures steps { (turns : List Turn) (t u : KeeperTold) (pause : Pause turns) →
-        TellsCalls (calls_from first turns) (Some t) (Some u) → AllHeard first turns →
-        All (StepStands pause.running pause.bricks) (steps_behind pause) }
+        TellsCalls (calls_from first turns) (Some t) (Some u) → AllHeardSpelled first turns →
+        All (StepStands pause.running.seats pause.bricks) (steps_behind pause) }
     ensures wrote { (turns : List Turn) (t u : KeeperTold) (pause : Pause turns) →
-        TellsCalls (calls_from first turns) (Some t) (Some u) → AllHeard first turns →
+        TellsCalls (calls_from first turns) (Some t) (Some u) → AllHeardSpelled first turns →
         All (Wrote pause.bricks) (steps_before pause) }
+    ensures since_step { (turns : List Turn) (t u : KeeperTold) (at : StepAmong turns) →
+        TellsCalls (calls_from first turns) (Some t) (Some u) → AllHeardSpelled first turns →
+        All (StepStands at.step.site.seats at.bricks) (at.step ∷ at.behind) }
+    ensures wrote_by_step { (turns : List Turn) (t u : KeeperTold) (at : StepAmong turns) →
+        TellsCalls (calls_from first turns) (Some t) (Some u) → AllHeardSpelled first turns →
+        All (Wrote at.bricks) (at.before ++ at.step ∷ []) }
 {
     boots_rise();
     seats_stand();
@@ -114,7 +119,7 @@ pub fn connections_stand_over_bricks()
 pub fn connections_read_what_was_written()
     ensures right { (turns : List Turn) (t u : KeeperTold) (r : RunningState) (st earlier : LanesState) (n : ℕ)
         (keeps : Bool) (seat : Seat) (read : ReadState) (value : List ℕ) (outcome : ReadOutcome) →
-        TellsCalls (calls_from first turns) (Some t) (Some u) → AllHeard first turns →
+        TellsCalls (calls_from first turns) (Some t) (Some u) → AllHeardSpelled first turns →
         last_state (end_from first 1 turns) ≡ Running r → r.sessions.store ≡ Some st →
         r.sessions.serial < 2 ^ 64 - 1 → seat_at r.seats.seats n ≡ Some seat → SeatHears seat st →
         ReadsSince earlier seat st read → IsAcknowledged earlier.world (cookie_asked read) value →
@@ -124,7 +129,7 @@ pub fn connections_read_what_was_written()
         (order_of read) value outcome }
     ensures in_time { (turns : List Turn) (t u : KeeperTold) (r : RunningState) (st earlier : LanesState) (n : ℕ)
         (keeps : Bool) (seat : Seat) (read : ReadState) (value : List ℕ) (outcome : ReadOutcome) →
-        TellsCalls (calls_from first turns) (Some t) (Some u) → AllHeard first turns →
+        TellsCalls (calls_from first turns) (Some t) (Some u) → AllHeardSpelled first turns →
         last_state (end_from first 1 turns) ≡ Running r → r.sessions.store ≡ Some st →
         r.sessions.serial < 2 ^ 64 - 1 → seat_at r.seats.seats n ≡ Some seat → SeatHears seat st →
         ReadsSince earlier seat st read → IsAcknowledged earlier.world (cookie_asked read) value →
@@ -143,8 +148,8 @@ pub fn connections_read_what_was_written()
 pub fn connections_read_back()
     ensures right { (turns more : List Turn) (t u : KeeperTold) (r q : RunningState) (st now : LanesState) (n : ℕ)
         (keeps : Bool) (seat : Seat) (read : ReadState) (value : List ℕ) (outcome : ReadOutcome) →
-        TellsCalls (calls_from first (turns ++ more)) (Some t) (Some u) → AllHeard first (turns ++ more) →
-        end_from first 1 turns ≡ Ended (Running r) → r.sessions.store ≡ Some st → IsIdle r n →
+        TellsCalls (calls_from first (turns ++ more)) (Some t) (Some u) → AllHeardSpelled first (turns ++ more) →
+        end_from first 1 turns ≡ Ended (Running r) → r.sessions.store ≡ Some st → IsIdle r.seats n →
         last_state (end_from first 1 (turns ++ more)) ≡ Running q → q.sessions.store ≡ Some now →
         q.sessions.serial < 2 ^ 64 - 1 → seat_at q.seats.seats n ≡ Some seat → SeatHears seat now →
         read_under_way seat.connection.stage ≡ Some read → IsAcknowledged st.world (cookie_asked read) value →
@@ -154,8 +159,8 @@ pub fn connections_read_back()
         (order_of read) value outcome }
     ensures in_time { (turns more : List Turn) (t u : KeeperTold) (r q : RunningState) (st now : LanesState) (n : ℕ)
         (keeps : Bool) (seat : Seat) (read : ReadState) (value : List ℕ) (outcome : ReadOutcome) →
-        TellsCalls (calls_from first (turns ++ more)) (Some t) (Some u) → AllHeard first (turns ++ more) →
-        end_from first 1 turns ≡ Ended (Running r) → r.sessions.store ≡ Some st → IsIdle r n →
+        TellsCalls (calls_from first (turns ++ more)) (Some t) (Some u) → AllHeardSpelled first (turns ++ more) →
+        end_from first 1 turns ≡ Ended (Running r) → r.sessions.store ≡ Some st → IsIdle r.seats n →
         last_state (end_from first 1 (turns ++ more)) ≡ Running q → q.sessions.store ≡ Some now →
         q.sessions.serial < 2 ^ 64 - 1 → seat_at q.seats.seats n ≡ Some seat → SeatHears seat now →
         read_under_way seat.connection.stage ≡ Some read → IsAcknowledged st.world (cookie_asked read) value →
@@ -168,28 +173,20 @@ pub fn connections_read_back()
 }
 
 /// Over a keeper that tells, what browsers read of their sessions was written, and what they wrote is acknowledged,
-/// whatever the turns, where what their steps heard is spelled by its bytes.
+/// whatever the turns, by each pause between two turns and by the begin of each step, where what their steps heard is
+/// spelled by its bytes.
 pub fn scenarios_have_browsers()
     ensures { (turns : List Turn) (t u : KeeperTold) → TellsCalls (calls_from first turns) (Some t) (Some u) →
-        AllHeard first turns → HasBrowsers turns }
+        AllHeardSpelled first turns → HasBrowsers turns }
 {
     connections_stand_over_bricks();
     seats_read_what_was_written();
 }
 
-/// The steps that connections make (`made_from`) are those of their lines, one after the other. A `step` that is done
-/// makes one, over the site as it is. A run makes, behind the steps that led to a site, one more there, where it is not
-/// at its end. A turn over a boot of the site makes the steps of its line. And turns that were done and one more behind
-/// them make the steps of those, and then its own.
+/// The steps that connections make (`made_from`) are those of their lines, one after the other: a turn over a boot of
+/// the site makes the steps of its line (`seat_lines::steps_made_are_those_of_a_line` says which these are), and turns
+/// that were done and one more behind them make the steps of those, and then its own.
 pub fn steps_made_are_those_of_lines()
-    ensures step { (s t : SiteState) (n : ℕ) (keeps : Bool) (more : List Bool) (out : List ℕ) →
-        step_line s n keeps ≡ Done t out →
-        line_makes s (seats.Step n) (keeps ∷ more) ≡ record { site = s; number = n; keeps = keeps } ∷ [] }
-    ensures run { (s mid t : SiteState) (n : ℕ) (before : List Bool) (keeps : Bool) (out : List ℕ) →
-        steps_from s n before ≡ Some mid → rests (seat_at mid.seats.seats n) ≡ false →
-        step_line mid n keeps ≡ Done t out →
-        line_makes s (seats.Run n) (before ++ keeps ∷ [])
-        ≡ line_makes s (seats.Run n) before ++ record { site = mid; number = n; keeps = keeps } ∷ [] }
     ensures line { (r : RunningState) (turn : Turn) (line : SeatLine) → line_of turn.line ≡ Some (lines.Seat line) →
         r.site ≡ true → turn_makes (Running r) turn ≡ line_makes (site_of r) line turn.replies.keeps }
     ensures turns { (turns : List Turn) (turn : Turn) (s : State) → end_from first 1 turns ≡ Ended s →

@@ -59,3 +59,15 @@ pub fn runs_of_scenarios_come_to_rest()
     scenarios_have_sessions();
     windows_keep_their_limits();
 }
+
+/// A boot of the site has the site's parts, whatever the turns, also where they stop at a line: so what
+/// `seat_laws::pages_of_seats_are_meant` asks of the boot of a connection is so.
+pub fn boots_of_the_site_have_its_parts()
+    ensures { (turns : List Turn) (r : RunningState) → r.site ≡ true
+        → last_state (end_from first 1 turns) ≡ Running r → r.boot.start.deployment ≡ site_parts }
+{
+    lines_are_taken();
+    lines_change_one_connection();
+    steps_are_those_of_seats();
+    seats_come_to_rest();
+}

@@ -5,7 +5,7 @@ use Rattle.scenario_engine.proofs.Pausing.{all_stand, pause_stands, reads_since}
 use Rattle.scenario_engine.proofs.SeatsLead.{DrawLaws}
 use Rattle.scenario_engine.proofs.SeatsStand.{StandLaws}
 use Rattle.scenario_engine.proofs.Standing.{TurnLaws, lent_events}
-use Rattle.scenario_engine.proofs.Writing.{WriteLaws, pause_wrote}
+use Rattle.scenario_engine.proofs.Writing.{WriteLaws, pause_wrote, steps_stand, steps_wrote}
 use Rattle.scenario_engine.proofs.connections.connections_stand_over_bricks.Goals as goal
 
 before : SERIALS_END ≤ 2 ^ 64 - 1
@@ -77,7 +77,17 @@ pub returns-clause-steps : goal.returns-clause-steps
 returns-clause-steps c = λ turns t u pause told heard.
     pause_stands (draw_laws c) (stand_laws c) (turn_laws c) (counts_law c) c.worlds_only_grow.ensures.grows turns pause (c.boots_rise.ensures.rise turns t u told) heard
 
+write_laws : (c : goal.After-lanes_go_by_events) → WriteLaws
+write_laws c = record { answered = c.seats_acknowledge_what_they_wrote.ensures; stays = c.acknowledged_cookies_stay_acknowledged.ensures }
+
 pub returns-clause-wrote : goal.returns-clause-wrote
 returns-clause-wrote c = λ turns t u pause told heard.
-    let writes : WriteLaws = record { answered = c.seats_acknowledge_what_they_wrote.ensures; stays = c.acknowledged_cookies_stay_acknowledged.ensures } in
-    pause_wrote (draw_laws c) (stand_laws c) (turn_laws c) (counts_law c) c.lanes_go_by_events.ensures.steps writes turns pause (c.boots_rise.ensures.rise turns t u told) heard
+    pause_wrote (draw_laws c) (stand_laws c) (turn_laws c) (counts_law c) c.worlds_only_grow.ensures.grows c.lanes_go_by_events.ensures.steps (write_laws c) turns pause (c.boots_rise.ensures.rise turns t u told) heard
+
+pub returns-clause-since_step : goal.returns-clause-since_step
+returns-clause-since_step c = λ turns t u at told heard.
+    steps_stand (draw_laws c) (stand_laws c) (turn_laws c) (counts_law c) c.worlds_only_grow.ensures.grows c.lanes_go_by_events.ensures.steps turns at (c.boots_rise.ensures.rise turns t u told) heard
+
+pub returns-clause-wrote_by_step : goal.returns-clause-wrote_by_step
+returns-clause-wrote_by_step c = λ turns t u at told heard.
+    steps_wrote (draw_laws c) (stand_laws c) (turn_laws c) (counts_law c) c.worlds_only_grow.ensures.grows c.lanes_go_by_events.ensures.steps (write_laws c) turns at (c.boots_rise.ensures.rise turns t u told) heard
