@@ -13,39 +13,50 @@ use Rattle.scenario_text.specs.Reading.{line_of}
 use Rattle.scenario_text.specs.declared.line.TheConstants.{MAX_LINE_BYTES}
 use Rattle.scenario_text.proofs.Cuts.{lines_fed, line_unfed, all_left}
 use Rattle.scenario_text.proofs.EndedLines.{text_of_lines-push, lines_before}
+use Rattle.seat_lines.specs.Making.{StepHearsSpelled, WasMade}
+use Rattle.scenario_engine.specs.Connections.{makes_to, turn_makes}
 use Rattle.scenario_engine.specs.Engine.{next_calls, with_reply}
-use Rattle.scenario_engine.specs.Hearing.{HearsTo}
 use Rattle.scenario_engine.specs.KeeperCalls.{KeeperSeen, AreMade, AreSomeAsked}
 use Rattle.scenario_engine.specs.State.{State, Outcome, RefusedIn, DoneTo, UnstartedIn, UnderWayIn}
-use Rattle.scenario_engine.specs.Telling.{Does, DoesPartly, BreaksOff}
+use Rattle.scenario_engine.specs.Telling.{Does, DoesPartly, BreaksOff, WereMade}
 use Rattle.scenario_engine.specs.Transcript.{Turn, lines_in, first, turn_outcome, transcript, end_from, Ended}
 use Rattle.scenario_engine.proofs.Calls.{none_made}
+use Rattle.scenario_engine.proofs.StepsMade.{all-push}
 use Rattle.scenario_engine.proofs.Unkept.{numbers_alone}
-use Rattle.scenario_engine.proofs.Turns.{lines_in-push, end_from-push, transcript-push, turn_done, turn_heard, made-push, heard-push}
+use Rattle.scenario_engine.proofs.Turns.{lines_in-push, end_from-push, transcript-push, turn_done, turn_steps, made-push}
 use Rattle.scenario_engine.proofs.UnderWay.{next_whole}
 use Rattle.drive_engine.specs.declared.drive.TheConstants.{MAX_SCENARIO_BYTES}
 use Rattle.drive_engine.specs.declared.ending.Ending.{Ending}
 use Rattle.drive_engine.specs.declared.ending.Ending.TheVariants as endings
 use Rattle.drive_engine.specs.declared.words.Command.TheVariants.{Drive}
 use Rattle.drive_engine.specs.Command.{Runs}
-use Rattle.drive_engine.specs.Drive.{AreRead, AreReadWithFeeds, HasDone, ScenarioStands, WritesTranscript, StopsUnstarted, StopsAtLongLine, StopsAtFailedRead, StopsOutOfMemory, StopsPastLimit, RunsOutAtLine, StandsOneMore, one_more, WereDone, BreaksOffAtLine}
+use Rattle.drive_engine.specs.Drive.{AreRead, AreReadWithFeeds, HasDone, ScenarioStands, WritesTranscript, StopsUnstarted, StopsAtLongLine, StopsAtFailedRead, StopsOutOfMemory, StopsPastLimit, RunsOutAtLine, StandsOneMore, one_more, TurnsStand, WereAsked, WereAskedWhole, BreaksOffAtLine}
 use Rattle.drive_engine.specs.Exchange.{Exchange, exchange, IsRead}
 use Rattle.drive_engine.specs.Play.{PlayState, first_play, DoesLine, WritesNoText, EndsAtLine, HasCome}
 use Rattle.drive_engine.proofs.Breaking.{done_one_more}
 
 -- what turns did that were done stands
 abbrev pub ScenariosDoStand : Type 0
-ScenariosDoStand = (turns : List Turn) (old new : KeeperSeen) → WereDone turns old new → ScenarioStands turns old new
+ScenariosDoStand = (turns : List Turn) (old new : KeeperSeen) → WereAskedWhole turns old new → ScenarioStands turns old new
+
+abbrev pub TurnsDoStand : Type 0
+TurnsDoStand = (turns : List Turn) (old new : KeeperSeen) → WereAsked turns old new → TurnsStand turns old new
 
 -- turns that were done, and a text after them
-done-push : (s : State) (turns : List Turn) (line : List ℕ) (o : Outcome) (old between new : KeeperSeen) → end_from first 1 turns ≡ Ended s → length line ≤ MAX_LINE_BYTES → WereDone turns old between → (d : Does s (line_of line) o between new) → WereDone (turns ++ record { line = line; replies = d.replies } ∷ []) old new
-done-push s turns line o old between new h short done d = record {
-  made = made-push s turns line o old between new h short done.made d;
-  heard = heard-push s turns (record { line = line; replies = d.replies }) h done.heard (turn_heard s line o between new d);
-}
+done-push : (s : State) (turns : List Turn) (line : List ℕ) (o : Outcome) (old between new : KeeperSeen) → end_from first 1 turns ≡ Ended s → length line ≤ MAX_LINE_BYTES → WereAskedWhole turns old between → (d : Does s (line_of line) o between new) → WereAskedWhole (turns ++ record { line = line; replies = d.replies } ∷ []) old new
+done-push s turns line o old between new h short whole d =
+    let turn : Turn = record { line = line; replies = d.replies } in
+    let steps : WereMade (turn_makes s turn) = turn_steps s line o between new d in
+    record {
+      done = record {
+        made = made-push s turns line o old between new h short whole.done.made d;
+        spelled = all-push StepHearsSpelled s turns turn h short whole.done.spelled steps.spelled;
+      };
+      steps = all-push WasMade s turns turn h short whole.steps steps.made;
+    }
 
-none_done : (k : KeeperSeen) → WereDone [] k k
-none_done k = record { made = none_made k; heard = tt }
+none_done : (k : KeeperSeen) → WereAskedWhole [] k k
+none_done k = record { done = record { made = none_made k; spelled = All-nil StepHearsSpelled }; steps = All-nil WasMade }
 
 -- the part that was kept and the one that ends the line are that line
 line_joined : (lines : List (List ℕ)) (kept none part rest past : List ℕ) → none ≡ [] → text_of_lines lines ++ (kept ++ ((part ++ 10 ∷ rest) ++ past)) ≡ text_of_lines (lines ++ (kept ++ part) ∷ []) ++ (none ++ (rest ++ past))
@@ -78,7 +89,7 @@ comes_line left left_now written old new held before after more past p q part re
       number = omega (arith, next, h.number, length-append h.turns (turn ∷ []));
       done = end_from-push p.state q.state h.turns turn does.text h.done does.short done;
       written = does.written ∙ ap (λ o. appended o does.text) h.written ∙ appended_more written (transcript first h.turns) does.text ∙ ap (appended written) (sym (transcript-push p.state q.state h.turns turn does.text h.done done));
-      made = done-push p.state h.turns line (DoneTo q.state does.text) held before after h.done does.short h.made does.done;
+      asked = done-push p.state h.turns line (DoneTo q.state does.text) held before after h.done does.short h.asked does.done;
     }
 
 -- the beginning of a line is kept
@@ -96,7 +107,7 @@ comes_kept left left_now written old held before more past p q rest one is short
       number = h.number;
       done = h.done;
       written = h.written;
-      made = h.made;
+      asked = h.asked;
     })
 
 -- what was read of a line that is too long
@@ -113,7 +124,7 @@ ends_long left left_now written old held before more past p rest law one long h 
   number = h.number;
   done = record { done = h.done; written = h.written };
   long = long;
-  stands = law h.turns held before h.made;
+  stands = law h.turns held before h.asked;
 }
 
 -- A line was read after lines that were done.
@@ -130,7 +141,7 @@ has_done : (left left_now written old new : Option (List ℕ)) (held after : Kee
 has_done left left_now written old new held after turns s done so_far same = record { done = done; written = same ∙ so_far }
 
 -- a boot that it needs was not started
-ends_at_start : (r : UnstartedCause) (left left_now written old new : Option (List ℕ)) (held before after : KeeperSeen) (turns : List Turn) (s t : State) (line : List ℕ) → ScenariosDoStand → end_from first 1 turns ≡ Ended s → old ≡ appended written (transcript first turns) → WereDone turns held before → HasLine (exchange left left_now written new held after) (lines_in turns) line → WritesNoText line old new → Does s (line_of line) (UnstartedIn t r) before after → StopsUnstarted r (exchange left left_now written new held after)
+ends_at_start : (r : UnstartedCause) (left left_now written old new : Option (List ℕ)) (held before after : KeeperSeen) (turns : List Turn) (s t : State) (line : List ℕ) → ScenariosDoStand → end_from first 1 turns ≡ Ended s → old ≡ appended written (transcript first turns) → WereAskedWhole turns held before → HasLine (exchange left left_now written new held after) (lines_in turns) line → WritesNoText line old new → Does s (line_of line) (UnstartedIn t r) before after → StopsUnstarted r (exchange left left_now written new held after)
 ends_at_start r left left_now written old new held before after turns s t line law done so_far tells h (short, same) d = record {
   before = turns;
   turn = record { line = line; replies = d.replies };
@@ -144,7 +155,7 @@ ends_at_start r left left_now written old new held before after turns s t line l
 }
 
 -- of the step that broke off nothing was asked, or what was done stands with it
-last_stands : (x : Exchange) (s mid : State) (turns : List Turn) (turn : Turn) (keeps : Bool) (at between : KeeperSeen) → ScenariosDoStand → end_from first 1 turns ≡ Ended s → length turn.line ≤ MAX_LINE_BYTES → turn_outcome s turn ≡ UnderWayIn mid → WereDone turns x.keeper_before at → WereDone (turns ++ turn ∷ []) x.keeper_before between → AreSomeAsked [] between x.keeper_after ⊎ AreMade (next_calls mid (line_of turn.line) keeps) between x.keeper_after → AreSomeAsked [] between x.keeper_after ⊎ HearsTo s (line_of turn.line) (with_reply turn.replies keeps) → AreSomeAsked [] between x.keeper_after ⊎ StandsOneMore x turns turn
+last_stands : (x : Exchange) (s mid : State) (turns : List Turn) (turn : Turn) (keeps : Bool) (at between : KeeperSeen) → TurnsDoStand → end_from first 1 turns ≡ Ended s → length turn.line ≤ MAX_LINE_BYTES → turn_outcome s turn ≡ UnderWayIn mid → WereAsked turns x.keeper_before at → WereAsked (turns ++ turn ∷ []) x.keeper_before between → AreSomeAsked [] between x.keeper_after ⊎ AreMade (next_calls mid (line_of turn.line) keeps) between x.keeper_after → AreSomeAsked [] between x.keeper_after ⊎ All StepHearsSpelled (makes_to s (line_of turn.line) (with_reply turn.replies keeps)) → AreSomeAsked [] between x.keeper_after ⊎ StandsOneMore x turns turn
 last_stands x s mid turns turn keeps at between law done short way tells whole (inl asked) heard = inl asked
 last_stands x s mid turns turn keeps at between law done short way tells whole (inr made) (inl asked) = inl asked
 last_stands x s mid turns turn keeps at between law done short way tells whole (inr made) (inr heard) = inr (record {
@@ -153,12 +164,12 @@ last_stands x s mid turns turn keeps at between law done short way tells whole (
 })
 
 -- memory ran out in a step of a connection
-broken_off : (left left_now written new : Option (List ℕ)) (held before after : KeeperSeen) (turns : List Turn) (s : State) (line : List ℕ) → ScenariosDoStand → end_from first 1 turns ≡ Ended s → WereDone turns held before → AreRead (exchange left left_now written new held after) (lines_in turns ++ line ∷ []) → length line ≤ MAX_LINE_BYTES → BreaksOff s (line_of line) before after → BreaksOffAtLine (exchange left left_now written new held after) turns s
-broken_off left left_now written new held before after turns s line law done tells read short b =
+broken_off : (left left_now written new : Option (List ℕ)) (held before after : KeeperSeen) (turns : List Turn) (s : State) (line : List ℕ) → ScenariosDoStand → TurnsDoStand → end_from first 1 turns ≡ Ended s → WereAskedWhole turns held before → AreRead (exchange left left_now written new held after) (lines_in turns ++ line ∷ []) → length line ≤ MAX_LINE_BYTES → BreaksOff s (line_of line) before after → BreaksOffAtLine (exchange left left_now written new held after) turns s
+broken_off left left_now written new held before after turns s line law stand done tells read short b =
     let turn : Turn = record { line = line; replies = b.replies } in
-    let d : Does s (line_of line) (UnderWayIn b.mid) before b.between = record { replies = b.replies; answers = sym b.comes; made = b.whole; heard = b.heard } in
+    let d : Does s (line_of line) (UnderWayIn b.mid) before b.between = record { replies = b.replies; answers = sym b.comes; made = b.whole; steps = b.steps } in
     let way : turn_outcome s turn ≡ UnderWayIn b.mid = turn_done s line (UnderWayIn b.mid) before b.between d in
-    let whole : WereDone (turns ++ turn ∷ []) held b.between = done-push s turns line (UnderWayIn b.mid) held before b.between done short tells d in
+    let whole : WereAskedWhole (turns ++ turn ∷ []) held b.between = done-push s turns line (UnderWayIn b.mid) held before b.between done short tells d in
     record {
       turn = turn;
       mid = b.mid;
@@ -167,14 +178,14 @@ broken_off left left_now written new held before after turns s line law done tel
       short = short;
       under_way = way;
       stands = law (turns ++ turn ∷ []) held b.between whole;
-      last = last_stands (exchange left left_now written new held after) s b.mid turns turn b.next before b.between law done short way tells whole (next_whole b.mid (line_of line) b.next b.between after b.last) b.last_heard;
+      last = last_stands (exchange left left_now written new held after) s b.mid turns turn b.next before b.between stand done short way tells.done whole.done (next_whole b.mid (line_of line) b.next b.between after b.last) b.last_heard;
     }
 
 -- it ends the scenario
-ends_at_line : (e : Ending) (left left_now written old new : Option (List ℕ)) (held before after : KeeperSeen) (turns : List Turn) (s : State) (number : ℕ) (line : List ℕ) → ScenariosDoStand → end_from first 1 turns ≡ Ended s → number ≡ length turns + 1 → old ≡ appended written (transcript first turns) → WereDone turns held before → HasLine (exchange left left_now written new held after) (lines_in turns) line → EndsAtLine e number s line old new before after → Runs Drive e (exchange left left_now written new held after)
-ends_at_line endings.Done left left_now written old new held before after turns s number line law done next so_far tells h ends = absurd ends
-ends_at_line endings.UnknownCommand left left_now written old new held before after turns s number line law done next so_far tells h ends = absurd ends
-ends_at_line (endings.LineRefused n) left left_now written old new held before after turns s number line law done next so_far tells h (is, (short, same), (t, d)) = (
+ends_at_line : (e : Ending) (left left_now written old new : Option (List ℕ)) (held before after : KeeperSeen) (turns : List Turn) (s : State) (number : ℕ) (line : List ℕ) → ScenariosDoStand → TurnsDoStand → end_from first 1 turns ≡ Ended s → number ≡ length turns + 1 → old ≡ appended written (transcript first turns) → WereAskedWhole turns held before → HasLine (exchange left left_now written new held after) (lines_in turns) line → EndsAtLine e number s line old new before after → Runs Drive e (exchange left left_now written new held after)
+ends_at_line endings.Done left left_now written old new held before after turns s number line law stand done next so_far tells h ends = absurd ends
+ends_at_line endings.UnknownCommand left left_now written old new held before after turns s number line law stand done next so_far tells h ends = absurd ends
+ends_at_line (endings.LineRefused n) left left_now written old new held before after turns s number line law stand done next so_far tells h (is, (short, same), (t, d)) = (
   refl,
   record {
     before = turns;
@@ -189,8 +200,8 @@ ends_at_line (endings.LineRefused n) left left_now written old new held before a
     stands = law (turns ++ record { line = line; replies = d.replies } ∷ []) held after (done-push s turns line (RefusedIn t) held before after done short tells d);
   },
 )
-ends_at_line endings.ReadFailed left left_now written old new held before after turns s number line law done next so_far tells h ends = absurd ends
-ends_at_line endings.WriteFailed left left_now written old new held before after turns s number line law done next so_far tells h (t, wrote, short, d, (prefix, is, begins)) = record {
+ends_at_line endings.ReadFailed left left_now written old new held before after turns s number line law stand done next so_far tells h ends = absurd ends
+ends_at_line endings.WriteFailed left left_now written old new held before after turns s number line law stand done next so_far tells h (t, wrote, short, d, (prefix, is, begins)) = record {
   before = turns;
   turn = record { line = line; replies = d.replies };
   state = s;
@@ -205,9 +216,9 @@ ends_at_line endings.WriteFailed left left_now written old new held before after
   written = is ∙ ap (λ o. appended o prefix) so_far ∙ appended_more written (transcript first turns) prefix;
   stands = law (turns ++ record { line = line; replies = d.replies } ∷ []) held after (done-push s turns line (DoneTo t wrote) held before after done short tells d);
 }
-ends_at_line endings.KeeperFailed left left_now written old new held before after turns s number line law done next so_far tells h (none, (t, d)) = (refl, ends_at_start causes.KeeperFailed left left_now written old new held before after turns s t line law done so_far tells h none d)
-ends_at_line (endings.BadRow id) left left_now written old new held before after turns s number line law done next so_far tells h (none, (t, d)) = (refl, ends_at_start (causes.BadRow id) left left_now written old new held before after turns s t line law done so_far tells h none d)
-ends_at_line (endings.LineTooLong n) left left_now written old new held before after turns s number line law done next so_far tells h (is, long, same, unasked) = record {
+ends_at_line endings.KeeperFailed left left_now written old new held before after turns s number line law stand done next so_far tells h (none, (t, d)) = (refl, ends_at_start causes.KeeperFailed left left_now written old new held before after turns s t line law done so_far tells h none d)
+ends_at_line (endings.BadRow id) left left_now written old new held before after turns s number line law stand done next so_far tells h (none, (t, d)) = (refl, ends_at_start (causes.BadRow id) left left_now written old new held before after turns s t line law done so_far tells h none d)
+ends_at_line (endings.LineTooLong n) left left_now written old new held before after turns s number line law stand done next so_far tells h (is, long, same, unasked) = record {
   before = turns;
   line = line;
   rest = h.rest;
@@ -219,9 +230,9 @@ ends_at_line (endings.LineTooLong n) left left_now written old new held before a
   number = is ∙ next;
   done = has_done left left_now written old new held after turns s done so_far same;
   long = long;
-  stands = law turns held after (subst (λ (o : KeeperSeen). WereDone turns held o) (sym unasked) tells);
+  stands = law turns held after (subst (λ (o : KeeperSeen). WereAskedWhole turns held o) (sym unasked) tells);
 }
-ends_at_line endings.OutOfMemory left left_now written old new held before after turns s number line law done next so_far tells h ((short, same), ends) = record {
+ends_at_line endings.OutOfMemory left left_now written old new held before after turns s number line law stand done next so_far tells h ((short, same), ends) = record {
   before = turns;
   state = s;
   between = before;
@@ -236,14 +247,14 @@ ends_at_line endings.OutOfMemory left left_now written old new held before after
 
     last_of : DoesPartly s (line_of line) before after ⊎ BreaksOff s (line_of line) before after → RunsOutAtLine x (lines_in turns) s before ⊎ BreaksOffAtLine x turns s
     last_of (inl partly) = inl (record { line = line; read = h.read; short = short; partly = partly; rows = numbers_alone s (line_of line) before after partly })
-    last_of (inr broken) = inr (broken_off left left_now written new held before after turns s line law done tells h.read short broken)
-ends_at_line endings.DescriptorsRefused left left_now written old new held before after turns s number line law done next so_far tells h ends = absurd ends
-ends_at_line endings.BootsSpent left left_now written old new held before after turns s number line law done next so_far tells h (none, (t, d)) = (refl, ends_at_start causes.BootsSpent left left_now written old new held before after turns s t line law done so_far tells h none d)
-ends_at_line endings.ScenarioTooLong left left_now written old new held before after turns s number line law done next so_far tells h ends = absurd ends
+    last_of (inr broken) = inr (broken_off left left_now written new held before after turns s line law stand done tells h.read short broken)
+ends_at_line endings.DescriptorsRefused left left_now written old new held before after turns s number line law stand done next so_far tells h ends = absurd ends
+ends_at_line endings.BootsSpent left left_now written old new held before after turns s number line law stand done next so_far tells h (none, (t, d)) = (refl, ends_at_start causes.BootsSpent left left_now written old new held before after turns s t line law done so_far tells h none d)
+ends_at_line endings.ScenarioTooLong left left_now written old new held before after turns s number line law stand done next so_far tells h ends = absurd ends
 
 -- a line that ends in a piece ends the scenario
-pub ends_in_piece : (e : Ending) (left left_now written old new : Option (List ℕ)) (held before after : KeeperSeen) (more : ℕ) (past : List ℕ) (p : PlayState) (part rest : List ℕ) → ScenariosDoStand → IsOneLine part → EndsAtLine e p.number p.state (p.part ++ part) old new before after → HasCome (exchange left left_now written old held before) more (part ++ 10 ∷ rest) past p → Runs Drive e (exchange left left_now written new held after)
-ends_in_piece e left left_now written old new held before after more past p part rest law one ends h =
+pub ends_in_piece : (e : Ending) (left left_now written old new : Option (List ℕ)) (held before after : KeeperSeen) (more : ℕ) (past : List ℕ) (p : PlayState) (part rest : List ℕ) → ScenariosDoStand → TurnsDoStand → IsOneLine part → EndsAtLine e p.number p.state (p.part ++ part) old new before after → HasCome (exchange left left_now written old held before) more (part ++ 10 ∷ rest) past p → Runs Drive e (exchange left left_now written new held after)
+ends_in_piece e left left_now written old new held before after more past p part rest law stand one ends h =
     let line = p.part ++ part in
     let lines = lines_in h.turns in
     let whole : IsOneLine line = All-append (λ b. b ≢ 10) p.part part h.one one in
@@ -264,7 +275,7 @@ ends_in_piece e left left_now written old new held before after more past p part
         within = fits;
       });
     } in
-    ends_at_line e left left_now written old new held before after h.turns p.state p.number line law h.done h.number h.written h.made has ends
+    ends_at_line e left left_now written old new held before after h.turns p.state p.number line law stand h.done h.number h.written h.asked has ends
 
 -- the whole text of a scenario, once the input has ended
 read_whole : (left left_now written old new : Option (List ℕ)) (held before after : KeeperSeen) (more : ℕ) (p : PlayState) → HasEnded left_now → (h : HasCome (exchange left left_now written old held before) more [] [] p) → IsRead MAX_SCENARIO_BYTES (exchange left left_now written new held after) (text_of_lines (lines_in h.turns) ++ p.part)
@@ -278,8 +289,8 @@ lines_whole : (lines : List (List ℕ)) (part : List ℕ) → All IsOneLine line
 lines_whole lines part plain one some = lines_fed lines part plain ∙ ap (λ ls. lines ++ ls) (line_unfed part one some)
 
 -- the last line, which has no line feed, ends the scenario
-pub ends_at_end : (e : Ending) (left left_now written old new : Option (List ℕ)) (held before after : KeeperSeen) (more : ℕ) (p : PlayState) → ScenariosDoStand → p.part ≢ [] → EndsAtLine e p.number p.state p.part old new before after → HasEnded left_now → HasCome (exchange left left_now written old held before) more [] [] p → Runs Drive e (exchange left left_now written new held after)
-ends_at_end e left left_now written old new held before after more p law some ends ended h =
+pub ends_at_end : (e : Ending) (left left_now written old new : Option (List ℕ)) (held before after : KeeperSeen) (more : ℕ) (p : PlayState) → ScenariosDoStand → TurnsDoStand → p.part ≢ [] → EndsAtLine e p.number p.state p.part old new before after → HasEnded left_now → HasCome (exchange left left_now written old held before) more [] [] p → Runs Drive e (exchange left left_now written new held after)
+ends_at_end e left left_now written old new held before after more p law stand some ends ended h =
     let lines = lines_in h.turns in
     let read = read_whole left left_now written old new held before after more p ended h in
     let has : HasLine (exchange left left_now written new held after) lines p.part = record {
@@ -290,7 +301,7 @@ ends_at_end e left left_now written old new held before after more p law some en
       within = read.short;
       read = inr (record { text = text_of_lines lines ++ p.part; read = read; cut = sym (lines_whole lines p.part h.plain h.one some) });
     } in
-    ends_at_line e left left_now written old new held before after h.turns p.state p.number p.part law h.done h.number h.written h.made has ends
+    ends_at_line e left left_now written old new held before after h.turns p.state p.number p.part law stand h.done h.number h.written h.asked has ends
 
 -- all lines were done, and the last one ended with its line feed
 pub ends_with_feed : (left left_now written old : Option (List ℕ)) (held before : KeeperSeen) (more : ℕ) (p : PlayState) → ScenariosDoStand → p.part ≡ [] → HasEnded left_now → HasCome (exchange left left_now written old held before) more [] [] p → WritesTranscript (exchange left left_now written old held before)
@@ -304,7 +315,7 @@ ends_with_feed left left_now written old held before more p law none ended h =
       lines = sym cut;
       state = p.state;
       done = record { done = h.done; written = h.written };
-      stands = law h.turns held before h.made;
+      stands = law h.turns held before h.asked;
     }
 
 -- and the last one has none
@@ -323,7 +334,7 @@ ends_without_feed left left_now written old new held before after more p t law s
         done = end_from-push p.state t h.turns turn does.text h.done does.short done;
         written = does.written ∙ ap (λ o. appended o does.text) h.written ∙ appended_more written (transcript first h.turns) does.text ∙ ap (appended written) (sym (transcript-push p.state t h.turns turn does.text h.done done));
       };
-      stands = law (h.turns ++ turn ∷ []) held after (done-push p.state h.turns p.part (DoneTo t does.text) held before after h.done does.short h.made does.done);
+      stands = law (h.turns ++ turn ∷ []) held after (done-push p.state h.turns p.part (DoneTo t does.text) held before after h.done does.short h.asked does.done);
     }
 
 -- bytes were read, of which a part is the next piece
@@ -345,7 +356,7 @@ comes_read left before now written old held asked more rest n k room p part fits
       number = h.number;
       done = h.done;
       written = h.written;
-      made = h.made;
+      asked = h.asked;
     }
 
 -- the text that was read and done
@@ -366,7 +377,7 @@ stops_at_failed_read left before now written old held asked more p law same h =
       within = omega (arith, h.within, length-append (text_of_lines lines) (p.part ++ []), length-append p.part [], length-append (text_of_lines lines) p.part);
       short = h.short;
       done = record { done = h.done; written = h.written };
-      stands = law h.turns held asked h.made;
+      stands = law h.turns held asked h.asked;
     }
 
 -- bytes were read past the limit
@@ -385,7 +396,7 @@ stops_past_limit left now written old held asked past p law some h =
       cut = record { whole = refl; plain = h.plain; one = h.one };
       short = h.short;
       done = record { done = h.done; written = h.written };
-      stands = law h.turns held asked h.made;
+      stands = law h.turns held asked h.asked;
     }
 
 nothing_read : (left : Option (List ℕ)) → left ≡ prepended [] left
@@ -408,7 +419,7 @@ comes_first left written held = record {
   number = refl;
   done = refl;
   written = nothing_written written;
-  made = none_done held;
+  asked = none_done held;
 }
 
 -- and there is no memory to read any

@@ -107,7 +107,7 @@ decided_at_turn : (x : Exchange) (text : List ℕ) (before : List Turn) (turn : 
 decided_at_turn x text before turn s e is read done ends stops keeper n calls =
     let all = before ++ turn ∷ [] in
     let whole : end_from first 1 all ≡ e = end_from-more first s 1 before (turn ∷ []) done.done ∙ ends in
-    decided_at_turns x text all is (subst (λ ls. AreRead x ls) (sym (lines_in-push before turn)) read) (subst Stops (sym whole) stops) keeper.calls n (calls ∙ ap status_of_end (sym whole))
+    decided_at_turns x text all is (subst (λ ls. AreRead x ls) (sym (lines_in-push before turn)) read) (subst Stops (sym whole) stops) keeper.did.calls n (calls ∙ ap status_of_end (sym whole))
 
 -- a line was refused
 decided_at_line : (x : Exchange) (text : List ℕ) (n : ℕ) → x.left_before ≡ Some text → StopsAtLine n x → IsCalledFor Drive text x.keeper_before.told x.keeper_after.told 3
@@ -152,7 +152,7 @@ long_line_within x text n tail h whole short =
     record {
       turns = h.before ++ more;
       calls = inl (record { short = short; lines = lines_in-more h.before (a.0 ++ lines_of a.1) ∙ sym lines; called = sym (ap status_of_end (end_from-more first h.state 1 h.before more h.done.done) ∙ long.0) });
-      told = unasked_more h.state h.before more x.keeper_before.told x.keeper_after.told h.done.done long.1 h.stands.calls;
+      told = unasked_more h.state h.before more x.keeper_before.told x.keeper_after.told h.done.done long.1 h.stands.did.calls;
     }
 
 -- and in one that goes on past it
@@ -176,7 +176,7 @@ long_line_past x text n tail h whole long =
         cut = subst (λ ls. IsCut (take MAX_SCENARIO_BYTES text) ls a.1) (sym (lines_in-more h.before a.0)) cut;
         called = sym (ap (λ e. status_past_limit e (length a.1)) (end_from-more first h.state 1 h.before more h.done.done) ∙ past.0);
       });
-      told = unasked_more h.state h.before more x.keeper_before.told x.keeper_after.told h.done.done past.1 h.stands.calls;
+      told = unasked_more h.state h.before more x.keeper_before.told x.keeper_after.told h.done.done past.1 h.stands.did.calls;
     }
 
 -- a line was too long
@@ -207,7 +207,7 @@ decided_past_limit x text is h =
         cut = subst (λ t. IsCut t (lines_in h.turns) h.part) (sym head) h.cut;
         called = sym (ap (λ e. status_past_limit e (length h.part)) h.done.done ∙ ap (λ b. cond b (Some 8) (Some 12)) test);
       });
-      told = h.stands.calls;
+      told = h.stands.did.calls;
     }
   where
     more_than : (more : List ℕ) → more ≢ [] → (n k : ℕ) → n ≡ MAX_SCENARIO_BYTES + (length more + k) → MAX_SCENARIO_BYTES < n
@@ -221,7 +221,7 @@ decided_at_end x text is h =
     record {
       turns = h.turns;
       calls = inl (record { short = omega (arith, h.read.short, ap length whole); lines = h.lines ∙ ap lines_of (sym whole); called = sym (ap status_of_end h.done.done) });
-      told = h.stands.calls;
+      told = h.stands.did.calls;
     }
 
 -- descriptors, which leave the keeper as it was

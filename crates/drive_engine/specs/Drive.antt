@@ -12,8 +12,9 @@ use Rattle.scenario_text.specs.Reading.{line_of}
 use Rattle.scenario_text.specs.declared.line.TheConstants.{MAX_LINE_BYTES}
 use Rattle.scenario_engine.specs.Connections.{HasBrowsers}
 use Rattle.scenario_engine.specs.Engine.{with_reply}
-use Rattle.scenario_engine.specs.Hearing.{AllHeard}
+use Rattle.scenario_engine.specs.Hearing.{AllHeardSpelled, AllMade}
 use Rattle.scenario_engine.specs.KeeperCalls.{KeeperSeen, TellsCalls, AreCounted, AreMade, AreSomeAsked}
+use Rattle.scenario_engine.specs.Serving.{AllServed}
 use Rattle.scenario_engine.specs.Sessions.{HasSessions}
 use Rattle.scenario_engine.specs.Sound.{CommitsUnrebooted, RunsSerially, CommitsOwnRequests, CommitsAsMeant}
 use Rattle.scenario_engine.specs.State.{State, RefusedIn, DoneTo, UnstartedIn, UnderWayIn}
@@ -46,19 +47,24 @@ pub record HasDone (x : Exchange) (turns : List Turn) (state : State) : Type 0 w
   pub written : IsWritten x (transcript first turns)
 
 -- Turns were done over a keeper: it was called as they say and not more, and what connections heard in them is spelled
--- by its bytes.
-pub record WereDone (turns : List Turn) (old new : KeeperSeen) : Type 0 where
+-- by its bytes. It may be so also where memory ran out in the last step of a connection, to which the keeper had
+-- replied.
+pub record WereAsked (turns : List Turn) (old new : KeeperSeen) : Type 0 where
   pub made : AreMade (calls_from first turns) old new
-  pub heard : AllHeard first turns
+  pub spelled : AllHeardSpelled first turns
+
+-- Turns were done over a keeper, and each step of a connection was made by its calls, to its end.
+pub record WereAskedWhole (turns : List Turn) (old new : KeeperSeen) : Type 0 where
+  pub done : WereAsked turns old new
+  pub steps : AllMade first turns
 
 -- What turns did stands: the keeper was called as they say and holds the rows that they leave; its count of faults rose
 -- where it failed at a call, as that of a commit which was told `keeper failed`, also where it does not tell; each boot
 -- is sound; no commit comes after a reboot of a group that its call entered; each journal is a serial execution of its
 -- calls; each commit is of a request of its own boot; each commit of an action wrote and answered what the site means
 -- by the action; each fetch answers what was written, or says why it does not; what connections heard in each turn is
--- spelled by its bytes; and, over a keeper that tells, what browsers read of their sessions was written. A turn that
--- ended the scenario is the last of them, since it may have called the keeper, too.
-pub record ScenarioStands (turns : List Turn) (old new : KeeperSeen) : Type 0 where
+-- spelled by its bytes; and, over a keeper that tells, what browsers read of their sessions was written.
+pub record TurnsStand (turns : List Turn) (old new : KeeperSeen) : Type 0 where
   pub calls : TellsCalls (calls_from first turns) old.told new.told
   pub told : Tells turns old.told new.told
   pub faults : AreCounted (calls_from first turns) old.faults new.faults
@@ -68,8 +74,15 @@ pub record ScenarioStands (turns : List Turn) (old new : KeeperSeen) : Type 0 wh
   pub own : All CommitsOwnRequests (boots_from first turns)
   pub meant : All CommitsAsMeant (boots_from first turns)
   pub sessions : HasSessions turns
-  pub heard : AllHeard first turns
+  pub spelled : AllHeardSpelled first turns
   pub browsers : (t u : KeeperTold) → old.told ≡ Some t → new.told ≡ Some u → HasBrowsers turns
+
+-- What the turns of a scenario did stands, each step of them whole; and each connection of a browser served its
+-- requests: each of its items stands. A turn that ended the scenario is the last of them, since it may have called the
+-- keeper, too.
+pub record ScenarioStands (turns : List Turn) (old new : KeeperSeen) : Type 0 where
+  pub did : TurnsStand turns old new
+  pub served : AllServed turns
 
 -- A scenario was read and came to its end, and its transcript was written.
 pub record WritesTranscript (x : Exchange) : Type 0 where
@@ -169,7 +182,7 @@ one_more turn keeps = record turn { replies = with_reply turn.replies keeps }
 -- What these turns did stands with one step more of the last, to which the keeper replied.
 pub record StandsOneMore (x : Exchange) (before : List Turn) (turn : Turn) : Type 0 where
   pub keeps : Bool
-  pub stands : ScenarioStands (before ++ one_more turn keeps ∷ []) x.keeper_before x.keeper_after
+  pub stands : TurnsStand (before ++ one_more turn keeps ∷ []) x.keeper_before x.keeper_after
 
 -- A line was read to its end after these turns, and memory ran out in a step of a connection that it made. What the
 -- turns and the whole steps before that one did stands. Of that step the keeper was asked nothing, or had no memory

@@ -16,7 +16,7 @@ use Rattle.drive_engine.specs.declared.ending.Ending.{Ending}
 use Rattle.drive_engine.specs.declared.ending.Ending.TheVariants as endings
 use Rattle.drive_engine.specs.declared.words.Command.TheVariants.{Drive}
 use Rattle.drive_engine.specs.Command.{Runs}
-use Rattle.drive_engine.specs.Drive.{WereDone}
+use Rattle.drive_engine.specs.Drive.{WereAskedWhole}
 use Rattle.drive_engine.specs.Exchange.{Exchange, exchange, IsWritten}
 
 -- the state that the lines before a line leave, what is seen of the keeper then, the part of that line that was read,
@@ -82,7 +82,7 @@ pub record HasCome (x : Exchange) (more : ℕ) (unread past : List ℕ) (p : Pla
   pub number : p.number ≡ length turns + 1
   pub done : end_from first 1 turns ≡ Ended p.state
   pub written : IsWritten x (transcript first turns)
-  pub made : WereDone turns x.keeper_before x.keeper_after
+  pub asked : WereAskedWhole turns x.keeper_before x.keeper_after
 
 -- However a scenario has come to the first place, it has now come to the second.
 abbrev pub Comes : PlayState → List ℕ → Option (List ℕ) → KeeperSeen

@@ -6,20 +6,20 @@ ghost use Rattle.scenario_engine.specs.KeeperCalls.{KeeperSeen};
 ghost use Rattle.scenario_engine.specs.Transcript.{Turn, lines_in, first, end_from, IsAnswered};
 ghost use Rattle.drive_engine.specs.declared.words.Command.{Command};
 ghost use Rattle.drive_engine.specs.Command.{CallsFor};
-ghost use Rattle.drive_engine.specs.Drive.{ScenarioStands, WereDone};
+ghost use Rattle.drive_engine.specs.Drive.{ScenarioStands, TurnsStand, WereAsked, WereAskedWhole};
 
 use descriptor_text::texts_have_an_answer;
 use scenario_engine::{
-    boots_are_sound, commits_are_of_their_boot, journals_are_meant, keepers_tell,
-    no_turns_break_the_order, no_turns_commit_after_a_reboot, scenarios_have_browsers,
-    scenarios_have_sessions,
+    boots_are_sound, commits_are_of_their_boot, connections_serve_their_requests,
+    journals_are_meant, keepers_tell, no_turns_break_the_order, no_turns_commit_after_a_reboot,
+    scenarios_have_browsers, scenarios_have_sessions,
 };
 
 /// Whatever the turns, what they did stands where they were done: the keeper was called as they say, and what
 /// connections heard is spelled.
-pub(crate) fn scenarios_stand()
+pub(crate) fn turns_stand()
     ensures { (turns : List Turn) (old new : KeeperSeen)
-        → WereDone turns old new → ScenarioStands turns old new }
+        → WereAsked turns old new → TurnsStand turns old new }
 {
     keepers_tell();
     boots_are_sound();
@@ -29,6 +29,16 @@ pub(crate) fn scenarios_stand()
     journals_are_meant();
     scenarios_have_sessions();
     scenarios_have_browsers();
+}
+
+/// Whatever the turns, what they did stands where they were done, each step of a connection by its calls; and each
+/// connection of a browser served its requests.
+pub(crate) fn scenarios_stand()
+    ensures { (turns : List Turn) (old new : KeeperSeen)
+        → WereAskedWhole turns old new → ScenarioStands turns old new }
+{
+    turns_stand();
+    connections_serve_their_requests();
 }
 
 /// A text has lines, and calls for a status whatever the keeper replies to each of them, where its replies are as many

@@ -10,7 +10,7 @@ ghost use Rattle.drive_engine.specs.Play.{first_play, DoesLine, EndsAtLine, HasC
 
 use crate::drive::MAX_SCENARIO_BYTES;
 use crate::ending::Ending;
-use crate::laws::scenarios_stand;
+use crate::laws::{scenarios_stand, turns_stand};
 use crate::words::Command;
 use outside::{Keeper, Sink, write_all};
 use scenario_engine::{Engine, LineFailure, UnstartedCause};
@@ -187,6 +187,7 @@ impl<K: Keeper + Drop> Play<K> {
         ensures keeper_count { self.old.keeper.faults ≤ self.new.keeper.faults }
     {
         scenarios_stand();
+        turns_stand();
         let mut rest = piece;
         while let Some((part, more)) = ended_line(rest) {
             match self.end_line(alloc, part, out) {
@@ -215,6 +216,7 @@ impl<K: Keeper + Drop> Play<K> {
         ensures keeper_count { self.old.keeper.faults ≤ self.new.keeper.faults }
     {
         scenarios_stand();
+        turns_stand();
         if self.part.is_empty() {
             return Ending::Done;
         }

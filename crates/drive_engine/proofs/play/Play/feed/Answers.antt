@@ -20,7 +20,7 @@ returns-in-Err-clause-comes g c =
     let cut = c.in-Some.ensures.ended in
     λ left left_now written told room past h.
     let P : List ℕ → Type 0 = λ t. HasCome (exchange left left_now written old told before) room t past c.loop-part.self in
-    ends_in_piece c.in-Err.ending left left_now written old new told before after room past c.loop-part.self part more c.scenarios_stand.ensures cut.0 c.in-Err.ensures.does (subst P cut.1 (c.loop-part.invariant.comes left left_now written told room past h))
+    ends_in_piece c.in-Err.ending left left_now written old new told before after room past c.loop-part.self part more c.scenarios_stand.ensures c.turns_stand.ensures cut.0 c.in-Err.ensures.does (subst P cut.1 (c.loop-part.invariant.comes left left_now written told room past h))
 
 pub loop-part-preserved : goal.loop-part-preserved
 loop-part-preserved g c =

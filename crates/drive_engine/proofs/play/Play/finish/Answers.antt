@@ -27,4 +27,4 @@ returns-in-Err-clause-ends g c =
     let before = c.args.self.now.keeper in
     let after = c.do_kept.new.self.keeper in
     let some : c.args.self.now.part ≢ [] = λ none. let empty : length c.self.inside.part.items ≡ 0 = ap (λ p. length p.part) c.self.view_is ∙ ap length none in grind (arith, nat_tests, c.self.inside.part.ok.0) in
-    λ left left_now from told more ended h. ends_at_end c.in-Err.ending left left_now from old new told before after more c.args.self.now c.scenarios_stand.ensures some c.in-Err.ensures.does ended h
+    λ left left_now from told more ended h. ends_at_end c.in-Err.ending left left_now from old new told before after more c.args.self.now c.scenarios_stand.ensures c.turns_stand.ensures some c.in-Err.ensures.does ended h
