@@ -30,6 +30,7 @@ use Rattle.send_windows.specs.Facts.{full_facts, open_count}
 use Rattle.send_windows.specs.Windows.{WindowsValue, refused, taken}
 use Rattle.session_way.specs.Way.{answer_held, passes_for, wants}
 use Rattle.session_way.specs.Writing.{write_begun}
+use Rattle.session_way.specs.declared.lease.SessionLease.{SessionLease}
 use Rattle.session_way.specs.declared.session_read.ReadOutcome.{ReadOutcome}
 use Rattle.session_way.specs.declared.session_write.WriteOutcome.{WriteOutcome}
 use Rattle.session_way.specs.declared.session_write.WriteOutcome.TheVariants as outcome
@@ -125,6 +126,16 @@ module _ (m : Making ActionCall) (o : ReadOutcome) where
       let second = alone m first.0 in
       once-held first.0 (once-held s hears (first-none first.1 second.1 none)) (second-none first.1 second.1 none)
 
+-- what a write came to changes nothing of what was heard
+
+pub missed-same : (lease : Option SessionLease) (causes : List BrickCause) (f : Fate) → read_fated (fate_missed causes f) lease ≡ read_fated f lease
+missed-same lease causes (Known became) = refl
+missed-same lease causes (Writing place again) = refl
+
+pub written-same : (lease : Option SessionLease) (f : Fate) → read_fated (fate_written f) lease ≡ read_fated f lease
+written-same lease (Known became) = refl
+written-same lease (Writing place again) = refl
+
 -- by each event of an open request
 
 module _ (v : Visit ActionCall) (o : ReadOutcome) (hears : read_behind v.work v.lease ≡ Some o) where
@@ -144,21 +155,13 @@ module _ (v : Visit ActionCall) (o : ReadOutcome) (hears : read_behind v.work v.
   changed change same (Answered fate bytes) is = same fate ∙ is
   changed change same (Left fate) is = same fate ∙ is
 
-  missed-same : (causes : List BrickCause) (f : Fate) → read_fated (fate_missed causes f) v.lease ≡ read_fated f v.lease
-  missed-same causes (Known became) = refl
-  missed-same causes (Writing place again) = refl
-
-  written-same : (f : Fate) → read_fated (fate_written f) v.lease ≡ read_fated f v.lease
-  written-same (Known became) = refl
-  written-same (Writing place again) = refl
-
   windows-held : (windows : WindowsValue) → H (windows_step v windows).0
   unfolding windows_step
   windows-held windows = by v.way where
     told : (x : Option WriteOutcome) (to : SessionWay) → H (after_outcome x (record v { way = to }))
     told None to = hears
-    told (Some (outcome.Written cookie)) to = changed fate_written written-same v.work hears
-    told (Some (outcome.Missed causes)) to = changed (fate_missed causes) (missed-same causes) v.work hears
+    told (Some (outcome.Written cookie)) to = changed fate_written (written-same v.lease) v.work hears
+    told (Some (outcome.Missed causes)) to = changed (fate_missed causes) (missed-same v.lease causes) v.work hears
 
     full : (w : Work ActionCall) → read_behind w v.lease ≡ Some o → read_behind (overloaded (full_facts windows.facts) w) v.lease ≡ Some o
     full Reading is = is

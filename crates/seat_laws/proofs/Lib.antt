@@ -8,6 +8,7 @@ mod Drawing
 mod Drawn
 mod Expiring
 mod FewerSteps
+mod FollowingItems
 mod Hearing
 mod HearingReads
 mod Holding
@@ -36,5 +37,6 @@ mod ServingDraws
 mod ServingGone
 mod ServingSteps
 mod Spending
+mod TellingReads
 mod Timing
 mod Twinning

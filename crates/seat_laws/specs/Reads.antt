@@ -6,13 +6,16 @@ use Rattle.http_wire.specs.Taking.{taken_of}
 use Rattle.http_wire.specs.declared.taken.Head.{Head}
 use Rattle.http_wire.specs.declared.taken.Taken.TheVariants.{Request}
 use Rattle.lane_link.specs.Twins.{ByEvents, call_held}
+use Rattle.outcome_items.specs.declared.item.Item.{Item}
 use Rattle.outcome_items.specs.declared.outcome.ItemOutcome.{ItemOutcome}
 use Rattle.outcome_items.specs.declared.outcome.ItemOutcome.TheVariants as item
 use Rattle.outside.specs.declared.serials.TheConstants.{SERIALS_END}
 use Rattle.request_decisions.specs.declared.decision.Decision.{Decision}
 use Rattle.request_decisions.specs.declared.decision.Decision.TheVariants.{Ordered, Refused}
+use Rattle.request_visit.specs.Advancing.{value_of}
 use Rattle.request_visit.specs.declared.visit.Fate.{Fate}
 use Rattle.request_visit.specs.declared.visit.Fate.TheVariants.{Known, Writing}
+use Rattle.request_visit.specs.declared.visit.Visit.{Visit}
 use Rattle.request_visit.specs.declared.visit.Work.{Work}
 use Rattle.request_visit.specs.declared.visit.Work.TheVariants.{Reading, Opening, Serving as ServingBy, Committed, Decided, Answered, Left}
 use Rattle.session_cookie.specs.declared.cookie.Cookie.{Cookie}
@@ -25,6 +28,7 @@ use Rattle.session_way.specs.declared.session_read.ReadOutcome.{ReadOutcome}
 use Rattle.session_way.specs.declared.session_read.ReadOutcome.TheVariants as read
 use Rattle.session_way.specs.declared.way.SessionWay.{SessionWay}
 use Rattle.session_way.specs.declared.way.SessionWay.TheVariants as way
+use Rattle.shepherd.specs.declared.shepherd.AskedCall.{AskedCall}
 use Rattle.shepherd.specs.declared.shepherd.Stage.{Stage}
 use Rattle.shepherd.specs.declared.shepherd.Stage.TheVariants.{Resting, Serving, Refusing, Over}
 use Rattle.shepherd_steps.specs.Deciding.{accepted_by}
@@ -100,6 +104,16 @@ read_heard Resting = None
 read_heard (Serving v call) = read_behind v.work v.lease
 read_heard (Refusing why bytes) = None
 read_heard (Over end) = None
+
+-- An item tells what the request that was open had heard of its session: it has the value of the session that was
+-- found, and none where none was; and what became of the request tells that the session had expired, or was lost, just
+-- where this was heard.
+pub record TellsWhatWasHeard (stage : Stage ActionCall) (i : Item) : Type 0 where
+  pub visit : Visit ActionCall
+  pub call : Option AskedCall
+  pub serves : stage ≡ Serving visit call
+  pub value_is : i.value ≡ option_map value_of visit.lease
+  pub outcome_is : read_told i.outcome visit.lease ≡ read_heard stage
 
 -- what became of a request by its fate, where that is known
 abbrev pub known_fate : Fate → Option ItemOutcome

@@ -31,6 +31,7 @@ use Rattle.request_visit.specs.declared.visit.Visit.{Visit}
 use Rattle.request_visit.specs.declared.visit.Work.{Work}
 use Rattle.request_visit.specs.declared.visit.Work.TheVariants.{Reading, Opening, Serving as ServingBy, Committed, Decided, Answered, Left}
 use Rattle.served_items.specs.Attributing.{Attributing, Service}
+use Rattle.served_items.specs.Following.{FollowOn}
 use Rattle.served_items.specs.Holding.{Holding}
 use Rattle.served_items.specs.Served.{AreServed, ServedItem}
 use Rattle.session_way.specs.declared.session_write.WriteOrder.{WriteOrder}
@@ -73,6 +74,11 @@ pub record SeatServes (key : List ℕ) (boot : BootValue) (since : List Event) (
   pub answers : SeatAnswers key (history_in boot since) c.fed heads c.written c.items s
   pub attributes : Attributing steps_of LaneLinkMakes (λ (maker : SiteMaker). IsMadeOf) PlainGives PlainLooks (service_of key boot) boot.start (history_in boot since) heads c.drawn c.opened.0 now.0 c.items s
   pub holds : Holding c.behind (history_in boot since) c.items s
+
+-- The items of a connection follow on one another, from its first one on: the journal was no shorter when the container
+-- was first held for each than when it was last held for the one before.
+abbrev pub ItemsFollow : Course → Type 0
+ItemsFollow c = FollowOn (record { 0 = 0 }) c.items
 
 -- The items of a connection are served: they are for the requests of these heads, in order, and each tells what was
 -- served of its own request, over the history of the container and up to this moment.

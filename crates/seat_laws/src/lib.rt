@@ -30,9 +30,9 @@
 //! - `seats_come_to_rest`: each step leaves fewer, until the seat waits for bytes or is gone.
 //! - `seats_serve_their_requests`: behind each step, what a connection put out are the responses to its items, and each
 //!   item is for its own request, with what was decided of that and drawn for it. Its items come in order
-//!   (`items_of_seats_come_in_order`), its pages are what the site means (`pages_of_seats_are_meant`), and what it drew
-//!   came next (`drawn_numbers_come_next`). A cookie that its write answers is acknowledged with the value that its
-//!   page sets (`seats_write_what_their_pages_set`).
+//!   (`items_of_seats_come_in_order`, `items_of_seats_follow_one_another`), its pages are what the site means
+//!   (`pages_of_seats_are_meant`), and what it drew came next (`drawn_numbers_come_next`). A cookie that its write
+//!   answers is acknowledged with the value that its page sets (`seats_write_what_their_pages_set`).
 //! - `replies_matter_where_handed`: where a step hands nothing to the keeper, its reply changes nothing.
 //!
 //! Two things are asked of whoever drives the seats. What a seat hears is spelled by its bytes (`SeatHears`): the
@@ -64,6 +64,6 @@ pub use reading::{
 };
 pub use resting::seats_come_to_rest;
 pub use serving::{
-    drawn_numbers_come_next, items_of_seats_come_in_order, pages_of_seats_are_meant,
-    seats_serve_their_requests, seats_write_what_their_pages_set,
+    drawn_numbers_come_next, items_of_seats_come_in_order, items_of_seats_follow_one_another,
+    pages_of_seats_are_meant, seats_serve_their_requests, seats_write_what_their_pages_set,
 };

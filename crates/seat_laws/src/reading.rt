@@ -1,7 +1,7 @@
 //! Laws of what seats read of their sessions, and of what they write. Each is the contract of a function that does
 //! nothing: a caller that needs the law calls the function.
 
-ghost use Rattle.std.specs.Prelude.{◌≡◌, ◌<◌, ◌≤◌, ℕ, List, [], length, false, None, Some, Ok, Err};
+ghost use Rattle.std.specs.Prelude.{◌≡◌, ◌<◌, ◌≤◌, ℕ, All, List, [], length, false, None, Some, Ok, Err};
 ghost use Rattle.session_cookie.specs.declared.cookie.Cookie.{Cookie};
 ghost use Rattle.http_wire.specs.declared.taken.Head.{Head};
 ghost use Rattle.lane_link.specs.Twins.{ByEvents};
@@ -22,7 +22,7 @@ ghost use Rattle.seat_steps.specs.Replies.{SeatHears};
 ghost use Rattle.seat_steps.specs.Seats.{SeatGivens, SeatWorld, readings_under, seat_step};
 ghost use Rattle.seat_steps.specs.Twinned.{way_in};
 ghost use Rattle.seat_steps.specs.declared.seat.Seat.{Seat};
-ghost use Rattle.seat_laws.specs.Reads.{BearsCookie, IsFoundOrLost, IsTakenBy, IsTakenLate, MissedFor, ReadsRightly, ReadsSince, known_outcome, order_of, read_heard, read_under_way, value_written};
+ghost use Rattle.seat_laws.specs.Reads.{BearsCookie, IsFoundOrLost, IsTakenBy, IsTakenLate, MissedFor, ReadsRightly, ReadsSince, TellsWhatWasHeard, known_outcome, order_of, read_heard, read_under_way, value_written};
 ghost use Rattle.seat_laws.specs.Standing.{SeatStands};
 
 use lane_link::{lanes_go_by_events, steps_are_turns_of_twins, twins_begin, twins_stay};
@@ -97,8 +97,10 @@ pub fn seats_read_what_was_written()
 /// read, it took a request that bears the cookie by which the read asks, at the present moment, and this has not
 /// expired; and while the seat waits it is this read, as it was asked for. A seat with memory tells a request whose
 /// cookie has expired just that, where it does not refuse the request as it is decided, unless no serial number is
-/// left. What a seat heard stays until the item of its request is taken. And the serial number by which a request
-/// hears, as it is taken, that they are spent is the one that is next then.
+/// left. What a seat heard stays until the item of its request is taken, and this item tells just that: the value of
+/// the session that was found, or that it had expired or was lost. And the serial number by which a request hears, as
+/// it is taken, that they are spent is the one that is next then. So another value is refused, and an item that tells
+/// of a session that is lost where one was found.
 pub fn seats_read_their_own_sessions()
     ensures borne { (g : SeatGivens) (seat : Seat) (w : SeatWorld) (r : ReadState)
         → read_under_way seat.connection.stage ≡ None
@@ -116,6 +118,8 @@ pub fn seats_read_their_own_sessions()
     ensures held { (g : SeatGivens) (seat : Seat) (w : SeatWorld) (outcome : ReadOutcome)
         → read_heard seat.connection.stage ≡ Some outcome → (seat_step g seat w).items ≡ []
         → read_heard (seat_step g seat w).seat.connection.stage ≡ Some outcome }
+    ensures told { (g : SeatGivens) (seat : Seat) (w : SeatWorld)
+        → All (TellsWhatWasHeard seat.connection.stage) (seat_step g seat w).items }
     ensures spent { (g : SeatGivens) (seat : Seat) (w : SeatWorld) (seen : ℕ) → seat.connection.stage ≡ Resting
         → known_outcome (seat_step g seat w).seat.connection.stage ≡ Some (SerialsSpent seen)
         → seen ≡ (seat_step g seat w).world.serial }

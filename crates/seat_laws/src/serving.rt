@@ -28,12 +28,13 @@ ghost use Rattle.shepherd.specs.declared.shepherd.AskedCall.{AskedCall};
 ghost use Rattle.shepherd.specs.declared.shepherd.Shepherd.{Shepherd};
 ghost use Rattle.shepherd.specs.declared.shepherd.Stage.TheVariants.{Serving};
 ghost use Rattle.ssm_world.specs.Claims.{IsAcknowledged};
+ghost use Rattle.seat_steps.specs.Going.{GoesOnAtSeat};
 ghost use Rattle.seat_steps.specs.Gone.{seat_gone};
 ghost use Rattle.seat_steps.specs.Seats.{SeatGivens, SeatWorld, seat_step};
 ghost use Rattle.seat_steps.specs.Stepped.{HasStepped};
 ghost use Rattle.seat_steps.specs.Twinned.{way_in};
 ghost use Rattle.seat_steps.specs.declared.seat.Seat.{Seat};
-ghost use Rattle.seat_laws.specs.Serving.{Course, DrewNext, ItemsAreServed, PageIsMeant, SeatServes, WritesPage, course_behind, history_in, opening, serials_among, words_among};
+ghost use Rattle.seat_laws.specs.Serving.{Course, DrewNext, ItemsAreServed, ItemsFollow, PageIsMeant, SeatServes, WritesPage, course_behind, history_in, opening, serials_among, words_among};
 ghost use Rattle.seat_laws.specs.Standing.{SeatStands};
 
 use crate::reading::seats_acknowledge_what_they_wrote;
@@ -207,6 +208,20 @@ pub fn items_of_seats_come_in_order()
     items_tell_what_was_served::<ActionProgram, LaneLink, SiteMaker, PlainRandom, PlainSerials>();
     moments_of_items_never_fall::<ActionProgram, LaneLink, SiteMaker, PlainRandom, PlainSerials>();
 }
+
+/// The items of a connection follow on one another: the journal was no shorter when the container was first held for
+/// each than when it was last held for the one before (`next`), and no shorter at its last hold than at its first. That
+/// is so from the begin of a connection on, and behind each of its steps, where it serves its requests and goes on in its
+/// container. It refuses an item whose tries began before the container was last held for the item before.
+pub fn items_of_seats_follow_one_another()
+    ensures begins { (now : Moment) (behind : ℕ) → ItemsFollow (opening now behind) }
+    ensures step { (g : SeatGivens) (seat : Seat) (w : SeatWorld) (old : ContainerValue) (c : Course)
+        (drawn : List Draw) → GoesOnAtSeat old seat.connection
+        → SeatServes g.key w.boot w.since g.now c seat.connection → ItemsFollow c
+        → ItemsFollow (course_behind c drawn (seat_step g seat w)) }
+    ensures next { (c : Course) (before behind : List Item) (i next : Item) → ItemsFollow c
+        → c.items ≡ before ++ i ∷ next ∷ behind → i.holds.front.0 ≤ next.holds.from.0 }
+{}
 
 /// A page of its own that a connection serves is what the site means by its own request's call, in a boot of the site:
 /// the entry at the page's place wrote and answers what the site means by it over the rows just before, and bears the

@@ -5,6 +5,7 @@ use Rattle.seat_laws.proofs.Holding.{stays-heard}
 use Rattle.seat_laws.proofs.OwnCookies.{BeginsBy, begins-so}
 use Rattle.seat_laws.proofs.OwnReads.{same-order}
 use Rattle.seat_laws.proofs.Spending.{spent-is-next}
+use Rattle.seat_laws.proofs.TellingReads.{tells-heard}
 use Rattle.seat_laws.proofs.reading.seats_read_their_own_sessions.Goals as goal
 
 pub returns-clause-borne : goal.returns-clause-borne
@@ -38,6 +39,9 @@ returns-clause-late c =
 
 pub returns-clause-held : goal.returns-clause-held
 returns-clause-held c = λ g seat w outcome hears none. stays-heard g seat w outcome hears none
+
+pub returns-clause-told : goal.returns-clause-told
+returns-clause-told c = λ g seat w. tells-heard g seat w
 
 pub returns-clause-spent : goal.returns-clause-spent
 returns-clause-spent c = spent-is-next
