@@ -21,6 +21,7 @@ use Rattle.request_visit.specs.declared.visit.Visit.{Visit}
 use Rattle.scenario_text.specs.Answer.{Answer, Done, KeepsRefused, Refused, answer_of}
 use Rattle.scenario_text.specs.declared.answer.LineAnswer.{LineAnswer}
 use Rattle.scenario_text.specs.declared.answer.LineAnswer.TheVariants as answers
+use Rattle.seat_steps.specs.Going.{GoesOnAtSeat}
 use Rattle.seat_steps.specs.Replies.{SeatHears}
 use Rattle.seat_steps.specs.Seats.{SeatGivens, SeatOutcome, SeatWorld, givens_in, seat_step, seen_by}
 use Rattle.seat_steps.specs.Stepped.{BreaksOff, CallsAt, HasStepped, KeeperReplied, MakesCalls, MakesEvent, SeatCalling, calling, kept_between, seat_writes, world_from, writes_at}
@@ -56,12 +57,13 @@ still_hears : (seat : Seat) (st : LanesState) → moves (turn seat.connection) �
 still_hears seat st rests outside = let clash : true ≡ false = sym (ap moves outside) ∙ rests in absurd (cc)
 
 -- What is told around the step of a seat that was made.
-pub record AroundStep (now : Moment) (old : ContainerValue) (w : SeatWorld) (new : ContainerValue) (o : SeatOutcome) : Type 0 where
+pub record AroundStep (now : Moment) (seat : Seat) (old : ContainerValue) (w : SeatWorld) (new : ContainerValue) (o : SeatOutcome) : Type 0 where
   pub boot_is : old.boot ≡ w.boot
   pub since_is : old.since ≡ w.since
   pub entries_are : entries_in w.since ≡ w.boot.entries
   pub in_time : now.0 < MOMENTS_END
   pub word : w.word < 2 ^ 64
+  pub goes : GoesOnAtSeat old seat.connection
   pub sound : HasSoundStore (Some w.store)
   pub limits : KeepLimits w.store.windows
   pub grown : HasGrownBy old new
@@ -69,7 +71,7 @@ pub record AroundStep (now : Moment) (old : ContainerValue) (w : SeatWorld) (new
   pub new_since : new.since ≡ o.world.since
 
 -- so it was made by its calls
-was_stepped : (key : List ℕ) (now : Moment) (n : ℕ) (seat : Seat) (old : ContainerValue) (w : SeatWorld) (new : ContainerValue) (o : SeatOutcome) → (stepped : HasStepped key (worker_of n) now seat old w new o) → AroundStep now old w new o
+was_stepped : (key : List ℕ) (now : Moment) (n : ℕ) (seat : Seat) (old : ContainerValue) (w : SeatWorld) (new : ContainerValue) (o : SeatOutcome) → (stepped : HasStepped key (worker_of n) now seat old w new o) → AroundStep now seat old w new o
     → WasStepped (record { key = key; worker = worker_of n; now = now; keeps = stepped.keeps }) seat w
 was_stepped key now n seat old w new o stepped around =
     let g : SeatGivens = record { key = key; worker = worker_of n; now = now; keeps = stepped.keeps } in
@@ -81,6 +83,7 @@ was_stepped key now n seat old w new o stepped around =
       entries_are = around.entries_are;
       in_time = around.in_time;
       word = around.word;
+      goes = around.goes;
       sound = around.sound;
       limits = around.limits;
       stepped = record {
@@ -274,7 +277,7 @@ done_keeps answers.Done old new text is = tt
 done_keeps (answers.Wrote out) old new text is = tt
 
 -- a connection that made a step at its turn came to what the function says
-pub moved_in : (key : List ℕ) (now : Moment) (n : ℕ) (seat : Seat) (old : ContainerValue) (w : SeatWorld) (new : ContainerValue) (o : SeatOutcome) (a : Answer Place) → HasStepped key (worker_of n) now seat old w new o → AroundStep now old w new o → moves (turn seat.connection) ≡ true → old.faults ≤ new.faults → a ≡ moved (turn seat.connection) n o
+pub moved_in : (key : List ℕ) (now : Moment) (n : ℕ) (seat : Seat) (old : ContainerValue) (w : SeatWorld) (new : ContainerValue) (o : SeatOutcome) (a : Answer Place) → HasStepped key (worker_of n) now seat old w new o → AroundStep now seat old w new o → moves (turn seat.connection) ≡ true → old.faults ≤ new.faults → a ≡ moved (turn seat.connection) n o
     → HasMovedIn key now n (Some seat) old w a new
 unfolding place_step
 moved_in key now n seat old w new o a stepped around moving count is =

@@ -209,10 +209,10 @@ pub record BreaksRun (n : ℕ) (old : ContainerValue) (sessions : SessionsState)
   pub goes_on : rests (seat_at mid_seats.seats n) ≡ false
   pub last : BreaksStep n mid mid_sessions mid_seats new
 
--- Memory ran out in a line about connections: one that makes no step hands nothing to the keeper.
+-- Memory ran out in a line about connections: one that makes no step leaves the container as it was.
 abbrev pub BreaksOff : SeatLine → ContainerValue → SessionsState → SeatsState → ContainerValue → Type 0
-BreaksOff (lines.Conn n) old sessions seats new = AreHanded [] old new
-BreaksOff (lines.Bytes n bytes) old sessions seats new = AreHanded [] old new
-BreaksOff (lines.End n) old sessions seats new = AreHanded [] old new
+BreaksOff (lines.Conn n) old sessions seats new = new ≡ old
+BreaksOff (lines.Bytes n bytes) old sessions seats new = new ≡ old
+BreaksOff (lines.End n) old sessions seats new = new ≡ old
 BreaksOff (lines.Step n) old sessions seats new = BreaksStep n old sessions seats new
 BreaksOff (lines.Run n) old sessions seats new = BreaksRun n old sessions seats new

@@ -6,6 +6,7 @@ use Rattle.outside.specs.declared.clock.TheConstants.{MOMENTS_END}
 use Rattle.scenario_text.specs.Answer.{Refused, Done}
 use Rattle.scenario_text.specs.declared.seat_line.SeatLine.{SeatLine}
 use Rattle.scenario_text.specs.declared.seat_line.SeatLine.TheVariants as lines
+use Rattle.seat_steps.specs.Going.{GoesOnAtSeat}
 use Rattle.seat_steps.specs.Replies.{SeatHears}
 use Rattle.seat_steps.specs.Seats.{SeatGivens, SeatWorld, seat_step}
 use Rattle.seat_steps.specs.Stepped.{HasStepped}
@@ -61,8 +62,9 @@ StepHearsSpelled step = (st : LanesState) (seat : Seat) → is_beyond step.numbe
     → step.site.sessions.store ≡ Some st → seat_at step.site.seats.seats step.number ≡ Some seat → SeatHears seat st
 
 -- The step of a seat in a world was made by its calls in a container, where the keeper replied as is given: so the
--- contract of the step tells it. The journal of the container is that of its events, the bricks are sound, and their
--- windows are within their limits. The container has grown by the step, to what the step leaves of it.
+-- contract of the step tells it. The journal of the container is that of its events, and the connection goes on in it;
+-- the bricks are sound, and their windows are within their limits. The container has grown by the step, to what the
+-- step leaves of it.
 pub record WasStepped (g : SeatGivens) (seat : Seat) (w : SeatWorld) : Type 0 where
   pub old : ContainerValue
   pub new : ContainerValue
@@ -71,6 +73,7 @@ pub record WasStepped (g : SeatGivens) (seat : Seat) (w : SeatWorld) : Type 0 wh
   pub entries_are : entries_in w.since ≡ w.boot.entries
   pub in_time : g.now.0 < MOMENTS_END
   pub word : w.word < 2 ^ 64
+  pub goes : GoesOnAtSeat old seat.connection
   pub sound : HasSoundStore (Some w.store)
   pub limits : KeepLimits w.store.windows
   pub stepped : HasStepped g.key g.worker g.now seat old w new (seat_step g seat w)

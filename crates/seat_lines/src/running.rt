@@ -240,8 +240,8 @@ impl Seats {
     /// connection costs, and a run what its steps do.
     ///
     /// # Errors
-    /// Out of memory, after which no bricks are left. A commit that the keeper has kept may be in the journal, whose
-    /// response was not put out.
+    /// Out of memory. Of a step or a run no bricks are left then, and a commit that the keeper has kept may be in the
+    /// journal, whose response was not put out. Any other line leaves the container as it was.
     pub fn line<K: Keeper + Drop>(
         &mut self,
         alloc: Global,

@@ -23,12 +23,13 @@ returns-in-Ok-step_text-clause-step g c =
     let a : Answer Place = answer_of c.in-Ok-step_text.answer place in
     let P : SeatStepped → Type 0 = λ s. HasStepped c.key.result.now (worker_of n) c.moment.result c.args.seat.now c.args.container.now w c.step-lanes.new.container (record o { bytes = s.bytes; items = s.items }) in
     let stepped : P c.in-Ok.stepped = IfOk-at_ok P c.in-Ok.is c.step-lanes.ensures.step in
-    let around : AroundStep c.moment.result c.args.container.now w c.step-lanes.new.container o = record {
+    let around : AroundStep c.moment.result c.args.seat.now c.args.container.now w c.step-lanes.new.container o = record {
       boot_is = refl;
       since_is = refl;
       entries_are = c.tell_entries.ensures;
       in_time = omega (arith, c.moment.ensures.in_time);
       word = subst (λ (x : ℕ). x < 2 ^ 64) c.word_of.ensures.value c.word_of.ensures.small;
+      goes = c.requires.goes;
       sound = c.requires.sound;
       limits = c.keeps_limits.ensures;
       grown = c.step-lanes.ensures.grown;
