@@ -272,10 +272,14 @@ breaks_run k n callers sessions seats number h =
     by (inl none) = inl none
     by (inr heard) = inr (run_once_more StepHearsSpelled (site_in k sessions seats) (site_in h.mid h.mid_sessions h.mid_seats) number h.replies h.last.keeps h.steps h.heard heard)
 
+-- nothing was handed to the keeper of a container that is as it was
+left_handed : (k n : ContainerValue) → n ≡ k → AreHanded [] k n
+left_handed k n same = subst (λ (x : ContainerValue). AreHanded [] k x) (sym same) (record { tells = refl; counted = omega (arith) })
+
 breaks_seat : (k n : ContainerValue) (callers : List Caller) (sessions : SessionsState) (seats : SeatsState) (line : SeatLine) → BreaksOff line k sessions seats n → EndsSeat (run_of k callers sessions seats true) line (seen k.told k.faults) (seen n.told n.faults)
-breaks_seat k n callers sessions seats (lines.Conn number) h = inl (handed_made [] k n h)
-breaks_seat k n callers sessions seats (lines.Bytes number bytes) h = inl (handed_made [] k n h)
-breaks_seat k n callers sessions seats (lines.End number) h = inl (handed_made [] k n h)
+breaks_seat k n callers sessions seats (lines.Conn number) h = inl (handed_made [] k n (left_handed k n h))
+breaks_seat k n callers sessions seats (lines.Bytes number bytes) h = inl (handed_made [] k n (left_handed k n h))
+breaks_seat k n callers sessions seats (lines.End number) h = inl (handed_made [] k n (left_handed k n h))
 breaks_seat k n callers sessions seats (lines.Step number) h = inr (breaks_step k n callers sessions seats number h)
 breaks_seat k n callers sessions seats (lines.Run number) h = inr (breaks_run k n callers sessions seats number h)
 

@@ -18,7 +18,7 @@ use Rattle.request_decisions.specs.declared.draws.Draw.{Draw}
 use Rattle.scenario_text.specs.Answer.{Answer, Refused, Done}
 use Rattle.scenario_text.specs.declared.seat_line.SeatLine.{SeatLine}
 use Rattle.scenario_text.specs.declared.seat_line.SeatLine.TheVariants as lines
-use Rattle.seat_laws.specs.Serving.{Course, DrewNext, SeatServes, course_behind, history_in, opening}
+use Rattle.seat_laws.specs.Serving.{Course, DrewNext, ItemsFollow, SeatServes, course_behind, history_in, opening}
 use Rattle.seat_lines.proofs.Keeping.{GrowsLaw, SiteStays, line_stays, moving_items, moving_outs, still_items, still_outs}
 use Rattle.seat_lines.proofs.SeatSteps.{within_places}
 use Rattle.seat_lines.specs.Changing.{ChangesSeatsAlone, IsLeftBySeat, SeatBecomes, makes_steps, number_in}
@@ -29,6 +29,7 @@ use Rattle.seat_lines.specs.Responding.{in_row}
 use Rattle.seat_lines.specs.Runs.{rests, seat_line}
 use Rattle.seat_lines.specs.Site.{SiteState, seat_at, with_seat}
 use Rattle.seat_lines.specs.Texts.{gone_text}
+use Rattle.seat_steps.specs.Going.{GoesOnAtSeat}
 use Rattle.seat_steps.specs.Seats.{SeatGivens, SeatOutcome, SeatWorld, seat_step}
 use Rattle.seat_steps.specs.Stepped.{HasStepped}
 use Rattle.seat_steps.specs.declared.seat.Seat.{Seat}
@@ -57,6 +58,8 @@ pub record ServeLaws : Type 0 where
       → HasGrownBy old new → 1 ≤ w.store.windows.wq → w.store.windows.wq ≤ MAX_HOLDERS → HasStepped g.key g.worker g.now seat old w new (seat_step g seat w) → SeatServes g.key w.boot w.since g.now c seat.connection
       → (drawn : List Draw) × DrewNext w drawn (seat_step g seat w).world
       × SeatServes g.key (seat_step g seat w).world.boot (seat_step g seat w).world.since g.now (course_behind c drawn (seat_step g seat w)) (seat_step g seat w).seat.connection
+  pub follow : (g : SeatGivens) (seat : Seat) (w : SeatWorld) (old : ContainerValue) (c : Course) (drawn : List Draw) → GoesOnAtSeat old seat.connection → SeatServes g.key w.boot w.since g.now c seat.connection
+      → ItemsFollow c → ItemsFollow (course_behind c drawn (seat_step g seat w))
   pub moved : (s t : SiteState) (n : ℕ) (keeps : Bool) (text : List ℕ) (seat : Seat) (st : LanesState) → seat_at s.seats.seats n ≡ Some seat → s.sessions.store ≡ Some st → moves (turn seat.connection) ≡ true
       → step_line s n keeps ≡ Done t text → IsLeftBySeat s n (turn seat.connection) (seat_step (givens_of s n keeps) seat (world_of s st)) t text
   pub waits : (s t : SiteState) (n : ℕ) (keeps : Bool) (text : List ℕ) (seat : Seat) → seat_at s.seats.seats n ≡ Some seat → turn seat.connection ≡ turns.Bytes → step_line s n keeps ≡ Done t text → (t ≡ s) × (text ≡ [])
@@ -189,6 +192,7 @@ module _ (laws : ServeLaws) where
             is_of = as-there (steps ++ This ∷ []) (seat_at t.seats.seats n) O.seat O.seat.connection left.seat refl;
             serves = serves-as s.sessions.key t.sessions.key O.world.boot t.boot O.world.since t.since s.sessions.moment t.sessions.moment (course_behind C behind.0 O) (course_of from bytes (its.draws ++ d ∷ [])) O.seat.connection
                 (sym (ap (λ (x : SessionsState). x.key) left.sessions)) (sym left.boot) (sym left.since) (sym (ap (λ (x : SessionsState). x.moment) left.sessions)) (sym course) behind.2;
+            follows = subst ItemsFollow (sym course) (laws.follow G seat W was.old C behind.0 was.goes here its.follows);
           }
 
       -- a step that does not move the connection: it stays so, over what is as it was
@@ -212,6 +216,7 @@ module _ (laws : ServeLaws) where
             connection = its.connection;
             is_of = is_of;
             serves = subst (λ (c : Course). Serves u c its.connection) (sym course) serves;
+            follows = subst ItemsFollow (sym course) its.follows;
           }
 
       served-waits : turn seat.connection ≡ turns.Bytes → moves (turn seat.connection) ≡ false → Served (steps ++ This ∷ []) t
@@ -287,6 +292,7 @@ module _ (laws : ServeLaws) where
       serves = subst (λ (k : List ℕ). SeatServes k t.boot t.since t.sessions.moment (course_of from bytes its.draws) its.connection) (sym continues.key)
           (subst (λ (xs : List Event). SeatServes s.sessions.key t.boot xs t.sessions.moment (course_of from bytes its.draws) its.connection) (sym continues.since)
           (laws.meanwhile s.sessions.key s.boot t.boot s.since continues.more s.sessions.moment t.sessions.moment (course_of from bytes its.draws) its.connection continues.start continues.later its.serves));
+      follows = its.follows;
     }
 
   -- what comes to a connection changes connections alone
@@ -311,6 +317,7 @@ module _ (laws : ServeLaws) where
     connection = fresh;
     is_of = as-there [] (seat_at t.seats.seats n) new_seat fresh (laws.opens s t n replies text is) refl;
     serves = laws.begins t.sessions.key t.boot t.since t.sessions.moment;
+    follows = tt;
   }
 
   -- bytes come
@@ -327,6 +334,7 @@ module _ (laws : ServeLaws) where
         is_of = as-there steps (seat_at t.seats.seats n) (fed comes.seat came) (become its.connection) comes.becomes (ap become same);
         serves = alone-as s t text (course_of from (bytes ++ came) its.draws) (become its.connection) (laws.alone s t (lines.Bytes n came) replies text is refl)
             (laws.feeds s.sessions.key s.boot s.since s.sessions.moment (course_of from bytes its.draws) its.connection came its.serves);
+        follows = its.follows;
       }
 
   -- its input ends
@@ -343,6 +351,7 @@ module _ (laws : ServeLaws) where
         is_of = as-there steps (seat_at t.seats.seats n) (ended comes.seat) (become its.connection) comes.becomes (ap become same);
         serves = alone-as s t text (course_of from bytes its.draws) (become its.connection) (laws.alone s t (lines.End n) replies text is refl)
             (laws.ends s.sessions.key s.boot s.since s.sessions.moment (course_of from bytes its.draws) its.connection its.serves);
+        follows = its.follows;
       }
 
   -- what lines about another one leave of it, and of the site

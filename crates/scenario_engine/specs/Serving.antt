@@ -8,7 +8,7 @@ use Rattle.scenario_text.specs.Reading.{line_of}
 use Rattle.scenario_text.specs.declared.line.Line.{Line}
 use Rattle.scenario_text.specs.declared.line.Line.TheVariants as lines
 use Rattle.scenario_text.specs.declared.seat_line.SeatLine.TheVariants as seats
-use Rattle.seat_laws.specs.Serving.{Course, DrewNext, SeatServes, history_in}
+use Rattle.seat_laws.specs.Serving.{Course, DrewNext, ItemsFollow, SeatServes, history_in}
 use Rattle.seat_lines.specs.Changing.{number_in}
 use Rattle.seat_lines.specs.Items.{items_at, outs_at, step_yields}
 use Rattle.seat_lines.specs.Lines.{moves, world_of}
@@ -107,7 +107,7 @@ course_of opened fed draws =
 
 -- The connection of a number, which opened in a site, has served its requests in another, which these bytes and these
 -- steps of it led to: it serves them by what was drawn in its steps, by what they put out, and by the items that they
--- gave, in order.
+-- gave, in order. These follow on one another in the journal.
 pub record HasServed (n : ℕ) (opened : SiteState) (fed : List ℕ) (steps : List StepMade) (now : SiteState) : Type 0 where
   pub draws : List StepDraws
   pub steps_are : map (λ (d : StepDraws). d.step) draws ≡ steps
@@ -115,6 +115,7 @@ pub record HasServed (n : ℕ) (opened : SiteState) (fed : List ℕ) (steps : Li
   pub connection : Shepherd ActionCall
   pub is_of : IsOf steps (seat_at now.seats.seats n) connection
   pub serves : SeatServes now.sessions.key now.boot now.since now.sessions.moment (course_of opened fed draws) connection
+  pub follows : ItemsFollow (course_of opened fed draws)
 
 -- a line neither starts the next boot nor opens a connection of this number
 abbrev pub StaysWith : ℕ → Turn → Type 0

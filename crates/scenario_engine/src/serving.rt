@@ -31,7 +31,9 @@ ghost use Rattle.scenario_engine.specs.Serving.{AllServed, Connection, DrewInSte
 ghost use Rattle.scenario_engine.specs.State.{RunningState, Running, site_of};
 ghost use Rattle.scenario_engine.specs.Transcript.{Turn, Ended, UnderWay, first, end_from};
 
-use seat_laws::{drawn_numbers_come_next, seats_serve_their_requests};
+use seat_laws::{
+    drawn_numbers_come_next, items_of_seats_follow_one_another, seats_serve_their_requests,
+};
 use seat_lines::{lines_change_one_connection, steps_are_those_of_seats};
 use seat_steps::seats_answer_their_requests;
 
@@ -39,8 +41,9 @@ use seat_steps::seats_answer_their_requests;
 /// as its boot runs: whatever other lines come between, also in a run that is under way, and where the connection is
 /// gone. What was drawn for its requests are the numbers that its steps drew, each as it was next; what it put out, and
 /// its items, are what its steps put out and gave; so all that `seat_laws::seats_serve_their_requests` says of these
-/// holds of it. The steps were made by their calls (`AllMade`), as the contract of each line tells it. Where it is
-/// given up, as before the next boot, the item that is left joins its items.
+/// holds of it, and its items follow on one another in the journal (`items_of_seats_follow_one_another`). The steps were
+/// made by their calls (`AllMade`), as the contract of each line tells it. Where it is given up, as before the next
+/// boot, the item that is left joins its items.
 pub fn connections_serve_their_requests()
     ensures served { (turns : List Turn) → AllMade first turns → AllServed turns }
     ensures given_up { (turns : List Turn) (c : Connection turns) (it : IsServed c) (seat : Seat) (st : LanesState)
@@ -51,6 +54,7 @@ pub fn connections_serve_their_requests()
 {
     seats_answer_their_requests();
     seats_serve_their_requests();
+    items_of_seats_follow_one_another();
     lines_change_one_connection();
     steps_are_those_of_seats();
 }

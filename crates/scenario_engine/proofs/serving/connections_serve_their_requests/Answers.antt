@@ -13,6 +13,7 @@ returns-clause-served c =
       ends = serve.ended;
       meanwhile = serve.meanwhile;
       steps = serve.step;
+      follow = c.items_of_seats_follow_one_another.ensures.step;
       grows = c.seats_answer_their_requests.ensures.grows;
       moved = stepped.step;
       waits = stepped.waits;
