@@ -1,0 +1,3 @@
+pub mod Blaming
+pub mod Keeping
+pub mod Widening

@@ -1,0 +1,4 @@
+pub mod Decisions
+pub mod Events
+pub mod Kept
+pub mod Levels
