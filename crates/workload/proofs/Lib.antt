@@ -1,0 +1,7 @@
+mod Committing
+mod Counting
+mod Going
+mod Inside
+mod Rebooting
+pub mod Running
+mod Turning

@@ -1,0 +1,183 @@
+//! What a caller does in a turn, but for what calls the container itself.
+
+ghost use Rattle.std.specs.Prelude.{◌≡◌, ◌≢◌, ◌≤◌, ◌<◌, ◌^◌, [], Some, None, IfOk, IfSome, MatchResult};
+ghost use Rattle.boot_core.specs.Fits.{FitsIn};
+ghost use Rattle.line_steps.specs.CallLines.{row_id};
+ghost use Rattle.workload.specs.Parts.{work_parts};
+ghost use Rattle.workload.specs.Turns.{step_outcome, own_table, put_left, read_left, list_left, entered_by, enter_left};
+ghost use Rattle.workload.specs.Working.{left_at, GoesOn};
+
+use crate::deploying::{A, A_TABLE, C, C_TABLE};
+use crate::tally::Outcome;
+use boot_core::{Boot, CallRefusal, Ticket};
+use crash_base::{ComponentNo, OutOfMemory, RowBytes, RowId, RowWrite};
+use std::alloc::Global;
+
+/// What a turn leaves of the call of its caller, and how a call was answered that ended.
+#[derive(Drop)]
+pub(crate) struct Left {
+    pub(crate) ticket: Option<Ticket>,
+    pub(crate) outcome: Option<Outcome>,
+}
+
+/// A call goes on.
+pub(crate) fn goes_on(ticket: Ticket) -> Left
+    ensures ticket { result.ticket ≡ Some ticket }
+    ensures outcome { result.outcome ≡ None }
+{
+    Left {
+        ticket: Some(ticket),
+        outcome: None,
+    }
+}
+
+/// A call has ended, with this answer if there is one.
+pub(crate) fn ended(outcome: Option<Outcome>) -> Left
+    ensures ticket { result.ticket ≡ None }
+    ensures outcome { result.outcome ≡ outcome }
+{
+    Left {
+        ticket: None,
+        outcome,
+    }
+}
+
+/// How a refused step of a call is counted.
+fn step_outcome(refusal: CallRefusal) -> Result<Outcome, OutOfMemory>
+    ensures { MatchResult result
+        (λ outcome. (outcome ≡ step_outcome refusal) × (refusal ≢ CallRefusal.OutOfMemory))
+        (λ _. refusal ≡ CallRefusal.OutOfMemory) }
+{
+    match refusal {
+        CallRefusal::Revoked(_) => Ok(Outcome::Revoked),
+        CallRefusal::Depth => Ok(Outcome::Refused),
+        CallRefusal::Steps => Ok(Outcome::Refused),
+        CallRefusal::Reads => Ok(Outcome::Refused),
+        CallRefusal::Writes => Ok(Outcome::Refused),
+        CallRefusal::Sentinel { .. } => Ok(Outcome::Refused),
+        CallRefusal::OutOfMemory => Err(OutOfMemory),
+    }
+}
+
+/// A step of a call was refused: the call is dropped.
+pub(crate) fn refused(ticket: Ticket, refusal: CallRefusal) -> Result<Left, OutOfMemory>
+    ensures { MatchResult result
+        (λ left. (left.ticket ≡ None) × (left.outcome ≡ Some (step_outcome refusal))
+        × (refusal ≢ CallRefusal.OutOfMemory))
+        (λ _. refusal ≡ CallRefusal.OutOfMemory) }
+{
+    drop(ticket);
+    let outcome = step_outcome(refusal)?;
+    Ok(ended(Some(outcome)))
+}
+
+/// The table of the component that a call is in.
+fn own_table(boot: &Boot, ticket: &Ticket) -> u8
+    ensures { result ≡ own_table boot.now.start.deployment ticket.now.call }
+{
+    if boot.is_in_owner(ticket, A_TABLE) {
+        A_TABLE
+    } else {
+        C_TABLE
+    }
+}
+
+/// The row of a key in the table of the component that a call is in.
+fn own_row(boot: &Boot, ticket: &Ticket, key: u64) -> RowId
+    ensures { result ≡ row_id (own_table boot.now.start.deployment ticket.now.call) key }
+{
+    RowId {
+        table: own_table(boot, ticket),
+        key,
+    }
+}
+
+/// A call puts the number of the turn in the row of a key.
+#[tactic(auto, unfolding(crate::specs::Turns::put_left))]
+pub(crate) fn put_step(
+    alloc: Global,
+    boot: &Boot,
+    ticket: Ticket,
+    k: u64,
+    key: u64,
+) -> Result<Left, OutOfMemory>
+    requires goes { GoesOn boot.now ticket }
+    requires turn { k < 2 ^ 32 }
+    ensures left { IfOk result (λ left.
+        left_at boot.now left.ticket left.outcome ≡ put_left boot.now ticket k key) }
+    ensures goes { IfOk result (λ left. IfSome left.ticket (GoesOn boot.now)) }
+{
+    let mut ticket = ticket;
+    let write = RowWrite {
+        id: own_row(boot, &ticket, key),
+        bytes: RowBytes::copied(alloc, (k as u32).to_be_bytes().as_slice())?,
+    };
+    match boot.put(&mut ticket, write) {
+        Ok(()) => Ok(goes_on(ticket)),
+        Err(refusal) => refused(ticket, refusal),
+    }
+}
+
+/// A call reads the row of a key.
+#[tactic(auto, unfolding(crate::specs::Turns::read_left))]
+pub(crate) fn read_step(
+    alloc: Global,
+    boot: &Boot,
+    ticket: Ticket,
+    key: u64,
+) -> Result<Left, OutOfMemory>
+    requires goes { GoesOn boot.now ticket }
+    ensures left { IfOk result (λ left.
+        left_at boot.now left.ticket left.outcome ≡ read_left boot.now ticket key) }
+    ensures goes { IfOk result (λ left. IfSome left.ticket (GoesOn boot.now)) }
+{
+    let mut ticket = ticket;
+    let id = own_row(boot, &ticket, key);
+    match boot.read(alloc, &mut ticket, id) {
+        Ok(_) => Ok(goes_on(ticket)),
+        Err(refusal) => refused(ticket, refusal),
+    }
+}
+
+/// A call lists its table.
+#[tactic(auto, unfolding(crate::specs::Turns::list_left))]
+pub(crate) fn list_step(alloc: Global, boot: &Boot, ticket: Ticket) -> Result<Left, OutOfMemory>
+    requires goes { GoesOn boot.now ticket }
+    ensures left { IfOk result (λ left.
+        left_at boot.now left.ticket left.outcome ≡ list_left boot.now ticket) }
+    ensures goes { IfOk result (λ left. IfSome left.ticket (GoesOn boot.now)) }
+{
+    let mut ticket = ticket;
+    let table = own_table(boot, &ticket);
+    match boot.list(alloc, &mut ticket, table) {
+        Ok(_) => Ok(goes_on(ticket)),
+        Err(refusal) => refused(ticket, refusal),
+    }
+}
+
+/// The component that a call enters by its key.
+fn entered_by(key: u64) -> ComponentNo
+    ensures { result ≡ entered_by key }
+{
+    if key % 2 == 0 {
+        ComponentNo(A)
+    } else {
+        ComponentNo(C)
+    }
+}
+
+/// A call that has just begun enters the component of a key.
+pub(crate) fn enter_step(boot: &Boot, ticket: Ticket, key: u64) -> Result<Left, OutOfMemory>
+    requires parts { boot.now.start.deployment ≡ work_parts }
+    requires outside { ticket.call.frames ≡ [] }
+    requires fits { FitsIn boot.now ticket.call }
+    ensures left { IfOk result (λ left.
+        left_at boot.now left.ticket left.outcome ≡ enter_left boot.now ticket (entered_by key)) }
+    ensures goes { IfOk result (λ left. IfSome left.ticket (GoesOn boot.now)) }
+{
+    let mut ticket = ticket;
+    match boot.enter(&mut ticket, entered_by(key), 0) {
+        Ok(()) => Ok(goes_on(ticket)),
+        Err(refusal) => refused(ticket, refusal),
+    }
+}
