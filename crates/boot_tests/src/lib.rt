@@ -1,9 +1,11 @@
-//! Tests of deployments, of their descriptors and names, of rows, of requests, of tickets, of programs and plans, of
-//! boots and their journals, of containers over their keepers, and of the tries of requests, through public calls.
+//! Tests of deployments, of their descriptors and names, of pools, of reports and the decisions on them, of rows, of
+//! requests, of tickets, of programs and plans, of boots and their journals, of containers over their keepers, of the
+//! tries of requests, and of workloads, through public calls.
 //!
 //! Most tests go through a table of rows. What a row's calls answer is put into words, each with a
 //! space before it, and these are compared with the words that the row wants. A row that fails is
-//! shown whole. What an index finds is compared with what a plain scan finds over generated journals.
+//! shown whole. What an index finds is compared with what a plain scan finds over generated journals, and what is decided
+//! on generated reports with what a plain count decides.
 #![tactic(auto)]
 
 #[cfg(test)]
@@ -33,10 +35,14 @@ mod keepers;
 #[cfg(test)]
 mod kept_words;
 #[cfg(test)]
+mod managers;
+#[cfg(test)]
 mod names;
 mod notes;
 #[cfg(test)]
 mod parts;
+#[cfg(test)]
+mod pool;
 #[cfg(test)]
 mod programs;
 #[cfg(test)]
@@ -45,6 +51,8 @@ mod requests;
 mod row_index;
 #[cfg(test)]
 mod rows;
+#[cfg(test)]
+mod scores;
 #[cfg(test)]
 mod scripts;
 mod stamps;
@@ -56,6 +64,8 @@ mod tickets;
 mod tries;
 #[cfg(test)]
 mod words;
+#[cfg(test)]
+mod workloads;
 
 pub use notes::Note;
 pub use stamps::Stamp;
