@@ -205,9 +205,9 @@ impl Pool {
         found
     }
 
-    /// Takes an instance of a component, which serves a frame until it is given back: the idle one that was given back
-    /// last, or a new one where none is idle. It counts as an entering of the component. Where memory ran out the pool
-    /// is as it was, and none was idle.
+    /// Takes an instance of a component, which serves a frame until it is given back: an idle one, or a new one where
+    /// none is idle. It counts as an entering of the component. Where memory ran out the pool is as it was, and none was
+    /// idle.
     pub fn take(&mut self, c: ComponentNo, generation: u64) -> Result<InstanceNo, OutOfMemory>
         requires component { c.0 < MAX_GROUPS }
         requires present { generation ≡ (component_in self.old.components c.0).generation }
