@@ -2,7 +2,7 @@
 
 ghost use Rattle.std.specs.Prelude.{◌≡◌};
 ghost use Rattle.boot_core.specs.Fits.{FitsIn};
-ghost use Rattle.container_core.specs.Container.{HasGrownBy};
+ghost use Rattle.container_core.specs.Container.{HasGrownBy, IsButEntered};
 
 use crate::calls::program_of;
 use crate::driver::drive;
@@ -20,8 +20,8 @@ use container_core::{
     calls_go_on_fitting,
 };
 use crash_base::{
-    ComponentNo, GroupNo, MAX_GROUPS, MAX_ROW_BYTES, Place, RequestNo, RowId, RowList, RowWrite,
-    Scope, WorkerNo,
+    ComponentNo, FaultList, GroupNo, MAX_GROUPS, MAX_ROW_BYTES, Place, RequestNo, RowId, RowList,
+    RowWrite, Scope, WorkerNo,
 };
 use outside::{CallList, MapKeeper};
 use std::alloc::Global;
@@ -39,12 +39,13 @@ const LIMITS: JournalLimits = JournalLimits {
     bytes: 100_000,
 };
 
-/// A container over a keeper that holds these rows.
+/// A container over a keeper that holds these rows, of which no component fails.
 fn container_of(rt: &impl Abort, alloc: Global, lines: &str) -> Container<MapKeeper> {
     let rows = RowList::from_vec(rows_of(rt, alloc, lines));
     let keeper = MapKeeper::new(alloc, rows, CallList::new(alloc)).expect(rt, "a keeper");
     let deployment = site_deployment(alloc).expect(rt, "the site");
-    match Container::start(alloc, deployment, keeper, LIMITS) {
+    let plans = FaultList::from_vec(Vec::new(alloc));
+    match Container::start(alloc, deployment, keeper, plans, LIMITS) {
         Ok(container) => container,
         Err(_) => panic!(rt; "the start is refused"),
     }
@@ -66,7 +67,7 @@ fn end_of(rt: &impl Abort, answer: Result<Answer, CallRefusal>) -> StepEnd {
         Ok(answer) => StepEnd::Answered(answer),
         Err(CallRefusal::Revoked(_)) => StepEnd::Revoked,
         Err(CallRefusal::Sentinel { .. }) => StepEnd::Sentinel,
-        Err(_) => panic!(rt; "a limit is passed"),
+        Err(_) => panic!(rt; "a limit is passed, or a component fails"),
     }
 }
 
@@ -79,7 +80,7 @@ fn enter(
 ) -> Result<Answer, CallRefusal>
     requires { FitsIn container.old.boot ticket.old.call }
     ensures fits { FitsIn container.new.boot ticket.new.call }
-    ensures same { container.new ≡ container.old }
+    ensures but_entered { IsButEntered container.old container.new }
 {
     assert!(rt; component.0 < container.deployment().count());
     assert!(rt; container.as_boot().may_enter(ticket, component));
@@ -158,7 +159,7 @@ fn make(
 ) -> StepEnd
     requires { FitsIn container.old.boot ticket.old.call }
     ensures fits { FitsIn container.new.boot ticket.new.call }
-    ensures same { container.new ≡ container.old }
+    ensures but_entered { IsButEntered container.old container.new }
 {
     match step {
         Next::Enter { component, method } => {
@@ -193,7 +194,7 @@ fn make_steps(
 ) -> CallEnd
     requires { FitsIn container.old.boot ticket.old.call }
     ensures fits { FitsIn container.new.boot ticket.new.call }
-    ensures same { container.new ≡ container.old }
+    ensures but_entered { IsButEntered container.old container.new }
 {
     'steps: for _ in answers.len()..most {
         let step = program.next(alloc, answers).expect(rt, "a step");
@@ -389,7 +390,10 @@ fn act(
         most,
     ) {
         CallEnd::Done(done) => commit(rt, alloc, container, ticket, &program, done),
-        CallEnd::Stopped(word) => word,
+        CallEnd::Stopped(word) => {
+            container.abandon(ticket);
+            word
+        }
         CallEnd::Open => panic!(rt; "no end: {words}"),
     }
 }

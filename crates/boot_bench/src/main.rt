@@ -1,4 +1,5 @@
-//! Loops of commits, lists and looks over one boot, whose time and memory `bench/boot` takes.
+//! Loops of commits, lists and looks over one boot, and of passes over one container, whose time and memory
+//! `bench/boot` takes.
 //!
 //! The words are one of these loops with its numbers. What it writes is the loop and a count, which is known
 //! beforehand.
@@ -9,6 +10,8 @@
 //!   listed.
 //! - `looks N`: 200,000 commits over four rows, and then as many looks at what a row was at a place. The count is of
 //!   the looks that found what was committed there.
+//! - `passes N`: N times a call of the container enters a component and leaves it. The count is of those where nothing
+//!   was refused.
 //! - `retries N`: N commits over three rows, each made once more where there was no memory for it. The count is of
 //!   those that were answered their places and left the others as they were.
 //!
@@ -17,10 +20,12 @@
 
 mod loops;
 mod null_keeper;
+mod passes;
 mod store;
 
 use crash_base::OutOfMemory;
 use loops::{commits, falling, lists, looks, retries};
+use passes::passes;
 use std::alloc::Global;
 use std::process::ExitCode;
 use std::{env, io};
@@ -56,8 +61,11 @@ fn count_over(
     }
 }
 
-/// The count of a loop. None where there is no such loop, or its boot is not started.
+/// The count of a loop. None where there is no such loop, or what it goes over is not started.
 fn count_of(alloc: Global, name: &str, count: u64, more: u64) -> Result<Option<u64>, OutOfMemory> {
+    if name == "passes" {
+        return passes(alloc, count);
+    }
     let Some(mut store) = Store::start(alloc)? else {
         return Ok(None);
     };

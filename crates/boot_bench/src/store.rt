@@ -6,17 +6,18 @@ ghost use Rattle.journal_model.specs.Fits.{IsWrite};
 
 use crate::null_keeper::NullKeeper;
 use boot_core::{
-    Boot, CommitRefusal, JournalLimits, MAX_ENTRIES, MAX_JOURNAL_BYTES, MAX_STEPS, Start, Ticket,
+    Boot, CallRefusal, CommitRefusal, JournalLimits, MAX_ENTRIES, MAX_JOURNAL_BYTES, MAX_STEPS,
+    Start, Ticket,
 };
 use crash_base::{
-    ComponentName, ComponentNo, OutOfMemory, Place, RequestNo, RowBytes, RowId, RowList, RowWrite,
-    WorkerNo,
+    ComponentName, ComponentNo, FaultList, OutOfMemory, Place, RequestNo, RowBytes, RowId, RowList,
+    RowWrite, WorkerNo,
 };
 use deployment::{ComponentPart, Deployment, MethodList, Parts, TablePart};
 use std::alloc::Global;
 
 /// The component that owns both tables.
-const STOCK: ComponentNo = ComponentNo(1);
+pub(crate) const STOCK: ComponentNo = ComponentNo(1);
 
 /// The table whose rows are put and looked at, or listed.
 pub(crate) const TABLE: u8 = 1;
@@ -25,10 +26,10 @@ pub(crate) const TABLE: u8 = 1;
 pub(crate) const OTHER: u8 = 2;
 
 /// The number of the boot.
-const BOOT: u32 = 1;
+pub(crate) const BOOT: u32 = 1;
 
 /// As much as a boot may hold.
-const LIMITS: JournalLimits = JournalLimits {
+pub(crate) const LIMITS: JournalLimits = JournalLimits {
     entries: MAX_ENTRIES,
     bytes: MAX_JOURNAL_BYTES,
 };
@@ -61,6 +62,16 @@ fn parts(alloc: Global) -> Result<Parts, OutOfMemory> {
     Ok(parts)
 }
 
+/// The deployment of these parts. None where it is refused.
+pub(crate) fn deployment(alloc: Global) -> Result<Option<Deployment>, OutOfMemory> {
+    Ok(Deployment::check(parts(alloc)?).ok())
+}
+
+/// No fault plans: no component fails.
+pub(crate) fn no_plans(alloc: Global) -> FaultList {
+    FaultList::from_vec(Vec::new(alloc))
+}
+
 /// A row of eight bytes, which spell a number.
 pub(crate) fn row(alloc: Global, id: RowId, number: u64) -> Result<RowWrite, OutOfMemory>
     requires { 0 < id.table }
@@ -72,15 +83,19 @@ pub(crate) fn row(alloc: Global, id: RowId, number: u64) -> Result<RowWrite, Out
     })
 }
 
-/// Enters the stock. Whether it was not refused.
-fn enter(boot: &Boot, ticket: &mut Ticket) -> bool
-    requires { FitsIn boot.now ticket.old.call }
-    ensures { FitsIn boot.now ticket.new.call }
+/// Enters the stock. Whether it was not refused; where memory ran out, that is answered.
+fn enter(boot: &mut Boot, ticket: &mut Ticket) -> Result<bool, OutOfMemory>
+    requires { FitsIn boot.old ticket.old.call }
+    ensures { FitsIn boot.new ticket.new.call }
 {
     if STOCK.0 >= boot.deployment().count() || !boot.may_enter(ticket, STOCK) {
-        return false;
+        return Ok(false);
     }
-    boot.enter(ticket, STOCK, 0).is_ok()
+    match boot.enter(ticket, STOCK, 0) {
+        Ok(()) => Ok(true),
+        Err(CallRefusal::OutOfMemory) => Err(OutOfMemory),
+        Err(_) => Ok(false),
+    }
 }
 
 /// Puts a row. Whether it was not refused.
@@ -96,9 +111,9 @@ fn put(boot: &Boot, ticket: &mut Ticket, row: RowWrite) -> bool
 }
 
 /// Leaves the component that was entered last. Whether it was not refused.
-fn exit(boot: &Boot, ticket: &mut Ticket) -> bool
-    requires { FitsIn boot.now ticket.old.call }
-    ensures { FitsIn boot.now ticket.new.call }
+fn exit(boot: &mut Boot, ticket: &mut Ticket) -> bool
+    requires { FitsIn boot.old ticket.old.call }
+    ensures { FitsIn boot.new ticket.new.call }
 {
     if ticket.depth() == 0 || ticket.steps() >= MAX_STEPS {
         return false;
@@ -107,43 +122,46 @@ fn exit(boot: &Boot, ticket: &mut Ticket) -> bool
 }
 
 /// Enters the stock, puts a row and leaves. Whether nothing was refused.
-fn makes_steps(boot: &Boot, ticket: &mut Ticket, row: RowWrite) -> bool
+fn makes_steps(boot: &mut Boot, ticket: &mut Ticket, row: RowWrite) -> Result<bool, OutOfMemory>
     requires row { IsWrite row }
-    requires fits { FitsIn boot.now ticket.old.call }
-    ensures { FitsIn boot.now ticket.new.call }
+    requires fits { FitsIn boot.old ticket.old.call }
+    ensures { FitsIn boot.new ticket.new.call }
 {
-    if !enter(boot, ticket) {
-        return false;
+    if !enter(boot, ticket)? || !put(boot, ticket, row) {
+        return Ok(false);
     }
-    if !put(boot, ticket, row) {
-        return false;
-    }
-    exit(boot, ticket)
+    Ok(exit(boot, ticket))
 }
 
 /// Enters the stock and lists a table. How many rows it listed, and 0 where anything was refused.
-fn list(alloc: Global, boot: &Boot, ticket: &mut Ticket, table: u8) -> usize
-    requires { FitsIn boot.now ticket.old.call }
+fn list(
+    alloc: Global,
+    boot: &mut Boot,
+    ticket: &mut Ticket,
+    table: u8,
+) -> Result<usize, OutOfMemory>
+    requires { FitsIn boot.old ticket.old.call }
 {
-    if !enter(boot, ticket) || !boot.is_in_owner(ticket, table) {
-        return 0;
+    if !enter(boot, ticket)? || !boot.is_in_owner(ticket, table) {
+        return Ok(0);
     }
     match boot.list(alloc, ticket, table) {
-        Ok(rows) => rows.len(),
-        Err(_) => 0,
+        Ok(rows) => Ok(rows.len()),
+        Err(_) => Ok(0),
     }
 }
 
 impl Store {
     /// A boot over no rows. None where its deployment is refused.
     pub(crate) fn start(alloc: Global) -> Result<Option<Store>, OutOfMemory> {
-        let Ok(deployment) = Deployment::check(parts(alloc)?) else {
+        let Some(deployment) = deployment(alloc)? else {
             return Ok(None);
         };
         let start = Start {
             boot: BOOT,
             base: RowList::new(alloc),
             deployment,
+            plans: no_plans(alloc),
             limits: LIMITS,
         };
         let boot = Boot::start(alloc, start)?;
@@ -173,8 +191,16 @@ impl Store {
         requires { IsWrite row }
     {
         let mut ticket = self.begin(alloc, serial)?;
-        if !makes_steps(&self.boot, &mut ticket, row) {
-            return Ok(None);
+        match makes_steps(&mut self.boot, &mut ticket, row) {
+            Ok(true) => {}
+            Ok(false) => {
+                self.boot.abandon(ticket);
+                return Ok(None);
+            }
+            Err(OutOfMemory) => {
+                self.boot.abandon(ticket);
+                return Err(OutOfMemory);
+            }
         }
         match self.boot.commit(alloc, &mut self.keeper, ticket, None) {
             Ok(place) => Ok(Some(place)),
@@ -188,9 +214,9 @@ impl Store {
     /// Makes a call that lists a table, and gives it up. How many rows it listed.
     pub(crate) fn list(&mut self, alloc: Global, table: u8) -> Result<usize, OutOfMemory> {
         let mut ticket = self.begin(alloc, MAX_ENTRIES)?;
-        let count = list(alloc, &self.boot, &mut ticket, table);
+        let count = list(alloc, &mut self.boot, &mut ticket, table);
         self.boot.abandon(ticket);
-        Ok(count)
+        count
     }
 
     /// Whether the bytes of a row at a place spell this number.

@@ -15,7 +15,7 @@ use Rattle.call_ticket.specs.declared.limits.TheConstants.{MAX_FRAMES, MAX_STEPS
 use Rattle.call_ticket.specs.declared.next.Next.TheVariants as next
 use Rattle.call_ticket.specs.Following.{MayMake}
 use Rattle.boot_core.specs.declared.refusals.CallRefusal.TheVariants.{Reads, Writes}
-use Rattle.boot_core.specs.Refusals.{enter_refusal, exit_refusal, reads_refusal, read_refusal, list_refusal, put_refusal}
+use Rattle.boot_core.specs.Refusals.{barred, exit_refusal, reads_refusal, read_refusal, list_refusal, put_refusal}
 use Rattle.boot_core.proofs.Revoking.{below_differs}
 
 either : {R : Type 0} (b : Bool) (o : Option R) → o ≡ None → cond b None o ≡ None
@@ -25,7 +25,7 @@ either false o none = none
 few_reads : (call : Call) (read : ReadMark) → length call.marks < MAX_MARKS → reads_refusal call read ≡ None
 few_reads call read low = either (is_marked call.marks read) (only_if (length call.marks == MAX_MARKS) Reads) (rw (below_differs (length call.marks) MAX_MARKS low) refl)
 
-pub enter_allowed : (parts : Parts) (es : List Entry) (call : Call) (c : ComponentNo) (m g : ℕ) → MayMake parts call (next.Enter c m) → stale_in es call.touched ≡ None → down_of es g ≡ None → enter_refusal es call g ≡ None
+pub enter_allowed : (parts : Parts) (es : List Entry) (call : Call) (c : ComponentNo) (m g : ℕ) → MayMake parts call (next.Enter c m) → stale_in es call.touched ≡ None → down_of es g ≡ None → barred es call g ≡ None
 enter_allowed parts es call c m g may fresh up = rw (fresh, below_differs (length call.frames) MAX_FRAMES may.2, below_differs call.steps MAX_STEPS may.3, up) refl
 
 pub read_allowed : (parts : Parts) (es : List Entry) (call : Call) (id : RowId) → MayMake parts call (next.Read id) → stale_in es call.touched ≡ None → read_refusal es call id ≡ None

@@ -13,7 +13,7 @@ use Rattle.journal_model.specs.Reboots.{down_of}
 use Rattle.boot_core.specs.declared.refusals.RebootRefusal.{RebootRefusal}
 use Rattle.boot_core.specs.declared.refusals.RebootRefusal.TheVariants.{Busy}
 use Rattle.boot_core.specs.Refusals.{busy, busy_from, busy_at, IsLeastDown}
-use Rattle.boot_core.proofs.Refusing.{first_none, map_none}
+use Rattle.boot_core.proofs.Refusing.{first_none, first_alone, map_none}
 
 pub busy_first : (es : List Entry) (s : Scope) → busy es s ≡ busy_from es s 0 MAX_GROUPS
 unfolding busy
@@ -26,11 +26,7 @@ left_of n g lt = omega arith
 
 pub busy_next : (es : List Entry) (s : Scope) (n g : ℕ) → g < n → busy_at es s g ≡ None → busy_from es s g (n - g) ≡ busy_from es s (g + 1) (n - (g + 1))
 busy_next es s n g lt none =
-    ap (busy_from es s g) (left_of n g lt) ∙ ap (λ o. first_of (o ∷ busy_from es s (g + 1) (n - (g + 1)) ∷ [])) none ∙ alone (busy_from es s (g + 1) (n - (g + 1)))
-  where
-    alone : (o : Option RebootRefusal) → first_of (None ∷ o ∷ []) ≡ o
-    alone None = refl
-    alone (Some r) = refl
+    ap (busy_from es s g) (left_of n g lt) ∙ ap (λ o. first_of (o ∷ busy_from es s (g + 1) (n - (g + 1)) ∷ [])) none ∙ first_alone (busy_from es s (g + 1) (n - (g + 1)))
 
 pub busy_here : (es : List Entry) (s : Scope) (n g : ℕ) (r : RebootRefusal) → g < n → busy_at es s g ≡ Some r → busy_from es s g (n - g) ≡ Some r
 busy_here es s n g r lt some = ap (busy_from es s g) (left_of n g lt) ∙ ap (λ o. first_of (o ∷ busy_from es s (g + 1) (n - (g + 1)) ∷ [])) some
@@ -80,13 +76,9 @@ found_from : (es : List Entry) (s : Scope) (n g : ℕ) (group : GroupNo) (place 
 found_from es s zero g group place found = absurd (cc)
 found_from es s (suc n) g group place found = go (busy_at es s g) refl found (found_from es s n (g + 1) group place)
   where
-    alone : (o : Option RebootRefusal) → first_of (o ∷ []) ≡ o
-    alone None = refl
-    alone (Some r) = refl
-
     go : (o : Option RebootRefusal) → busy_at es s g ≡ o → first_of (o ∷ busy_from es s (g + 1) n ∷ []) ≡ Some (Busy group place) → (busy_from es s (g + 1) n ≡ Some (Busy group place) → IsLeastFrom es s (g + 1) n group place) → IsLeastFrom es s g (suc n) group place
     go None is h later =
-        let next = later (sym (alone (busy_from es s (g + 1) n)) ∙ h) in
+        let next = later (sym (first_alone (busy_from es s (g + 1) n)) ∙ h) in
         record {
           from = omega (arith, next.from);
           within = omega (arith, next.within);
@@ -125,16 +117,12 @@ least_from es s zero g group place le lt held down least = absurd (omega arith)
 least_from es s (suc n) g group place le lt held down least = elim (cases_lt g group.0) [
   | inl before ↦ (
       let none : busy_at es s g ≡ None = at_up g (least g before) in
-      ap (λ o. first_of (o ∷ busy_from es s (g + 1) n ∷ [])) none ∙ alone (busy_from es s (g + 1) n) ∙ least_from es s n (g + 1) group place (omega arith) (omega arith) held down least)
+      ap (λ o. first_of (o ∷ busy_from es s (g + 1) n ∷ [])) none ∙ first_alone (busy_from es s (g + 1) n) ∙ least_from es s n (g + 1) group place (omega arith) (omega arith) held down least)
   | inr not_before ↦ (
       let same : group.0 ≡ g = omega arith in
       ap (λ o. first_of (o ∷ busy_from es s (g + 1) n ∷ [])) (at_down g same))
 ]
   where
-    alone : (o : Option RebootRefusal) → first_of (None ∷ o ∷ []) ≡ o
-    alone None = refl
-    alone (Some r) = refl
-
     at_up : (h : ℕ) → (holds s h ≡ true → down_of es h ≡ None) → busy_at es s h ≡ None
     at_up h up = go (holds s h) refl
       where

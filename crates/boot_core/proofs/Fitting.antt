@@ -110,7 +110,7 @@ fits_putting c call w fits write inside = record {
 pub fits_grown : (old new : BootValue) (call : Call) → HasGrown old new → FitsIn old call → FitsIn new call
 fits_grown old new call grown fits =
     let es : List Entry = old.entries ++ grown.more in
-    let longer : FitsIn (record { start = old.start; entries = es }) call = record { journal = fits_more old.start.base old.entries grown.more call fits.journal; frames = fits.frames; owned = fits.owned } in
-    let P : List Entry → Type 0 = λ xs. FitsIn (record { start = old.start; entries = xs }) call in
-    let Q : Start → Type 0 = λ s. FitsIn (record { start = s; entries = new.entries }) call in
+    let longer : FitsIn (record new { start = old.start; entries = es }) call = record { journal = fits_more old.start.base old.entries grown.more call fits.journal; frames = fits.frames; owned = fits.owned } in
+    let P : List Entry → Type 0 = λ xs. FitsIn (record new { start = old.start; entries = xs }) call in
+    let Q : Start → Type 0 = λ s. FitsIn (record new { start = s }) call in
     subst Q (sym grown.start) (subst P (sym grown.entries) longer)

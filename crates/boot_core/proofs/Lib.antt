@@ -11,3 +11,5 @@ pub mod Found
 pub mod Allowed
 pub mod Stepping
 pub mod Ordering
+pub mod Entering
+pub mod Ending

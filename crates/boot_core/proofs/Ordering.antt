@@ -7,7 +7,8 @@ use Rattle.journal_model.specs.declared.limits.FullAt.{FullAt}
 use Rattle.journal_model.specs.declared.stale.Stale.{Stale}
 use Rattle.boot_core.specs.declared.refusals.CommitRefusal.{CommitRefusal}
 use Rattle.boot_core.specs.declared.refusals.CommitRefusal.TheVariants as commits
-use Rattle.boot_core.specs.Refusals.{IsFirstOf}
+use Rattle.boot_core.specs.Keeper.{IsOfKeeper}
+use Rattle.boot_core.specs.Refusals.{IsCause, IsFirstOf, IsTested}
 
 -- two answers that are one are of one value
 pub some_same : {A : Type 0} (a b : A) → Some a ≡ Some b → a ≡ b
@@ -54,3 +55,22 @@ no_part None None None None none = (refl, refl, refl, refl)
 
 pub none_is : (already : Option Place) (stale : Option Stale) (conflict : Option Conflict) (full : Option FullAt) → (first_part already stale conflict full ≡ None) ↔ ((already ≡ None) × (stale ≡ None) × (conflict ≡ None) × (full ≡ None))
 none_is already stale conflict full = (no_part already stale conflict full, λ none. rw (none.0, none.1, none.2, none.3) refl)
+
+-- the cause of a refused commit: one that has a test is the first refusal, and one of the keeper comes where there is
+-- none
+
+pub tested_cause : (o : Option CommitRefusal) (cause : CommitRefusal) → o ≡ Some cause → IsTested cause → IsCause o cause
+tested_cause o commits.OutOfMemory is tested = absurd tested
+tested_cause o commits.KeeperFailed is tested = absurd tested
+tested_cause o (commits.Already place) is tested = is
+tested_cause o (commits.Revoked s) is tested = is
+tested_cause o (commits.Conflict c) is tested = is
+tested_cause o (commits.JournalFull at) is tested = is
+
+pub keeper_cause : (o : Option CommitRefusal) (cause : CommitRefusal) → o ≡ None → IsOfKeeper cause → IsCause o cause
+keeper_cause o commits.OutOfMemory none of = none
+keeper_cause o commits.KeeperFailed none of = none
+keeper_cause o (commits.Already place) none of = absurd of
+keeper_cause o (commits.Revoked s) none of = absurd of
+keeper_cause o (commits.Conflict c) none of = absurd of
+keeper_cause o (commits.JournalFull at) none of = absurd of

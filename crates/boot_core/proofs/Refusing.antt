@@ -1,5 +1,5 @@
 -- What follows where nothing is refused.
-use Rattle.std.proofs.Common.{◌≡◌, ℕ, ◌+◌, ◌^◌, ◌<◌, ◌≤◌, ◌&&◌, Bool, true, false, if◌then◌else◌, List, ◌∷◌, Option, Some, None, option_map, refl, nat_le, nat_lt, arith}
+use Rattle.std.proofs.Common.{◌≡◌, ℕ, ◌+◌, ◌^◌, ◌<◌, ◌≤◌, ◌&&◌, Bool, true, false, if◌then◌else◌, List, [], ◌∷◌, Option, Some, None, option_map, refl, nat_le, nat_lt, arith}
 use Rattle.std.proofs.lemmas.Bool.Decides.{nat_tests}
 use Rattle.crash_base.specs.Refusals.{first_of}
 use Rattle.journal_model.specs.declared.entry.Entry.{Entry}
@@ -11,6 +11,11 @@ use Rattle.journal_model.specs.Limits.{places, bytes_of, counted, fullness, full
 pub first_none : {R : Type 0} (a : Option R) (rest : List (Option R)) → first_of (a ∷ rest) ≡ None → (a ≡ None) × (first_of rest ≡ None)
 first_none None rest none = (refl, none)
 first_none (Some r) rest none = absurd (cc)
+
+-- and of one refusal it is that one
+pub first_alone : {R : Type 0} (o : Option R) → first_of (o ∷ []) ≡ o
+first_alone None = refl
+first_alone (Some r) = refl
 
 pub map_none : {A B : Type 0} (f : A → B) (o : Option A) → option_map f o ≡ None → o ≡ None
 map_none f None none = refl

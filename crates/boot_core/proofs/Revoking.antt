@@ -30,7 +30,7 @@ use Rattle.journal_model.specs.Requests.{is_commit_of, commit_of, place_no}
 use Rattle.journal_model.specs.Rows.{writes_of}
 use Rattle.journal_model.specs.Snapshots.{newest_from, writes_read}
 use Rattle.std.proofs.lemmas.Grind.{common_steps}
-use Rattle.boot_core.specs.Refusals.{enter_refusal, exit_refusal, read_refusal, list_refusal, put_refusal, commit_refusal, HasRoomFor}
+use Rattle.boot_core.specs.Refusals.{barred, exit_refusal, read_refusal, list_refusal, put_refusal, commit_refusal, HasRoomFor}
 use Rattle.boot_core.specs.Revoked.{IsRevoked}
 
 revoked_by : (es : List Entry) (call : Call) (s : Stale) → stale_in es call.touched ≡ Some s → IsRevoked es call
@@ -77,7 +77,7 @@ read_beside es e call id touches apart = rw (stale_in-beside es e call.touched t
 pub list_beside : (es : List Entry) (e : Entry) (call : Call) (t : ℕ) → All (IsTouch es) call.touched → All (λ t. is_down_of t.group.0 e ≡ false) call.touched → list_refusal (es ++ e ∷ []) call t ≡ list_refusal es call t
 list_beside es e call t touches apart = rw (stale_in-beside es e call.touched touches apart) refl
 
-pub enter_beside : (es : List Entry) (s : Scope) (call : Call) (g : ℕ) → All (IsTouch es) call.touched → All (λ t. holds s t.group.0 ≡ false) call.touched → holds s g ≡ false → enter_refusal (es ++ Down s ∷ []) call g ≡ enter_refusal es call g
+pub enter_beside : (es : List Entry) (s : Scope) (call : Call) (g : ℕ) → All (IsTouch es) call.touched → All (λ t. holds s t.group.0 ≡ false) call.touched → holds s g ≡ false → barred (es ++ Down s ∷ []) call g ≡ barred es call g
 enter_beside es s call g touches apart beside =
     let down : down_of (es ++ Down s ∷ []) g ≡ down_of es g = ap (λ (x : GroupStatus). x.down) (status_of-beside_down es s g beside) in
     rw (stale_in-beside es (Down s) call.touched touches apart, down) refl
@@ -86,7 +86,7 @@ enter_beside es s call g touches apart beside =
 up_beside : (s : Scope) (touched : List Touch) → All (λ (t : Touch). is_down_of t.group.0 (Up s) ≡ false) touched
 up_beside s touched = λ k d within. refl
 
-pub enter_up_beside : (es : List Entry) (s : Scope) (call : Call) (g : ℕ) → All (IsTouch es) call.touched → holds s g ≡ false → enter_refusal (es ++ Up s ∷ []) call g ≡ enter_refusal es call g
+pub enter_up_beside : (es : List Entry) (s : Scope) (call : Call) (g : ℕ) → All (IsTouch es) call.touched → holds s g ≡ false → barred (es ++ Up s ∷ []) call g ≡ barred es call g
 enter_up_beside es s call g touches beside =
     let up : down_of (es ++ Up s ∷ []) g ≡ down_of es g = ap (λ (x : GroupStatus). x.down) (status_of-beside_up es s g beside) in
     rw (stale_in-beside es (Up s) call.touched touches (up_beside s call.touched), up) refl
@@ -121,7 +121,7 @@ commit_up limits es s call action turns may touches =
 pub below_differs : (a b : ℕ) → a < b → (a == b) ≡ false
 below_differs a b below = grind (arith, nat_tests)
 
-pub enter_up : (es : List Entry) (s : Scope) (g : ℕ) (call : Call) → AreInTurn es → MayEnd es s → holds s g ≡ true → All (IsTouch es) call.touched → stale_in es call.touched ≡ None → length call.frames < MAX_FRAMES → call.steps < MAX_STEPS → enter_refusal (es ++ Up s ∷ []) call g ≡ None
+pub enter_up : (es : List Entry) (s : Scope) (g : ℕ) (call : Call) → AreInTurn es → MayEnd es s → holds s g ≡ true → All (IsTouch es) call.touched → stale_in es call.touched ≡ None → length call.frames < MAX_FRAMES → call.steps < MAX_STEPS → barred (es ++ Up s ∷ []) call g ≡ None
 enter_up es s g call turns may held touches fresh frames steps =
     let up : down_of (es ++ Up s ∷ []) g ≡ None = ap (λ (x : GroupStatus). x.down) (status_of-up es s g turns may held) in
     let still : stale_in (es ++ Up s ∷ []) call.touched ≡ None = stale_in-beside es (Up s) call.touched touches (up_beside s call.touched) ∙ fresh in

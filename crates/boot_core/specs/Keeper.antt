@@ -22,7 +22,8 @@ IsOfKeeper (commits.Revoked s) = ⊥
 IsOfKeeper (commits.Conflict c) = ⊥
 IsOfKeeper (commits.JournalFull full) = ⊥
 
--- What a keeper tells after a refused commit. It was called only where it failed or had no memory, and only with writes.
+-- What a keeper tells after a refused commit. It was called only where it failed or had no memory, and only with
+-- writes.
 abbrev pub TellsCause : CommitRefusal → List RowWrite → Option KeeperTold → Option KeeperTold → Type 0
 TellsCause commits.KeeperFailed writes old new = (writes ≢ []) × TellsRefusal faults.Failed old new
 TellsCause commits.OutOfMemory writes old new =

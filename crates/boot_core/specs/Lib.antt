@@ -2,6 +2,7 @@ pub mod Boot
 pub mod Steps
 pub mod Owners
 pub mod Fits
+pub mod Faults
 pub mod Refusals
 pub mod Sound
 pub mod Keeping

@@ -1,6 +1,9 @@
 -- Which refusal a call of a boot meets first.
-use Rattle.deployment.specs.Groups.{group_no}
+use Rattle.deployment.specs.Groups.{group_no, group_of}
 use Rattle.std.specs.Prelude.{◌≡◌, ℕ, zero, suc, ◌+◌, ◌<◌, ◌==◌, true, if◌then◌else◌, Option, Some, None, Result, Ok, Err, List, [], ◌∷◌, length, option_map}
+use Rattle.crash_base.specs.declared.fault_plans.FaultKind.{FaultKind}
+use Rattle.crash_base.specs.declared.fault_plans.FaultKind.TheVariants.{Raise, Hang, Leak}
+use Rattle.crash_base.specs.declared.numbers.ComponentNo.{ComponentNo}
 use Rattle.crash_base.specs.declared.numbers.GroupNo.{GroupNo}
 use Rattle.crash_base.specs.declared.numbers.Place.{Place}
 use Rattle.crash_base.specs.declared.row_id.RowId.{RowId}
@@ -24,8 +27,10 @@ use Rattle.journal_model.specs.Reboots.{down_of}
 use Rattle.journal_model.specs.Requests.{commit_of}
 use Rattle.journal_model.specs.Stale.{stale_in}
 use Rattle.call_ticket.specs.declared.limits.TheConstants.{MAX_FRAMES, MAX_STEPS, MAX_MARKS, MAX_WRITES}
+use Rattle.boot_core.specs.Boot.{BootValue}
+use Rattle.boot_core.specs.Faults.{fault_of}
 use Rattle.boot_core.specs.declared.refusals.CallRefusal.{CallRefusal}
-use Rattle.boot_core.specs.declared.refusals.CallRefusal.TheVariants.{Revoked, Depth, Steps, Reads, Writes, Sentinel, OutOfMemory}
+use Rattle.boot_core.specs.declared.refusals.CallRefusal.TheVariants.{Revoked, Depth, Steps, Reads, Writes, Sentinel, Hung, Raised, OutOfMemory}
 use Rattle.boot_core.specs.declared.refusals.CommitRefusal.{CommitRefusal}
 use Rattle.boot_core.specs.declared.refusals.CommitRefusal.TheVariants as commits
 use Rattle.boot_core.specs.declared.refusals.RebootRefusal.{RebootRefusal}
@@ -36,15 +41,27 @@ use Rattle.boot_core.specs.declared.refusals.Refused.{Refused}
 abbrev pub revoked : List Entry → Call → Option CallRefusal
 revoked es call = option_map (λ s. Revoked s) (stale_in es call.touched)
 
--- an enter of a component of a group is refused where the call is stale, has all its frames open or made all its
+-- an enter of a component of a group is barred where the call is stale, has all its frames open or made all its
 -- steps, and where the group is down
-abbrev pub enter_refusal : List Entry → Call → ℕ → Option CallRefusal
-enter_refusal es call g =
+abbrev pub barred : List Entry → Call → ℕ → Option CallRefusal
+barred es call g =
     first_of (revoked es call
     ∷ only_if (length call.frames == MAX_FRAMES) Depth
     ∷ only_if (call.steps == MAX_STEPS) Steps
     ∷ option_map (λ place. Sentinel (group_no g) place) (down_of es g)
     ∷ [])
+
+-- a component fails by a plan of its kind; one that leaks does not
+abbrev pub failing : ComponentNo → Option (ℕ × FaultKind) → Option CallRefusal
+failing c None = None
+failing c (Some (fault, Raise)) = Some (Raised c fault)
+failing c (Some (fault, Hang)) = Some (Hung c fault)
+failing c (Some (fault, Leak)) = None
+
+-- An enter of a component is refused where it is barred, and where the component fails.
+abbrev pub enter_refusal : BootValue → Call → ComponentNo → Option CallRefusal
+enter_refusal b call c =
+    first_of (barred b.entries call (group_of b.start.deployment c.0) ∷ failing c (fault_of b c) ∷ [])
 
 -- an exit is refused where the call is stale or has made all its steps
 abbrev pub exit_refusal : List Entry → Call → Option CallRefusal

@@ -9,7 +9,7 @@ use Rattle.journal_model.specs.Calls.{Call}
 use Rattle.journal_model.specs.Requests.{commit_of}
 use Rattle.journal_model.specs.Revoked.{IsFirstStale}
 use Rattle.journal_model.specs.Stale.{stale_in}
-use Rattle.boot_core.specs.Refusals.{enter_refusal, exit_refusal, read_refusal, list_refusal, put_refusal, commit_refusal}
+use Rattle.boot_core.specs.Refusals.{barred, exit_refusal, read_refusal, list_refusal, put_refusal, commit_refusal}
 use Rattle.boot_core.specs.declared.refusals.CallRefusal.TheVariants as calls
 use Rattle.boot_core.specs.declared.refusals.CommitRefusal.TheVariants as commits
 
@@ -19,7 +19,7 @@ pub record IsRevoked (es : List Entry) (call : Call) : Type 0 where
   pub shown : Stale
   pub first : IsFirstStale es call.touched shown
   pub check : stale_in es call.touched ≡ Some shown
-  pub enter : (g : ℕ) → enter_refusal es call g ≡ Some (calls.Revoked shown)
+  pub enter : (g : ℕ) → barred es call g ≡ Some (calls.Revoked shown)
   pub exit : exit_refusal es call ≡ Some (calls.Revoked shown)
   pub read : (id : RowId) → read_refusal es call id ≡ Some (calls.Revoked shown)
   pub list : (t : ℕ) → list_refusal es call t ≡ Some (calls.Revoked shown)

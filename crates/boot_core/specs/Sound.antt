@@ -14,7 +14,8 @@ abbrev pub AreOwned : Parts → List Entry → Type 0
 AreOwned parts es = (i : ℕ) (e : CommitEntry) →
     slice_get es i ≡ Some (Commit e) → All (IsOwned parts e.touched) e.writes
 
--- The journal is legal and within its limits, and each commit wrote only rows of tables whose owners' groups it entered.
+-- The journal is legal and within its limits, and each commit wrote only rows of tables whose owners' groups it
+-- entered.
 pub record IsSound (c : BootValue) : Type 0 where
   pub legal : IsLegal c.start.base c.entries
   pub within : IsWithin c.start.limits c.entries

@@ -1,5 +1,5 @@
 -- What steps leave of a ticket.
-use Rattle.std.specs.Prelude.{ℕ, ◌+◌, List, [], ◌∷◌, ◌++◌, Option}
+use Rattle.std.specs.Prelude.{ℕ, ◌+◌, List, Option}
 use Rattle.crash_base.specs.declared.numbers.ComponentNo.{ComponentNo}
 use Rattle.journal_model.specs.declared.entry.Entry.{Entry}
 use Rattle.journal_model.specs.declared.entry.ReadMark.{ReadMark}
@@ -8,10 +8,9 @@ use Rattle.crash_base.specs.declared.rows.RowWrite.{RowWrite}
 use Rattle.journal_model.specs.Calls.{entered, marked_with, has_read, has_listed}
 use Rattle.call_ticket.specs.Ticket.{TicketValue}
 
--- the ticket of a call that has entered a component of a group, whose frame instance 0 serves
+-- the ticket of a call that has entered a component of a group
 abbrev pub ticket_entered : List Entry → ℕ → ComponentNo → TicketValue → TicketValue
-ticket_entered es g c ticket =
-    record { call = entered es g c ticket.call; instances = ticket.instances ++ 0 ∷ [] }
+ticket_entered es g c ticket = record ticket { call = entered es g c ticket.call }
 
 -- the ticket of a call whose step marks what it read, where that is not marked yet
 abbrev pub ticket_marked : ReadMark → Option (List ℕ) → TicketValue → TicketValue

@@ -4,7 +4,6 @@ ghost use Rattle.std.specs.Prelude.{◌≡◌, ◌≤◌, ◌<◌, ◌+◌, ◌^
 ghost use Rattle.crash_base.specs.declared.numbers.Place.{Place};
 ghost use Rattle.crash_base.specs.declared.rows.RowWrite.{RowWrite};
 ghost use Rattle.outside.specs.Faults.{Rose};
-ghost use Rattle.call_ticket.specs.Ticket.{parts_of};
 ghost use Rattle.journal_model.specs.declared.entry.Entry.{Entry};
 ghost use Rattle.journal_model.specs.declared.entry.Entry.TheVariants.{Commit};
 ghost use Rattle.journal_model.specs.Calls.{entry_of};
@@ -86,7 +85,9 @@ pub(crate) fn take_room(
     ensures entries { journal.new.entries ≡ journal.old.entries }
     ensures limits { journal.new.limits ≡ journal.old.limits }
     ensures room { OnOk result (1 ≤ journal.new.spare) }
-    ensures parts { IfOk result (λ parts. parts ≡ parts_of ticket.old) }
+    ensures touched { IfOk result (λ parts. parts.touched ≡ ticket.old.call.touched) }
+    ensures marks { IfOk result (λ parts. parts.marks ≡ ticket.old.call.marks) }
+    ensures writes { IfOk result (λ parts. parts.writes ≡ ticket.old.call.writes) }
     ensures err { OnErr result (ticket.new ≡ ticket.old) }
 {
     journal.reserve(1)?;

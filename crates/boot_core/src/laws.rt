@@ -30,7 +30,7 @@ ghost use Rattle.boot_core.specs.Boot.{BootValue, new_boot, with_entry, HasGrown
 ghost use Rattle.boot_core.specs.declared.boot.Start.{Start};
 ghost use Rattle.boot_core.specs.Fits.{FitsIn};
 ghost use Rattle.call_ticket.specs.Access.{is_in_owner};
-ghost use Rattle.boot_core.specs.Refusals.{busy, enter_refusal, exit_refusal, read_refusal, list_refusal, put_refusal, commit_refusal, reboot_refusal, HasRoomFor, IsFirstOf, IsLeastDown};
+ghost use Rattle.boot_core.specs.Refusals.{busy, barred, exit_refusal, read_refusal, list_refusal, put_refusal, commit_refusal, reboot_refusal, HasRoomFor, IsFirstOf, IsLeastDown};
 ghost use Rattle.boot_core.specs.declared.refusals.CommitRefusal.{CommitRefusal};
 ghost use Rattle.boot_core.specs.declared.refusals.RebootRefusal.TheVariants.{Busy};
 ghost use Rattle.boot_core.specs.Revoked.{IsRevoked};
@@ -83,9 +83,9 @@ pub fn least_group_is_busy()
 
 /// A call that entered a group is revoked from the next Down on whose scope holds the group, and stays so whatever
 /// comes. A Down or an Up leaves a call that entered none of its groups as it was: it is revoked by neither, its exits,
-/// its reads, its lists, its puts and its enters of groups outside the scope are refused exactly as before, and so is
-/// its commit where the journal has room for it before and after. After an Up each call that is not revoked, and has
-/// frames and steps left, may enter each group that the scope holds.
+/// its reads, its lists and its puts are refused exactly as before, and so is its commit where the journal has room for
+/// it before and after. Its enters of groups outside the scope are barred exactly as before. After an Up each call that
+/// is not revoked, and has frames and steps left, is barred from no group that the scope holds.
 pub fn reboots_revoke_calls()
     ensures down { (es : List Entry) (call : Call) (t : Touch) (i : ℕ) (s : Scope) →
         slice_get call.touched i ≡ Some t → t.front.0 ≤ length es →
@@ -110,10 +110,10 @@ pub fn reboots_revoke_calls()
     ensures enter_down { (es : List Entry) (s : Scope) (call : Call) (g : ℕ) →
         All (IsTouch es) call.touched → All (λ t. holds s t.group.0 ≡ false) call.touched →
         holds s g ≡ false →
-        enter_refusal (es ++ Down s ∷ []) call g ≡ enter_refusal es call g }
+        barred (es ++ Down s ∷ []) call g ≡ barred es call g }
     ensures enter_up { (es : List Entry) (s : Scope) (call : Call) (g : ℕ) →
         All (IsTouch es) call.touched → holds s g ≡ false →
-        enter_refusal (es ++ Up s ∷ []) call g ≡ enter_refusal es call g }
+        barred (es ++ Up s ∷ []) call g ≡ barred es call g }
     ensures commit { (limits : JournalLimits) (es : List Entry) (s : Scope) (call : Call)
         (action : Option ActionEntry) →
         All (IsTouch es) call.touched → All (λ t. holds s t.group.0 ≡ false) call.touched →
@@ -127,7 +127,7 @@ pub fn reboots_revoke_calls()
         AreInTurn es → MayEnd es s → holds s g ≡ true →
         All (IsTouch es) call.touched → stale_in es call.touched ≡ None →
         length call.frames < MAX_FRAMES → call.steps < MAX_STEPS →
-        enter_refusal (es ++ Up s ∷ []) call g ≡ None }
+        barred (es ++ Up s ∷ []) call g ≡ None }
 {}
 
 /// A commit is refused exactly for the first of four parts that is there: the request has committed, a group that the

@@ -27,7 +27,12 @@
 //! of the row's owner. The laws `boots_stay_sound`, `calls_go_on_fitting` and `reboots_revoke_calls` say so of the
 //! definitions alone, and `journal_model::legal_journals_are_serial` what it means. The steps of a call here are those
 //! of a program's call (`boot_steps_follow`), and one that follows a program is refused by nothing but a reboot
-//! (`programs_pass_no_limit`).
+//! (`programs_pass_no_limit`), or by a fault plan of a component that it enters.
+//!
+//! A boot may have fault plans, and a pool with the instances that serve the frames of calls. A component that may be
+//! entered fails by the first of its plans that is active, and is then answered `Raised` or `Hung`: from the count of
+//! its enterings on that the plan says, until a reboot of its group cures the plan, which one of the plan's level or a
+//! wider one does (`enters_fail_by_plans`, `reboots_end_faults`).
 //!
 //! Refusals come in a fixed order; `enter`, `read`, `list`, `put`, `commit` and `begin_reboot` each have one function
 //! in `specs/Refusals` that says which one comes first, and answer exactly that one. Out of memory is apart, and so is
@@ -44,15 +49,17 @@
 mod boot;
 mod commits;
 mod conflicts;
+mod enters;
 mod idle;
 mod laws;
+mod plan_laws;
 mod program_laws;
 mod reads;
 mod reboots;
 mod refusals;
 mod staleness;
 
-pub use boot::{Boot, Start};
+pub use boot::{Boot, Deployed, Start};
 pub use call_ticket::{MAX_FRAMES, MAX_MARKS, MAX_STEPS, MAX_WRITES, Ticket, TicketParts};
 pub use commit_journal::{
     ActionEntry, CommitEntry, Conflict, DoneText, Entry, FullAt, Journal, JournalLimits,
@@ -64,6 +71,7 @@ pub use laws::{
     reboots_revoke_calls,
 };
 pub use naming_table::Binding;
+pub use plan_laws::{enters_fail_by_plans, reboots_end_faults};
 pub use program_laws::{boot_steps_follow, programs_pass_no_limit};
 pub use refusals::{CallRefusal, CommitRefusal, RebootRefusal, Refused, StartRefusal};
 pub use row_store::Rows;

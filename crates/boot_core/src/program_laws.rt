@@ -18,15 +18,16 @@ ghost use Rattle.call_ticket.specs.declared.next.Next.TheVariants as next;
 ghost use Rattle.call_ticket.specs.Following.{MakesStep, MayMake};
 ghost use Rattle.call_ticket.specs.Ticket.{TicketValue, ticket_kept, ticket_left};
 ghost use Rattle.boot_core.specs.Boot.{BootValue, HasGrown};
-ghost use Rattle.boot_core.specs.Refusals.{enter_refusal, exit_refusal, read_refusal, list_refusal, put_refusal};
+ghost use Rattle.boot_core.specs.Refusals.{barred, exit_refusal, read_refusal, list_refusal, put_refusal};
 ghost use Rattle.boot_core.specs.Steps.{ticket_entered, ticket_has_read, ticket_has_listed};
 
 /// A step that a call may make, as a call that follows its program may make each, is refused only by a reboot: where
-/// the call is revoked, or the group that it enters is down.
+/// the call is revoked, or the group that it enters is down. An enter that nothing bars may fail besides by a fault
+/// plan of its component, as `enters_fail_by_plans` says.
 pub fn programs_pass_no_limit()
     ensures enter { (parts : Parts) (es : List Entry) (call : Call) (c : ComponentNo) (m g : ℕ) →
         MayMake parts call (next.Enter c m) → stale_in es call.touched ≡ None →
-        down_of es g ≡ None → enter_refusal es call g ≡ None }
+        down_of es g ≡ None → barred es call g ≡ None }
     ensures read { (parts : Parts) (es : List Entry) (call : Call) (id : RowId) →
         MayMake parts call (next.Read id) → stale_in es call.touched ≡ None →
         read_refusal es call id ≡ None }

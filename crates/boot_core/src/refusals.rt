@@ -3,7 +3,7 @@
 ghost use Rattle.std.specs.Prelude.{◌≡◌};
 
 use commit_journal::{Conflict, FullAt, MarkList, Stale};
-use crash_base::{GroupNo, Place, RequestNo, RowId};
+use crash_base::{ComponentNo, GroupNo, Place, RequestNo, RowId};
 
 /// Why a step of a call was refused, in the order in which the causes are looked at. The call is as before.
 #[derive(Clone, Copy)]
@@ -20,6 +20,10 @@ pub enum CallRefusal {
     Writes,
     /// The group of the component is down, by the Down at this place of the journal.
     Sentinel { group: GroupNo, down: Place },
+    /// The component does not come back, by the fault plan of this number: the first of its plans that is active.
+    Hung { component: ComponentNo, fault: u16 },
+    /// The component fails, by the fault plan of this number: the first of its plans that is active.
+    Raised { component: ComponentNo, fault: u16 },
     /// The allocator had no memory.
     OutOfMemory,
 }
@@ -76,8 +80,8 @@ pub enum RebootRefusal {
 pub enum StartRefusal {
     /// The keeper failed, and counted a fault.
     KeeperFailed,
-    /// The keeper gave a row that is too long, or a second row of an id, or a row of the service's own table that is not
-    /// that of the boot's number: the first such row.
+    /// The keeper gave a row that is too long, or a second row of an id, or a row of the service's own table that is
+    /// not that of the boot's number: the first such row.
     BadRow { id: RowId },
     /// The number of the last boot is the greatest that there is.
     BootsSpent,

@@ -47,11 +47,12 @@ fn expect_call(rt: &impl Abort, alloc: Global, row: &str) {
     let mut words = String::new(alloc);
     call_other(rt, alloc, &mut words, &mut boot, before);
     let mut ticket = begin(rt, alloc, &mut boot, 70, 4);
-    do_steps(rt, alloc, &mut words, &boot, &mut ticket, first);
+    do_steps(rt, alloc, &mut words, &mut boot, &mut ticket, first);
     call_meanwhile(rt, alloc, &mut words, &mut boot, &ticket, meanwhile);
-    do_steps(rt, alloc, &mut words, &boot, &mut ticket, last);
+    do_steps(rt, alloc, &mut words, &mut boot, &mut ticket, last);
     add_marks(rt, &mut words, ticket.marks());
     commit(rt, alloc, &mut words, &mut boot, ticket);
+    drop(boot);
     expect_words(rt, &words, want, row);
 }
 
@@ -66,8 +67,8 @@ const READS: &str = ";e1 r3.7 r3.7 r3.9 r4.1;;|a a none z [ 3.7=a 3.9 4.1=z ] 0
 ;e1;71:e1 p3.7=m p3.3=n;r3.7 r3.3 l3|0 a none ( 3.2=b 3.7=a ) [ 3.7=a 3.3 t3 ] 3.7 0<1
 ;e1 p3.4=x;71:e1 p3.7=m p3.3=n;l3 r3.4|0 ( 3.2=b 3.4=x 3.7=a ) x [ t3 ] t3 0<1";
 
-/// A commit is refused for what was written since. The last words are the place, or what refuses the commit: where the request has committed, or
-/// what was written since, with the length of the journal at the begin and after that commit.
+/// A commit is refused for what was written since. The last words are the place, or what refuses the commit: where the
+/// request has committed, or what was written since, with the length of the journal at the begin and after that commit.
 const COMMITS: &str = ";e1 p3.7=x;70:e1 p3.8=y;|0 [ ] already 0
 ;e1 r3.7 p3.7=x;70:e1 p3.7=y;|a 0 [ 3.7=a ] already 0
 70:e1 p3.8=y;e1;;|0 [ ] already 0
@@ -103,12 +104,12 @@ fn read_many(
     rt: &impl Abort,
     alloc: Global,
     words: &mut String,
-    boot: &Boot,
+    boot: &mut Boot,
     ticket: &mut Ticket,
     count: u64,
 )
-    requires { FitsIn boot.now ticket.old.call }
-    ensures { FitsIn boot.now ticket.new.call }
+    requires { FitsIn boot.old ticket.old.call }
+    ensures { FitsIn boot.new ticket.new.call }
 {
     for i in 0..count {
         let step = format!(in alloc; "r3.1{i:02}").expect(rt, "a step");
@@ -122,13 +123,14 @@ fn a_call_has_sixty_four_marks(rt: HostRuntime) {
     let mut boot = boot_over_rows(&rt, rt.alloc());
     let mut found = String::new(rt.alloc());
     let mut ticket = begin(&rt, rt.alloc(), &mut boot, 70, 4);
-    do_steps(&rt, rt.alloc(), &mut found, &boot, &mut ticket, "e1 l4");
-    read_many(&rt, rt.alloc(), &mut found, &boot, &mut ticket, 63);
+    do_steps(&rt, rt.alloc(), &mut found, &mut boot, &mut ticket, "e1 l4");
+    read_many(&rt, rt.alloc(), &mut found, &mut boot, &mut ticket, 63);
     let mut words = String::new(rt.alloc());
     let steps = "r3.163 r3.7 l3 p3.7=x r3.7 r3.100 r3.162 l4 r3.163";
-    do_steps(&rt, rt.alloc(), &mut words, &boot, &mut ticket, steps);
+    do_steps(&rt, rt.alloc(), &mut words, &mut boot, &mut ticket, steps);
     expect_so(&rt, ticket.marks().len() == 64, steps);
     commit(&rt, rt.alloc(), &mut words, &mut boot, ticket);
+    drop(boot);
     let want = "reads reads reads x none none ( 4.1=z ) reads 0";
     expect_words(&rt, &words, want, steps);
 }

@@ -1,4 +1,4 @@
-//! Deployments, rows and boots that tests begin with, and the numbers of requests.
+//! Deployments, fault plans, rows and boots that tests begin with, and the numbers of requests.
 
 ghost use Rattle.std.specs.Prelude.{◌≡◌, ◌≤◌, All, length};
 ghost use Rattle.crash_base.specs.declared.rows.RowWrite.{RowWrite};
@@ -7,7 +7,8 @@ ghost use Rattle.call_ticket.specs.Within.{IsShortWrite};
 use crate::words::{cut, id};
 use boot_core::{Boot, JournalLimits, Start};
 use crash_base::{
-    ComponentName, ComponentNo, MAX_ROW_BYTES, RequestNo, RowBytes, RowList, RowWrite,
+    ComponentName, ComponentNo, FaultList, FaultPlan, MAX_FAULT_PLANS, MAX_ROW_BYTES, RequestNo,
+    RowBytes, RowList, RowWrite,
 };
 use deployment::{ComponentPart, Deployment, MethodList, Parts, TablePart};
 use std::alloc::Global;
@@ -61,6 +62,13 @@ pub fn deployment_of(rt: &impl Abort, alloc: Global, names: &str) -> Deployment 
     }
 }
 
+/// The list of these fault plans.
+pub fn plan_list(rt: &impl Abort, alloc: Global, plans: &[FaultPlan]) -> FaultList {
+    let list = Vec::from_slice(alloc, plans).expect(rt, "plans");
+    assert!(rt; list.len() <= MAX_FAULT_PLANS);
+    FaultList::from_vec(list)
+}
+
 /// The row that a text spells: its table, its key, and after a sign its bytes.
 pub fn write(rt: &impl Abort, alloc: Global, text: &str) -> RowWrite
     ensures { IsShortWrite result }
@@ -80,6 +88,7 @@ fn boot_over(rt: &impl Abort, alloc: Global, names: &str, base: RowList) -> Boot
         boot: 1,
         base,
         deployment: deployment_of(rt, alloc, names),
+        plans: plan_list(rt, alloc, &[]),
         limits: LIMITS,
     };
     Boot::start(alloc, start).expect(rt, "a boot")

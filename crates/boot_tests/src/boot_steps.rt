@@ -9,7 +9,8 @@ ghost use Rattle.boot_core.specs.Fits.{FitsIn};
 
 use crate::boot_fixtures::{request, write};
 use crate::words::{
-    add_id, add_named, add_number, add_pair, add_row, add_text, add_word, byte, id, short,
+    add_dotted, add_id, add_named, add_number, add_pair, add_row, add_text, add_word, byte, id,
+    short,
 };
 use boot_core::{Boot, CallRefusal, CommitRefusal, MAX_STEPS, Mark, ReadMark, Refused, Ticket};
 use crash_base::{ComponentNo, Place, RowList, WorkerNo};
@@ -18,7 +19,7 @@ use std::alloc::Global;
 use std::process::Abort;
 
 /// Adds why a step was refused.
-fn add_refusal(rt: &impl Abort, words: &mut String, refusal: CallRefusal) {
+pub fn add_refusal(rt: &impl Abort, words: &mut String, refusal: CallRefusal) {
     match refusal {
         CallRefusal::Revoked(stale) => add_pair(rt, words, stale.had, "~", stale.now),
         CallRefusal::Depth => add_word(rt, words, "depth"),
@@ -28,13 +29,26 @@ fn add_refusal(rt: &impl Abort, words: &mut String, refusal: CallRefusal) {
         CallRefusal::Sentinel { group, down } => {
             add_pair(rt, words, u64::from(group.0), "!", down.0)
         }
+        CallRefusal::Hung { component, fault } => {
+            add_dotted(rt, words, "hung", u64::from(component.0), u64::from(fault))
+        }
+        CallRefusal::Raised { component, fault } => {
+            add_dotted(
+                rt,
+                words,
+                "raised",
+                u64::from(component.0),
+                u64::from(fault),
+            )
+        }
         CallRefusal::OutOfMemory => add_word(rt, words, "out_of_memory"),
     }
 }
 
-fn enter(rt: &impl Abort, words: &mut String, boot: &Boot, ticket: &mut Ticket, component: u16)
-    requires { FitsIn boot.now ticket.old.call }
-    ensures { FitsIn boot.now ticket.new.call }
+fn enter(rt: &impl Abort, words: &mut String, boot: &mut Boot, ticket: &mut Ticket, component: u16)
+    requires { FitsIn boot.old ticket.old.call }
+    ensures fits { FitsIn boot.new ticket.new.call }
+    ensures grown { HasGrown boot.old boot.new }
 {
     assert!(rt; component < boot.deployment().count());
     assert!(rt; boot.may_enter(ticket, ComponentNo(component)));
@@ -44,9 +58,10 @@ fn enter(rt: &impl Abort, words: &mut String, boot: &Boot, ticket: &mut Ticket, 
     }
 }
 
-fn leave(rt: &impl Abort, boot: &Boot, ticket: &mut Ticket)
-    requires { FitsIn boot.now ticket.old.call }
-    ensures { FitsIn boot.now ticket.new.call }
+fn leave(rt: &impl Abort, boot: &mut Boot, ticket: &mut Ticket)
+    requires { FitsIn boot.old ticket.old.call }
+    ensures fits { FitsIn boot.new ticket.new.call }
+    ensures same { boot.new ≡ boot.old }
 {
     assert!(rt; boot.check(ticket).is_ok());
     assert!(rt; ticket.depth() > 0 && ticket.steps() < MAX_STEPS);
@@ -128,12 +143,13 @@ fn do_step(
     rt: &impl Abort,
     alloc: Global,
     words: &mut String,
-    boot: &Boot,
+    boot: &mut Boot,
     ticket: &mut Ticket,
     step: &str,
 )
-    requires { FitsIn boot.now ticket.old.call }
-    ensures { FitsIn boot.now ticket.new.call }
+    requires { FitsIn boot.old ticket.old.call }
+    ensures fits { FitsIn boot.new ticket.new.call }
+    ensures grown { HasGrown boot.old boot.new }
 {
     if let Some(component) = step.strip_prefix("e") {
         enter(rt, words, boot, ticket, short(rt, component));
@@ -153,12 +169,13 @@ pub fn do_steps(
     rt: &impl Abort,
     alloc: Global,
     words: &mut String,
-    boot: &Boot,
+    boot: &mut Boot,
     ticket: &mut Ticket,
     steps: &str,
 )
-    requires { FitsIn boot.now ticket.old.call }
-    ensures { FitsIn boot.now ticket.new.call }
+    requires { FitsIn boot.old ticket.old.call }
+    ensures fits { FitsIn boot.new ticket.new.call }
+    ensures grown { HasGrown boot.old boot.new }
 {
     for step in steps.split(' ') {
         do_step(rt, alloc, words, boot, ticket, step);

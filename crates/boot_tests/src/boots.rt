@@ -95,8 +95,14 @@ fn expect_limits(rt: &impl Abort) {
 
 #[test]
 fn boots_commit_give_up_and_reboot(rt: HostRuntime) {
-    make_calls(&rt, rt.alloc(), &mut boot_of(&rt, rt.alloc(), "cart stock"));
-    give_up(&rt, rt.alloc(), &mut boot_of(&rt, rt.alloc(), "cart stock"));
-    reboot(&rt, rt.alloc(), &mut boot_of(&rt, rt.alloc(), "cart stock"));
+    let mut boot = boot_of(&rt, rt.alloc(), "cart stock");
+    make_calls(&rt, rt.alloc(), &mut boot);
+    drop(boot);
+    let mut boot = boot_of(&rt, rt.alloc(), "cart stock");
+    give_up(&rt, rt.alloc(), &mut boot);
+    drop(boot);
+    let mut boot = boot_of(&rt, rt.alloc(), "cart stock");
+    reboot(&rt, rt.alloc(), &mut boot);
+    drop(boot);
     expect_limits(&rt);
 }

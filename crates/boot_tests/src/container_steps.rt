@@ -8,14 +8,42 @@ ghost use Rattle.boot_core.specs.Fits.{FitsIn};
 use crate::boot_fixtures::write;
 use crate::kept_words::add_short_row;
 use crate::words::{add_named, add_pair, add_word, id, text};
-use container_core::{CallRefusal, CommitRefusal, Container, MAX_STEPS, Refused, Ticket};
+use container_core::{CallRefusal, CommitRefusal, Container, MAX_STEPS, Refused, Stale, Ticket};
 use crash_base::{ComponentNo, Place};
 use outside::Keeper;
 use std::alloc::Global;
 use std::process::Abort;
 
+/// Enters a component, which the call may enter from where it is.
+pub fn enter<K: Keeper + Drop>(
+    rt: &impl Abort,
+    container: &mut Container<K>,
+    ticket: &mut Ticket,
+    c: ComponentNo,
+) -> Result<(), CallRefusal>
+    requires { FitsIn container.old.boot ticket.old.call }
+    ensures { FitsIn container.new.boot ticket.new.call }
+{
+    assert!(rt; c.0 < container.deployment().count());
+    assert!(rt; container.as_boot().may_enter(ticket, c));
+    container.enter(ticket, c, 0)
+}
+
+/// Leaves the component that was entered last.
+pub fn exit<K: Keeper + Drop>(
+    rt: &impl Abort,
+    container: &mut Container<K>,
+    ticket: &mut Ticket,
+) -> Result<(), Stale>
+    requires { FitsIn container.old.boot ticket.old.call }
+    ensures { FitsIn container.new.boot ticket.new.call }
+{
+    assert!(rt; ticket.depth() > 0 && ticket.steps() < MAX_STEPS);
+    container.exit(ticket)
+}
+
 /// Enters component 1, and adds the place of the Down where its group is down.
-fn enter<K: Keeper + Drop>(
+fn enter_stock<K: Keeper + Drop>(
     rt: &impl Abort,
     words: &mut String,
     container: &mut Container<K>,
@@ -24,17 +52,15 @@ fn enter<K: Keeper + Drop>(
     requires { FitsIn container.old.boot ticket.old.call }
     ensures { FitsIn container.new.boot ticket.new.call }
 {
-    assert!(rt; container.deployment().count() > 1);
-    assert!(rt; container.as_boot().may_enter(ticket, ComponentNo(1)));
-    match container.enter(ticket, ComponentNo(1), 0) {
+    match enter(rt, container, ticket, ComponentNo(1)) {
         Ok(()) => {}
         Err(CallRefusal::Sentinel { down, .. }) => add_named(rt, words, "down", down.0),
         Err(_) => add_word(rt, words, "refused"),
     }
 }
 
-/// Leaves the component that was entered last.
-fn exit<K: Keeper + Drop>(
+/// Leaves the component that was entered last, and adds whether that is refused.
+fn leave<K: Keeper + Drop>(
     rt: &impl Abort,
     words: &mut String,
     container: &mut Container<K>,
@@ -43,8 +69,7 @@ fn exit<K: Keeper + Drop>(
     requires { FitsIn container.old.boot ticket.old.call }
     ensures { FitsIn container.new.boot ticket.new.call }
 {
-    assert!(rt; ticket.depth() > 0 && ticket.steps() < MAX_STEPS);
-    match container.exit(ticket) {
+    match exit(rt, container, ticket) {
         Ok(()) => add_word(rt, words, "left"),
         Err(_) => add_word(rt, words, "refused"),
     }
@@ -145,11 +170,11 @@ fn do_step<K: Keeper + Drop>(
     } else if step == "l" {
         list(rt, alloc, words, container, ticket);
     } else if step == "x" {
-        exit(rt, words, container, ticket);
+        leave(rt, words, container, ticket);
     } else if step == "c" {
         check(rt, words, container, ticket);
     } else {
-        enter(rt, words, container, ticket);
+        enter_stock(rt, words, container, ticket);
     }
 }
 

@@ -2,7 +2,7 @@
 
 ghost use Rattle.boot_core.specs.Fits.{FitsIn};
 
-use crate::boot_fixtures::{LIMITS, request};
+use crate::boot_fixtures::{LIMITS, plan_list, request};
 use crate::container_fixtures::shop;
 use crate::container_steps::{add_commit, do_steps};
 use crate::keepers::{add_kept, failing_keeper};
@@ -15,7 +15,7 @@ use std::alloc::Global;
 use std::process::Abort;
 
 /// Begins a call.
-fn begin<K: Keeper + Drop>(
+pub fn begin<K: Keeper + Drop>(
     rt: &impl Abort,
     alloc: Global,
     container: &mut Container<K>,
@@ -47,7 +47,7 @@ pub fn call<K: Keeper + Drop>(
 fn container(rt: &impl Abort, alloc: Global, failing: u64) -> Container<MapKeeper> {
     let deployment = shop(rt, alloc);
     let keeper = failing_keeper(rt, alloc, RowList::new(alloc), failing);
-    match Container::start(alloc, deployment, keeper, LIMITS) {
+    match Container::start(alloc, deployment, keeper, plan_list(rt, alloc, &[]), LIMITS) {
         Ok(container) => container,
         Err(_) => panic!(rt; "the start is refused"),
     }

@@ -167,6 +167,7 @@ fn expect_answers(rt: &impl Abort, alloc: Global, entries: &str, table: &str) {
     for row in table.split('\n') {
         expect_answer(rt, alloc, boot.journal(), row);
     }
+    drop(boot);
 }
 
 /// Eight entries. The Down of group 2 and that of the application have their Ups, and that of group 1 has not.

@@ -1,11 +1,11 @@
 //! Tests of deployments, of their descriptors and names, of pools, of reports and the decisions on them, of rows, of
-//! requests, of tickets, of programs and plans, of boots and their journals, of containers over their keepers, of the
-//! tries of requests, and of workloads, through public calls.
+//! requests, of tickets, of programs and plans, of boots and their journals, of containers over their keepers, of
+//! components that fail and what cures them, of the tries of requests, and of workloads, through public calls.
 //!
-//! Most tests go through a table of rows. What a row's calls answer is put into words, each with a
-//! space before it, and these are compared with the words that the row wants. A row that fails is
-//! shown whole. What an index finds is compared with what a plain scan finds over generated journals, and what is decided
-//! on generated reports with what a plain count decides.
+//! Most tests go through a table of rows. What a row's calls answer is put into words, each with a space before it, and
+//! these are compared with the words that the row wants. A row that fails is shown whole. What an index finds is
+//! compared with what a plain scan finds over generated journals, and what is decided on generated reports with what a
+//! plain count decides.
 #![tactic(auto)]
 
 #[cfg(test)]
@@ -28,6 +28,10 @@ mod deploy_words;
 mod deployments;
 #[cfg(test)]
 mod descriptors;
+#[cfg(test)]
+mod faults;
+#[cfg(test)]
+mod instances;
 #[cfg(test)]
 mod journals;
 #[cfg(test)]

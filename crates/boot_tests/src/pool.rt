@@ -2,28 +2,19 @@
 
 ghost use Rattle.std.specs.Prelude.{◌<◌};
 
+use crate::boot_fixtures::plan_list;
 use crate::parts::deployment_of;
 use crate::words::{add_named, add_number, add_word, expect_so, expect_words};
 use component_pool::{InstanceNo, Pool, left_by_process};
-use crash_base::{
-    ComponentNo, FaultKind, FaultList, FaultPlan, GroupNo, Level, MAX_FAULT_PLANS, MAX_GROUPS,
-    Scope,
-};
+use crash_base::{ComponentNo, FaultKind, FaultPlan, GroupNo, Level, MAX_GROUPS, Scope};
 use std::alloc::Global;
 use std::process::Abort;
 
 /// A reboot of the group of components a and b. No plan looks at the number.
-const GROUP: Level = Level::Group(GroupNo(7));
+pub const GROUP: Level = Level::Group(GroupNo(7));
 
 /// The most instances that are taken at once where calls go by chance.
 const MOST_HELD: usize = 8;
-
-/// The plans that these are.
-fn plan_list(rt: &impl Abort, alloc: Global, plans: &[FaultPlan]) -> FaultList {
-    let list = Vec::from_slice(alloc, plans).expect(rt, "plans");
-    assert!(rt; list.len() <= MAX_FAULT_PLANS);
-    FaultList::from_vec(list)
-}
 
 /// A plan of component a.
 fn plan_of_a(after: u64, kind: FaultKind, cured_by: Level) -> FaultPlan {
@@ -42,7 +33,7 @@ fn pool_of(rt: &impl Abort, alloc: Global, plans: &[FaultPlan]) -> Pool {
 }
 
 /// Takes an instance of a component.
-fn take(rt: &impl Abort, pool: &mut Pool, c: ComponentNo) -> InstanceNo {
+pub fn take(rt: &impl Abort, pool: &mut Pool, c: ComponentNo) -> InstanceNo {
     assert!(rt; c.0 < MAX_GROUPS);
     let generation = pool.generation(c);
     pool.take(c, generation).expect(rt, "an instance")
@@ -153,21 +144,20 @@ fn instances_are_idle_or_stale(rt: HostRuntime) {
     let a = take(&rt, &mut pool, ComponentNo(0));
     let b = take(&rt, &mut pool, ComponentNo(1));
     let c = take(&rt, &mut pool, ComponentNo(2));
+    let first = a.number();
     expect_so(
         &rt,
-        a.0 != b.0 && (b.0 != c.0 && a.0 != c.0),
+        first != b.number() && (b.number() != c.number() && first != c.number()),
         "three at once",
     );
     add_number(&rt, &mut words, pool.instances() as u64);
     pool.give(a);
-    pool.give(a);
-    pool.give(InstanceNo(77));
     add_number(&rt, &mut words, pool.instances() as u64);
     let again = take(&rt, &mut pool, ComponentNo(0));
-    expect_so(&rt, again.0 == a.0, "taken again");
+    expect_so(&rt, again.number() == first, "taken again");
     let other = take(&rt, &mut pool, ComponentNo(0));
-    expect_so(&rt, other.0 != a.0, "another one");
-    pool.give(a);
+    expect_so(&rt, other.number() != first, "another one");
+    pool.give(again);
     reboot(&rt, &mut pool, Scope::Group(GroupNo(0)));
     add_number(&rt, &mut words, pool.instances() as u64);
     pool.give(b);
@@ -175,11 +165,18 @@ fn instances_are_idle_or_stale(rt: HostRuntime) {
     add_number(&rt, &mut words, pool.instances() as u64);
     reboot(&rt, &mut pool, Scope::App);
     add_number(&rt, &mut words, pool.instances() as u64);
-    expect_words(&rt, &words, "3 3 3 2 1", "how many there are");
+    let more = take(&rt, &mut pool, ComponentNo(1));
+    let mut rest = Vec::new(alloc);
+    rest.push(other).expect(&rt, "the stale one");
+    rest.push(more).expect(&rt, "the new one");
+    pool.give_all(&mut rest);
+    expect_so(&rt, rest.is_empty(), "all are given back");
+    add_number(&rt, &mut words, pool.instances() as u64);
+    expect_words(&rt, &words, "3 3 3 2 1 1", "how many there are");
 }
 
 /// An instance that is taken.
-#[derive(Clone, Copy)]
+#[derive(Drop)]
 struct Held {
     instance: InstanceNo,
     component: ComponentNo,
@@ -210,7 +207,11 @@ fn take_counted(rt: &impl Abort, pool: &mut Pool, count: &mut Count, c: Componen
     requires { c.0 < 3 }
 {
     let instance = take(rt, pool, c);
-    let is_held = count.held.iter().any(|held| held.instance.0 == instance.0);
+    let number = instance.number();
+    let is_held = count
+        .held
+        .iter()
+        .any(|held| held.instance.number() == number);
     expect_so(rt, !is_held, "taken twice");
     let generation = pool.generation(c);
     let held = Held {
@@ -229,9 +230,10 @@ fn give_counted(rt: &impl Abort, pool: &mut Pool, count: &mut Count, draw: usize
     }
     let held = count.held.swap_remove(draw % count.held.len());
     let c = held.component;
+    let generation = held.generation;
     assert!(rt; c.0 < 3);
     pool.give(held.instance);
-    if pool.generation(c) == held.generation {
+    if pool.generation(c) == generation {
         count.idle[c.0 as usize] = count.idle[c.0 as usize].saturating_add(1);
     }
 }

@@ -165,4 +165,6 @@ fn rows_are_read_at_each_place(rt: HostRuntime) {
     expect_answers(&rt, rt.alloc(), &rows, SHORTER);
     let none = Rows::new(rt.alloc(), RowList::new(rt.alloc())).expect(&rt, "the rows");
     expect_answers(&rt, rt.alloc(), &none, EMPTY);
+    drop(rows);
+    drop(none);
 }

@@ -1,6 +1,6 @@
 //! Commits and starts over keepers of which one call fails, against rows that are worked out here.
 
-use crate::boot_fixtures::{LIMITS, request};
+use crate::boot_fixtures::{LIMITS, plan_list, request};
 use crate::container_fixtures::shop;
 use crate::containers::call;
 use crate::keepers::{SilentKeeper, add_kept, failing_keeper};
@@ -112,7 +112,13 @@ fn start_again<K: Keeper + Drop>(
     expect_words(rt, &words, "keeper_failed", "a start");
     expect_so(rt, !expected.start(), "a second start");
     let deployment = shop(rt, alloc);
-    match Container::start(alloc, deployment, fail.keeper, LIMITS) {
+    match Container::start(
+        alloc,
+        deployment,
+        fail.keeper,
+        plan_list(rt, alloc, &[]),
+        LIMITS,
+    ) {
         Ok(container) => container,
         Err(_) => panic!(rt; "the second start is refused"),
     }
@@ -184,7 +190,7 @@ fn do_steps<K: Keeper + Drop>(
     expected: &mut Expected,
 ) -> K {
     let deployment = shop(rt, alloc);
-    let answer = Container::start(alloc, deployment, keeper, LIMITS);
+    let answer = Container::start(alloc, deployment, keeper, plan_list(rt, alloc, &[]), LIMITS);
     let mut container = started(rt, alloc, answer, expected);
     let mut done = 0;
     for step in SCRIPT.split(';') {

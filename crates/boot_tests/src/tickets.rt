@@ -1,17 +1,31 @@
 //! What a ticket holds of its call.
 
-use crate::boot_fixtures::request;
+use crate::boot_fixtures::{plan_list, request};
+use crate::parts::deployment_of;
+use crate::pool::take;
 use crate::words::{add_number, add_pair, add_row, add_text, add_word, expect_words};
 use call_ticket::{MAX_FRAMES, MAX_MARKS, MAX_STEPS, Ticket, TicketParts};
 use commit_journal::{Mark, ReadMark, Touch};
+use component_pool::{InstanceNo, Pool};
 use crash_base::{ComponentNo, GroupNo, Place, RowBytes, RowId, RowWrite, WorkerNo};
 use std::alloc::Global;
 use std::process::Abort;
 
 const ROW: RowId = RowId { table: 3, key: 7 };
 
-/// Enters component 5 of group 2, which was rebooted four times, and is served by instance 17.
-fn enter(rt: &impl Abort, ticket: &mut Ticket) {
+/// The component that calls enter.
+const CLERK: ComponentNo = ComponentNo(5);
+
+/// A pool whose instance 0 is of the clerk, and is taken.
+fn new_pool(rt: &impl Abort, alloc: Global) -> Pool {
+    let deployment = deployment_of(rt, alloc, "*6 2-5");
+    let mut pool = Pool::new(alloc, &deployment, plan_list(rt, alloc, &[]));
+    let _taken = take(rt, &mut pool, CLERK);
+    pool
+}
+
+/// Enters the clerk, whose group, 2, was rebooted four times.
+fn enter(rt: &impl Abort, pool: &mut Pool, ticket: &mut Ticket) {
     assert!(rt; ticket.depth() < MAX_FRAMES && ticket.steps() < MAX_STEPS);
     assert!(rt; !ticket.is_touched(GroupNo(2)));
     let touch = Touch {
@@ -19,7 +33,7 @@ fn enter(rt: &impl Abort, ticket: &mut Ticket) {
         generation: 4,
         front: Place(9),
     };
-    ticket.push_frame(ComponentNo(5), 17, Some(touch));
+    ticket.push_frame(CLERK, take(rt, pool, CLERK), Some(touch));
 }
 
 /// Reads two bytes of a row.
@@ -37,7 +51,7 @@ fn put(rt: &impl Abort, alloc: Global, ticket: &mut Ticket) {
 }
 
 /// Leaves a component, and answers its instance.
-fn leave(rt: &impl Abort, ticket: &mut Ticket) -> u64 {
+fn leave(rt: &impl Abort, ticket: &mut Ticket) -> InstanceNo {
     assert!(rt; ticket.depth() > 0 && ticket.steps() < MAX_STEPS);
     ticket.pop_frame()
 }
@@ -70,7 +84,7 @@ fn add_mark(rt: &impl Abort, words: &mut String, mark: &Mark) {
 /// Adds the instances, the groups, the values that were read and the rows of a call that ended.
 fn add_parts(rt: &impl Abort, words: &mut String, parts: &TicketParts) {
     for instance in parts.instances.as_slice() {
-        add_number(rt, words, *instance);
+        add_number(rt, words, instance.number());
     }
     for touch in parts.touched.as_slice() {
         add_pair(rt, words, u64::from(touch.group.0), "#", touch.generation);
@@ -84,24 +98,50 @@ fn add_parts(rt: &impl Abort, words: &mut String, parts: &TicketParts) {
 }
 
 /// Enters, reads and puts.
-fn make_steps(rt: &impl Abort, alloc: Global, ticket: &mut Ticket) {
-    enter(rt, ticket);
+fn make_steps(rt: &impl Abort, alloc: Global, pool: &mut Pool, ticket: &mut Ticket) {
+    enter(rt, pool, ticket);
     read(rt, alloc, ticket);
     put(rt, alloc, ticket);
 }
 
 /// Adds what a ticket holds of its call, before its steps and after them.
-fn add_call(rt: &impl Abort, alloc: Global, words: &mut String, ticket: &mut Ticket) {
+fn add_call(
+    rt: &impl Abort,
+    alloc: Global,
+    words: &mut String,
+    pool: &mut Pool,
+    ticket: &mut Ticket,
+) {
     add_row_of(rt, words, ticket);
-    make_steps(rt, alloc, ticket);
+    make_steps(rt, alloc, pool, ticket);
     add_row_of(rt, words, ticket);
     add_ticket(rt, words, ticket);
-    add_number(rt, words, leave(rt, ticket));
+    add_number(rt, words, leave(rt, ticket).number());
+}
+
+/// Adds what a ticket holds whose frames are closed, and which instance of the clerk is taken next.
+fn add_closed(
+    rt: &impl Abort,
+    alloc: Global,
+    words: &mut String,
+    pool: &mut Pool,
+    ticket: &mut Ticket,
+) {
+    make_steps(rt, alloc, pool, ticket);
+    ticket.close_frames(pool);
+    add_ticket(rt, words, ticket);
+    add_number(rt, words, take(rt, pool, CLERK).number());
 }
 
 /// Adds what a ticket holds that is used again.
-fn add_renewed(rt: &impl Abort, alloc: Global, words: &mut String, ticket: &mut Ticket) {
-    make_steps(rt, alloc, ticket);
+fn add_renewed(
+    rt: &impl Abort,
+    alloc: Global,
+    words: &mut String,
+    pool: &mut Pool,
+    ticket: &mut Ticket,
+) {
+    make_steps(rt, alloc, pool, ticket);
     let parts = ticket.take_parts(alloc).expect(rt, "the parts");
     add_parts(rt, words, &parts);
     add_ticket(rt, words, ticket);
@@ -115,22 +155,23 @@ fn new_ticket(rt: &impl Abort, alloc: Global) -> Ticket {
 
 #[test]
 fn a_ticket_holds_its_call_and_is_used_again(rt: HostRuntime) {
+    let mut pool = new_pool(&rt, rt.alloc());
     let mut words = String::new(rt.alloc());
-    add_call(
-        &rt,
-        rt.alloc(),
-        &mut words,
-        &mut new_ticket(&rt, rt.alloc()),
-    );
-    let call = "none unread xyz read 70 4@9 1 3 5 17";
+    let mut ticket = new_ticket(&rt, rt.alloc());
+    add_call(&rt, rt.alloc(), &mut words, &mut pool, &mut ticket);
+    drop(ticket);
+    let call = "none unread xyz read 70 4@9 1 3 5 1";
     expect_words(&rt, &words, call, "a ticket");
     let mut words = String::new(rt.alloc());
-    add_renewed(
-        &rt,
-        rt.alloc(),
-        &mut words,
-        &mut new_ticket(&rt, rt.alloc()),
-    );
-    let again = "17 2#4 ab 3.7=xyz 70 4@9 0 0 0 71 5@10 0 0 0";
+    let mut ticket = new_ticket(&rt, rt.alloc());
+    add_closed(&rt, rt.alloc(), &mut words, &mut pool, &mut ticket);
+    drop(ticket);
+    let closed = "70 4@9 0 3 5 2";
+    expect_words(&rt, &words, closed, "a ticket");
+    let mut words = String::new(rt.alloc());
+    let mut ticket = new_ticket(&rt, rt.alloc());
+    add_renewed(&rt, rt.alloc(), &mut words, &mut pool, &mut ticket);
+    drop(ticket);
+    let again = "3 2#4 ab 3.7=xyz 70 4@9 0 0 0 71 5@10 0 0 0";
     expect_words(&rt, &words, again, "a ticket");
 }

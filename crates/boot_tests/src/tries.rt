@@ -17,11 +17,16 @@ ghost use Rattle.request_tries.specs.Serving.{IsServing, wanted_by};
 ghost use Rattle.request_tries.specs.Steps.{IfDone, end_of};
 
 use crate::Note;
-use crate::boot_fixtures::{LIMITS, add_table, name, request};
+use crate::boot_fixtures::{LIMITS, add_table, name, plan_list, request};
 use crate::keepers::failing_keeper;
-use crate::words::{add_named, add_number, add_pair, add_word, cut, expect_words, number};
+use crate::words::{
+    add_dotted, add_named, add_number, add_pair, add_word, cut, expect_words, number,
+};
 use container_core::{Container, DoneText, JournalLimits};
-use crash_base::{ActionText, GroupNo, RequestNo, RowList, Scope, WorkerNo};
+use crash_base::{
+    ActionText, ComponentNo, FaultKind, FaultPlan, GroupNo, Level, RequestNo, RowList, Scope,
+    WorkerNo,
+};
 use deployment::{ComponentPart, Deployment, MethodList, MethodPart, Parts};
 use outside::{Keeper, MapKeeper};
 use request_tries::{Ended, Progress, RequestOutcome, RequestTries, ends_stay_true};
@@ -44,10 +49,12 @@ fn add_part(rt: &impl Abort, alloc: Global, parts: &mut Parts, word: &str) {
         .expect(rt, word);
 }
 
-/// A container of a cart and a stock, over a keeper that holds no rows and of whose calls the one of this number fails.
+/// A container of a cart and a stock with these fault plans, over a keeper that holds no rows and of whose calls the
+/// one of this number fails.
 fn container(
     rt: &impl Abort,
     alloc: Global,
+    plans: &[FaultPlan],
     limits: JournalLimits,
     failing: u64,
 ) -> Container<MapKeeper> {
@@ -60,7 +67,13 @@ fn container(
         Err(_) => panic!(rt; "the shop is refused"),
     };
     let keeper = failing_keeper(rt, alloc, RowList::new(alloc), failing);
-    match Container::start(alloc, deployment, keeper, limits) {
+    match Container::start(
+        alloc,
+        deployment,
+        keeper,
+        plan_list(rt, alloc, plans),
+        limits,
+    ) {
         Ok(container) => container,
         Err(_) => panic!(rt; "the start is refused"),
     }
@@ -148,6 +161,18 @@ fn add_outcome(rt: &impl Abort, words: &mut String, outcome: &RequestOutcome) {
         RequestOutcome::Sentinel { group, down } => {
             add_pair(rt, words, u64::from(group.0), "down", down.0)
         }
+        RequestOutcome::Hung { component, fault } => {
+            add_dotted(rt, words, "hung", u64::from(component.0), u64::from(*fault))
+        }
+        RequestOutcome::Raised { component, fault } => {
+            add_dotted(
+                rt,
+                words,
+                "raised",
+                u64::from(component.0),
+                u64::from(*fault),
+            )
+        }
         RequestOutcome::Revoked(tries) => add_named(rt, words, "revoked", tries.len() as u64),
         RequestOutcome::Conflict(tries) => add_named(rt, words, "conflict", tries.len() as u64),
         RequestOutcome::JournalFull(full) => add_pair(rt, words, full.entries, "/", full.bytes),
@@ -221,11 +246,13 @@ fn write_beside<K: Keeper + Drop>(
             Progress::Went => assert!(rt; turn < 5),
             Progress::Done(done) => {
                 commit_beside(rt, alloc, container, &mut other, quick, done);
+                drop(other);
                 return;
             }
             Progress::Ended(_) => panic!(rt; "the other request was stopped"),
         }
     }
+    drop(other);
 }
 
 /// Does what an event says, where it comes after this step.
@@ -348,16 +375,18 @@ fn serve<K: Keeper + Drop>(
         if let Some(ended) = end {
             add_number(rt, &mut words, before);
             add_end(rt, &mut words, &ended);
+            drop(tries);
             return words;
         }
     }
+    drop(tries);
     words
 }
 
-/// Serves a request in a container of its own.
-fn expect_end(rt: &impl Abort, alloc: Global, method: u8, row: &str) {
+/// Serves a request in a container of its own, with these fault plans.
+fn expect_end(rt: &impl Abort, alloc: Global, plans: &[FaultPlan], method: u8, row: &str) {
     let (events, want) = cut(rt, row, '>');
-    let mut container = container(rt, alloc, LIMITS, 0);
+    let mut container = container(rt, alloc, plans, LIMITS, 0);
     let found = serve(
         rt,
         alloc,
@@ -419,10 +448,46 @@ write@1 write@7 write@13 > 17 conflict3 0-3 4
 fn requests_are_tried_again(rt: HostRuntime) {
     let alloc = rt.alloc();
     for row in AGAIN.lines() {
-        expect_end(&rt, alloc, 0, row);
+        expect_end(&rt, alloc, &[], 0, row);
     }
     for row in ONCE.lines() {
-        expect_end(&rt, alloc, 1, row);
+        expect_end(&rt, alloc, &[], 1, row);
+    }
+}
+
+/// The stock fails until its group is rebooted. That it is down is told before that.
+const FAILS: &str = "ask@0 > 1 raised1.0 0-0 1
+reboot@1 > 5 page2 0-3 4
+down@1 > 1 1down0 0-1 2
+";
+
+/// The stock fails from its second entering on, whoever makes it, until the application is rebooted.
+const FAILS_LATER: &str = "ask@0 > 5 page0 0-1 2
+reboot@1 > 5 page2 0-3 4
+reboot@2 > 4 hung1.0 0-2 3
+write@1 > 1 hung1.0 0-1 2
+";
+
+#[test]
+fn components_that_fail_end_requests(rt: HostRuntime) {
+    let alloc = rt.alloc();
+    let mut plan = FaultPlan {
+        component: ComponentNo(1),
+        after: 0,
+        kind: FaultKind::Raise,
+        cured_by: Level::Group(GroupNo(1)),
+    };
+    for row in FAILS.lines() {
+        expect_end(&rt, alloc, &[plan], 0, row);
+    }
+    plan = FaultPlan {
+        after: 1,
+        kind: FaultKind::Hang,
+        cured_by: Level::App,
+        ..plan
+    };
+    for row in FAILS_LATER.lines() {
+        expect_end(&rt, alloc, &[plan], 0, row);
     }
 }
 
@@ -430,7 +495,7 @@ fn requests_are_tried_again(rt: HostRuntime) {
 #[test]
 fn pages_are_shown_again(rt: HostRuntime) {
     let alloc = rt.alloc();
-    let mut container = container(&rt, alloc, LIMITS, 0);
+    let mut container = container(&rt, alloc, &[], LIMITS, 0);
     let look = Note { method: 0 };
     let first = serve(&rt, alloc, &mut container, 1, look, "ask@0");
     expect_words(&rt, &first, "5 page0 0-1 2", "the first");
@@ -438,6 +503,7 @@ fn pages_are_shown_again(rt: HostRuntime) {
     expect_words(&rt, &again, "8 again0 1-3 4 200", "the same again");
     let other = serve(&rt, alloc, &mut container, 2, look, "ask@0");
     expect_words(&rt, &other, "5 page3 3-4 5", "another one");
+    drop(container);
 }
 
 /// A journal without room and a keeper that failed end a request.
@@ -449,12 +515,14 @@ fn what_is_full_or_fails_ends_a_request(rt: HostRuntime) {
         entries: 0,
         bytes: 0,
     };
-    let mut full = container(&rt, alloc, none, 0);
+    let mut full = container(&rt, alloc, &[], none, 0);
     let found = serve(&rt, alloc, &mut full, 1, look, "ask@0");
     expect_words(&rt, &found, "5 0/0 0-0 1", "full");
-    let mut failing = container(&rt, alloc, LIMITS, 3);
+    drop(full);
+    let mut failing = container(&rt, alloc, &[], LIMITS, 3);
     let found = serve(&rt, alloc, &mut failing, 1, look, "ask@0");
     expect_words(&rt, &found, "5 keeper_failed 0-0 2", "failed");
     let found = serve(&rt, alloc, &mut failing, 1, look, "ask@0");
     expect_words(&rt, &found, "5 page0 0-1 3", "and kept then");
+    drop(failing);
 }

@@ -1,12 +1,12 @@
--- How an attempt that no reboot stops comes to its end.
+-- How an attempt that nothing stops comes to its end.
 use Rattle.std.specs.Prelude.{IsSome}
 use Rattle.std.proofs.Common.{◌≡◌, ◌⊎◌, ℕ, ◌+◌, ◌≤◌, List, [], ◌∷◌, length, Some, None, inl, inr, refl, ap, ◌∙◌, arith, length-append}
+use Rattle.crash_base.specs.declared.fault_plans.FaultKind.TheVariants.{Raise, Hang}
 use Rattle.crash_base.specs.declared.numbers.ComponentNo.{ComponentNo}
 use Rattle.crash_base.specs.declared.rows.RowWrite.{RowWrite}
 use Rattle.deployment.specs.declared.parts.Parts.{Parts}
 use Rattle.deployment.specs.Groups.{group_of}
 use Rattle.journal_model.specs.declared.entry.DoneText.{DoneText}
-use Rattle.journal_model.specs.declared.entry.Entry.{Entry}
 use Rattle.journal_model.specs.Calls.{Call}
 use Rattle.journal_model.specs.Reboots.{down_of}
 use Rattle.journal_model.specs.Stale.{stale_in}
@@ -17,39 +17,50 @@ use Rattle.call_ticket.specs.declared.next.Next.TheVariants as next
 use Rattle.call_ticket.specs.Following.{Begins, Follows, GoesOn, MakesStep, MayMake}
 use Rattle.call_ticket.specs.Runs.{run_of}
 use Rattle.boot_core.specs.Boot.{BootValue}
+use Rattle.boot_core.specs.Faults.{fault_of}
 use Rattle.call_attempts.specs.Attempt.{AttemptValue, HasStepped, IsUnderWay, answer_to, rows_at_begin, wanted}
-use Rattle.call_attempts.specs.Stops.{stop_of}
+use Rattle.call_attempts.specs.Stops.{failure, stop_of}
 use Rattle.call_attempts.specs.declared.attempt.Stepped.{Stepped}
 use Rattle.call_attempts.specs.declared.attempt.Stepped.TheVariants.{Went, Done, Stopped}
 use Rattle.call_attempts.specs.declared.stop.Stop.{Stop}
-use Rattle.call_attempts.specs.declared.stop.Stop.TheVariants.{Revoked, Sentinel}
-use Rattle.call_attempts.proofs.Stopping.{revoked_is, sentinel_is}
+use Rattle.call_attempts.specs.declared.stop.Stop.TheVariants.{Revoked, Sentinel, Hung, Raised}
+use Rattle.call_attempts.proofs.Stopping.{hung_is, raised_is, revoked_is, sentinel_is}
 
--- No group that a step enters is down.
-abbrev pub EntersNoDown : Parts → List Entry → Next → Type 0
-EntersNoDown parts es x = (c : ComponentNo) (m : ℕ) → x ≡ next.Enter c m → down_of es (group_of parts c.0) ≡ None
+-- No group that a step enters is down, and no component that it enters fails.
+abbrev pub EntersFreely : BootValue → Next → Type 0
+EntersFreely b x =
+    (c : ComponentNo) (m : ℕ) → x ≡ next.Enter c m → (down_of b.entries (group_of b.start.deployment c.0) ≡ None) × (failure c (fault_of b c) ≡ None)
 
--- A step is stopped by nothing, where no group that its call entered was rebooted since and none that it enters is down.
-pub nothing_stops : (parts : Parts) (es : List Entry) (call : Call) (x : Next) → stale_in es call.touched ≡ None → EntersNoDown parts es x → (stop : Stop) → stop_of parts es call x ≡ Some stop → ⊥
-nothing_stops parts es call x fresh up (Revoked shown) is = let stale = (revoked_is parts es call x shown).0 is in cc
-nothing_stops parts es call x fresh up (Sentinel group down) is =
-    let met = (sentinel_is parts es call x group down).0 is in
+-- A step is stopped by nothing, where no group that its call entered was rebooted since, none that it enters is down,
+-- and no component that it enters fails.
+pub nothing_stops : (b : BootValue) (call : Call) (x : Next) → stale_in b.entries call.touched ≡ None → EntersFreely b x → (stop : Stop) → stop_of b call x ≡ Some stop → ⊥
+nothing_stops b call x fresh free (Revoked shown) is = let stale = (revoked_is b call x shown).0 is in cc
+nothing_stops b call x fresh free (Sentinel group down) is =
+    let met = (sentinel_is b call x group down).0 is in
     let enters = met.1 in
     let held = enters.4 in
-    let free = up enters.0 enters.1 enters.2 in
+    let up = (free enters.0 enters.1 enters.2).0 in
     cc
+nothing_stops b call x fresh free (Hung c fault) is =
+    let enters = ((hung_is b call x c fault).0 is).1 in
+    let fails : failure c (Some (fault, Hang)) ≡ None = rw enters.3 at (free c enters.0 enters.1).1 in
+    absurd (cc)
+nothing_stops b call x fresh free (Raised c fault) is =
+    let enters = ((raised_is b call x c fault).0 is).1 in
+    let fails : failure c (Some (fault, Raise)) ≡ None = rw enters.3 at (free c enters.0 enters.1).1 in
+    absurd (cc)
 
 -- what a step comes to that nothing stops
 abbrev pub GoesOnOrEnds : AttemptValue → Stepped → AttemptValue → Type 0
 GoesOnOrEnds a came after =
     ((came ≡ Went) × (length after.answers ≡ length a.answers + 1)) ⊎ ((done : DoneText) × (came ≡ Done done))
 
-pub goes_on : (boot : BootValue) (asks : List Answer → Next) (a after : AttemptValue) (came : Stepped) → stale_in boot.entries a.ticket.call.touched ≡ None → EntersNoDown boot.start.deployment boot.entries (wanted asks a)
+pub goes_on : (boot : BootValue) (asks : List Answer → Next) (a after : AttemptValue) (came : Stepped) → stale_in boot.entries a.ticket.call.touched ≡ None → EntersFreely boot (wanted asks a)
     → HasStepped boot asks a came after → GoesOnOrEnds a came after
-goes_on boot asks a after Went fresh up h =
+goes_on boot asks a after Went fresh free h =
     inl (refl, ap (λ (b : AttemptValue). length b.answers) h.2 ∙ length-append a.answers (answer_to (rows_at_begin boot a.ticket.call) a.ticket.call (wanted asks a) ∷ []))
-goes_on boot asks a after (Done d) fresh up h = inr (d, refl)
-goes_on boot asks a after (Stopped stop) fresh up h = absurd (nothing_stops boot.start.deployment boot.entries a.ticket.call (wanted asks a) fresh up stop h.1)
+goes_on boot asks a after (Done d) fresh free h = inr (d, refl)
+goes_on boot asks a after (Stopped stop) fresh free h = absurd (nothing_stops boot a.ticket.call (wanted asks a) fresh free stop h.1)
 
 -- each step is counted
 one_more : (rows : List RowWrite) (call after : Call) (x : Next) (a : Answer) → MakesStep rows call x a after → after.steps ≡ call.steps + 1

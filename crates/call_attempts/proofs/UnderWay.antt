@@ -1,7 +1,7 @@
 -- Attempts that are under way.
 use Rattle.std.proofs.Common.{◌≡◌, ◌⊎◌, ◌↔◌, ℕ, ◌&&◌, Bool, true, false, cond, List, [], ◌∷◌, ◌++◌, length, take, All, Option, Some, None, inl, inr, refl, sym, ap, ◌∙◌, subst, arith, length-append}
 use Rattle.std.proofs.lemmas.Bool.{cases_lt}
-use Rattle.std.proofs.lemmas.List.{take-append-le, take_at}
+use Rattle.std.proofs.lemmas.List.{append-nil, take-append-le, take_at}
 use Rattle.std.proofs.lemmas.List.Elements.{All-nil, All-push}
 use Rattle.crash_base.specs.declared.numbers.RequestNo.{RequestNo}
 use Rattle.crash_base.specs.declared.numbers.WorkerNo.{WorkerNo}
@@ -25,11 +25,11 @@ use Rattle.call_ticket.specs.declared.next.Next.TheVariants as next
 use Rattle.call_ticket.specs.Following.{Follows, Begins, GoesOn, MakesStep}
 use Rattle.call_ticket.specs.Repeated.{may_repeat}
 use Rattle.call_ticket.specs.Ticket.{TicketValue}
-use Rattle.boot_core.specs.Boot.{BootValue, HasGrown}
+use Rattle.boot_core.specs.Boot.{BootValue, HasGrown, with_entered}
 use Rattle.boot_core.specs.declared.boot.Start.{Start}
 use Rattle.boot_core.specs.Fits.{FitsIn}
 use Rattle.boot_core.proofs.Fitting.{begins_fitting, fits_grown}
-use Rattle.call_attempts.specs.Attempt.{Accesses, AttemptValue, Continues, EntersGroup, HasEnteredOnce, HasMade, HasStepped, IsUnderWay, answer_to, attempt_begun, rows_at_begin, stepped, table_in, table_of, ticket_after, wanted}
+use Rattle.call_attempts.specs.Attempt.{Accesses, AttemptValue, Continues, EntersGroup, HasEnteredOnce, HasMade, HasStepped, IsUnderWay, answer_to, attempt_begun, boot_after, rows_at_begin, stepped, table_in, table_of, ticket_after, wanted}
 use Rattle.call_attempts.specs.Stops.{stop_of}
 use Rattle.call_attempts.specs.declared.attempt.Stepped.TheVariants.{Went, Done, Stopped}
 use Rattle.call_attempts.specs.declared.steps.Made.TheVariants as make
@@ -203,8 +203,8 @@ begins boot asks request worker = record {
 -- An attempt that is under way stays so, whatever else enters the journal.
 pub stays : (old new : BootValue) (asks : List Answer → Next) (a : AttemptValue) → HasGrown old new → IsUnderWay old asks a → IsUnderWay new asks a
 stays old new asks a grown way =
-    let longer : IsUnderWay (record { start = old.start; entries = old.entries ++ grown.more }) asks a = record {
-      fits = fits_grown old (record { start = old.start; entries = old.entries ++ grown.more }) a.ticket.call (record { start = refl; more = grown.more; entries = refl }) way.fits;
+    let longer : IsUnderWay (record { start = old.start; entries = old.entries ++ grown.more; entered = new.entered }) asks a = record {
+      fits = fits_grown old (record { start = old.start; entries = old.entries ++ grown.more; entered = new.entered }) a.ticket.call (record { start = refl; more = grown.more; entries = refl }) way.fits;
       follows = rw (take-append-le a.ticket.call.at.0 old.entries grown.more way.fits.journal.at) way.follows;
       since = way.since;
       groups = way.groups;
@@ -212,9 +212,28 @@ stays old new asks a grown way =
       writes = way.writes;
       once = way.once;
     } in
-    let P : List Entry → Type 0 = λ es. IsUnderWay (record { start = old.start; entries = es }) asks a in
-    let Q : Start → Type 0 = λ start. IsUnderWay (record { start = start; entries = new.entries }) asks a in
+    let P : List Entry → Type 0 = λ es. IsUnderWay (record { start = old.start; entries = es; entered = new.entered }) asks a in
+    let Q : Start → Type 0 = λ start. IsUnderWay (record { start = start; entries = new.entries; entered = new.entered }) asks a in
     subst Q (sym grown.start) (subst P (sym grown.entries) longer)
+
+-- A step changes of a boot at most how often a component was entered.
+pub boot_grows : (boot : BootValue) (x : Next) → HasGrown boot (boot_after boot x)
+boot_grows boot (next.Enter c m) = record { start = refl; more = []; entries = sym (append-nil boot.entries) }
+boot_grows boot (next.Read id) = record { start = refl; more = []; entries = sym (append-nil boot.entries) }
+boot_grows boot (next.List table) = record { start = refl; more = []; entries = sym (append-nil boot.entries) }
+boot_grows boot (next.Put w) = record { start = refl; more = []; entries = sym (append-nil boot.entries) }
+boot_grows boot next.Exit = record { start = refl; more = []; entries = sym (append-nil boot.entries) }
+boot_grows boot (next.Done d) = record { start = refl; more = []; entries = sym (append-nil boot.entries) }
+
+-- So a call that fits the boot after it fits the one before.
+fits_before : (boot : BootValue) (x : Next) (call : Call) → FitsIn (boot_after boot x) call → FitsIn boot call
+fits_before boot (next.Enter c m) call fits =
+    fits_grown (with_entered boot c) boot call (record { start = refl; more = []; entries = sym (append-nil boot.entries) }) fits
+fits_before boot (next.Read id) call fits = fits
+fits_before boot (next.List table) call fits = fits
+fits_before boot (next.Put w) call fits = fits
+fits_before boot next.Exit call fits = fits
+fits_before boot (next.Done d) call fits = fits
 
 -- the value of an attempt, by its fields
 abbrev pub fields : TicketValue → List Answer → Bool → AttemptValue
@@ -223,10 +242,11 @@ fields ticket answers repeats = record { ticket = ticket; answers = answers; rep
 -- A step that was answered.
 pub answered : (boot : BootValue) (asks : List Answer → Next) (old : AttemptValue) (t0 : TicketValue) (a0 : List Answer) (r0 : Bool) → fields t0 a0 r0 ≡ old
     → (x : Next) (a : Answer) (ticket : TicketValue) (answers : List Answer) (repeats : Bool) → IsUnderWay boot asks old → x ≡ asks a0
-    → HasMade boot t0 x (make.Answered a) ticket → FitsIn boot ticket.call → answers ≡ a0 ++ a ∷ [] → repeats ≡ r0 && may_repeat boot.start.deployment x
-    → HasStepped boot asks old Went (fields ticket answers repeats) × IsUnderWay boot asks (fields ticket answers repeats)
+    → HasMade boot t0 x (make.Answered a) ticket → FitsIn (boot_after boot x) ticket.call → answers ≡ a0 ++ a ∷ [] → repeats ≡ r0 && may_repeat boot.start.deployment x
+    → HasStepped boot asks old Went (fields ticket answers repeats) × IsUnderWay (boot_after boot x) asks (fields ticket answers repeats)
 answered boot asks old t0 a0 r0 view x a ticket answers repeats way is made_so fits more flag =
-    subst (λ (o : AttemptValue). HasStepped boot asks o Went (fields ticket answers repeats) × IsUnderWay boot asks (fields ticket answers repeats)) view (stepping, going)
+    subst (λ (o : AttemptValue). HasStepped boot asks o Went (fields ticket answers repeats) × IsUnderWay (boot_after boot x) asks (fields ticket answers repeats)) view
+    (stepping, stays boot (boot_after boot x) asks (fields ticket answers repeats) (boot_grows boot x) going)
   where
     was : AttemptValue
     was = fields t0 a0 r0
@@ -235,11 +255,11 @@ answered boot asks old t0 a0 r0 view x a ticket answers repeats way is made_so f
     same = rw (made_so.3, more, flag, made_so.2) refl
 
     stepping : HasStepped boot asks was Went (fields ticket answers repeats)
-    stepping = subst (λ (y : Next). Continues y × (stop_of boot.start.deployment boot.entries t0.call y ≡ None) × (fields ticket answers repeats ≡ stepped boot was y)) is (made_so.0, made_so.1, same)
+    stepping = subst (λ (y : Next). Continues y × (stop_of boot t0.call y ≡ None) × (fields ticket answers repeats ≡ stepped boot was y)) is (made_so.0, made_so.1, same)
 
     going : IsUnderWay boot asks (fields ticket answers repeats)
     going = subst (λ (t : AttemptValue). IsUnderWay boot asks t) (sym same)
-        (goes_on boot asks was x (subst (λ (o : AttemptValue). IsUnderWay boot asks o) (sym view) way) (sym is) made_so.0 (subst (λ (t : TicketValue). FitsIn boot t.call) made_so.3 fits))
+        (goes_on boot asks was x (subst (λ (o : AttemptValue). IsUnderWay boot asks o) (sym view) way) (sym is) made_so.0 (subst (λ (t : TicketValue). FitsIn boot t.call) made_so.3 (fits_before boot x ticket.call fits)))
 
 -- A step that ends the call.
 pub done_so : (boot : BootValue) (asks : List Answer → Next) (old : AttemptValue) (t0 : TicketValue) (a0 : List Answer) (r0 : Bool) → fields t0 a0 r0 ≡ old
@@ -247,10 +267,10 @@ pub done_so : (boot : BootValue) (asks : List Answer → Next) (old : AttemptVal
 done_so boot asks old t0 a0 r0 view x d ticket is made_so =
     subst (λ (o : AttemptValue). HasStepped boot asks o (Done d) (fields ticket a0 r0)) view (sym is ∙ made_so.0, ap (λ (t : TicketValue). fields t a0 r0) made_so.1)
 
--- A step that a reboot stops.
+-- A step that something stops.
 pub stopped_so : (boot : BootValue) (asks : List Answer → Next) (old : AttemptValue) (t0 : TicketValue) (a0 : List Answer) (r0 : Bool) → fields t0 a0 r0 ≡ old
     → (x : Next) (stop : Stop) (ticket : TicketValue) → x ≡ asks a0 → HasMade boot t0 x (make.Stopped stop) ticket → HasStepped boot asks old (Stopped stop) (fields ticket a0 r0)
 stopped_so boot asks old t0 a0 r0 view x stop ticket is made_so =
     subst (λ (o : AttemptValue). HasStepped boot asks o (Stopped stop) (fields ticket a0 r0)) view
-    (subst (λ (y : Next). Continues y × (stop_of boot.start.deployment boot.entries t0.call y ≡ Some stop) × (fields ticket a0 r0 ≡ fields t0 a0 r0)) is
+    (subst (λ (y : Next). Continues y × (stop_of boot t0.call y ≡ Some stop) × (fields ticket a0 r0 ≡ fields t0 a0 r0)) is
     (made_so.0, made_so.1, ap (λ (t : TicketValue). fields t a0 r0) made_so.2))

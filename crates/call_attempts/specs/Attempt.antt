@@ -22,7 +22,7 @@ use Rattle.call_ticket.specs.declared.next.Next.TheVariants as next
 use Rattle.call_ticket.specs.Following.{Follows}
 use Rattle.call_ticket.specs.Repeated.{may_repeat}
 use Rattle.call_ticket.specs.Ticket.{TicketValue, ticket_begun, ticket_kept, ticket_left}
-use Rattle.boot_core.specs.Boot.{BootValue}
+use Rattle.boot_core.specs.Boot.{BootValue, with_entered}
 use Rattle.boot_core.specs.Fits.{FitsIn}
 use Rattle.boot_core.specs.Steps.{ticket_entered, ticket_has_read, ticket_has_listed}
 use Rattle.call_attempts.specs.Stops.{stop_of}
@@ -80,6 +80,12 @@ pub record EntersGroup (parts : Parts) (asks : List Answer → Next) (group : Gr
   pub method : ℕ
   pub asked : asks answers ≡ next.Enter component method
   pub group_is : group ≡ group_no (group_of parts component.0)
+
+-- A program enters a component.
+pub record EntersComponent (asks : List Answer → Next) (component : ComponentNo) : Type 0 where
+  pub answers : List Answer
+  pub method : ℕ
+  pub asked : asks answers ≡ next.Enter component method
 
 -- A program accesses a table: it reads a row of it, lists it, or puts a row of it.
 pub record Accesses (asks : List Answer → Next) (table : ℕ) : Type 0 where
@@ -142,21 +148,41 @@ Continues (next.Done d) = ⊥
 
 -- what stops the step that an attempt asks for
 abbrev pub stop_of_attempt : BootValue → (List Answer → Next) → AttemptValue → Option Stop
-stop_of_attempt boot asks a =
-    stop_of boot.start.deployment boot.entries a.ticket.call (wanted asks a)
+stop_of_attempt boot asks a = stop_of boot a.ticket.call (wanted asks a)
 
--- A step has come to this: it was answered, and leaves this ticket; or it ends the call; or a reboot stops it, and the
+-- the boot after a step that was answered: it counts a component that was entered
+abbrev pub boot_after : BootValue → Next → BootValue
+boot_after boot (next.Enter c m) = with_entered boot c
+boot_after boot (next.Read id) = boot
+boot_after boot (next.List table) = boot
+boot_after boot (next.Put w) = boot
+boot_after boot next.Exit = boot
+boot_after boot (next.Done d) = boot
+
+-- the boot after a step, by what that came to
+abbrev pub boot_left : BootValue → Next → Stepped → BootValue
+boot_left boot x Went = boot_after boot x
+boot_left boot x (Done d) = boot
+boot_left boot x (Stopped stop) = boot
+
+-- the same, of a step that is made
+abbrev pub boot_made : BootValue → Next → Made → BootValue
+boot_made boot x (made.Answered a) = boot_after boot x
+boot_made boot x (made.Done d) = boot
+boot_made boot x (made.Stopped stop) = boot
+
+-- A step has come to this: it was answered, and leaves this ticket; or it ends the call; or something stops it, and the
 -- ticket is as before.
 abbrev pub HasMade : BootValue → TicketValue → Next → Made → TicketValue → Type 0
 HasMade boot old x (made.Answered a) new =
-    Continues x × (stop_of boot.start.deployment boot.entries old.call x ≡ None)
+    Continues x × (stop_of boot old.call x ≡ None)
     × (a ≡ answer_to (rows_at_begin boot old.call) old.call x) × (new ≡ ticket_after boot old x)
 HasMade boot old x (made.Done d) new = (x ≡ next.Done d) × (new ≡ old)
 HasMade boot old x (made.Stopped stop) new =
-    Continues x × (stop_of boot.start.deployment boot.entries old.call x ≡ Some stop) × (new ≡ old)
+    Continues x × (stop_of boot old.call x ≡ Some stop) × (new ≡ old)
 
--- An attempt has made a step: the one that it asks for was answered; or it asks for none, since the call is done; or a
--- reboot stops the step. One of the three holds, and no two do, so what a step comes to is fixed.
+-- An attempt has made a step: the one that it asks for was answered; or it asks for none, since the call is done; or
+-- something stops the step. One of the three holds, and no two do, so what a step comes to is fixed.
 abbrev pub HasStepped : BootValue → (List Answer → Next) → AttemptValue → Stepped → AttemptValue → Type 0
 HasStepped boot asks old Went new =
     Continues (wanted asks old) × (stop_of_attempt boot asks old ≡ None)

@@ -4,8 +4,8 @@ ghost use Rattle.std.specs.Prelude.{◌≡◌, ◌&&◌, IfOk, OnOk};
 ghost use Rattle.call_ticket.specs.Following.{Follows, MayMake};
 ghost use Rattle.call_ticket.specs.Repeated.{may_repeat};
 ghost use Rattle.boot_core.specs.Fits.{FitsIn};
-ghost use Rattle.container_core.specs.Container.{HasGrownBy};
-ghost use Rattle.call_attempts.specs.Attempt.{HasStepped, IsUnderWay, rows_at_begin, attempt_of};
+ghost use Rattle.container_core.specs.Container.{HasGrownBy, IsButEntered, with_boot};
+ghost use Rattle.call_attempts.specs.Attempt.{HasStepped, IsUnderWay, boot_left, rows_at_begin, attempt_of, wanted};
 
 use crate::steps::{Made, make};
 use crate::stop::Stop;
@@ -25,7 +25,7 @@ pub enum Stepped {
     Went,
     /// The call is done, and answers this where it commits.
     Done(DoneText),
-    /// A reboot stopped the attempt.
+    /// A reboot stopped the attempt, or a component that fails.
     Stopped(Stop),
 }
 
@@ -124,9 +124,11 @@ impl Attempt {
         requires under_way { IsUnderWay container.old.boot (P.asks program.now) self.old }
         ensures stepped { IfOk result (λ came.
             HasStepped container.old.boot (P.asks program.now) self.old came self.new) }
-        ensures under_way { OnOk result (IsUnderWay container.old.boot (P.asks program.now) self.new) }
+        ensures leaves { IfOk result (λ came. container.new
+            ≡ with_boot container.old (boot_left container.old.boot (wanted (P.asks program.now) self.old) came)) }
+        ensures but_entered { IsButEntered container.old container.new }
+        ensures under_way { OnOk result (IsUnderWay container.new.boot (P.asks program.now) self.new) }
         ensures fits { FitsIn container.new.boot self.new.ticket.call }
-        ensures same { container.new ≡ container.old }
         ensures grown { HasGrownBy container.old container.new }
     {
         histories_grow();

@@ -13,9 +13,10 @@
 //! An attempt is under way (`IsUnderWay` in `specs/Attempt`) from its begin on: its call made just the steps that the
 //! program asked for, over the rows at its begin. Others may use the container between any two of its steps, and it
 //! stays under way (`attempts_stay_under_way`). Each step comes to one thing alone (`steps_are_fixed`): it is answered,
-//! or the program is done, or a reboot stops it (`reboots_alone_stop`). No limit of a call can stop it, since a program
-//! keeps them: where no reboot stops it, its program is done after at most 128 answers (`attempts_come_to_their_end`).
-//! An attempt remembers each step that may not be made again (`single_calls_are_remembered`).
+//! or the program is done, or a reboot or a component that fails stops it (`reboots_and_faults_alone_stop`). No limit
+//! of a call can stop it, since a program keeps them: where nothing stops it, its program is done after at most 128
+//! answers (`attempts_come_to_their_end`). An attempt remembers each step that may not be made again
+//! (`single_calls_are_remembered`).
 //!
 //! A step costs one call of the container. The answers are kept until the attempt ends, and the program sees all of
 //! them at each step.
@@ -28,7 +29,7 @@ mod stop;
 
 pub use attempt::{Attempt, Stepped};
 pub use laws::{
-    attempts_come_to_their_end, attempts_stay_under_way, reboots_alone_stop,
+    attempts_come_to_their_end, attempts_stay_under_way, reboots_and_faults_alone_stop,
     single_calls_are_remembered, steps_are_fixed,
 };
 pub use stop::Stop;

@@ -4,7 +4,8 @@ ghost use Rattle.std.specs.Prelude.{◌≡◌, IfOk};
 ghost use Rattle.call_ticket.specs.Following.{MayMake};
 ghost use Rattle.call_ticket.specs.declared.next.Next.TheVariants as next;
 ghost use Rattle.boot_core.specs.Fits.{FitsIn};
-ghost use Rattle.call_attempts.specs.Attempt.{HasMade};
+ghost use Rattle.container_core.specs.Container.{HasGrownBy, IsButEntered, with_boot};
+ghost use Rattle.call_attempts.specs.Attempt.{HasMade, boot_made};
 
 use crate::stop::{Stop, stop_by};
 use boot_core::{DoneText, Ticket};
@@ -21,7 +22,7 @@ pub enum Made {
     Answered(Answer),
     /// It asks for nothing more: the call is done, and answers this where it commits.
     Done(DoneText),
-    /// A reboot stopped it.
+    /// A reboot stopped it, or a component that fails.
     Stopped(Stop),
 }
 
@@ -37,7 +38,10 @@ fn enter<K: Keeper + Drop>(
     ensures made { IfOk result (λ r.
         HasMade container.old.boot ticket.old (next.Enter c method) r ticket.new) }
     ensures fits { FitsIn container.new.boot ticket.new.call }
-    ensures same { container.new ≡ container.old }
+    ensures leaves { IfOk result (λ r.
+        container.new ≡ with_boot container.old (boot_made container.old.boot (next.Enter c method) r)) }
+    ensures but_entered { IsButEntered container.old container.new }
+    ensures grown { HasGrownBy container.old container.new }
 {
     match container.enter(ticket, c, method) {
         Ok(()) => Ok(Made::Answered(Answer::Entered)),
@@ -138,7 +142,10 @@ pub(crate) fn make<K: Keeper + Drop>(
     requires fits { FitsIn container.old.boot ticket.old.call }
     ensures made { IfOk result (λ r. HasMade container.old.boot ticket.old next r ticket.new) }
     ensures fits { FitsIn container.new.boot ticket.new.call }
-    ensures same { container.new ≡ container.old }
+    ensures leaves { IfOk result (λ r.
+        container.new ≡ with_boot container.old (boot_made container.old.boot next r)) }
+    ensures but_entered { IsButEntered container.old container.new }
+    ensures grown { HasGrownBy container.old container.new }
 {
     match next {
         Next::Enter { component, method } => enter(container, ticket, component, method),

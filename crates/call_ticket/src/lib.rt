@@ -10,13 +10,15 @@
 //!     ticket.add_put(write);
 //! }
 //! let instance = ticket.pop_frame();
+//! ticket.close_frames(&mut pool);
 //! let parts = ticket.take_parts(alloc)?;
 //! ticket.renew(next, worker, at);
 //! ```
 //!
-//! Contracts see a ticket as its call and the instances of its open frames, and each change gives the exact
-//! value that it leaves. Its limits hold at all times, so a caller that keeps to the `requires` of a change
-//! needs no other test. Which rows, components and instances these are is the caller's affair.
+//! Contracts see a ticket as its call, and each change gives the exact value that it leaves. Its limits hold at all
+//! times, so a caller that keeps to the `requires` of a change needs no other test. Which rows and components these
+//! are is the caller's affair. An instance serves each open frame: a token of a pool (`component_pool`), which cannot
+//! be made or cloned, so the ticket has it alone until the frame is closed or the call ends.
 //!
 //! A ticket ends in one of two ways: `into_parts` gives its vectors away with the room that they have, and
 //! `take_parts` moves the items into vectors that are just large enough, so that the ticket can be renewed.

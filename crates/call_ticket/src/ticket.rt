@@ -1,16 +1,18 @@
 //! One call of a request, as its caller holds it.
 
-ghost use Rattle.std.specs.Prelude.{◌≡◌, ◌+◌, ◌*◌, ◌<◌, ◌≤◌, [], ◌++◌, length, vec_len, vec_capacity, option_map, false, IsSome, IfOk, OnOk, OnErr, Some, All};
+ghost use Rattle.std.specs.Prelude.{◌≡◌, ℕ, ◌+◌, ◌*◌, ◌<◌, ◌≤◌, List, [], ◌++◌, length, vec_len, vec_capacity, option_map, false, IsSome, IfOk, OnOk, OnErr, All};
 ghost use Rattle.crash_base.specs.declared.rows.TheConstants.{MAX_ROW_BYTES};
 ghost use Rattle.crash_base.specs.Rows.{row_in};
 ghost use Rattle.journal_model.specs.Calls.{is_touched, is_put, is_marked};
 ghost use Rattle.journal_model.specs.Limits.{call_bytes, value_bytes};
-ghost use Rattle.call_ticket.specs.Ticket.{ticket_begun, top, top_instance, IsFirst, with_touch, with_frame, ticket_left, ticket_read, ticket_kept, is_full_for, parts_of};
+ghost use Rattle.component_pool.specs.Pool.{AreGivenBack, entered_in};
+ghost use Rattle.call_ticket.specs.Ticket.{ticket_begun, top, IsFirst, with_touch, with_frame, ticket_closed, ticket_left, ticket_read, ticket_kept, is_full_for};
 ghost use Rattle.call_ticket.specs.Within.{AreOfOtherGroups, IsShortMark, IsShortWrite};
 
 use crate::limits::{MAX_FRAMES, MAX_MARKS, MAX_STEPS, MAX_WRITES};
 use crate::parts::TicketParts;
 use crate::search::{add_write, bytes_of_write, is_marked};
+use component_pool::{InstanceNo, Pool};
 use crash_base::{
     ComponentNo, GroupNo, Items, OutOfMemory, Place, RequestNo, RowBytes, RowId, RowWrite, WorkerNo,
 };
@@ -25,7 +27,7 @@ pub struct Ticket {
     worker: WorkerNo,
     at: Place,
     frames: Vec<ComponentNo>,
-    instances: Vec<u64>,
+    instances: Vec<InstanceNo>,
     touched: Vec<Touch>,
     marks: Vec<Mark>,
     writes: Vec<RowWrite>,
@@ -50,7 +52,6 @@ impl Model for Ticket {
         writes = t.writes.items;
         steps = t.steps;
       };
-      instances = t.instances.items;
     } };
 
     ghost invariant = { λ t.
@@ -157,7 +158,6 @@ impl Ticket {
     /// The number of open frames. As many instances serve them.
     pub fn depth(&self) -> usize
         ensures depth { result ≡ length self.now.call.frames }
-        ensures served { result ≡ length self.now.instances }
         ensures limit { result ≤ MAX_FRAMES }
     {
         self.frames.len()
@@ -245,11 +245,11 @@ impl Ticket {
 
     /// Opens a frame of a component, which this instance serves, and adds the touch of its group where that
     /// is new. One step. No memory.
-    pub fn push_frame(&mut self, c: ComponentNo, instance: u64, touch: Option<Touch>)
+    pub fn push_frame(&mut self, c: ComponentNo, instance: InstanceNo, touch: Option<Touch>)
         requires depth { length self.old.call.frames < MAX_FRAMES }
         requires steps { self.old.call.steps < MAX_STEPS }
         requires first { IsFirst self.old.call.touched touch }
-        ensures { self.new ≡ with_frame self.old c instance touch }
+        ensures { self.new ≡ with_frame self.old c touch }
     {
         self.frames.push_reserved(c);
         self.instances.push_reserved(instance);
@@ -258,15 +258,28 @@ impl Ticket {
     }
 
     /// Closes the frame that was opened last, and answers the instance that served it. One step. No memory.
-    pub fn pop_frame(&mut self) -> u64
+    pub fn pop_frame(&mut self) -> InstanceNo
         requires open { 0 < length self.old.call.frames }
         requires steps { self.old.call.steps < MAX_STEPS }
-        ensures left { self.new ≡ ticket_left self.old }
-        ensures instance { top_instance self.old ≡ Some result }
+        ensures { self.new ≡ ticket_left self.old }
     {
         self.frames.pop();
         self.steps += 1;
         self.instances.pop().unwrap()
+    }
+
+    /// Closes all open frames, of a call that ends: the instances that serve them are given back to the pool that they
+    /// were taken from. No step, and no memory. It visits each of them.
+    pub fn close_frames(&mut self, pool: &mut Pool)
+        ensures closed { self.new ≡ ticket_closed self.old }
+        ensures given { (numbers : List ℕ) × (length numbers ≡ length self.old.call.frames)
+            × AreGivenBack pool.old.components numbers pool.old.instances pool.new.instances }
+        ensures components { pool.new.components ≡ pool.old.components }
+        ensures counted { entered_in pool.new ≡ entered_in pool.old }
+        ensures plans { pool.new.plans ≡ pool.old.plans }
+    {
+        self.frames.clear();
+        pool.give_all(&mut self.instances);
     }
 
     /// Adds a mark with the value that was read. Where there is no mark, the value is dropped. One step. No
@@ -298,7 +311,10 @@ impl Ticket {
 
     /// What this call holds, which ends. Nothing is copied, and the vectors keep the room of the ticket.
     pub fn into_parts(self) -> TicketParts
-        ensures { result ≡ parts_of self }
+        ensures touched { result.touched ≡ self.call.touched }
+        ensures marks { result.marks ≡ self.call.marks }
+        ensures writes { result.writes ≡ self.call.writes }
+        ensures served { length result.instances ≡ length self.call.frames }
     {
         TicketParts {
             instances: Items::from_vec(self.instances),
@@ -312,7 +328,11 @@ impl Ticket {
     /// ticket is then as at its begin, in the room that it has. It moves each item. Where memory ran out, the
     /// ticket is as it was.
     pub fn take_parts(&mut self, alloc: Global) -> Result<TicketParts, OutOfMemory>
-        ensures parts { IfOk result (λ parts. parts ≡ parts_of self.old) }
+        ensures touched { IfOk result (λ parts. parts.touched ≡ self.old.call.touched) }
+        ensures marks { IfOk result (λ parts. parts.marks ≡ self.old.call.marks) }
+        ensures writes { IfOk result (λ parts. parts.writes ≡ self.old.call.writes) }
+        ensures served { IfOk result (λ parts.
+            length parts.instances ≡ length self.old.call.frames) }
         ensures begun { OnOk result (self.new
             ≡ ticket_begun self.old.call.request self.old.call.worker self.old.call.at) }
         ensures err { OnErr result (self.new ≡ self.old) }

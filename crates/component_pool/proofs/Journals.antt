@@ -1,5 +1,5 @@
 -- Pools that follow a journal.
-use Rattle.std.proofs.Common.{◌≡◌, ℕ, ◌+◌, ◌-◌, ◌^◌, ◌<◌, nat_lt, min, Bool, true, false, not, ◌||◌, if◌then◌else◌, List, [], ◌∷◌, ◌++◌, length, refl, ap, ◌∙◌, subst, arith}
+use Rattle.std.proofs.Common.{◌≡◌, ℕ, ◌+◌, ◌-◌, ◌^◌, ◌<◌, nat_lt, Bool, true, false, not, ◌||◌, if◌then◌else◌, List, [], ◌∷◌, ◌++◌, length, refl, ap, ◌∙◌, subst, arith}
 use Rattle.std.proofs.lemmas.Bool.Decides.{nat_tests}
 use Rattle.crash_base.specs.declared.fault_plans.FaultPlan.{FaultPlan}
 use Rattle.crash_base.specs.declared.numbers.Level.{Level}
@@ -78,15 +78,3 @@ follows_may pool parts given enterings es s stands few c within =
     let one = component_in pool.components c in
     let is = follows_generation pool parts given enterings es stands c within in
     has_next_few (holds s one.group.0) one.generation (2 ^ 64 - 1) (omega (arith, few, is, generation-few es (group_of parts c)))
-
-least : (e n most : ℕ) → e ≡ min n most → e ≡ min e most
-least e n most is = omega (arith, is)
-
--- a pool stands for the enterings that it counts itself
-pub stands_as_counted : (pool : PoolValue) (parts : Parts) (given : List FaultPlan) (enterings : ℕ → ℕ) (reboots : ℕ → List Level) → StandsFor pool parts given enterings reboots → StandsFor pool parts given (λ c. (component_in pool.components c).entered) reboots
-stands_as_counted pool parts given enterings reboots stands = record {
-  plans = stands.plans;
-  components = λ c within.
-      let h = stands.components c within in
-      record { group = h.group; entered = least (component_in pool.components c).entered (enterings c) (2 ^ 64 - 1) h.entered; generation = h.generation; cured = h.cured };
-}

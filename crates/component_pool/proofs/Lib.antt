@@ -6,3 +6,4 @@ pub mod Fresh
 pub mod Shown
 pub mod Journals
 pub mod Giving
+pub mod Counting

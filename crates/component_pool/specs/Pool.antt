@@ -1,5 +1,5 @@
 -- A pool, as contracts see it.
-use Rattle.std.specs.Prelude.{◌≡◌, ◌<◌, ℕ, ◌+◌, ◌-◌, ◌^◌, ◌==◌, ◌&&◌, ◌||◌, nat_le, nat_lt, not, Bool, true, false, if◌then◌else◌, List, [], ◌∷◌, ◌++◌, length, Option, Some, None, slice_index_or, option_and_then, position}
+use Rattle.std.specs.Prelude.{◌≡◌, ◌<◌, ℕ, ◌+◌, ◌-◌, ◌^◌, ◌==◌, ◌&&◌, ◌||◌, nat_le, nat_lt, not, Bool, true, false, if◌then◌else◌, List, [], ◌∷◌, ◌++◌, length, Option, Some, None, slice_index_or, slice_set, replicate, map, option_and_then, position}
 use Rattle.std.specs.List.{list_any}
 use Rattle.crash_base.specs.declared.fault_plans.FaultKind.{FaultKind}
 use Rattle.crash_base.specs.declared.fault_plans.FaultPlan.{FaultPlan}
@@ -24,6 +24,22 @@ pub record PoolValue : Type 0 where
 -- a component of a group that was never entered and never rebooted
 abbrev pub new_component : ℕ → PooledComponent
 new_component g = record { group = group_no g; entered = 0; generation = 0; widest = None }
+
+-- how often each component was entered, by its number, counted up to 2^64 - 1
+abbrev pub entered_in : PoolValue → List ℕ
+entered_in pool = map (λ (one : PooledComponent). one.entered) pool.components
+
+-- the counts where no component was entered yet
+unfoldable pub none_entered : List ℕ
+none_entered = replicate MAX_GROUPS 0
+
+-- how often a component was entered, by these counts
+abbrev pub times : List ℕ → ℕ → ℕ
+times entered c = slice_index_or entered c 0
+
+-- the counts after one entering more of a component
+abbrev pub one_more : List ℕ → ℕ → List ℕ
+one_more entered c = slice_set entered c (counted (times entered c + 1))
 
 -- a component among these
 abbrev pub component_in : List PooledComponent → ℕ → PooledComponent

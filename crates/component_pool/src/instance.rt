@@ -1,10 +1,41 @@
 //! A running copy of a component.
 
-use crash_base::ComponentNo;
+ghost use Rattle.std.specs.Prelude.{◌≡◌};
 
-/// The number of an instance: its key among those of the pool. It is given again once the instance is gone.
-#[derive(Clone, Copy, PartialEq)]
-pub struct InstanceNo(pub u64);
+use crash_base::ComponentNo;
+use std::marker::Model;
+
+/// The token of an instance that is taken, which contracts see as the number of that instance: its key among those of
+/// the pool. Only a pool makes one, and it cannot be cloned: so no two frames have one instance, and an instance is
+/// given back at most once. The number is given again once the instance is given back or gone.
+#[derive(Drop)]
+pub struct InstanceNo {
+    key: u64,
+}
+
+impl Model for InstanceNo {
+    ghost use Rattle.std.specs.Prelude.{ℕ};
+
+    ghost Value = { ℕ };
+
+    ghost view = { λ i. i.key };
+}
+
+impl InstanceNo {
+    /// The token of the instance under a key.
+    pub(crate) fn new(key: u64) -> InstanceNo
+        ensures { result ≡ key }
+    {
+        InstanceNo { key }
+    }
+
+    /// The number of the instance.
+    pub fn number(&self) -> u64
+        ensures { result ≡ self.now }
+    {
+        self.key
+    }
+}
 
 /// A running copy of a component.
 #[derive(Clone, Copy)]

@@ -12,14 +12,14 @@ ghost use Rattle.journal_model.specs.declared.entry.Entry.TheVariants.{Commit, D
 ghost use Rattle.journal_model.specs.Reboots.{generation};
 ghost use Rattle.component_pool.specs.Cures.{level_of};
 ghost use Rattle.component_pool.specs.Journal.{reboots_in};
-ghost use Rattle.component_pool.specs.Pool.{MayReboot, PoolValue, StandsFor, component_in, rebooted_at};
+ghost use Rattle.component_pool.specs.Pool.{MayReboot, PoolValue, StandsFor, component_in, entered_in, rebooted_at, times};
 
 use crash_base::MAX_GROUPS;
 
 /// A pool whose scopes are rebooted at each Down of a journal follows it: a Down comes to what `drop_scope` makes of
 /// the pool, and commits and Ups change nothing. Then the generation of a component is that of its group in the
-/// journal, and each scope may be rebooted while a u64 counts one entry more. And a pool stands for the enterings that
-/// it counts itself.
+/// journal, and each scope may be rebooted while a u64 counts one entry more. And a pool stands for the counts that it
+/// keeps.
 pub fn pools_follow_journals()
     ensures down { (pool : PoolValue) (parts : Parts) (given : List FaultPlan) (enterings : ℕ → ℕ) (es : List Entry) (s : Scope) →
         StandsFor pool parts given enterings (rebooted_at s (level_of s) (reboots_in es)) →
@@ -38,5 +38,5 @@ pub fn pools_follow_journals()
         MayReboot pool.components s }
     ensures counted { (pool : PoolValue) (parts : Parts) (given : List FaultPlan) (enterings : ℕ → ℕ) (reboots : ℕ → List Level) →
         StandsFor pool parts given enterings reboots →
-        StandsFor pool parts given (λ c. (component_in pool.components c).entered) reboots }
+        StandsFor pool parts given (times (entered_in pool)) reboots }
 {}

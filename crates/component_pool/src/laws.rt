@@ -6,12 +6,14 @@ ghost use Rattle.crash_base.specs.declared.fault_plans.FaultPlan.{FaultPlan};
 ghost use Rattle.crash_base.specs.declared.numbers.GroupNo.{GroupNo};
 ghost use Rattle.crash_base.specs.declared.numbers.Level.{Level};
 ghost use Rattle.crash_base.specs.declared.numbers.Level.TheVariants.{Group, App, Process, Human};
-ghost use Rattle.component_pool.specs.Cures.{cures, one_cures};
+ghost use Rattle.crash_base.specs.declared.scope.Scope.TheVariants as scopes;
+ghost use Rattle.component_pool.specs.Cures.{cures, level_of, one_cures};
 ghost use Rattle.component_pool.specs.Plans.{IsFirstActive, active_plan, counted, is_active, makes_fail, outlives_process};
 
 /// What is cured by a reboot of a group is cured by every reboot, whichever groups the two name; what is cured by one
 /// of the application, by every reboot but that of a group; what is cured by one of the process, by no reboot of a
-/// group or of the application; and what a person has to cure, by no reboot.
+/// group or of the application; and what a person has to cure, by no reboot. A scope is rebooted at its own level: a
+/// group at that of this group, and the application at that of the application.
 pub fn reboots_cure_by_level()
     ensures group { (level : Level) (g : GroupNo) → cures level (Group g) ≡ true }
     ensures app { (level : Level) → (cures level App ≡ false) ↔ ((g : GroupNo) × (level ≡ Group g)) }
@@ -19,6 +21,7 @@ pub fn reboots_cure_by_level()
         (cures level Process ≡ true) ↔ ((level ≡ Process) ⊎ (level ≡ Human)) }
     ensures human { (level : Level) → (cures level Human ≡ true) ↔ (level ≡ Human) }
     ensures left { (plan : FaultPlan) → (outlives_process plan ≡ true) ↔ (plan.cured_by ≡ Human) }
+    ensures scopes { ((g : GroupNo) → level_of (scopes.Group g) ≡ Group g) × (level_of scopes.App ≡ App) }
 {}
 
 /// A plan is active exactly where its component was entered as often as it says or more, and no reboot of its group

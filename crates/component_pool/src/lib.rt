@@ -8,10 +8,10 @@
 //! match pool.active(c) {                                     // at an enter that nothing else refuses
 //!     Some((fault, FaultKind::Raise)) => ..,                  // refused: c raised, by the plan of this number
 //!     Some((fault, FaultKind::Hang)) => ..,                   // refused: c hung, by the plan of this number
-//!     _ => frame.instance = pool.take(c, generation)?,        // entered; memory is wanted only for a new instance
+//!     _ => instances.push(pool.take(c, generation)?)?,        // entered; memory is wanted only for a new instance
 //! }
-//! pool.give(frame.instance);                                 // at an exit
-//! pool.give_all(instances);                                  // where a call ends: those of its open frames
+//! pool.give(instances.pop().unwrap());                       // at an exit
+//! pool.give_all(&mut instances);                             // where a call ends: those of its open frames
 //! pool.drop_scope(scope);                                    // with the Down of the journal
 //! let plans = left_by_process(pool.into_plans());            // to start the next container
 //! ```

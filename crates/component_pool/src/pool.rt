@@ -1,6 +1,6 @@
 //! The instances and the fault plans of a deployment's components.
 
-ghost use Rattle.std.specs.Prelude.{◌≡◌, ◌≢◌, ◌<◌, ◌≤◌, ◌↔◌, ℕ, ◌+◌, ◌==◌, List, [], length, true, false, Some, IfOk, OnOk, OnErr, IsTrue, is_some, count_by, if◌then◌else◌, slice_index_or};
+ghost use Rattle.std.specs.Prelude.{◌≡◌, ◌≢◌, ◌<◌, ◌≤◌, ◌↔◌, ℕ, ◌+◌, ◌==◌, List, [], length, true, false, Some, IfOk, OnOk, OnErr, IsTrue, is_some, count_by, if◌then◌else◌, slice_index_or, vec_capacity};
 ghost use Rattle.std.specs.List.{list_all};
 ghost use Rattle.crash_base.specs.declared.fault_plans.FaultPlan.{FaultPlan};
 ghost use Rattle.crash_base.specs.declared.numbers.Level.{Level};
@@ -10,7 +10,7 @@ ghost use Rattle.deployment.specs.Groups.{group_of};
 ghost use Rattle.component_pool.specs.Cures.{level_of};
 ghost use Rattle.component_pool.specs.Instances.{HasTaken, has_taken, idle_of, instance_in};
 ghost use Rattle.component_pool.specs.Plans.{active_plan, counted};
-ghost use Rattle.component_pool.specs.Pool.{AreFresh, AreGivenBack, AreLeftIdle, HaveEntered, HaveRebooted, MayReboot, StandsFor, active_now, component_in, given_back, has_next, new_component, once_more, rebooted_at};
+ghost use Rattle.component_pool.specs.Pool.{AreFresh, AreGivenBack, AreLeftIdle, HaveEntered, HaveRebooted, MayReboot, StandsFor, active_now, component_in, entered_in, given_back, has_next, new_component, none_entered, once_more, one_more, rebooted_at};
 
 use crate::component::PooledComponent;
 use crate::instance::{Instance, InstanceNo};
@@ -58,7 +58,8 @@ fn group_of(deployment: &Deployment, number: u16) -> GroupNo
 
 /// What is known of components that were never entered and never rebooted.
 fn new_components(deployment: &Deployment) -> [PooledComponent; MAX_GROUPS as usize]
-    ensures { (c : ℕ) → c < MAX_GROUPS →
+    ensures many { length result ≡ MAX_GROUPS }
+    ensures new { (c : ℕ) → c < MAX_GROUPS →
         component_in result c ≡ new_component (group_of deployment.now c) }
 {
     let mut components = [PooledComponent {
@@ -112,15 +113,17 @@ fn give_back(components: &[PooledComponent], instances: &mut Instances, n: u64)
     }
 }
 
-/// Gives the instances of these numbers back, one after another.
-fn give_all(components: &[PooledComponent], instances: &mut Instances, numbers: &[u64])
+/// Gives these instances back, the last first, and leaves none.
+fn give_all(components: &[PooledComponent], instances: &mut Instances, taken: &mut Vec<InstanceNo>)
     requires many { length components.now ≡ MAX_GROUPS }
     requires fresh { AreFresh components.now instances.old }
-    ensures given { AreGivenBack components.now numbers.now instances.old instances.new }
+    ensures given { AreGivenBack components.now taken.old.items instances.old instances.new }
     ensures fresh { AreFresh components.now instances.new }
+    ensures none { taken.new.items ≡ [] }
+    ensures room { vec_capacity taken.new ≡ vec_capacity taken.old }
 {
-    for number in numbers {
-        give_back(components, instances, *number);
+    while let Some(instance) = taken.pop() {
+        give_back(components, instances, instance.number());
     }
 }
 
@@ -152,6 +155,7 @@ impl Pool {
     pub fn new(alloc: Global, deployment: &Deployment, plans: FaultList) -> Pool
         ensures stands { StandsFor result deployment.now plans (λ c. 0) (λ g. []) }
         ensures instances { result.instances ≡ [] }
+        ensures entered { entered_in result ≡ none_entered }
     {
         let components = new_components(deployment);
         Pool {
@@ -206,14 +210,15 @@ impl Pool {
     }
 
     /// Takes an instance of a component, which serves a frame until it is given back: an idle one, or a new one where
-    /// none is idle. It counts as an entering of the component. Where memory ran out the pool is as it was, and none was
-    /// idle.
+    /// none is idle. It counts as an entering of the component. Where memory ran out the pool is as it was, and none
+    /// was idle.
     pub fn take(&mut self, c: ComponentNo, generation: u64) -> Result<InstanceNo, OutOfMemory>
         requires component { c.0 < MAX_GROUPS }
         requires present { generation ≡ (component_in self.old.components c.0).generation }
         ensures taken { IfOk result (λ n. HasTaken
-            self.old.instances self.new.instances c generation n.0) }
+            self.old.instances self.new.instances c generation n) }
         ensures entered { OnOk result (HaveEntered self.old.components self.new.components c.0) }
+        ensures counted { OnOk result (entered_in self.new ≡ one_more (entered_in self.old) c.0) }
         ensures plans { self.new.plans ≡ self.old.plans }
         ensures refused { OnErr result (self.new ≡ self.old) }
         ensures wanted { OnErr result ((m : ℕ) →
@@ -224,33 +229,38 @@ impl Pool {
     {
         let key = self.instances.take(c, generation)?;
         enter(&mut self.components, c.0);
-        Ok(InstanceNo(key as u64))
+        Ok(InstanceNo::new(key as u64))
     }
 
     /// Gives an instance back that was taken: it is idle where it is of the present generation of its component, and
-    /// else it is dropped. A number of no instance that is taken changes nothing. It takes no memory.
+    /// else it is dropped. A number that another pool gave, of no instance that is taken here, changes nothing. It
+    /// takes no memory.
     pub fn give(&mut self, instance: InstanceNo)
-        ensures given { instance_in self.new.instances instance.0
-            ≡ given_back self.old.components (instance_in self.old.instances instance.0) }
-        ensures others { (n : ℕ) → n ≢ instance.0 →
+        ensures given { instance_in self.new.instances instance
+            ≡ given_back self.old.components (instance_in self.old.instances instance) }
+        ensures others { (n : ℕ) → n ≢ instance →
             instance_in self.new.instances n ≡ instance_in self.old.instances n }
-        ensures untaken { has_taken (instance_in self.old.instances instance.0) ≡ false →
+        ensures untaken { has_taken (instance_in self.old.instances instance) ≡ false →
             self.new ≡ self.old }
         ensures components { self.new.components ≡ self.old.components }
+        ensures counted { entered_in self.new ≡ entered_in self.old }
         ensures plans { self.new.plans ≡ self.old.plans }
     {
-        give_back(&self.components, &mut self.instances, instance.0);
+        give_back(&self.components, &mut self.instances, instance.number());
     }
 
-    /// Gives the instances of these numbers back, as `give` says of each: those of the frames that a call has open when
-    /// it ends. It takes no memory, and visits each of them.
-    pub fn give_all(&mut self, numbers: &[u64])
+    /// Gives these instances back, as `give` says of each, and leaves none, in the room that they have: those of the
+    /// frames that a call has open when it ends. It takes no memory, and visits each of them.
+    pub fn give_all(&mut self, taken: &mut Vec<InstanceNo>)
         ensures given { AreGivenBack
-            self.old.components numbers.now self.old.instances self.new.instances }
+            self.old.components taken.old.items self.old.instances self.new.instances }
+        ensures none { taken.new.items ≡ [] }
+        ensures room { vec_capacity taken.new ≡ vec_capacity taken.old }
         ensures components { self.new.components ≡ self.old.components }
+        ensures counted { entered_in self.new ≡ entered_in self.old }
         ensures plans { self.new.plans ≡ self.old.plans }
     {
-        give_all(&self.components, &mut self.instances, numbers);
+        give_all(&self.components, &mut self.instances, taken);
     }
 
     /// Whether the groups of a scope may be rebooted once more: none of them was 2^64 − 1 times. It takes no memory,
@@ -270,6 +280,7 @@ impl Pool {
         ensures components { HaveRebooted self.old.components self.new.components (Group g) level }
         ensures instances { AreLeftIdle
             self.old.components (Group g) self.old.instances self.new.instances }
+        ensures counted { entered_in self.new ≡ entered_in self.old }
         ensures plans { self.new.plans ≡ self.old.plans }
         ensures stands { (parts : Parts) (given : List FaultPlan) (enterings : ℕ → ℕ) (reboots : ℕ → List Level) →
             StandsFor self.old parts given enterings reboots →
@@ -291,6 +302,7 @@ impl Pool {
             self.old.components self.new.components scope (level_of scope) }
         ensures instances { AreLeftIdle
             self.old.components scope self.old.instances self.new.instances }
+        ensures counted { entered_in self.new ≡ entered_in self.old }
         ensures plans { self.new.plans ≡ self.old.plans }
         ensures stands { (parts : Parts) (given : List FaultPlan) (enterings : ℕ → ℕ) (reboots : ℕ → List Level) →
             StandsFor self.old parts given enterings reboots →

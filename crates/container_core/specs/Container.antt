@@ -32,6 +32,14 @@ events_of c = Started c.boot.start ∷ c.since
 abbrev pub event_count : ContainerValue → ℕ
 event_count c = length (events_of c)
 
+-- a container with this boot
+abbrev pub with_boot : ContainerValue → BootValue → ContainerValue
+with_boot c boot = record c { boot = boot }
+
+-- A container is as it was, but for how often its components were entered.
+abbrev pub IsButEntered : ContainerValue → ContainerValue → Type 0
+IsButEntered old new = new ≡ with_boot old (record (old.boot) { entered = new.boot.entered })
+
 -- a container with one entry more in its journal and its history
 abbrev pub with_entry_event : ContainerValue → Entry → ContainerValue
 with_entry_event c e = record c { boot = with_entry c.boot e; since = c.since ++ Added e ∷ [] }

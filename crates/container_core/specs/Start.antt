@@ -9,6 +9,7 @@ use Rattle.crash_base.specs.declared.rows.TheConstants.{MAX_ROW_BYTES}
 use Rattle.crash_base.specs.BigEndian.{big_endian_number}
 use Rattle.crash_base.specs.RowId.{same_id}
 use Rattle.crash_base.specs.Rows.{row_in, AreOrdered}
+use Rattle.crash_base.specs.declared.fault_plans.FaultPlan.{FaultPlan}
 use Rattle.deployment.specs.declared.parts.Parts.{Parts}
 use Rattle.journal_model.specs.declared.limits.JournalLimits.{JournalLimits}
 use Rattle.outside.specs.declared.keeper.KeeperFault.{KeeperFault}
@@ -85,11 +86,12 @@ abbrev pub greatest_boot : ℕ
 greatest_boot = 2 ^ 32 - 1
 
 -- the start over rows that were loaded: the next boot, whose number is put over them
-abbrev pub start_over : Parts → JournalLimits → List RowWrite → Start
-start_over parts limits rows = record {
+abbrev pub start_over : Parts → List FaultPlan → JournalLimits → List RowWrite → Start
+start_over parts plans limits rows = record {
   boot = last_boot rows + 1;
   base = rows ++ boot_row (last_boot rows + 1) ∷ [];
   deployment = parts;
+  plans = plans;
   limits = limits;
 }
 
@@ -99,17 +101,17 @@ AreGiven rows told = IfSome told (λ t. (rows ≡ t.rows) × AreOrdered rows)
 
 -- A boot was opened: over the rows that the keeper gave, none of which is bad, with the next number, which the keeper
 -- holds now.
-pub record IsOpened (parts : Parts) (limits : JournalLimits) (old : Option KeeperTold) (opened : BootValue) (new : Option KeeperTold) : Type 0 where
+pub record IsOpened (parts : Parts) (plans : List FaultPlan) (limits : JournalLimits) (old : Option KeeperTold) (opened : BootValue) (new : Option KeeperTold) : Type 0 where
   pub rows : List RowWrite
   pub given : AreGiven rows old
   pub good : first_bad rows ≡ None
   pub unspent : last_boot rows < greatest_boot
-  pub boot : opened ≡ new_boot (start_over parts limits rows)
+  pub boot : opened ≡ new_boot (start_over parts plans limits rows)
   pub kept : new ≡ applied (boot_row (last_boot rows + 1) ∷ []) (loaded old)
 
 -- A container was started: its boot was opened, and nothing has happened since.
-pub record IsStarted (parts : Parts) (limits : JournalLimits) (told : Option KeeperTold) (c : ContainerValue) : Type 0 where
-  pub opened : IsOpened parts limits told c.boot c.told
+pub record IsStarted (parts : Parts) (plans : List FaultPlan) (limits : JournalLimits) (told : Option KeeperTold) (c : ContainerValue) : Type 0 where
+  pub opened : IsOpened parts plans limits told c.boot c.told
   pub since : c.since ≡ []
 
 -- Rows that no container is started over: one is bad, or the number of the last boot is the greatest; or memory ran

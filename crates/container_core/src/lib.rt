@@ -6,7 +6,7 @@
 //! answered put over them:
 //!
 //! ```text
-//! let mut container = Container::start(alloc, deployment, keeper, limits)?;
+//! let mut container = Container::start(alloc, deployment, keeper, plans, limits)?;
 //! let ticket = container.begin(alloc, request, worker)?;
 //! ..
 //! match container.commit(alloc, ticket, None) { .. }
@@ -14,10 +14,14 @@
 //! ```
 //!
 //! Calls enter components, read, list and put rows through the container, which passes them on to its boot and is as it
-//! was after each; `Container::as_boot` lends the boot for what it tells of them. What a container adds is the keeper
-//! and the history: its start, its entries, a mark for each commit whose keeper failed, and one for the first `stop`.
-//! Each call that takes a container by `&mut` says that its history has grown, so a ticket that fits goes on to fit
-//! (`histories_grow`).
+//! was after each, but that it counts how often each component was entered. A component fails by the fault plans that
+//! the container is started with, until a reboot that is wide enough cures it: `Container::enter` says so. A container
+//! that is started again has the plans that no reboot cures. `Container::as_boot` lends the boot for what it tells of
+//! calls, of its plans, and of the instances that serve.
+//!
+//! What a container adds is the keeper and the history: its start, its entries, a mark for each commit whose keeper
+//! failed, and one for the first `stop`. Each call that takes a container by `&mut` says that its history has grown, so
+//! a ticket that fits goes on to fit (`histories_grow`).
 #![tactic(auto)]
 
 mod container;

@@ -9,7 +9,7 @@ ghost use Rattle.container_core.specs.Start.{boot_row, first_bad, last_boot, gre
 use crate::history::History;
 use crate::judging::{BOOT_ID, first_bad, last_boot};
 use boot_core::{Boot, JournalLimits, Start, StartRefusal};
-use crash_base::{OutOfMemory, RowBytes, RowList, RowWrite, WriteList};
+use crash_base::{FaultList, OutOfMemory, RowBytes, RowList, RowWrite, WriteList};
 use deployment::Deployment;
 use outside::{Keeper, KeeperFault};
 use std::alloc::Global;
@@ -115,12 +115,13 @@ fn begin(alloc: Global, start: Start) -> Result<Opened, OutOfMemory>
 fn prepare(
     alloc: Global,
     deployment: Deployment,
+    plans: FaultList,
     limits: JournalLimits,
     rows: RowList,
 ) -> Result<Prepared, StartRefusal>
     ensures { MatchResult result
         (λ p. (first_bad rows ≡ None) × (last_boot rows < greatest_boot)
-        × (p.opened.boot.value ≡ new_boot (start_over deployment limits rows))
+        × (p.opened.boot.value ≡ new_boot (start_over deployment plans limits rows))
         × (p.opened.history.marks ≡ [])
         × (p.writes ≡ boot_row (last_boot rows + 1) ∷ []))
         (λ refusal. IsUnfit refusal rows) }
@@ -132,6 +133,7 @@ fn prepare(
         boot: number,
         base,
         deployment,
+        plans,
         limits,
     };
     let opened = begin(alloc, start)?;
@@ -142,11 +144,12 @@ fn prepare(
 pub(crate) fn open<K: Keeper>(
     alloc: Global,
     deployment: Deployment,
+    plans: FaultList,
     limits: JournalLimits,
     keeper: &mut K,
 ) -> Result<Opened, StartRefusal>
     ensures opens { MatchResult result
-        (λ o. IsOpened deployment limits (K.told keeper.old) o.boot.value (K.told keeper.new)
+        (λ o. IsOpened deployment plans limits (K.told keeper.old) o.boot.value (K.told keeper.new)
         × (o.history.marks ≡ []))
         (λ refusal. IsRefusedStart refusal (K.told keeper.old) (K.told keeper.new)) }
     ensures failed { result ≡ Err StartRefusal.KeeperFailed
@@ -157,7 +160,7 @@ pub(crate) fn open<K: Keeper>(
         Ok(rows) => rows,
         Err(fault) => return Err(refusal_of(fault)),
     };
-    let prepared = prepare(alloc, deployment, limits, rows)?;
+    let prepared = prepare(alloc, deployment, plans, limits, rows)?;
     match keeper.apply(alloc, &prepared.writes) {
         Ok(()) => Ok(prepared.opened),
         Err(fault) => Err(refusal_of(fault)),

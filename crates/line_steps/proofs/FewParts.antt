@@ -4,6 +4,7 @@ use Rattle.std.specs.Prelude.{nat_lt, nat_le, not, is_some}
 use Rattle.std.proofs.lemmas.Bool.Decides.{nat_tests}
 use Rattle.auction_rows.specs.Parts.{site_components, site_parts}
 use Rattle.crash_base.specs.Names.{is_component_name}
+use Rattle.crash_base.specs.declared.fault_plans.FaultPlan.{FaultPlan}
 use Rattle.crash_base.specs.declared.scope.TheConstants.{MAX_GROUPS}
 use Rattle.deployment.specs.declared.parts.ComponentPart.{ComponentPart}
 use Rattle.deployment.specs.declared.parts.Parts.{Parts}
@@ -17,7 +18,7 @@ use Rattle.line_steps.specs.declared.head.Head.{Head}
 use Rattle.line_steps.specs.declared.head.TheConstants.{SITE_BRICKS, SITE_MOST, SITE_LEAST}
 use Rattle.scenario_text.specs.Setup.{SetupState, bricks_step, key_step}
 use Rattle.scenario_text.specs.Answer.{Answer, Refused, Done, refused_if, within}
-use Rattle.line_steps.specs.Head.{open_step, head_step, head_line, declares, plain, with_parts, with_setup, with_site, with_component, component_step, reference_step, owns_step, limit_step, site_step}
+use Rattle.line_steps.specs.Head.{open_step, head_step, head_line, declares, plain, with_parts, with_plans, with_setup, with_site, with_component, component_step, reference_step, owns_step, fault_step, limit_step, site_step}
 use Rattle.line_steps.specs.Tables.{table_of}
 use Rattle.scenario_text.proofs.Leaving.{Leaves, leaves-refused_if, leaves-or_refused, leaves-within}
 
@@ -63,6 +64,10 @@ few_site : AreFew site_parts
 unfolding site_components
 few_site = omega arith
 
+few_plans : (head : Head) (a : Answer (List FaultPlan)) → AreFew head.parts → Leaves (λ h. AreFew h.parts) (within (with_plans head) a)
+few_plans head Refused few = tt
+few_plans head (Done plans text) few = few
+
 few_setup : (head : Head) (a : Answer SetupState) → AreFew head.parts → Leaves (λ h. AreFew h.parts) (within (with_setup head) a)
 few_setup head Refused few = tt
 few_setup head (Done setup text) few = few
@@ -81,6 +86,7 @@ few_open_step head (heads.Component name) few = few_parts head (component_step h
 few_open_step head (heads.Hard from to) few = few_parts head (reference_step head.parts from to true) (few_reference head.parts from to true few)
 few_open_step head (heads.Soft from to) few = few_parts head (reference_step head.parts from to false) (few_reference head.parts from to false few)
 few_open_step head (heads.Owns name table) few = few_parts head (owns_step head.parts name table) (few_owns head.parts name table few)
+few_open_step head (heads.Fault name after kind level) few = few_plans head (fault_step head.parts head.plans name after kind level) few
 few_open_step head (heads.Limit entries bytes) few = few_limit head entries bytes few
 few_open_step head (heads.Bricks bricks most least) few = few_setup head (bricks_step head.setup bricks most least) few
 few_open_step head (heads.Key bytes) few = few_setup head (key_step head.setup bytes) few

@@ -1,12 +1,12 @@
 -- Callers whose live calls fit the boot.
-use Rattle.std.proofs.Common.{◌≡◌, ℕ, ◌+◌, ◌-◌, ◌<◌, ◌≤◌, inl, inr, List, [], ◌∷◌, ◌++◌, suc, length, refl, subst, sym, ap, ◌∙◌, arith, length-append}
+use Rattle.std.proofs.Common.{◌≡◌, ℕ, ◌+◌, ◌-◌, ◌<◌, ◌≤◌, inl, inr, List, [], ◌∷◌, ◌++◌, suc, length, refl, subst, sym, ap, ◌∙◌, arith, append-nil, length-append}
 use Rattle.std.specs.Prelude.{replicate, slice_set}
 use Rattle.std.proofs.lemmas.Bool.{cases_lt}
 use Rattle.std.proofs.lemmas.List.{append_assoc, get_or_past, length-replicate}
 use Rattle.std.proofs.lemmas.List.Elements.{All-append, All-replicate, All-set, All-weaker}
 use Rattle.journal_model.specs.declared.entry.Entry.{Entry}
 use Rattle.call_ticket.specs.Ticket.{TicketValue}
-use Rattle.boot_core.specs.Boot.{BootValue, with_entry, HasGrown}
+use Rattle.boot_core.specs.Boot.{BootValue, with_entry, HasGrown, HasOnlyEntered}
 use Rattle.boot_core.specs.Fits.{FitsIn}
 use Rattle.boot_core.proofs.Fitting.{fits_grown}
 use Rattle.line_steps.specs.declared.callers.Caller.{Caller}
@@ -65,6 +65,14 @@ fit_ended old new callers left n is grown all =
 -- a boot grows by an entry
 pub grown_entry : (b : BootValue) (e : Entry) → HasGrown b (with_entry b e)
 grown_entry b e = record { start = refl; more = e ∷ []; entries = refl }
+
+-- a boot grows by nothing where only components are entered
+pub grown_entered : (old new : BootValue) → HasOnlyEntered old new → HasGrown old new
+grown_entered old new is = record {
+  start = ap (λ (b : BootValue). b.start) is;
+  more = [];
+  entries = ap (λ (b : BootValue). b.entries) is ∙ sym (append-nil old.entries);
+}
 
 -- and they go on fitting one with an entry more
 pub fit_after : (b : BootValue) (e : Entry) (callers : List Caller) → AllFit b callers → AllFit (with_entry b e) callers

@@ -1,3 +1,4 @@
+pub mod Called
 pub mod FewParts
 pub mod Fitting
 pub mod Heading
@@ -5,3 +6,4 @@ pub mod Listing
 pub mod Numbering
 mod SiteBricks
 pub mod Stepping
+pub mod Entering

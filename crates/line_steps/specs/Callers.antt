@@ -9,7 +9,7 @@ use Rattle.scenario_text.specs.declared.call_line.CallLine.{CallLine}
 use Rattle.line_steps.specs.declared.callers.Caller.{Caller}
 use Rattle.line_steps.specs.declared.callers.Caller.TheVariants.{Absent, Live}
 use Rattle.scenario_text.specs.Answer.{Answer, Refused, Done, refused_if, within}
-use Rattle.line_steps.specs.CallLines.{call_line}
+use Rattle.line_steps.specs.CallLines.{CallDone, done_within, call_line}
 
 -- what a caller has in hand, of callers by their numbers; those past the end have no call
 abbrev pub caller_at : List Caller → ℕ → Caller
@@ -45,14 +45,14 @@ begin_step b callers n =
     (Done (slice_set (padded callers n) n (Live (new_ticket b n))) [])
 
 -- a line of a caller's call, which has to be live
-abbrev pub caller_line : BootValue → ℕ → CallLine → Caller → Answer Caller
+abbrev pub caller_line : BootValue → ℕ → CallLine → Caller → Answer (CallDone Caller)
 caller_line b n line Absent = Refused
-caller_line b n line (Live ticket) = within (λ t. Live t) (call_line b n ticket line)
+caller_line b n line (Live ticket) = within (done_within (λ t. Live t)) (call_line b n ticket line)
 
 -- a line of the call of the caller of this number
-unfoldable pub call_step : BootValue → List Caller → ℕ → CallLine → Answer (List Caller)
+unfoldable pub call_step : BootValue → List Caller → ℕ → CallLine → Answer (CallDone (List Caller))
 call_step b callers n line =
-    within (slice_set callers n) (caller_line b n line (caller_at callers n))
+    within (done_within (slice_set callers n)) (caller_line b n line (caller_at callers n))
 
 -- the callers once the call of one has ended
 abbrev pub ended : List Caller → ℕ → List Caller

@@ -2,12 +2,20 @@
 use Rattle.std.specs.Prelude.{◌≡◌, ◌==◌, ◌&&◌, ℕ, nat_le, nat_lt, not, Bool, true, false, List, [], ◌∷◌, ◌++◌, length, is_some}
 use Rattle.auction_rows.specs.Parts.{site_parts}
 use Rattle.crash_base.specs.Names.{is_component_name}
+use Rattle.crash_base.specs.declared.fault_plans.FaultKind.{FaultKind}
+use Rattle.crash_base.specs.declared.fault_plans.FaultPlan.{FaultPlan}
+use Rattle.crash_base.specs.declared.fault_plans.TheConstants.{MAX_FAULT_PLANS}
+use Rattle.crash_base.specs.declared.numbers.Level.{Level}
+use Rattle.crash_base.specs.declared.numbers.Level.TheVariants as levels
 use Rattle.crash_base.specs.declared.scope.TheConstants.{MAX_GROUPS}
 use Rattle.journal_model.specs.declared.limits.TheConstants.{MAX_ENTRIES, MAX_JOURNAL_BYTES}
 use Rattle.scenario_text.specs.declared.line.Line.{Line}
 use Rattle.scenario_text.specs.declared.line.Line.TheVariants as lines
+use Rattle.scenario_text.specs.declared.head_line.CureLevel.{CureLevel}
+use Rattle.scenario_text.specs.declared.head_line.CureLevel.TheVariants as cures
 use Rattle.scenario_text.specs.declared.head_line.HeadLine.{HeadLine}
 use Rattle.scenario_text.specs.declared.head_line.HeadLine.TheVariants as heads
+use Rattle.deployment.specs.Groups.{group_no}
 use Rattle.deployment.specs.Parts.{named, owner_of, component_no, one_call}
 use Rattle.deployment.specs.declared.parts.ComponentPart.{ComponentPart}
 use Rattle.deployment.specs.declared.parts.Parts.{Parts}
@@ -22,10 +30,11 @@ use Rattle.scenario_text.specs.Setup.{SetupState, no_setup, bricks_step, key_ste
 abbrev pub no_parts : Parts
 no_parts = record { components = []; references = []; tables = [] }
 
--- what there is before the first line: no parts, the greatest limits, no bricks, and no site
+-- what there is before the first line: no parts, no fault plans, the greatest limits, no bricks, and no site
 abbrev pub no_head : Head
 no_head = record {
   parts = no_parts;
+  plans = [];
   limits = record { entries = MAX_ENTRIES; bytes = MAX_JOURNAL_BYTES };
   setup = no_setup;
   site = false;
@@ -34,6 +43,10 @@ no_head = record {
 -- the same head with these parts
 abbrev pub with_parts : Head → Parts → Head
 with_parts head parts = record head { parts = parts }
+
+-- the same head with these fault plans
+abbrev pub with_plans : Head → List FaultPlan → Head
+with_plans head plans = record head { plans = plans }
 
 -- the same head with this setup of sessions
 abbrev pub with_setup : Head → SetupState → Head
@@ -88,6 +101,24 @@ owns_step parts name number =
     refused_if (is_some (owner_of parts.tables table))
     (Done (with_table parts c table) [])))
 
+-- the level that a line says, which names no group: the number of a plan's group is not looked at
+abbrev pub cured_by : CureLevel → Level
+cured_by cures.Group = levels.Group (group_no 0)
+cured_by cures.App = levels.App
+cured_by cures.Process = levels.Process
+
+-- the plan of a component, by its number
+abbrev pub fault_plan : ℕ → ℕ → FaultKind → CureLevel → FaultPlan
+fault_plan c after kind level =
+    record { component = component_no c; after = after; kind = kind; cured_by = cured_by level }
+
+-- A component fails by one plan more. Refused are an unknown name, and one plan too many.
+unfoldable pub fault_step : Parts → List FaultPlan → List ℕ → ℕ → FaultKind → CureLevel → Answer (List FaultPlan)
+fault_step parts plans name after kind level =
+    or_refused (named parts.components name) (λ c.
+    refused_if (nat_le MAX_FAULT_PLANS (length plans))
+    (Done (plans ++ fault_plan c after kind level ∷ []) []))
+
 -- The limits of the journal are set. Refused are limits above the greatest.
 unfoldable pub limit_step : Head → ℕ → ℕ → Answer Head
 limit_step head entries bytes =
@@ -108,6 +139,7 @@ declares (heads.Component name) = true
 declares (heads.Hard from to) = true
 declares (heads.Soft from to) = true
 declares (heads.Owns name table) = true
+declares (heads.Fault name after kind level) = false
 declares (heads.Limit entries bytes) = false
 declares (heads.Bricks bricks most least) = false
 declares (heads.Key bytes) = false
@@ -123,6 +155,8 @@ open_step head (heads.Soft from to) =
     within (with_parts head) (reference_step head.parts from to false)
 open_step head (heads.Owns name table) =
     within (with_parts head) (owns_step head.parts name table)
+open_step head (heads.Fault name after kind level) =
+    within (with_plans head) (fault_step head.parts head.plans name after kind level)
 open_step head (heads.Limit entries bytes) = limit_step head entries bytes
 open_step head (heads.Bricks bricks most least) =
     within (with_setup head) (bricks_step head.setup bricks most least)

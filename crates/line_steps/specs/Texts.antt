@@ -39,6 +39,18 @@ sentinel_text caller group down =
     codes "c" ++ decimal caller ++ codes " sentinel group " ++ decimal group
     ++ codes " down " ++ decimal down ++ codes "\n"
 
+-- what a call writes that enters a component which fails, by the plan of this number
+abbrev pub raised_text : ℕ → ℕ → ℕ → List ℕ
+raised_text caller component fault =
+    codes "c" ++ decimal caller ++ codes " raised " ++ decimal component
+    ++ codes " fault " ++ decimal fault ++ codes "\n"
+
+-- what a call writes that enters a component which does not come back, by the plan of this number
+abbrev pub hung_text : ℕ → ℕ → ℕ → List ℕ
+hung_text caller component fault =
+    codes "c" ++ decimal caller ++ codes " hung " ++ decimal component
+    ++ codes " fault " ++ decimal fault ++ codes "\n"
+
 -- what a refused step of a call writes; where memory ran out the run ends instead
 abbrev pub refusal_text : ℕ → CallRefusal → List ℕ
 refusal_text caller (refusals.Revoked stale) = revoked_text caller stale
@@ -48,6 +60,8 @@ refusal_text caller refusals.Reads = codes "c" ++ decimal caller ++ codes " read
 refusal_text caller refusals.Writes = codes "c" ++ decimal caller ++ codes " writes\n"
 refusal_text caller (refusals.Sentinel group down) =
     sentinel_text caller group.0 down.0
+refusal_text caller (refusals.Hung component fault) = hung_text caller component.0 fault
+refusal_text caller (refusals.Raised component fault) = raised_text caller component.0 fault
 refusal_text caller refusals.OutOfMemory = []
 
 -- what a read writes: the bytes of the row, or that there is none

@@ -4,12 +4,16 @@ ghost use Rattle.std.specs.Prelude.{◌≡◌, ◌<◌, ◌≤◌, [], length, s
 ghost use Rattle.boot_core.specs.Boot.{BootValue};
 ghost use Rattle.boot_core.specs.Fits.{FitsIn};
 ghost use Rattle.scenario_text.specs.Answer.{KeepsRefused, answer_of};
+ghost use Rattle.container_core.specs.Container.{IsButEntered};
+ghost use Rattle.line_steps.specs.CallLines.{done_in};
 ghost use Rattle.line_steps.specs.Callers.{caller_at, padded, request_of, is_live, can_begin, caller_line, call_step, AllFit, FitsCaller, IsAway, TakesCall};
 ghost use Rattle.line_steps.specs.declared.callers.Caller.TheVariants.{Live, Absent};
 
 use crate::call_lines::call_line;
-use boot_core::{Boot, Ticket};
+use boot_core::Ticket;
+use container_core::Container;
 use crash_base::{OutOfMemory, RequestNo};
+use outside::Keeper;
 use scenario_text::{CallLine, LineAnswer, MAX_CALLER};
 use std::alloc::Global;
 use std::marker::Model;
@@ -61,21 +65,23 @@ fn is_live(caller: &Caller) -> bool
 }
 
 /// A line of a caller's call, if it is live.
-fn caller_line(
+fn caller_line<K: Keeper + Drop>(
     alloc: Global,
-    boot: &Boot,
+    container: &mut Container<K>,
     caller: &mut Caller,
     number: u64,
     line: CallLine,
 ) -> Result<LineAnswer, OutOfMemory>
-    requires { FitsCaller boot.now caller.old }
-    ensures answer { IfOk result (λ a.
-        answer_of a caller.new ≡ caller_line boot.now number line caller.old) }
-    ensures refused { IfOk result (λ a. KeepsRefused a caller.old caller.new) }
-    ensures fits { FitsCaller boot.now caller.new }
+    requires { FitsCaller container.old.boot caller.old }
+    ensures answer { IfOk result (λ a. answer_of a (done_in container.new.boot caller.new)
+        ≡ caller_line container.old.boot number line caller.old) }
+    ensures refused { IfOk result (λ a. KeepsRefused a (done_in container.old.boot caller.old)
+        (done_in container.new.boot caller.new)) }
+    ensures fits { FitsCaller container.new.boot caller.new }
+    ensures but_entered { IsButEntered container.old container.new }
 {
     match caller {
-        Caller::Live(ticket) => call_line(alloc, boot, ticket, number, line),
+        Caller::Live(ticket) => call_line(alloc, container, ticket, number, line),
         Caller::Absent => Ok(LineAnswer::Refused),
     }
 }
@@ -145,24 +151,26 @@ impl Callers {
 
     /// A line of a live call. It visits that caller.
     #[tactic(auto, unfolding(crate::specs::Callers::call_step))]
-    pub fn call_step(
+    pub fn call_step<K: Keeper + Drop>(
         &mut self,
         alloc: Global,
-        boot: &Boot,
+        container: &mut Container<K>,
         number: u64,
         line: CallLine,
     ) -> Result<LineAnswer, OutOfMemory>
-        requires { AllFit boot.now self.old }
-        ensures answer { IfOk result (λ a.
-            answer_of a self.new ≡ call_step boot.now self.old number line) }
-        ensures refused { IfOk result (λ a. KeepsRefused a self.old self.new) }
-        ensures fits { AllFit boot.now self.new }
+        requires { AllFit container.old.boot self.old }
+        ensures answer { IfOk result (λ a. answer_of a (done_in container.new.boot self.new)
+            ≡ call_step container.old.boot self.old number line) }
+        ensures refused { IfOk result (λ a. KeepsRefused a (done_in container.old.boot self.old)
+            (done_in container.new.boot self.new)) }
+        ensures fits { AllFit container.new.boot self.new }
+        ensures but_entered { IsButEntered container.old container.new }
     {
         if number >= self.callers.len() as u64 {
             return Ok(LineAnswer::Refused);
         }
         let caller = &mut self.callers[number as usize];
-        let answer = caller_line(alloc, boot, caller, number, line)?;
+        let answer = caller_line(alloc, container, caller, number, line)?;
         Ok(answer)
     }
 

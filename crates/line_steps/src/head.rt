@@ -1,19 +1,23 @@
-//! Head lines, which build the parts of a deployment, set the limits of the journal, and set up sessions.
+//! Head lines, which build the parts of a deployment, plan faults, set the limits of the journal, and set up sessions.
 
-ghost use Rattle.std.specs.Prelude.{◌≡◌, ◌&&◌, None, IfOk, true, false};
+ghost use Rattle.std.specs.Prelude.{◌≡◌, ◌<◌, ◌&&◌, [], ◌∷◌, ◌++◌, length, None, IfOk, OnOk, true, false};
 ghost use Rattle.auction_rows.specs.Parts.{site_parts};
 ghost use Rattle.deployment.specs.Refusals.{deploy_refusal};
 ghost use Rattle.scenario_text.specs.Answer.{KeepsRefused, answer_of, within};
-ghost use Rattle.line_steps.specs.Head.{no_head, component_step, reference_step, owns_step, limit_step, site_step, declares, open_step, head_step, head_line, IsOfSite};
+ghost use Rattle.line_steps.specs.Head.{no_head, component_step, reference_step, owns_step, cured_by, fault_step, limit_step, site_step, declares, open_step, head_step, head_line, IsOfSite};
 
 use crate::copying::parts_copied;
 use crate::tables::table_of;
 use auction_rows::site_deployment;
 use boot_core::{JournalLimits, MAX_ENTRIES, MAX_JOURNAL_BYTES};
-use crash_base::{ComponentName, ComponentNo, MAX_GROUPS, OutOfMemory, is_component_name};
+use crash_base::{
+    ComponentName, ComponentNo, FaultKind, FaultList, FaultPlan, GroupNo, Level, MAX_FAULT_PLANS,
+    MAX_GROUPS, OutOfMemory, is_component_name,
+};
 use deployment::{ComponentPart, Parts, Reference, TablePart, one_call};
-use scenario_text::{HeadLine, Line, LineAnswer, Setup};
+use scenario_text::{CureLevel, HeadLine, Line, LineAnswer, Setup};
 use std::alloc::Global;
+use std::mem;
 
 /// How many bricks the site has.
 pub const SITE_BRICKS: u64 = 3;
@@ -24,11 +28,12 @@ pub const SITE_MOST: u64 = 3;
 /// The fewest bricks that are to store what the site writes.
 pub const SITE_LEAST: u64 = 2;
 
-/// What head lines have said: the parts of a deployment, the limits of the journal, the bricks and the key of sessions,
-/// and whether the parts are those of the site.
+/// What head lines have said: the parts of a deployment, the fault plans of its components, the limits of the journal,
+/// the bricks and the key of sessions, and whether the parts are those of the site.
 #[derive(Drop)]
 pub struct Head {
     pub parts: Parts,
+    pub plans: FaultList,
     pub limits: JournalLimits,
     pub setup: Setup,
     pub site: bool,
@@ -108,6 +113,61 @@ fn owns_step(parts: &mut Parts, name: ComponentName, number: u64) -> Result<Line
     Ok(LineAnswer::Done)
 }
 
+/// The level of a reboot that a line says. The number of a plan's group is not looked at.
+fn cured_by(level: CureLevel) -> Level
+    ensures { result ≡ cured_by level }
+{
+    match level {
+        CureLevel::Group => Level::Group(GroupNo(0)),
+        CureLevel::App => Level::App,
+        CureLevel::Process => Level::Process,
+    }
+}
+
+/// Gives the plans one more. They stay as they are where memory ran out.
+fn push_plan(alloc: Global, plans: &mut FaultList, plan: FaultPlan) -> Result<(), OutOfMemory>
+    requires { length plans.old < MAX_FAULT_PLANS }
+    ensures { OnOk result (plans.new ≡ plans.old ++ plan ∷ []) }
+{
+    let mut items = mem::replace(plans, FaultList::from_vec(Vec::new(alloc))).into_vec();
+    let pushed = items.push(plan);
+    *plans = FaultList::from_vec(items);
+    pushed?;
+    Ok(())
+}
+
+/// A component fails by one plan more.
+#[tactic(auto, unfolding(crate::specs::Head::fault_step))]
+fn fault_step(
+    alloc: Global,
+    parts: &Parts,
+    plans: &mut FaultList,
+    name: ComponentName,
+    after: u64,
+    kind: FaultKind,
+    level: CureLevel,
+) -> Result<LineAnswer, OutOfMemory>
+    requires { deploy_refusal parts.now ≡ None }
+    ensures answer { IfOk result (λ a.
+        answer_of a plans.new ≡ fault_step parts.now plans.old name after kind level) }
+    ensures refused { IfOk result (λ a. KeepsRefused a plans.old plans.new) }
+{
+    let Some(c) = parts.named(name.as_slice()) else {
+        return Ok(LineAnswer::Refused);
+    };
+    if plans.as_slice().len() >= MAX_FAULT_PLANS {
+        return Ok(LineAnswer::Refused);
+    }
+    let plan = FaultPlan {
+        component: ComponentNo(c as u16),
+        after,
+        kind,
+        cured_by: cured_by(level),
+    };
+    push_plan(alloc, plans, plan)?;
+    Ok(LineAnswer::Done)
+}
+
 /// The limits of the journal are set.
 #[tactic(auto, unfolding(crate::specs::Head::limit_step))]
 fn limit_step(head: &mut Head, entries: u64, bytes: u64) -> LineAnswer
@@ -127,12 +187,13 @@ fn limit_step(head: &mut Head, entries: u64, bytes: u64) -> LineAnswer
 }
 
 impl Head {
-    /// No parts, the greatest limits, and no bricks. It takes no memory.
+    /// No parts, no fault plans, the greatest limits, and no bricks. It takes no memory.
     pub fn new(alloc: Global) -> Head
         ensures { result ≡ no_head }
     {
         Head {
             parts: Parts::new(alloc),
+            plans: FaultList::from_vec(Vec::new(alloc)),
             limits: JournalLimits {
                 entries: MAX_ENTRIES,
                 bytes: MAX_JOURNAL_BYTES,
@@ -185,6 +246,7 @@ fn declares(line: &HeadLine) -> bool
         HeadLine::Hard(_, _) => true,
         HeadLine::Soft(_, _) => true,
         HeadLine::Owns(_, _) => true,
+        HeadLine::Fault(_, _, _, _) => false,
         HeadLine::Limit(_, _) => false,
         HeadLine::Bricks(_, _, _) => false,
         HeadLine::Key(_) => false,
@@ -206,6 +268,17 @@ fn open_step(alloc: Global, head: &mut Head, line: HeadLine) -> Result<LineAnswe
         HeadLine::Hard(from, to) => reference_step(&mut head.parts, from, to, true),
         HeadLine::Soft(from, to) => reference_step(&mut head.parts, from, to, false),
         HeadLine::Owns(name, number) => owns_step(&mut head.parts, name, number),
+        HeadLine::Fault(name, after, kind, level) => {
+            fault_step(
+                alloc,
+                &head.parts,
+                &mut head.plans,
+                name,
+                after,
+                kind,
+                level,
+            )
+        }
         HeadLine::Limit(entries, bytes) => Ok(limit_step(head, entries, bytes)),
         HeadLine::Bricks(bricks, most, least) => { Ok(head.setup.bricks_line(bricks, most, least)) }
         HeadLine::Key(key) => Ok(head.setup.key_line(key)),

@@ -1,17 +1,18 @@
 //! What the lines of a scenario do that call no keeper: to what the head says, and to live calls.
 //!
-//! A line is refused, or is done and writes its text. What each line does is defined
-//! as a function of the state before it, whose value is the answer: the state that the line leaves, and the text.
+//! A line is refused, or is done and writes its text. What each line does is defined as a function of the state before
+//! it, whose value is the answer: the state that the line leaves, and the text. A line of a call that enters a
+//! component counts that in the boot, and changes nothing else of it.
 //!
 //! ```text
 //! let mut head = Head::new(alloc);
-//! head_line(alloc, &mut head, line)?;          // component, hard, soft, owns, limit, site
+//! head_line(alloc, &mut head, line)?;          // component, hard, soft, owns, fault, limit, site
 //! let mut callers = Callers::new(alloc);
 //! if callers.can_begin(7) {
 //!     callers.pad(7)?;
-//!     callers.put(7, boot.begin(alloc, request_of(boot.number(), 7), WorkerNo(7))?);
+//!     callers.put(7, container.begin(alloc, request_of(container.boot(), 7), WorkerNo(7))?);
 //! }
-//! callers.call_step(alloc, &boot, 7, CallLine::Exit)?;
+//! callers.call_step(alloc, &mut container, 7, CallLine::Exit)?;
 //! let ticket = callers.take(7);                // to be committed, or dropped
 //! ```
 //!

@@ -2,7 +2,7 @@
 
 ghost use Rattle.std.specs.Prelude.{◌≡◌, ◌≢◌, ◌++◌, map, Some, OnOk, IfOk, string_bytes};
 ghost use Rattle.std.specs.List.{flat_map};
-ghost use Rattle.line_steps.specs.Texts.{boot_text, committed_text, revoked_text, sentinel_text, refusal_text, row_answer_text, listed_text, list_answer_text, already_text, mark_text, conflict_text, full_text, keeper_failed_text, commit_refusal_text, reboot_refusal_text, down_text, up_text, row_text, shown, table_text, journal_text};
+ghost use Rattle.line_steps.specs.Texts.{boot_text, committed_text, revoked_text, sentinel_text, raised_text, hung_text, refusal_text, row_answer_text, listed_text, list_answer_text, already_text, mark_text, conflict_text, full_text, keeper_failed_text, commit_refusal_text, reboot_refusal_text, down_text, up_text, row_text, shown, table_text, journal_text};
 
 use boot_core::{CallRefusal, CommitRefusal, Conflict, Journal, ReadMark, RebootRefusal, Stale};
 use crash_base::{OutOfMemory, Place, RowBytes, RowList, RowWrite, SERVICE_TABLE};
@@ -52,6 +52,29 @@ fn sentinel_text(alloc: Global, caller: u64, group: u16, down: u64) -> Result<St
     Ok(text)
 }
 
+/// What a call writes that entered a component which fails, by the plan of this number.
+fn raised_text(
+    alloc: Global,
+    caller: u64,
+    component: u16,
+    fault: u16,
+) -> Result<String, OutOfMemory>
+    ensures { IfOk result (λ text. string_bytes text ≡ raised_text caller component fault) }
+{
+    let mut text = String::new(alloc);
+    write!(text, "c{caller} raised {component} fault {fault}\n")?;
+    Ok(text)
+}
+
+/// What a call writes that entered a component which does not come back, by the plan of this number.
+fn hung_text(alloc: Global, caller: u64, component: u16, fault: u16) -> Result<String, OutOfMemory>
+    ensures { IfOk result (λ text. string_bytes text ≡ hung_text caller component fault) }
+{
+    let mut text = String::new(alloc);
+    write!(text, "c{caller} hung {component} fault {fault}\n")?;
+    Ok(text)
+}
+
 /// What a refused step of a call writes.
 pub fn refusal_text(alloc: Global, caller: u64, refusal: CallRefusal) -> Result<String, OutOfMemory>
     ensures text { IfOk result (λ text. string_bytes text ≡ refusal_text caller refusal) }
@@ -66,6 +89,12 @@ pub fn refusal_text(alloc: Global, caller: u64, refusal: CallRefusal) -> Result<
         CallRefusal::Writes => write!(text, "c{caller} writes\n")?,
         CallRefusal::Sentinel { group, down } => {
             return sentinel_text(alloc, caller, group.0, down.0);
+        }
+        CallRefusal::Hung { component, fault } => {
+            return hung_text(alloc, caller, component.0, fault);
+        }
+        CallRefusal::Raised { component, fault } => {
+            return raised_text(alloc, caller, component.0, fault);
         }
         CallRefusal::OutOfMemory => return Err(OutOfMemory),
     }

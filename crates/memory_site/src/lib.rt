@@ -1,8 +1,8 @@
-//! The site in memory: a container of the auction over a keeper in memory, windows, a link to bricks in memory, all that
-//! is drawn, and any connections. Tests and benches go over it.
+//! The site in memory: a container of the auction over a keeper in memory, windows, a link to bricks in memory, all
+//! that is drawn, and any connections. Tests and benches go over it.
 //!
 //! ```text
-//! let mut site = MemorySite::start(alloc, keeper, limits, windows, link, key, serial)?;
+//! let mut site = MemorySite::start(alloc, keeper, plans, limits, windows, link, key, serial)?;
 //! let at = site.connect(alloc)?;
 //! site.feed(at, bytes)?;
 //! loop {

@@ -13,7 +13,7 @@ use crate::steps::StepEnd;
 use crate::surroundings::{SiteShepherd, Surroundings};
 use auction_actions::ActionProgram;
 use container_core::{Container, JournalLimits, StartFail, StartRefusal, histories_grow};
-use crash_base::OutOfMemory;
+use crash_base::{FaultList, OutOfMemory};
 use link_memory::ScriptLink;
 use outcome_items::Item;
 use outside::MapKeeper;
@@ -44,21 +44,22 @@ impl Model for MemorySite {
 }
 
 impl MemorySite {
-    /// The site over this keeper, these windows and this link, with no connection. Its clock shows 0, its random words
-    /// go from 1 on, and its serial numbers from this one.
+    /// The site over this keeper, these windows and this link, with no connection. Its components fail by these plans.
+    /// Its clock shows 0, its random words go from 1 on, and its serial numbers from this one.
     ///
     /// # Errors
     /// `StartRefusal` says why, and `IsRefusedSite` when: as of `Container::start`, which hands the keeper back.
     pub fn start(
         alloc: Global,
         keeper: MapKeeper,
+        plans: FaultList,
         limits: JournalLimits,
         windows: Windows,
         link: ScriptLink,
         key: [u8; 32],
         serial: u64,
     ) -> Result<MemorySite, StartFail<MapKeeper>>
-        ensures container { IfOk result (λ s. IsStarted site_parts limits (Some keeper.told) s.around.container) }
+        ensures container { IfOk result (λ s. IsStarted site_parts plans limits (Some keeper.told) s.around.container) }
         ensures given { IfOk result (λ s. (s.around.windows ≡ windows) × (s.around.link ≡ link)
             × (s.around.key ≡ key)) }
         ensures drawn { IfOk result (λ s. (s.around.clock ≡ record {
@@ -70,7 +71,7 @@ impl MemorySite {
         ensures failed { IfErr result (λ fail. fail.refusal ≡ StartRefusal.KeeperFailed
             → Rose keeper.faults fail.keeper.faults) }
     {
-        match Surroundings::start(alloc, keeper, limits, windows, link, key, serial) {
+        match Surroundings::start(alloc, keeper, plans, limits, windows, link, key, serial) {
             Ok(around) => Ok(MemorySite {
                 around,
                 shepherds: Vec::new(alloc),

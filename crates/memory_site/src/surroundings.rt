@@ -9,7 +9,7 @@ ghost use Rattle.outside.specs.Faults.{Rose};
 use auction_actions::ActionProgram;
 use auction_rows::site_deployment;
 use container_core::{Container, JournalLimits, StartFail, StartRefusal};
-use crash_base::{Moment, OutOfMemory, WorkerNo};
+use crash_base::{FaultList, Moment, OutOfMemory, WorkerNo};
 use deployment::Deployment;
 use link_memory::ScriptLink;
 use outside::{MapKeeper, PlainClock, PlainRandom, PlainSerials};
@@ -69,21 +69,22 @@ fn uncalled(keeper: MapKeeper) -> StartFail<MapKeeper>
 }
 
 impl Surroundings {
-    /// Those over this keeper, these windows and this link. The clock shows 0, random words go from 1 on, and serial
-    /// numbers from this one.
+    /// Those over this keeper, these windows and this link, whose components fail by these plans. The clock shows 0,
+    /// random words go from 1 on, and serial numbers from this one.
     ///
     /// # Errors
     /// `StartRefusal` says why, and `IsRefusedSite` when: as of `Container::start`, which hands the keeper back.
     pub fn start(
         alloc: Global,
         keeper: MapKeeper,
+        plans: FaultList,
         limits: JournalLimits,
         windows: Windows,
         link: ScriptLink,
         key: [u8; 32],
         serial: u64,
     ) -> Result<Surroundings, StartFail<MapKeeper>>
-        ensures container { IfOk result (λ s. IsStarted site_parts limits (Some keeper.told) s.container) }
+        ensures container { IfOk result (λ s. IsStarted site_parts plans limits (Some keeper.told) s.container) }
         ensures given { IfOk result (λ s. (s.windows ≡ windows) × (s.link ≡ link) × (s.key ≡ key)) }
         ensures drawn { IfOk result (λ s. (s.clock ≡ record {
           shown = record { 0 = 0 };
@@ -97,7 +98,7 @@ impl Surroundings {
             Ok(parts) => parts,
             Err(OutOfMemory) => return Err(uncalled(keeper)),
         };
-        match Container::start(alloc, deployment, keeper, limits) {
+        match Container::start(alloc, deployment, keeper, plans, limits) {
             Ok(container) => Ok(Surroundings {
                 container,
                 windows,

@@ -6,7 +6,7 @@ use Rattle.journal_model.specs.declared.entry.Entry.{Entry}
 use Rattle.container_core.specs.declared.history.Event.{Event}
 use Rattle.container_core.specs.declared.history.Event.TheVariants.{Added, KeeperFailed as FailedMark}
 use Rattle.request_tries.specs.declared.outcome.RequestOutcome.{RequestOutcome}
-use Rattle.request_tries.specs.declared.outcome.RequestOutcome.TheVariants.{Page, Sentinel, Revoked, Conflict, JournalFull, KeeperFailed}
+use Rattle.request_tries.specs.declared.outcome.RequestOutcome.TheVariants.{Page, Sentinel, Hung, Raised, Revoked, Conflict, JournalFull, KeeperFailed}
 use Rattle.outcome_items.specs.Traces.{added_if, again_in, again_in_end, entry_added, events_of_end, events_of_outcome, is_outside, mark_of}
 use Rattle.outcome_items.specs.declared.outcome.ItemOutcome.{ItemOutcome}
 use Rattle.outcome_items.specs.declared.outcome.ItemOutcome.TheVariants.{Refused, SerialsSpent, Expired, Lost, Ended, Overload, Missed}
@@ -26,6 +26,8 @@ one_mark (Some request) = omega arith
 one_end : (es : List Entry) (request : Option RequestNo) (end : RequestOutcome) → length (events_of_end es request end) ≤ 1
 one_end es request (Page place again) = one_entry es place again
 one_end es request (Sentinel group down) = omega arith
+one_end es request (Hung component fault) = omega arith
+one_end es request (Raised component fault) = omega arith
 one_end es request (Revoked tries) = omega arith
 one_end es request (Conflict tries) = omega arith
 one_end es request (JournalFull full) = omega arith
@@ -50,6 +52,8 @@ same_flag a b e = cc
 again_end : (es : List Entry) (request : Option RequestNo) (end : RequestOutcome) → again_in_end end ≡ Some true → events_of_end es request end ≡ []
 again_end es request (Page place again) e = again_entry es place again (same_flag again true e)
 again_end es request (Sentinel group down) e = refl
+again_end es request (Hung component fault) e = refl
+again_end es request (Raised component fault) e = refl
 again_end es request (Revoked tries) e = refl
 again_end es request (Conflict tries) e = refl
 again_end es request (JournalFull full) e = refl
@@ -75,6 +79,8 @@ mark_entry (Some request) entry e = cc
 own_end : (es : List Entry) (request : Option RequestNo) (end : RequestOutcome) (entry : Entry) → events_of_end es request end ≡ Added entry ∷ [] → again_in_end end ≡ Some false
 own_end es request (Page place again) entry e = own_entry es place again (Added entry) e
 own_end es request (Sentinel group down) entry e = absurd (cc)
+own_end es request (Hung component fault) entry e = absurd (cc)
+own_end es request (Raised component fault) entry e = absurd (cc)
 own_end es request (Revoked tries) entry e = absurd (cc)
 own_end es request (Conflict tries) entry e = absurd (cc)
 own_end es request (JournalFull full) entry e = absurd (cc)
@@ -109,6 +115,8 @@ HasFailed asked end request = (end ≡ KeeperFailed) × (asked ≡ Some request)
 end_marks : (es : List Entry) (asked : Option RequestNo) (end : RequestOutcome) (request : RequestNo) → events_of_end es asked end ≡ FailedMark request ∷ [] → HasFailed asked end request
 end_marks es asked (Page place again) request e = absurd (entry_marks es place again request e)
 end_marks es asked (Sentinel group down) request e = absurd (cc)
+end_marks es asked (Hung component fault) request e = absurd (cc)
+end_marks es asked (Raised component fault) request e = absurd (cc)
 end_marks es asked (Revoked tries) request e = absurd (cc)
 end_marks es asked (Conflict tries) request e = absurd (cc)
 end_marks es asked (JournalFull full) request e = absurd (cc)

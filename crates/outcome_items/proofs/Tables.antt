@@ -10,9 +10,9 @@ use Rattle.session_cookie.specs.declared.cookie.Cookie.{Cookie}
 use Rattle.request_decisions.specs.declared.decision.Refusal.{Refusal}
 use Rattle.request_decisions.specs.declared.decision.Refusal.TheVariants as refusal
 use Rattle.request_tries.specs.declared.outcome.RequestOutcome.{RequestOutcome}
-use Rattle.request_tries.specs.declared.outcome.RequestOutcome.TheVariants.{Page, Sentinel, Revoked, Conflict, JournalFull, KeeperFailed}
+use Rattle.request_tries.specs.declared.outcome.RequestOutcome.TheVariants.{Page, Sentinel, Hung, Raised, Revoked, Conflict, JournalFull, KeeperFailed}
 use Rattle.site_responses.specs.Responses.{left_alone, said, response}
-use Rattle.outcome_items.specs.Answers.{HasNoSession, IsPage, IsPageEnd, IsResponse, IsTextWhere, answer_of, answer_of_end, answer_of_page, answer_of_refusal, shown_by_entry, is_head_only}
+use Rattle.outcome_items.specs.Answers.{HasNoSession, IsFault, IsFaultEnd, IsPage, IsPageEnd, IsResponse, IsTextWhere, answer_of, answer_of_end, answer_of_page, answer_of_refusal, shown_by_entry, is_head_only}
 use Rattle.outcome_items.specs.declared.item.Item.{Item}
 use Rattle.outcome_items.specs.declared.outcome.ItemOutcome.{ItemOutcome}
 use Rattle.outcome_items.specs.declared.outcome.ItemOutcome.TheVariants.{Refused, SerialsSpent, Expired, Lost, Ended, Overload, Missed}
@@ -29,15 +29,17 @@ page_fails : (what : Option DoneText) (cookie : Option (List ℕ)) → (said (an
 page_fails (Some d) cookie e = e
 page_fails None cookie e = tt
 
-end_fails : (what : Option DoneText) (cookie : Option (List ℕ)) (end : RequestOutcome) → (said (answer_of_end what cookie end)).status ≡ 500 → IsPageEnd end × IfSome what (λ d. d.status ≡ 500)
-end_fails what cookie (Page place again) e = (tt, page_fails what cookie e)
+end_fails : (what : Option DoneText) (cookie : Option (List ℕ)) (end : RequestOutcome) → (said (answer_of_end what cookie end)).status ≡ 500 → IsFaultEnd end ⊎ (IsPageEnd end × IfSome what (λ d. d.status ≡ 500))
+end_fails what cookie (Page place again) e = inr (tt, page_fails what cookie e)
 end_fails what cookie (Sentinel group down) e = absurd (omega arith)
+end_fails what cookie (Hung component fault) e = inl tt
+end_fails what cookie (Raised component fault) e = inl tt
 end_fails what cookie (Revoked tries) e = absurd (omega arith)
 end_fails what cookie (Conflict tries) e = absurd (omega arith)
 end_fails what cookie (JournalFull full) e = absurd (omega arith)
 end_fails what cookie KeeperFailed e = absurd (omega arith)
 
-pub fails : (what : Option DoneText) (cookie : Option (List ℕ)) (outcome : ItemOutcome) → (said (answer_of what cookie outcome)).status ≡ 500 → IsPage outcome × IfSome what (λ d. d.status ≡ 500)
+pub fails : (what : Option DoneText) (cookie : Option (List ℕ)) (outcome : ItemOutcome) → (said (answer_of what cookie outcome)).status ≡ 500 → IsFault outcome ⊎ (IsPage outcome × IfSome what (λ d. d.status ≡ 500))
 fails what cookie (Refused why) e = absurd (refusal_fails why e)
 fails what cookie (SerialsSpent seen) e = absurd (omega arith)
 fails what cookie (Expired now expiry) e = absurd (omega arith)
@@ -63,6 +65,8 @@ page_sets None None text = (λ e. absurd (cc), λ e. let same = e.1 in absurd (c
 end_sets : (what : Option DoneText) (cookie : Option (List ℕ)) (end : RequestOutcome) (text : List ℕ) → ((said (answer_of_end what cookie end)).cookie ≡ field.Set text) ↔ (IsPageEnd end × (cookie ≡ Some text))
 end_sets what cookie (Page place again) text = page_sets what cookie text
 end_sets what cookie (Sentinel group down) text = (λ e. absurd (cc), λ e. absurd e.0)
+end_sets what cookie (Hung component fault) text = (λ e. absurd (cc), λ e. absurd e.0)
+end_sets what cookie (Raised component fault) text = (λ e. absurd (cc), λ e. absurd e.0)
 end_sets what cookie (Revoked tries) text = (λ e. absurd (cc), λ e. absurd e.0)
 end_sets what cookie (Conflict tries) text = (λ e. absurd (cc), λ e. absurd e.0)
 end_sets what cookie (JournalFull full) text = (λ e. absurd (cc), λ e. absurd e.0)
@@ -86,6 +90,8 @@ page_clears None None e = cc
 end_clears : (what : Option DoneText) (cookie : Option (List ℕ)) (end : RequestOutcome) → (said (answer_of_end what cookie end)).cookie ≡ field.Clear → ⊥
 end_clears what cookie (Page place again) e = page_clears what cookie e
 end_clears what cookie (Sentinel group down) e = cc
+end_clears what cookie (Hung component fault) e = cc
+end_clears what cookie (Raised component fault) e = cc
 end_clears what cookie (Revoked tries) e = cc
 end_clears what cookie (Conflict tries) e = cc
 end_clears what cookie (JournalFull full) e = cc
@@ -118,6 +124,8 @@ page_retries None cookie e = cc
 end_keeps : (what : Option DoneText) (cookie : Option (List ℕ)) (end : RequestOutcome) → (said (answer_of_end what cookie end)).retry ≡ true → KeepsAt what cookie (Ended end)
 end_keeps what cookie (Page place again) e = absurd (page_retries what cookie e)
 end_keeps what cookie (Sentinel group down) e = (refl, refl)
+end_keeps what cookie (Hung component fault) e = absurd (cc)
+end_keeps what cookie (Raised component fault) e = absurd (cc)
 end_keeps what cookie (Revoked tries) e = (refl, refl)
 end_keeps what cookie (Conflict tries) e = (refl, refl)
 end_keeps what cookie (JournalFull full) e = (refl, refl)
@@ -134,11 +142,13 @@ keeps what cookie (Missed place again causes) e = (refl, refl)
 
 -- who is not told to try again
 abbrev IsNotRetried : ItemOutcome → Type 0
-IsNotRetried outcome = ((why : Refusal) × (outcome ≡ Refused why)) ⊎ (HasNoSession outcome ⊎ IsPage outcome)
+IsNotRetried outcome = ((why : Refusal) × (outcome ≡ Refused why)) ⊎ (HasNoSession outcome ⊎ (IsFault outcome ⊎ IsPage outcome))
 
-end_else : (what : Option DoneText) (cookie : Option (List ℕ)) (end : RequestOutcome) → (said (answer_of_end what cookie end)).retry ≡ false → IsPageEnd end
-end_else what cookie (Page place again) e = tt
+end_else : (what : Option DoneText) (cookie : Option (List ℕ)) (end : RequestOutcome) → (said (answer_of_end what cookie end)).retry ≡ false → IsFaultEnd end ⊎ IsPageEnd end
+end_else what cookie (Page place again) e = inr tt
 end_else what cookie (Sentinel group down) e = absurd (cc)
+end_else what cookie (Hung component fault) e = inl tt
+end_else what cookie (Raised component fault) e = inl tt
 end_else what cookie (Revoked tries) e = absurd (cc)
 end_else what cookie (Conflict tries) e = absurd (cc)
 end_else what cookie (JournalFull full) e = absurd (cc)

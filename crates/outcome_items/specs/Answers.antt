@@ -14,7 +14,7 @@ use Rattle.site_responses.specs.declared.answer.SiteAnswer.TheVariants as answer
 use Rattle.site_responses.specs.Responses.{failed_page, response}
 use Rattle.request_tries.specs.Ends.{done_at}
 use Rattle.request_tries.specs.declared.outcome.RequestOutcome.{RequestOutcome}
-use Rattle.request_tries.specs.declared.outcome.RequestOutcome.TheVariants.{Page, Sentinel, Revoked, Conflict, JournalFull, KeeperFailed}
+use Rattle.request_tries.specs.declared.outcome.RequestOutcome.TheVariants.{Page, Sentinel, Hung, Raised, Revoked, Conflict, JournalFull, KeeperFailed}
 use Rattle.outcome_items.specs.declared.item.Item.{Item}
 use Rattle.outcome_items.specs.declared.outcome.ItemOutcome.{ItemOutcome}
 use Rattle.outcome_items.specs.declared.outcome.ItemOutcome.TheVariants.{Refused, SerialsSpent, Expired, Lost, Ended, Overload, Missed}
@@ -37,6 +37,8 @@ answer_of_page None cookie = answer.Page 500 failed_page cookie
 abbrev pub answer_of_end : Option DoneText → Option (List ℕ) → RequestOutcome → SiteAnswer
 answer_of_end what cookie (Page place again) = answer_of_page what cookie
 answer_of_end what cookie (Sentinel group down) = answer.TryAgain
+answer_of_end what cookie (Hung component fault) = answer.Failed
+answer_of_end what cookie (Raised component fault) = answer.Failed
 answer_of_end what cookie (Revoked tries) = answer.TryAgain
 answer_of_end what cookie (Conflict tries) = answer.TryAgain
 answer_of_end what cookie (JournalFull full) = answer.TryAgain
@@ -57,6 +59,8 @@ answer_of what cookie (Missed place again causes) = answer.TryAgain
 abbrev pub IsPageEnd : RequestOutcome → Type 0
 IsPageEnd (Page place again) = Unit {0}
 IsPageEnd (Sentinel group down) = ⊥
+IsPageEnd (Hung component fault) = ⊥
+IsPageEnd (Raised component fault) = ⊥
 IsPageEnd (Revoked tries) = ⊥
 IsPageEnd (Conflict tries) = ⊥
 IsPageEnd (JournalFull full) = ⊥
@@ -72,6 +76,27 @@ IsPage (Ended end) = IsPageEnd end
 IsPage (Overload place again full) = ⊥
 IsPage (Missed place again causes) = ⊥
 
+-- a component that a request entered in the container did not come back, or failed
+abbrev pub IsFaultEnd : RequestOutcome → Type 0
+IsFaultEnd (Page place again) = ⊥
+IsFaultEnd (Sentinel group down) = ⊥
+IsFaultEnd (Hung component fault) = Unit {0}
+IsFaultEnd (Raised component fault) = Unit {0}
+IsFaultEnd (Revoked tries) = ⊥
+IsFaultEnd (Conflict tries) = ⊥
+IsFaultEnd (JournalFull full) = ⊥
+IsFaultEnd KeeperFailed = ⊥
+
+-- the same of an outcome
+abbrev pub IsFault : ItemOutcome → Type 0
+IsFault (Refused why) = ⊥
+IsFault (SerialsSpent seen) = ⊥
+IsFault (Expired now expiry) = ⊥
+IsFault (Lost causes) = ⊥
+IsFault (Ended end) = IsFaultEnd end
+IsFault (Overload place again full) = ⊥
+IsFault (Missed place again causes) = ⊥
+
 -- the session that a request came with is gone
 abbrev pub HasNoSession : ItemOutcome → Type 0
 HasNoSession (Refused why) = ⊥
@@ -86,6 +111,8 @@ HasNoSession (Missed place again causes) = ⊥
 abbrev pub shown_by_end : List Entry → RequestOutcome → Option DoneText
 shown_by_end es (Page place again) = done_at es place
 shown_by_end es (Sentinel group down) = None
+shown_by_end es (Hung component fault) = None
+shown_by_end es (Raised component fault) = None
 shown_by_end es (Revoked tries) = None
 shown_by_end es (Conflict tries) = None
 shown_by_end es (JournalFull full) = None

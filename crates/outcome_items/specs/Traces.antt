@@ -12,7 +12,7 @@ use Rattle.session_cookie.specs.declared.cookie.Cookie.{Cookie}
 use Rattle.send_windows.specs.declared.history.WindowMark.{WindowMark}
 use Rattle.send_windows.specs.declared.history.WindowMark.TheVariants as mark
 use Rattle.request_tries.specs.declared.outcome.RequestOutcome.{RequestOutcome}
-use Rattle.request_tries.specs.declared.outcome.RequestOutcome.TheVariants.{Page, Sentinel, Revoked, Conflict, JournalFull, KeeperFailed}
+use Rattle.request_tries.specs.declared.outcome.RequestOutcome.TheVariants.{Page, Sentinel, Hung, Raised, Revoked, Conflict, JournalFull, KeeperFailed}
 use Rattle.outcome_items.specs.declared.item.Item.{Item}
 use Rattle.outcome_items.specs.declared.outcome.ItemOutcome.{ItemOutcome}
 use Rattle.outcome_items.specs.declared.outcome.ItemOutcome.TheVariants.{Refused, SerialsSpent, Expired, Lost, Ended, Overload, Missed}
@@ -36,6 +36,8 @@ mark_of (Some request) = FailedMark request ∷ []
 abbrev pub events_of_end : List Entry → Option RequestNo → RequestOutcome → List Event
 events_of_end es request (Page place again) = entry_added es place again
 events_of_end es request (Sentinel group down) = []
+events_of_end es request (Hung component fault) = []
+events_of_end es request (Raised component fault) = []
 events_of_end es request (Revoked tries) = []
 events_of_end es request (Conflict tries) = []
 events_of_end es request (JournalFull full) = []
@@ -109,6 +111,8 @@ is_spent mark.Spent = true
 abbrev pub again_in_end : RequestOutcome → Option Bool
 again_in_end (Page place again) = Some again
 again_in_end (Sentinel group down) = None
+again_in_end (Hung component fault) = None
+again_in_end (Raised component fault) = None
 again_in_end (Revoked tries) = None
 again_in_end (Conflict tries) = None
 again_in_end (JournalFull full) = None

@@ -68,6 +68,9 @@ fn end_response(
 {
     match end {
         RequestOutcome::Page { .. } => entry_response(alloc, done, cookie, close, head_only),
+        RequestOutcome::Hung { .. } | RequestOutcome::Raised { .. } => {
+            response_of(alloc, &SiteAnswer::Failed, close, head_only)
+        }
         RequestOutcome::Sentinel { .. }
         | RequestOutcome::Revoked(_)
         | RequestOutcome::Conflict(_)

@@ -1,6 +1,7 @@
 //! Laws of items. Each is the contract of a function that does nothing: a caller that needs the law calls the function.
 
 ghost use Rattle.std.specs.Prelude.{◌≡◌, ◌↔◌, ◌⊎◌, ◌≤◌, ℕ, Bool, true, false, List, [], ◌∷◌, ◌++◌, length, Option, Some, None, IfSome, count_by, Result, Ok};
+ghost use Rattle.crash_base.specs.declared.numbers.ComponentNo.{ComponentNo};
 ghost use Rattle.crash_base.specs.declared.numbers.Place.{Place};
 ghost use Rattle.crash_base.specs.declared.numbers.RequestNo.{RequestNo};
 ghost use Rattle.boot_core.specs.declared.refusals.Refused.{Refused};
@@ -19,9 +20,9 @@ ghost use Rattle.request_tries.specs.Serving.{TriesValue};
 ghost use Rattle.request_tries.specs.Steps.{HearsCommit};
 ghost use Rattle.request_tries.specs.declared.outcome.Ended.{Ended};
 ghost use Rattle.request_tries.specs.declared.outcome.HistoryFront.{HistoryFront};
-ghost use Rattle.request_tries.specs.declared.outcome.RequestOutcome.TheVariants.{KeeperFailed};
+ghost use Rattle.request_tries.specs.declared.outcome.RequestOutcome.TheVariants.{Hung, KeeperFailed, Raised};
 ghost use Rattle.site_responses.specs.Responses.{left_alone, response, said};
-ghost use Rattle.outcome_items.specs.Answers.{HasNoSession, IsPage, IsResponse, answer_of};
+ghost use Rattle.outcome_items.specs.Answers.{HasNoSession, IsFault, IsPage, IsResponse, answer_of};
 ghost use Rattle.outcome_items.specs.Traces.{IsAlready, again_in, again_in_end, event_trace, is_outside, is_spent, is_taken, window_trace, window_traces};
 ghost use Rattle.outcome_items.specs.declared.item.Item.{Item};
 ghost use Rattle.outcome_items.specs.declared.outcome.ItemOutcome.{ItemOutcome};
@@ -29,12 +30,17 @@ ghost use Rattle.outcome_items.specs.declared.outcome.ItemOutcome.TheVariants as
 
 use site_responses::heads_are_answered_as_gets;
 
-/// 500 is answered to no request but one that is committed: by an entry without an action, or by one whose action says
-/// 500 itself. It refuses that a client is told of a failure that a new try may mend.
-pub fn failures_are_of_pages()
-    ensures { (what : Option DoneText) (cookie : Option (List ℕ)) (outcome : ItemOutcome)
+/// 500 is answered to no request but one that a component has failed, and one that is committed: by an entry without an
+/// action, or by one whose action says 500 itself. It refuses that a client is told of a failure that a new try may
+/// mend. Each request that a component has failed is answered so, whether the component failed or did not come back.
+pub fn failures_are_of_faults_and_pages()
+    ensures failed { (what : Option DoneText) (cookie : Option (List ℕ)) (outcome : ItemOutcome)
         → (said (answer_of what cookie outcome)).status ≡ 500
-        → IsPage outcome × IfSome what (λ d. d.status ≡ 500) }
+        → IsFault outcome ⊎ (IsPage outcome × IfSome what (λ d. d.status ≡ 500)) }
+    ensures hung { (what : Option DoneText) (cookie : Option (List ℕ)) (component : ComponentNo) (fault : ℕ)
+        → answer_of what cookie (item.Ended (Hung component fault)) ≡ answer.Failed }
+    ensures raised { (what : Option DoneText) (cookie : Option (List ℕ)) (component : ComponentNo) (fault : ℕ)
+        → answer_of what cookie (item.Ended (Raised component fault)) ≡ answer.Failed }
 {}
 
 /// Each refusal has its own status, and a session that is gone its own heading: 404 where nothing is at the path, 405
@@ -63,7 +69,7 @@ pub fn cookies_are_of_pages()
 {}
 
 /// Whoever is told to try again keeps the cookie, and the status is 503. Everybody is told so but who is refused at
-/// once, who has no session any more, and who is shown a page.
+/// once, who has no session any more, whom a component has failed, and who is shown a page.
 pub fn tries_again_keep_cookies()
     ensures kept { (what : Option DoneText) (cookie : Option (List ℕ)) (outcome : ItemOutcome)
         → (said (answer_of what cookie outcome)).retry ≡ true
@@ -71,7 +77,8 @@ pub fn tries_again_keep_cookies()
         × ((said (answer_of what cookie outcome)).cookie ≡ left_alone) }
     ensures else_told { (what : Option DoneText) (cookie : Option (List ℕ)) (outcome : ItemOutcome)
         → (said (answer_of what cookie outcome)).retry ≡ false
-        → ((why : Refusal) × (outcome ≡ item.Refused why)) ⊎ (HasNoSession outcome ⊎ IsPage outcome) }
+        → ((why : Refusal) × (outcome ≡ item.Refused why))
+        ⊎ (HasNoSession outcome ⊎ (IsFault outcome ⊎ IsPage outcome)) }
 {}
 
 /// The response to HEAD is that to GET up to its page, whatever became of the request.

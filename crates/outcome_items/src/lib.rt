@@ -16,14 +16,13 @@
 //! | `Lost` | `Session lost`, the cookie is cleared | | |
 //! | `Ended`, a page | what its entry answers | its entry, if it added it | with a cookie: passes taken and spent |
 //! | `Ended`, `Sentinel`, `Revoked`, `Conflict` or `JournalFull` | try again | | |
+//! | `Ended`, `Hung` or `Raised` | `Failed`, 500 | | |
 //! | `Ended`, `KeeperFailed` | try again | the mark of the keeper that failed | |
 //! | `Overload` | try again | its entry, if it added it | passes refused |
 //! | `Missed` | try again | its entry, if it added it | passes taken and spent |
 //!
-//! A component that failed or hung would be another end in the container, which is answered 500. None is told now.
-//!
 //! `specs/Answers.antt` has the answers as one table, and `specs/Traces.antt` the two columns behind it. The laws say
-//! what the tables must be: `failures_are_of_pages`, `refusals_are_told_apart`, `cookies_are_of_pages`,
+//! what the tables must be: `failures_are_of_faults_and_pages`, `refusals_are_told_apart`, `cookies_are_of_pages`,
 //! `tries_again_keep_cookies`, `requests_add_one_event`, `again_is_already`, `no_pass_stays_out`,
 //! `heads_are_answered_as_gets_are` and `responses_are_one`.
 //!
@@ -38,8 +37,8 @@ mod outcome;
 pub use answering::{entry_response, response_to};
 pub use item::{Holds, Item, ItemList};
 pub use laws::{
-    again_is_already, cookies_are_of_pages, failures_are_of_pages, heads_are_answered_as_gets_are,
-    no_pass_stays_out, refusals_are_told_apart, requests_add_one_event, responses_are_one,
-    tries_again_keep_cookies,
+    again_is_already, cookies_are_of_pages, failures_are_of_faults_and_pages,
+    heads_are_answered_as_gets_are, no_pass_stays_out, refusals_are_told_apart,
+    requests_add_one_event, responses_are_one, tries_again_keep_cookies,
 };
 pub use outcome::ItemOutcome;

@@ -5,6 +5,7 @@ use Rattle.std.proofs.lemmas.Grind.{flat_map-append}
 use Rattle.std.proofs.lemmas.List.{append-nil, take_all}
 use Rattle.std.proofs.lemmas.List.Elements.{All-append, All-map}
 use Rattle.crash_base.specs.Refusals.{first_of}
+use Rattle.crash_base.specs.declared.fault_plans.FaultKind.TheVariants.{Raise, Hang}
 use Rattle.crash_base.specs.declared.numbers.Place.{Place}
 use Rattle.crash_base.specs.declared.numbers.RequestNo.{RequestNo}
 use Rattle.crash_base.specs.declared.rows.RowWrite.{RowWrite}
@@ -50,19 +51,19 @@ use Rattle.container_core.specs.declared.history.Event.TheVariants.{Added, Keepe
 use Rattle.call_attempts.specs.Attempt.{Accesses, AttemptValue, EntersOnce, IsUnderWay, rows_at_begin, stop_of_attempt, table_in, wanted}
 use Rattle.call_attempts.specs.declared.stop.Stop.{Stop}
 use Rattle.call_attempts.specs.declared.stop.Stop.TheVariants as stops
-use Rattle.call_attempts.proofs.Stopping.{revoked_is}
-use Rattle.request_tries.specs.Ends.{Adds, HasNoRoom, IsServed, EndStands, OutcomeStands, StepAdds, WasRevoked, copied_for, done_at, done_if, done_of}
+use Rattle.call_attempts.proofs.Stopping.{hung_is, raised_is, revoked_is}
+use Rattle.request_tries.specs.Ends.{Adds, HasUncuredPlan, HasNoRoom, IsServed, EndStands, OutcomeStands, StepAdds, WasRevoked, copied_for, done_at, done_if, done_of}
 use Rattle.request_tries.specs.Serving.{TriesValue, IsOpen, IsServing, closed, errand_of}
 use Rattle.request_tries.specs.Steps.{AnswersOwn, Brings, CommitsTry, EndsTry, HearsCommit, IsRefused, IsStopped, action_of, ended_at, from_of, front_at, outcome_by, refusal_of, try_ended}
 use Rattle.request_tries.specs.Tries.{CauseStands, first_begin}
 use Rattle.request_tries.specs.declared.outcome.Ended.{Ended}
 use Rattle.request_tries.specs.declared.outcome.HistoryFront.{HistoryFront}
 use Rattle.request_tries.specs.declared.outcome.RequestOutcome.{RequestOutcome}
-use Rattle.request_tries.specs.declared.outcome.RequestOutcome.TheVariants.{Page, Sentinel, JournalFull, KeeperFailed}
+use Rattle.request_tries.specs.declared.outcome.RequestOutcome.TheVariants.{Page, Sentinel, Hung, Raised, JournalFull, KeeperFailed}
 use Rattle.request_tries.specs.declared.outcome.Try.{Try}
 use Rattle.request_tries.specs.declared.outcome.TryCause.{TryCause}
 use Rattle.request_tries.specs.declared.outcome.TryCause.TheVariants as cause
-use Rattle.request_tries.proofs.Ending.{TryMayEnd, all_middle, revoked_shows, sentinel_shows, stands, try_ends}
+use Rattle.request_tries.proofs.Ending.{TryMayEnd, all_middle, fault_shows, revoked_shows, sentinel_shows, stands, try_ends}
 use Rattle.request_tries.proofs.Trying.{first_before}
 
 -- which of the causes a refusal is
@@ -226,8 +227,18 @@ stopped c asks s after a (stops.Sentinel group down) end seen serving opened is 
     let o : RequestOutcome = Sentinel group down in
     let now : OutcomeStands c.boot.start (events_of c) (errand_of s asks) (first_begin s.tries a.ticket.call.at.0) o = (subst (λ (es : List Entry). down_of es group.0 ≡ Some down) (sym seen) shows.0, shows.1) in
     end_brings c asks s after a o None end seen serving opened now refl refl (λ never. absurd (cc)) ends
+stopped c asks s after a (stops.Hung component fault) end seen serving opened is ends =
+    let shows = fault_shows c.boot asks a component fault Hang ((hung_is c.boot a.ticket.call (wanted asks a) component fault).0 is).1 in
+    let o : RequestOutcome = Hung component fault in
+    let now : OutcomeStands c.boot.start (events_of c) (errand_of s asks) (first_begin s.tries a.ticket.call.at.0) o = (subst (λ (es : List Entry). HasUncuredPlan c.boot.start es component fault Hang) (sym seen) shows.0, shows.1) in
+    end_brings c asks s after a o None end seen serving opened now refl refl (λ never. absurd (cc)) ends
+stopped c asks s after a (stops.Raised component fault) end seen serving opened is ends =
+    let shows = fault_shows c.boot asks a component fault Raise ((raised_is c.boot a.ticket.call (wanted asks a) component fault).0 is).1 in
+    let o : RequestOutcome = Raised component fault in
+    let now : OutcomeStands c.boot.start (events_of c) (errand_of s asks) (first_begin s.tries a.ticket.call.at.0) o = (subst (λ (es : List Entry). HasUncuredPlan c.boot.start es component fault Raise) (sym seen) shows.0, shows.1) in
+    end_brings c asks s after a o None end seen serving opened now refl refl (λ never. absurd (cc)) ends
 stopped c asks s after a (stops.Revoked shown) end seen serving opened is ends =
-    let stale = (revoked_is c.boot.start.deployment c.boot.entries a.ticket.call (wanted asks a) shown).0 is in
+    let stale = (revoked_is c.boot a.ticket.call (wanted asks a) shown).0 is in
     try_brings c asks s a (cause.Revoked shown) a.repeats end after seen serving opened (revoked_shows c.boot asks a shown opened.way stale) (entered_once c.boot asks a shown opened.way) ends
 
 -- all that a call rests on is of tables that its program accesses

@@ -58,6 +58,8 @@ early_try now s after at (cause.Conflict mark newest) repeats e tries ends is fe
 early_stop : (now : HistoryFront) (s after : TriesValue) (at : Place) (repeats : Bool) (stop : Stop) (e : Ended) (tries : List Try) → IsStopped now s at repeats stop (Some e) after → e.outcome ≡ outcomes.Revoked tries → length tries < 3
     → repeats ≡ false
 early_stop now s after at repeats (stops.Sentinel group down) e tries h is few = let told = ap (λ (x : Ended). x.outcome) (some_is h) in absurd (cc)
+early_stop now s after at repeats (stops.Hung component fault) e tries h is few = let told = ap (λ (x : Ended). x.outcome) (some_is h) in absurd (cc)
+early_stop now s after at repeats (stops.Raised component fault) e tries h is few = let told = ap (λ (x : Ended). x.outcome) (some_is h) in absurd (cc)
 early_stop now s after at repeats (stops.Revoked shown) e tries h is few = early_try now s after at (cause.Revoked shown) repeats e tries h is few
 
 early_commit : (now : HistoryFront) (es : List Entry) (s after : TriesValue) (at : Place) (repeats : Bool) (answer : Result Place Refused) (e : Ended) (tries : List Try) → HearsCommit now es s at repeats answer (Some e) after
@@ -77,9 +79,9 @@ early_commit now es s after at repeats (Err refused) e tries hears is few = go r
 told_end : (end : Option Ended) (e : Ended) → progress.Ended e ≡ progress_of end → end ≡ Some e
 told_end end e is = sym (end_is end) ∙ sym (ap end_of is)
 
-pub early_step : (c : ContainerValue) (asks : List Answer → Next) (s after : TriesValue) (a : AttemptValue) (e : Ended) (tries : List Try) → IsUnderWay c.boot asks a → StepsAs c asks s (Some a) (progress.Ended e) after
+pub early_step : (c new : ContainerValue) (asks : List Answer → Next) (s after : TriesValue) (a : AttemptValue) (e : Ended) (tries : List Try) → IsUnderWay c.boot asks a → StepsAs c asks s (Some a) (progress.Ended e) new after
     → e.outcome ≡ outcomes.Revoked tries → length tries < 3 → HasEnteredOnce c.boot.start.deployment asks a.answers
-early_step c asks s after a e tries way steps is few = way.once.0 (go steps.0 steps.3)
+early_step c new asks s after a e tries way steps is few = way.once.0 (go steps.0 steps.3)
   where
     go : (came : Stepped) → ComesTo c asks s a came (progress.Ended e) after → a.repeats ≡ false
     go coming.Went h = let never = h.0 in absurd (cc)
@@ -132,19 +134,23 @@ later_commit now es s after at repeats (Err refused) later hears = go refused.ca
 -- and of a stop
 from_stop : (now : HistoryFront) (s after : TriesValue) (at : Place) (repeats : Bool) (stop : Stop) (e : Ended) → IsStopped now s at repeats stop (Some e) after → e.from.0 ≡ first_begin s.tries at.0
 from_stop now s after at repeats (stops.Sentinel group down) e h = ap (λ (x : Ended). x.from.0) (some_is h)
+from_stop now s after at repeats (stops.Hung component fault) e h = ap (λ (x : Ended). x.from.0) (some_is h)
+from_stop now s after at repeats (stops.Raised component fault) e h = ap (λ (x : Ended). x.from.0) (some_is h)
 from_stop now s after at repeats (stops.Revoked shown) e h = from_try now s after at (cause.Revoked shown) repeats e h
 
 later_stop : (now : HistoryFront) (s after : TriesValue) (at : Place) (repeats : Bool) (stop : Stop) (later : ℕ) → IsStopped now s at repeats stop None after → begun_at after later ≡ first_begin s.tries at.0
 later_stop now s after at repeats (stops.Sentinel group down) later h = absurd (cc)
+later_stop now s after at repeats (stops.Hung component fault) later h = absurd (cc)
+later_stop now s after at repeats (stops.Raised component fault) later h = absurd (cc)
 later_stop now s after at repeats (stops.Revoked shown) later h = later_try now s after at (cause.Revoked shown) repeats later h
 
 -- where a request began whose attempt is open
 begun_is : (s : TriesValue) (a : AttemptValue) (later : ℕ) → s.attempt ≡ Some a → begun_at s later ≡ first_begin s.tries a.ticket.call.at.0
 begun_is s a later is = ap (λ (o : Option AttemptValue). first_begin s.tries (unwrap_or (option_map (λ (b : AttemptValue). b.ticket.call.at.0) o) later)) is
 
-pub step_from : (c : ContainerValue) (asks : List Answer → Next) (s after : TriesValue) (o : Option AttemptValue) (e : Ended) (later : ℕ) → s.attempt ≡ o → StepsAs c asks s o (progress.Ended e) after → e.from.0 ≡ begun_at s later
-step_from c asks s after None e later is steps = let never = steps.0 in absurd (cc)
-step_from c asks s after (Some a) e later is steps = go steps.0 steps.3 ∙ sym (begun_is s a later is)
+pub step_from : (c new : ContainerValue) (asks : List Answer → Next) (s after : TriesValue) (o : Option AttemptValue) (e : Ended) (later : ℕ) → s.attempt ≡ o → StepsAs c asks s o (progress.Ended e) new after → e.from.0 ≡ begun_at s later
+step_from c new asks s after None e later is steps = let never = steps.0 in absurd (cc)
+step_from c new asks s after (Some a) e later is steps = go steps.0 steps.3 ∙ sym (begun_is s a later is)
   where
     go : (came : Stepped) → ComesTo c asks s a came (progress.Ended e) after → e.from.0 ≡ first_begin s.tries a.ticket.call.at.0
     go coming.Went h = let never = h.0 in absurd (cc)
@@ -157,11 +163,11 @@ committed_from old new s after None done e later is c = absurd c
 committed_from old new s after (Some a) done e later is c =
     from_commit (front_at new) new.boot.entries (closed s) after a.ticket.call.at a.repeats c.answer e c.hears ∙ sym (begun_is s a later is)
 
-pub step_begun : (c : ContainerValue) (asks : List Answer → Next) (s after : TriesValue) (o : Option AttemptValue) (to : Progress) (later : ℕ) → s.attempt ≡ o → StepsAs c asks s o to after → end_of to ≡ None
+pub step_begun : (c new : ContainerValue) (asks : List Answer → Next) (s after : TriesValue) (o : Option AttemptValue) (to : Progress) (later : ℕ) → s.attempt ≡ o → StepsAs c asks s o to new after → end_of to ≡ None
     → begun_at after later ≡ begun_at s (length c.boot.entries)
-step_begun c asks s after None to later is steps goes =
+step_begun c new asks s after None to later is steps goes =
     ap (λ (x : TriesValue). begun_at x later) steps.1 ∙ sym (ap (λ (o : Option AttemptValue). first_begin s.tries (unwrap_or (option_map (λ (b : AttemptValue). b.ticket.call.at.0) o) (length c.boot.entries))) is)
-step_begun c asks s after (Some a) to later is steps goes = go steps.0 steps.3 ∙ sym (begun_is s a (length c.boot.entries) is)
+step_begun c new asks s after (Some a) to later is steps goes = go steps.0 steps.3 ∙ sym (begun_is s a (length c.boot.entries) is)
   where
     go : (came : Stepped) → ComesTo c asks s a came to after → begun_at after later ≡ first_begin s.tries a.ticket.call.at.0
     go coming.Went h = ap (λ (x : TriesValue). begun_at x later) h.1 ∙ ap (λ (p : Place). first_begin s.tries p.0) (same_begin c.boot a.ticket (wanted asks a))

@@ -1,11 +1,19 @@
 -- Ends of requests that stand in their history.
-use Rattle.std.specs.Prelude.{All, IfSome, option_and_then}
-use Rattle.std.proofs.Common.{◌≡◌, ◌⊎◌, ◌+◌, ◌<◌, ◌≤◌, Bool, false, List, [], ◌∷◌, ◌++◌, length, take, Option, Some, None, refl, sym, ap, ◌∙◌, subst, arith, length-append, inl, inr}
-use Rattle.std.proofs.lemmas.Bool.{cases_lt}
+use Rattle.std.specs.Prelude.{All, IfSome, not, option_and_then}
+use Rattle.std.proofs.Common.{◌≡◌, ◌⊎◌, ℕ, ◌+◌, ◌<◌, ◌≤◌, Bool, true, false, List, [], ◌∷◌, ◌++◌, length, take, Option, Some, None, refl, sym, ap, ◌∙◌, subst, arith, length-append, inl, inr}
+use Rattle.std.proofs.lemmas.Bool.{and_parts, cases_lt, eqb-true}
 use Rattle.std.proofs.lemmas.List.{take-append-le, take_all}
 use Rattle.std.proofs.lemmas.List.Elements.{All-head, All-tail}
+use Rattle.crash_base.specs.declared.fault_plans.FaultKind.{FaultKind}
+use Rattle.crash_base.specs.declared.numbers.ComponentNo.{ComponentNo}
 use Rattle.crash_base.specs.declared.numbers.GroupNo.{GroupNo}
 use Rattle.crash_base.specs.declared.numbers.Place.{Place}
+use Rattle.component_pool.specs.Journal.{reboots_in}
+use Rattle.component_pool.specs.Plans.{counted}
+use Rattle.component_pool.specs.Pool.{times}
+use Rattle.component_pool.proofs.Finding.{active_found}
+use Rattle.deployment.specs.Groups.{group_of}
+use Rattle.deployment.specs.Parts.{component_no}
 use Rattle.journal_model.specs.declared.entry.DoneText.{DoneText}
 use Rattle.journal_model.specs.declared.entry.Entry.{Entry}
 use Rattle.journal_model.specs.declared.entry.Touch.{Touch}
@@ -21,10 +29,10 @@ use Rattle.boot_core.specs.declared.boot.Start.{Start}
 use Rattle.container_core.specs.Container.{ContainerValue, events_of}
 use Rattle.container_core.specs.History.{entries_in}
 use Rattle.container_core.specs.declared.history.Event.{Event}
-use Rattle.call_attempts.specs.Attempt.{AttemptValue, EntersGroup, EntersOnce, IsUnderWay, stop_of_attempt, wanted}
+use Rattle.call_attempts.specs.Attempt.{AttemptValue, EntersComponent, EntersGroup, EntersOnce, IsUnderWay, stop_of_attempt, wanted}
 use Rattle.call_attempts.specs.declared.stop.Stop.TheVariants as stops
-use Rattle.call_attempts.proofs.Stopping.{sentinel_is}
-use Rattle.request_tries.specs.Ends.{Errand, AreAll, OutcomeStands, EndStands, WasRevoked, WasInConflict, copied_for, done_at, done_of, page_of}
+use Rattle.call_attempts.proofs.Stopping.{MeetsFault, sentinel_is}
+use Rattle.request_tries.specs.Ends.{Errand, AreAll, HasUncuredPlan, OutcomeStands, EndStands, WasRevoked, WasInConflict, copied_for, done_at, done_of, page_of}
 use Rattle.request_tries.specs.Serving.{TriesValue, IsServing, errand_of, with_try}
 use Rattle.request_tries.specs.Steps.{EndsTry, ended_at, from_of, front_at, outcome_by, try_ended}
 use Rattle.request_tries.specs.Tries.{CauseStands, AreTries, first_begin, last_front}
@@ -100,9 +108,31 @@ revoked_shows boot asks a s way is =
 pub sentinel_shows : (boot : BootValue) (asks : List Answer → Next) (a : AttemptValue) (group : GroupNo) (down : Place) → stop_of_attempt boot asks a ≡ Some (stops.Sentinel group down)
     → (down_of boot.entries group.0 ≡ Some down) × EntersGroup boot.start.deployment asks group
 sentinel_shows boot asks a group down is =
-    let met = (sentinel_is boot.start.deployment boot.entries a.ticket.call (wanted asks a) group down).0 is in
+    let met = (sentinel_is boot a.ticket.call (wanted asks a) group down).0 is in
     let enters = met.1 in
     (ap (λ (g : GroupNo). down_of boot.entries g.0) enters.3 ∙ enters.4, record { answers = a.answers; component = enters.0; method = enters.1; asked = enters.2; group_is = enters.3 })
+
+-- what is not true is false
+is_false : (b : Bool) → not b ≡ true → b ≡ false
+is_false true e = sym e
+is_false false e = refl
+
+-- An attempt that met a component which fails asked to enter it, and it fails by a plan of the start.
+pub fault_shows : (boot : BootValue) (asks : List Answer → Next) (a : AttemptValue) (component : ComponentNo) (fault : ℕ) (kind : FaultKind) → MeetsFault boot (wanted asks a) component fault kind
+    → HasUncuredPlan boot.start boot.entries component fault kind × EntersComponent asks component
+fault_shows boot asks a component fault kind (method, asked, up, fails) =
+    let found = active_found boot.start.plans component.0 (counted (times boot.entered component.0)) (reboots_in boot.entries (group_of boot.start.deployment component.0)) fault kind fails in
+    let active = and_parts _ _ found.1.active in
+    let uncured = and_parts _ _ active.1 in (
+      record {
+        plan = found.0;
+        here = found.1.here;
+        component_is = ap component_no (eqb-true found.0.component.0 component.0 active.0);
+        kind_is = found.2;
+        uncured = is_false _ uncured.1;
+      },
+      record { answers = a.answers; method = method; asked = asked },
+    )
 
 -- what a request brings to the end of a try
 pub record TryMayEnd (c : ContainerValue) (asks : List Answer → Next) (s : TriesValue) (at : Place) (why : TryCause) (repeats : Bool) : Type 0 where

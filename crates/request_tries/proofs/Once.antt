@@ -143,13 +143,15 @@ after_commit now es s after at repeats (Err refused) r is hears = go refused.cau
 
 after_stop : (now : HistoryFront) (s after : TriesValue) (at : Place) (repeats : Bool) (stop : Stop) (r : RequestNo) → s.request ≡ r → IsStopped now s at repeats stop None after → Rests r after
 after_stop now s after at repeats (stops.Sentinel group down) r is h = absurd (cc)
+after_stop now s after at repeats (stops.Hung component fault) r is h = absurd (cc)
+after_stop now s after at repeats (stops.Raised component fault) r is h = absurd (cc)
 after_stop now s after at repeats (stops.Revoked shown) r is h = after_try now s after at (cause.Revoked shown) repeats r is h
 
 -- the number after a step
-pub bears_number : (c : ContainerValue) (asks : List Answer → Next) (s after : TriesValue) (o : Option AttemptValue) (to : Progress) → s.attempt ≡ o → StepsAs c asks s o to after → end_of to ≡ None
+pub bears_number : (c new : ContainerValue) (asks : List Answer → Next) (s after : TriesValue) (o : Option AttemptValue) (to : Progress) → s.attempt ≡ o → StepsAs c asks s o to new after → end_of to ≡ None
     → IfSome s.attempt (λ a. a.ticket.call.request ≡ s.request) → BearsNumber s.request after
-bears_number c asks s after None to is steps goes bears = subst (BearsNumber s.request) (sym steps.1) (refl, refl)
-bears_number c asks s after (Some a) to is steps goes bears = go steps.0 steps.3
+bears_number c new asks s after None to is steps goes bears = subst (BearsNumber s.request) (sym steps.1) (refl, refl)
+bears_number c new asks s after (Some a) to is steps goes bears = go steps.0 steps.3
   where
     own : a.ticket.call.request ≡ s.request
     own = subst (λ (o : Option AttemptValue). IfSome o (λ b. b.ticket.call.request ≡ s.request)) is bears
@@ -179,18 +181,20 @@ no_conflict : (already : Option Place) (shown : Stale) (later : List (Option Com
 no_conflict None shown later conflict e = cc
 no_conflict (Some p) shown later conflict e = cc
 
-pub step_ends : (c : ContainerValue) (asks : List Answer → Next) (s after : TriesValue) (a : AttemptValue) (shown : Stale) (to : Progress) → IsUnderWay c.boot asks a
-    → HasEnteredOnce c.boot.start.deployment asks a.answers → stale_in c.boot.entries a.ticket.call.touched ≡ Some shown → StepsAs c asks s (Some a) to after → to ≢ progress.Went
-step_ends c asks s after a shown to way entered stale steps = go steps.0 steps.1 steps.2 steps.3
+pub step_ends : (c new : ContainerValue) (asks : List Answer → Next) (s after : TriesValue) (a : AttemptValue) (shown : Stale) (to : Progress) → IsUnderWay c.boot asks a
+    → HasEnteredOnce c.boot.start.deployment asks a.answers → stale_in c.boot.entries a.ticket.call.touched ≡ Some shown → StepsAs c asks s (Some a) to new after → to ≢ progress.Went
+step_ends c new asks s after a shown to way entered stale steps = go steps.0 steps.1 steps.2 steps.3
   where
     never : a.repeats ≡ false
     never = way.once.1 entered
 
     stop : stop_of_attempt c.boot asks a ≡ Some (stops.Revoked shown)
-    stop = (revoked_is c.boot.start.deployment c.boot.entries a.ticket.call (wanted asks a) shown).1 stale
+    stop = (revoked_is c.boot a.ticket.call (wanted asks a) shown).1 stale
 
     stopped : (x : Stop) (end : Option Ended) → stop_of_attempt c.boot asks a ≡ Some x → IsStopped (front_at c) (closed s) a.ticket.call.at a.repeats x end after → end ≢ None
     stopped (stops.Sentinel group down) end is h none = let held = stop in absurd (cc)
+    stopped (stops.Hung component fault) end is h none = let held = stop in absurd (cc)
+    stopped (stops.Raised component fault) end is h none = let held = stop in absurd (cc)
     stopped (stops.Revoked x) end is h none = ends_then (front_at c) (closed s) after a.ticket.call.at (cause.Revoked x) a.repeats end never h none
 
     go : (came : Stepped) (next : AttemptValue) → HasStepped c.boot asks a came next → ComesTo c asks s a came to after → to ≢ progress.Went

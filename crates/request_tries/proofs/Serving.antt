@@ -9,27 +9,28 @@ use Rattle.call_ticket.specs.declared.next.Next.{Next}
 use Rattle.call_ticket.specs.declared.next.Next.TheVariants as next
 use Rattle.call_ticket.specs.Runs.{run_of}
 use Rattle.boot_core.specs.Boot.{BootValue}
-use Rattle.container_core.specs.Container.{ContainerValue, events_of}
+use Rattle.container_core.specs.Container.{ContainerValue, events_of, with_boot}
 use Rattle.container_core.specs.History.{entries_in}
-use Rattle.call_attempts.specs.Attempt.{AttemptValue, rows_at_begin, wanted}
+use Rattle.call_attempts.specs.Attempt.{AttemptValue, boot_after, boot_left, rows_at_begin, wanted}
+use Rattle.call_attempts.specs.declared.attempt.Stepped.{Stepped}
 use Rattle.call_attempts.specs.declared.attempt.Stepped.TheVariants as coming
 use Rattle.call_attempts.specs.declared.stop.Stop.{Stop}
-use Rattle.call_attempts.proofs.UnderWay.{begins, same_begin, same_request}
+use Rattle.call_attempts.proofs.UnderWay.{begins, boot_grows, same_begin, same_request}
 use Rattle.request_tries.specs.Serving.{TriesValue, IsOpen, IsServing, closed, has_begun, wanted_by}
-use Rattle.request_tries.specs.Steps.{AnswersOwn, Brings, CommitsAs, HasAdvanced, IsStopped, StepsAs, end_of, front_at, progress_of}
+use Rattle.request_tries.specs.Steps.{AnswersOwn, Brings, CommitsAs, HasAdvanced, IsStopped, LeavesBoot, StepsAs, end_of, front_at, progress_of}
 use Rattle.request_tries.specs.declared.outcome.Ended.{Ended}
 use Rattle.request_tries.specs.declared.outcome.Progress.{Progress}
 use Rattle.request_tries.specs.declared.outcome.Progress.TheVariants as progress
 use Rattle.request_tries.proofs.Committing.{DoneLaw, commit_answers, commit_brings, some_is, stopped}
-use Rattle.request_tries.proofs.Trying.{last_within}
+use Rattle.request_tries.proofs.Trying.{last_within, serving_longer}
 
 -- what a step is, and what it brings
 abbrev pub Makes : ContainerValue → (List Answer → Next) → TriesValue → Progress → ContainerValue → TriesValue → Type 0
-Makes old asks s to new after = StepsAs old asks s s.attempt to after × Brings old new asks s after (end_of to)
+Makes old asks s to new after = StepsAs old asks s s.attempt to new after × Brings old new asks s after (end_of to)
 
--- a request that goes on in the container as it was
-goes_on : (c : ContainerValue) (asks : List Answer → Next) (s after : TriesValue) → IsServing c.boot asks after → Brings c c asks s after None
-goes_on c asks s after serving = record { serving = λ none. serving; ended = tt; counted = tt; adds = refl; failed = tt }
+-- a request that goes on, in a container with the history that it had
+goes_on : (old new : ContainerValue) (asks : List Answer → Next) (s after : TriesValue) → IsServing new.boot asks after → new.since ≡ old.since → Brings old new asks s after None
+goes_on old new asks s after serving since = record { serving = λ none. serving; ended = tt; counted = tt; adds = since; failed = tt }
 
 -- The begin of an attempt.
 pub begun : (old now new : ContainerValue) (asks : List Answer → Next) (s mid after : TriesValue) → now ≡ old → new ≡ now → s.attempt ≡ None → mid ≡ s → after ≡ has_begun now.boot mid → IsServing old.boot asks s
@@ -46,8 +47,8 @@ begun old now new asks s mid after is_now is_new none is_mid is_after serving =
         after = last_within old.boot.start.deployment asks old.boot.entries 0 s.tries serving.tries;
       };
     } in (
-      subst (λ (o : Option AttemptValue). StepsAs old asks s o progress.Went after) (sym none) (refl, there),
-      subst (λ (c : ContainerValue). Brings old c asks s after None) (sym same) (goes_on old asks s after (subst (λ (x : TriesValue). IsServing old.boot asks x) (sym there) still)),
+      subst (λ (o : Option AttemptValue). StepsAs old asks s o progress.Went new after) (sym none) (refl, there, same),
+      subst (λ (c : ContainerValue). Brings old c asks s after None) (sym same) (goes_on old old asks s after (subst (λ (x : TriesValue). IsServing old.boot asks x) (sym there) still) refl),
     )
 
 -- the attempt that is open
@@ -55,22 +56,31 @@ pub is_open : (boot : BootValue) (asks : List Answer → Next) (s : TriesValue) 
 is_open boot asks s None a is h = absurd (cc)
 is_open boot asks s (Some b) a is h = subst (λ x. IsOpen boot asks s x) (cc) h
 
+-- the container that a step of the open attempt leaves
+pub leaves : (old new : ContainerValue) (asks : List Answer → Next) (s after : TriesValue) (came : Stepped) → LeavesBoot old asks s.attempt (Some came) new → (h : HasAdvanced old.boot asks s came after)
+    → new ≡ with_boot old (boot_left old.boot (wanted asks h.before) came)
+leaves old new asks s after came left h = subst (λ (o : Option AttemptValue). LeavesBoot old asks o (Some came) new) h.was_open left
+
 -- A step that was answered.
-pub went : (old new : ContainerValue) (asks : List Answer → Next) (s after : TriesValue) → new ≡ old → IsServing old.boot asks s → HasAdvanced old.boot asks s coming.Went after → Makes old asks s progress.Went new after
-went old new asks s after same serving h =
+pub went : (old new : ContainerValue) (asks : List Answer → Next) (s after : TriesValue) → LeavesBoot old asks s.attempt (Some coming.Went) new → IsServing old.boot asks s → HasAdvanced old.boot asks s coming.Went after
+    → Makes old asks s progress.Went new after
+went old new asks s after left serving h =
     let opened : IsOpen old.boot asks s h.before = is_open old.boot asks s s.attempt h.before h.was_open serving.attempt in
     let is = h.has_stepped.2 in
     let x : Next = wanted asks h.before in
+    let next : ContainerValue = with_boot old (boot_after old.boot x) in
+    let same : new ≡ next = leaves old new asks s after coming.Went left h in
     let request : h.after.ticket.call.request ≡ s.request = ap (λ (a : AttemptValue). a.ticket.call.request) is ∙ same_request old.boot h.before.ticket x ∙ opened.request in
     let begin : h.after.ticket.call.at ≡ h.before.ticket.call.at = ap (λ (a : AttemptValue). a.ticket.call.at) is ∙ same_begin old.boot h.before.ticket x in
-    let still : IsServing old.boot asks (record s { attempt = Some h.after }) = record {
+    let later : IsServing next.boot asks (closed s) = serving_longer old.boot next.boot asks (closed s) (boot_grows old.boot x) (record { few = serving.few; tries = serving.tries; attempt = tt }) in
+    let still : IsServing next.boot asks (record s { attempt = Some h.after }) = record {
       few = serving.few;
-      tries = serving.tries;
+      tries = later.tries;
       attempt = record { way = h.way; request = request; after = rw begin opened.after };
     } in (
-      subst (λ (o : Option AttemptValue). StepsAs old asks s o progress.Went after) (sym h.was_open)
-          (coming.Went, h.after, h.has_stepped, (refl, h.open_now ∙ ap (λ (a : AttemptValue). record s { attempt = Some a }) is)),
-      subst (λ (c : ContainerValue). Brings old c asks s after None) (sym same) (goes_on old asks s after (subst (λ (x : TriesValue). IsServing old.boot asks x) (sym h.open_now) still)),
+      subst (λ (o : Option AttemptValue). StepsAs old asks s o progress.Went new after) (sym h.was_open)
+          (coming.Went, h.after, h.has_stepped, (refl, h.open_now ∙ ap (λ (a : AttemptValue). record s { attempt = Some a }) is), same),
+      subst (λ (c : ContainerValue). Brings old c asks s after None) (sym same) (goes_on old next asks s after (subst (λ (t : TriesValue). IsServing next.boot asks t) (sym h.open_now) still) refl),
     )
 
 -- where the open attempt has made no step, the request is as before
@@ -79,18 +89,20 @@ same_try s mid before after was same is =
     is ∙ ap (λ (o : Option AttemptValue). record s { attempt = o }) (ap (λ (a : AttemptValue). Some a) same ∙ sym was)
 
 -- An attempt that is done stays open, and asks for its commit.
-pub done : (old new : ContainerValue) (asks : List Answer → Next) (s after : TriesValue) (d : DoneText) → new ≡ old → IsServing old.boot asks s → HasAdvanced old.boot asks s (coming.Done d) after
-    → Makes old asks s (progress.Done d) new after × (after ≡ s) × (wanted_by asks after ≡ Some (next.Done d))
-done old new asks s after d is_new serving h =
+pub done : (old new : ContainerValue) (asks : List Answer → Next) (s after : TriesValue) (d : DoneText) → LeavesBoot old asks s.attempt (Some (coming.Done d)) new → IsServing old.boot asks s → HasAdvanced old.boot asks s (coming.Done d) after
+    → Makes old asks s (progress.Done d) new after × (after ≡ s) × (wanted_by asks after ≡ Some (next.Done d)) × (new ≡ old)
+done old new asks s after d left serving h =
+    let is_new : new ≡ old = leaves old new asks s after (coming.Done d) left h in
     let same : after ≡ s = same_try s after h.before h.after h.was_open h.has_stepped.1 h.open_now in
     let wants : wanted_by asks after ≡ Some (next.Done d) =
     ap (λ (x : TriesValue). wanted_by asks x) same ∙ ap (λ (o : Option AttemptValue). option_map (λ (a : AttemptValue). wanted asks a) o) h.was_open ∙ ap (λ (x : Next). Some x) h.has_stepped.0 in (
       (
-        subst (λ (o : Option AttemptValue). StepsAs old asks s o (progress.Done d) after) (sym h.was_open) (coming.Done d, h.after, h.has_stepped, (refl, same)),
-        subst (λ (c : ContainerValue). Brings old c asks s after None) (sym is_new) (goes_on old asks s after (subst (λ (x : TriesValue). IsServing old.boot asks x) (sym same) serving)),
+        subst (λ (o : Option AttemptValue). StepsAs old asks s o (progress.Done d) new after) (sym h.was_open) (coming.Done d, h.after, h.has_stepped, (refl, same), is_new),
+        subst (λ (c : ContainerValue). Brings old c asks s after None) (sym is_new) (goes_on old old asks s after (subst (λ (x : TriesValue). IsServing old.boot asks x) (sym same) serving) refl),
       ),
       same,
       wants,
+      is_new,
     )
 
 -- an end of a step that was stopped is told
@@ -98,11 +110,12 @@ pub end_is : (end : Option Ended) → end_of (progress_of end) ≡ end
 end_is None = refl
 end_is (Some e) = refl
 
--- An attempt that a reboot stopped.
+-- An attempt that was stopped.
 pub was_stopped : (old now new : ContainerValue) (asks : List Answer → Next) (s mid after : TriesValue) (stop : Stop) (end : Option Ended) (to : Progress)
-    → now ≡ old → new ≡ now → entries_in old.since ≡ old.boot.entries → IsServing old.boot asks s → HasAdvanced old.boot asks s (coming.Stopped stop) mid
+    → LeavesBoot old asks s.attempt (Some (coming.Stopped stop)) now → new ≡ now → entries_in old.since ≡ old.boot.entries → IsServing old.boot asks s → HasAdvanced old.boot asks s (coming.Stopped stop) mid
     → IfSome mid.attempt (λ a. IsStopped (front_at now) (closed mid) a.ticket.call.at a.repeats stop end after) → to ≡ progress_of end → Makes old asks s to new after
-was_stopped old now new asks s mid after stop end to is_now is_new seen serving h stops is_to =
+was_stopped old now new asks s mid after stop end to left is_new seen serving h stops is_to =
+    let is_now : now ≡ old = leaves old now asks s mid (coming.Stopped stop) left h in
     let same : mid ≡ s = same_try s mid h.before h.after h.was_open h.has_stepped.2 h.open_now in
     let opened : IsOpen old.boot asks s h.before = is_open old.boot asks s s.attempt h.before h.was_open serving.attempt in
     let as_is : new ≡ old = is_new ∙ is_now in
@@ -111,7 +124,7 @@ was_stopped old now new asks s mid after stop end to is_now is_new seen serving 
     (subst (λ (c : ContainerValue). IfSome s.attempt (λ a. IsStopped (front_at c) (closed s) a.ticket.call.at a.repeats stop end after)) is_now
     (subst (λ (m : TriesValue). IfSome m.attempt (λ a. IsStopped (front_at now) (closed m) a.ticket.call.at a.repeats stop end after)) same stops)) in
     subst (λ (p : Progress). Makes old asks s p new after) (sym is_to) (
-      subst (λ (o : Option AttemptValue). StepsAs old asks s o (progress_of end) after) (sym h.was_open) (coming.Stopped stop, h.after, h.has_stepped, (end, refl, came)),
+      subst (λ (o : Option AttemptValue). StepsAs old asks s o (progress_of end) new after) (sym h.was_open) (coming.Stopped stop, h.after, h.has_stepped, (end, refl, came), as_is),
       subst (λ (e : Option Ended). Brings old new asks s after e) (sym (end_is end))
           (subst (λ (c : ContainerValue). Brings old c asks s after end) (sym as_is) (stopped old asks s after h.before stop end seen serving opened h.has_stepped.1 came)),
     )

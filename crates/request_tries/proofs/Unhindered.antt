@@ -16,7 +16,7 @@ use Rattle.container_core.specs.Container.{ContainerValue}
 use Rattle.call_attempts.specs.Attempt.{AttemptValue, HasStepped, answer_to, rows_at_begin, stepped, wanted}
 use Rattle.call_attempts.specs.declared.attempt.Stepped.{Stepped}
 use Rattle.call_attempts.specs.declared.attempt.Stepped.TheVariants as coming
-use Rattle.call_attempts.proofs.Lasting.{EntersNoDown, nothing_stops}
+use Rattle.call_attempts.proofs.Lasting.{EntersFreely, nothing_stops}
 use Rattle.request_tries.specs.Ends.{done_at}
 use Rattle.request_tries.specs.Serving.{TriesValue, closed}
 use Rattle.request_tries.specs.Steps.{ComesTo, CommitsAs, HearsCommit, IsRefused, StepsAs, action_of, ended_at, from_of, front_at, refusal_of}
@@ -32,15 +32,15 @@ GoesOn a to after =
     ((done : DoneText) × (to ≡ progress.Done done))
     ⊎ ((to ≡ progress.Went) × (later : AttemptValue) × (after.attempt ≡ Some later) × (length later.answers ≡ length a.answers + 1))
 
-pub step_goes_on : (c : ContainerValue) (asks : List Answer → Next) (s after : TriesValue) (a : AttemptValue) (to : Progress) → stale_in c.boot.entries a.ticket.call.touched ≡ None → EntersNoDown c.boot.start.deployment c.boot.entries (wanted asks a)
-    → StepsAs c asks s (Some a) to after → GoesOn a to after
-step_goes_on c asks s after a to fresh up steps = go steps.0 steps.1 steps.2 steps.3
+pub step_goes_on : (c new : ContainerValue) (asks : List Answer → Next) (s after : TriesValue) (a : AttemptValue) (to : Progress) → stale_in c.boot.entries a.ticket.call.touched ≡ None → EntersFreely c.boot (wanted asks a)
+    → StepsAs c asks s (Some a) to new after → GoesOn a to after
+step_goes_on c new asks s after a to fresh free steps = go steps.0 steps.1 steps.2 steps.3
   where
     go : (came : Stepped) (next : AttemptValue) → HasStepped c.boot asks a came next → ComesTo c asks s a came to after → GoesOn a to after
     go coming.Went next made h =
         inr (h.0, stepped c.boot a (wanted asks a), ap (λ (x : TriesValue). x.attempt) h.1, length-append a.answers (answer_to (rows_at_begin c.boot a.ticket.call) a.ticket.call (wanted asks a) ∷ []))
     go (coming.Done d) next made h = inl (d, h.0)
-    go (coming.Stopped stop) next made h = absurd (nothing_stops c.boot.start.deployment c.boot.entries a.ticket.call (wanted asks a) fresh up stop made.1)
+    go (coming.Stopped stop) next made h = absurd (nothing_stops c.boot a.ticket.call (wanted asks a) fresh free stop made.1)
 
 -- a request has ended by a page, or by a keeper that failed
 abbrev EndsByPage : ContainerValue → ContainerValue → Option Ended → Type 0

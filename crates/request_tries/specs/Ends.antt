@@ -1,8 +1,15 @@
 -- What became of a request, and what the history of the container shows of it.
 use Rattle.std.specs.Prelude.{◌≡◌, ◌⊎◌, ℕ, ◌<◌, ◌≤◌, true, false, List, [], ◌∷◌, ◌++◌, length, take, slice_get, Option, Some, None, IfSome, option_and_then, option_map}
+use Rattle.crash_base.specs.declared.fault_plans.FaultKind.{FaultKind}
+use Rattle.crash_base.specs.declared.fault_plans.FaultKind.TheVariants.{Raise, Hang}
+use Rattle.crash_base.specs.declared.fault_plans.FaultPlan.{FaultPlan}
+use Rattle.crash_base.specs.declared.numbers.ComponentNo.{ComponentNo}
 use Rattle.crash_base.specs.declared.numbers.Place.{Place}
 use Rattle.crash_base.specs.declared.numbers.RequestNo.{RequestNo}
+use Rattle.component_pool.specs.Cures.{one_cures}
+use Rattle.component_pool.specs.Journal.{reboots_in}
 use Rattle.deployment.specs.declared.parts.Parts.{Parts}
+use Rattle.deployment.specs.Groups.{group_of}
 use Rattle.journal_model.specs.declared.entry.ActionEntry.{ActionEntry}
 use Rattle.journal_model.specs.declared.entry.CommitEntry.{CommitEntry}
 use Rattle.journal_model.specs.declared.entry.DoneText.{DoneText}
@@ -21,11 +28,11 @@ use Rattle.container_core.specs.Container.{ContainerValue}
 use Rattle.container_core.specs.History.{entries_in}
 use Rattle.container_core.specs.declared.history.Event.{Event}
 use Rattle.container_core.specs.declared.history.Event.TheVariants.{Added, KeeperFailed as FailedMark}
-use Rattle.call_attempts.specs.Attempt.{EntersGroup, EntersOnce}
+use Rattle.call_attempts.specs.Attempt.{EntersComponent, EntersGroup, EntersOnce}
 use Rattle.request_tries.specs.Tries.{AreTries}
 use Rattle.request_tries.specs.declared.outcome.Ended.{Ended}
 use Rattle.request_tries.specs.declared.outcome.RequestOutcome.{RequestOutcome}
-use Rattle.request_tries.specs.declared.outcome.RequestOutcome.TheVariants.{Page, Sentinel, Revoked, Conflict, JournalFull, KeeperFailed}
+use Rattle.request_tries.specs.declared.outcome.RequestOutcome.TheVariants.{Page, Sentinel, Hung, Raised, Revoked, Conflict, JournalFull, KeeperFailed}
 use Rattle.request_tries.specs.declared.outcome.Try.{Try}
 use Rattle.request_tries.specs.declared.outcome.TryCause.{TryCause}
 use Rattle.request_tries.specs.declared.outcome.TryCause.TheVariants as cause
@@ -85,14 +92,27 @@ abbrev pub AreAll : Parts → (List Answer → Next) → List Try → Type 0
 AreAll parts asks tries =
     (length tries ≡ MAX_TRIES) ⊎ ((length tries < MAX_TRIES) × EntersOnce parts asks)
 
+-- The plan of this number of a start is of a component and of this kind, and no reboot of the component's group in a
+-- journal has cured it.
+pub record HasUncuredPlan (start : Start) (es : List Entry) (component : ComponentNo) (fault : ℕ) (kind : FaultKind) : Type 0 where
+  pub plan : FaultPlan
+  pub here : slice_get start.plans fault ≡ Some plan
+  pub component_is : plan.component ≡ component
+  pub kind_is : plan.kind ≡ kind
+  pub uncured : one_cures (reboots_in es (group_of start.deployment component.0)) plan.cured_by ≡ false
+
 -- What became of a request, by the history at the end of its last step:
--- its entry, as the last event, or the one that was there already; a group of one of its components is down; its tries;
--- a journal without room; or, as the last event, the mark of the keeper that failed.
+-- its entry, as the last event, or the one that was there already; a group of one of its components is down; one of its
+-- components fails; its tries; a journal without room; or, as the last event, the mark of the keeper that failed.
 abbrev pub OutcomeStands : Start → List Event → Errand → ℕ → RequestOutcome → Type 0
 OutcomeStands start seen errand from (Page place true) = commit_of (entries_in seen) errand.request ≡ Some place
 OutcomeStands start seen errand from (Page place false) = IsServed start seen errand from place.0
 OutcomeStands start seen errand from (Sentinel group down) =
     (down_of (entries_in seen) group.0 ≡ Some down) × EntersGroup start.deployment errand.asks group
+OutcomeStands start seen errand from (Hung component fault) =
+    HasUncuredPlan start (entries_in seen) component fault Hang × EntersComponent errand.asks component
+OutcomeStands start seen errand from (Raised component fault) =
+    HasUncuredPlan start (entries_in seen) component fault Raise × EntersComponent errand.asks component
 OutcomeStands start seen errand from (Revoked tries) =
     AreTries start.deployment errand.asks (entries_in seen) from tries
     × EndsSo WasRevoked tries × AreAll start.deployment errand.asks tries
@@ -125,6 +145,8 @@ abbrev pub copied_for : List Entry → RequestOutcome → Option DoneText
 copied_for es (Page place true) = done_at es place
 copied_for es (Page place false) = None
 copied_for es (Sentinel group down) = None
+copied_for es (Hung component fault) = None
+copied_for es (Raised component fault) = None
 copied_for es (Revoked tries) = None
 copied_for es (Conflict tries) = None
 copied_for es (JournalFull full) = None
@@ -134,6 +156,8 @@ copied_for es KeeperFailed = None
 abbrev pub page_of : RequestOutcome → Option Place
 page_of (Page place again) = Some place
 page_of (Sentinel group down) = None
+page_of (Hung component fault) = None
+page_of (Raised component fault) = None
 page_of (Revoked tries) = None
 page_of (Conflict tries) = None
 page_of (JournalFull full) = None
@@ -159,6 +183,8 @@ Adds request (Page place true) old new = new.since ≡ old.since
 Adds request (Page place false) old new =
     (e : CommitEntry) × (new.since ≡ old.since ++ Added (Commit e) ∷ []) × (place.0 ≡ length old.boot.entries)
 Adds request (Sentinel group down) old new = new.since ≡ old.since
+Adds request (Hung component fault) old new = new.since ≡ old.since
+Adds request (Raised component fault) old new = new.since ≡ old.since
 Adds request (Revoked tries) old new = new.since ≡ old.since
 Adds request (Conflict tries) old new = new.since ≡ old.since
 Adds request (JournalFull full) old new = new.since ≡ old.since

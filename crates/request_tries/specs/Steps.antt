@@ -9,14 +9,14 @@ use Rattle.outside.specs.Keeper.{TellsRefusal}
 use Rattle.outside.specs.declared.keeper.KeeperFault.TheVariants as faults
 use Rattle.call_ticket.specs.declared.next.Answer.{Answer}
 use Rattle.call_ticket.specs.declared.next.Next.{Next}
-use Rattle.boot_core.specs.Boot.{BootValue}
+use Rattle.boot_core.specs.Boot.{BootValue, HasOnlyEntered}
 use Rattle.boot_core.specs.Refusals.{CommitAnswer, commit_refusal}
 use Rattle.boot_core.specs.declared.refusals.CommitRefusal.{CommitRefusal}
 use Rattle.boot_core.specs.declared.refusals.CommitRefusal.TheVariants as commits
 use Rattle.boot_core.specs.declared.refusals.Refused.{Refused}
-use Rattle.container_core.specs.Container.{ContainerValue, CommitLeaves, event_count, events_of}
+use Rattle.container_core.specs.Container.{ContainerValue, CommitLeaves, event_count, events_of, with_boot}
 use Rattle.container_core.specs.declared.history.Event.{Event}
-use Rattle.call_attempts.specs.Attempt.{AttemptValue, HasStepped, IsUnderWay, stepped, wanted}
+use Rattle.call_attempts.specs.Attempt.{AttemptValue, HasStepped, IsUnderWay, boot_left, stepped, wanted}
 use Rattle.call_attempts.specs.declared.attempt.Stepped.{Stepped}
 use Rattle.call_attempts.specs.declared.attempt.Stepped.TheVariants as coming
 use Rattle.call_attempts.specs.declared.stop.Stop.{Stop}
@@ -29,7 +29,7 @@ use Rattle.request_tries.specs.declared.outcome.HistoryFront.{HistoryFront}
 use Rattle.request_tries.specs.declared.outcome.Progress.{Progress}
 use Rattle.request_tries.specs.declared.outcome.Progress.TheVariants as progress
 use Rattle.request_tries.specs.declared.outcome.RequestOutcome.{RequestOutcome}
-use Rattle.request_tries.specs.declared.outcome.RequestOutcome.TheVariants.{Page, Sentinel, Revoked, Conflict, JournalFull, KeeperFailed}
+use Rattle.request_tries.specs.declared.outcome.RequestOutcome.TheVariants.{Page, Sentinel, Hung, Raised, Revoked, Conflict, JournalFull, KeeperFailed}
 use Rattle.request_tries.specs.declared.outcome.Try.{Try}
 use Rattle.request_tries.specs.declared.outcome.TryCause.{TryCause}
 use Rattle.request_tries.specs.declared.outcome.TryCause.TheVariants as cause
@@ -87,11 +87,15 @@ HearsCommit now es old at repeats (Ok place) end new =
     end ≡ Some (ended_at now (from_of old at) (Page place false) None)
 HearsCommit now es old at repeats (Err refused) end new = IsRefused now es old at refused.cause repeats end new
 
--- A reboot stopped a try that began at a place: it met a group that is down, and the request has ended; or it was
--- revoked.
+-- A try that began at a place was stopped: it met a group that is down, or a component that fails, and the request has
+-- ended; or it was revoked.
 abbrev pub IsStopped : HistoryFront → TriesValue → Place → Bool → Stop → Option Ended → TriesValue → Type 0
 IsStopped now old at repeats (stops.Sentinel group down) end new =
     end ≡ Some (ended_at now (from_of old at) (Sentinel group down) None)
+IsStopped now old at repeats (stops.Hung component fault) end new =
+    end ≡ Some (ended_at now (from_of old at) (Hung component fault) None)
+IsStopped now old at repeats (stops.Raised component fault) end new =
+    end ≡ Some (ended_at now (from_of old at) (Raised component fault) None)
 IsStopped now old at repeats (stops.Revoked shown) end new = EndsTry now old at (cause.Revoked shown) repeats end new
 
 -- the action that a request commits with its answer
@@ -111,19 +115,25 @@ pub record CommitsTry (old : ContainerValue) (s : TriesValue) (a : AttemptValue)
   pub failed : IfErr answer (λ refused. refused.cause ≡ commits.KeeperFailed → Rose old.faults new.faults)
   pub hears : HearsCommit (front_at new) new.boot.entries (closed s) a.ticket.call.at a.repeats answer end after
 
--- The open attempt has made a step, and is under way still.
+-- The open attempt has made a step, and is under way still in the boot that this leaves.
 pub record HasAdvanced (boot : BootValue) (asks : List Answer → Next) (old : TriesValue) (came : Stepped) (new : TriesValue) : Type 0 where
   pub before : AttemptValue
   pub after : AttemptValue
   pub was_open : old.attempt ≡ Some before
   pub has_stepped : HasStepped boot asks before came after
-  pub way : IsUnderWay boot asks after
+  pub way : IsUnderWay (boot_left boot (wanted asks before) came) asks after
   pub open_now : new ≡ record old { attempt = Some after }
 
 -- the open attempt makes a step, if one is open
 abbrev pub Advances : BootValue → (List Answer → Next) → TriesValue → Option Stepped → TriesValue → Type 0
 Advances boot asks old None new = (old.attempt ≡ None) × (new ≡ old)
 Advances boot asks old (Some came) new = HasAdvanced boot asks old came new
+
+-- A container is left as the step of an open attempt leaves its boot; where none is open, as it was.
+abbrev pub LeavesBoot : ContainerValue → (List Answer → Next) → Option AttemptValue → Option Stepped → ContainerValue → Type 0
+LeavesBoot old asks None came new = new ≡ old
+LeavesBoot old asks (Some a) None new = new ≡ old
+LeavesBoot old asks (Some a) (Some came) new = new ≡ with_boot old (boot_left old.boot (wanted asks a) came)
 
 -- the end that a step came to, if it came to one
 abbrev pub end_of : Progress → Option Ended
@@ -153,11 +163,12 @@ ComesTo c asks s a (coming.Stopped stop) to after =
     × IsStopped (front_at c) (closed s) a.ticket.call.at a.repeats stop end after
 
 -- The one step that a request makes in a container: an attempt begins where none is open; and else the open one makes
--- the step that its program asks for. So the step is fixed but for memory.
-abbrev pub StepsAs : ContainerValue → (List Answer → Next) → TriesValue → Option AttemptValue → Progress → TriesValue → Type 0
-StepsAs c asks s None to after = (to ≡ progress.Went) × (after ≡ has_begun c.boot s)
-StepsAs c asks s (Some a) to after =
+-- the step that its program asks for, which may count an entering. So the step is fixed but for memory.
+abbrev pub StepsAs : ContainerValue → (List Answer → Next) → TriesValue → Option AttemptValue → Progress → ContainerValue → TriesValue → Type 0
+StepsAs c asks s None to new after = (to ≡ progress.Went) × (after ≡ has_begun c.boot s) × (new ≡ c)
+StepsAs c asks s (Some a) to new after =
     (came : Stepped) × (next : AttemptValue) × HasStepped c.boot asks a came next × ComesTo c asks s a came to after
+    × (new ≡ with_boot c (boot_left c.boot (wanted asks a) came))
 
 -- The one commit that a request makes in a container: of the attempt that is open. So it is fixed but for memory and
 -- the keeper.
@@ -182,6 +193,10 @@ pub record Brings (old new : ContainerValue) (asks : List Answer → Next) (s af
 -- A container has the boot and the history that it had.
 abbrev pub KeepsHistory : ContainerValue → ContainerValue → Type 0
 KeepsHistory old new = (new.boot ≡ old.boot) × (new.since ≡ old.since)
+
+-- A container has the history that it had, and its boot but for how often its components were entered.
+abbrev pub KeepsEvents : ContainerValue → ContainerValue → Type 0
+KeepsEvents old new = HasOnlyEntered old.boot new.boot × (new.since ≡ old.since)
 
 -- The keeper of a container tells what it told, or what it tells once it refused a call for want of memory: it has kept
 -- nothing, or tells nothing from then on.

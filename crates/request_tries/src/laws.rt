@@ -17,11 +17,13 @@ ghost use Rattle.call_ticket.specs.declared.next.Answer.{Answer};
 ghost use Rattle.call_ticket.specs.declared.next.Next.{Next};
 ghost use Rattle.call_ticket.specs.declared.next.Next.TheVariants as next;
 ghost use Rattle.boot_core.specs.Boot.{BootValue, HasGrown};
+ghost use Rattle.boot_core.specs.Faults.{fault_of};
 ghost use Rattle.boot_core.specs.Refusals.{HasRoomFor};
 ghost use Rattle.boot_core.specs.declared.boot.Start.{Start};
 ghost use Rattle.container_core.specs.Container.{ContainerValue};
 ghost use Rattle.container_core.specs.History.{entries_in};
 ghost use Rattle.container_core.specs.declared.history.Event.{Event};
+ghost use Rattle.call_attempts.specs.Stops.{failure};
 ghost use Rattle.call_attempts.specs.Attempt.{AttemptValue, EntersOnce, HasEnteredOnce, IsUnderWay, wanted};
 ghost use Rattle.request_tries.specs.declared.outcome.Ended.{Ended};
 ghost use Rattle.request_tries.specs.declared.outcome.Progress.{Progress};
@@ -65,8 +67,8 @@ pub fn requests_have_three_tries()
         EndStands start events a e → e.outcome ≡ Revoked tries → length tries ≤ 3 }
     ensures conflict { (start : Start) (events : List Event) (a : Errand) (e : Ended) (tries : List Try) →
         EndStands start events a e → e.outcome ≡ Conflict tries → length tries ≡ 3 }
-    ensures number { (c : ContainerValue) (asks : List Answer → Next) (s after : TriesValue) (to : Progress) →
-        StepsAs c asks s s.attempt to after → end_of to ≡ None →
+    ensures number { (c new : ContainerValue) (asks : List Answer → Next) (s after : TriesValue) (to : Progress) →
+        StepsAs c asks s s.attempt to new after → end_of to ≡ None →
         IfSome s.attempt (λ a. a.ticket.call.request ≡ s.request) →
         (after.request ≡ s.request) × IfSome after.attempt (λ a. a.ticket.call.request ≡ s.request) }
     ensures next { (old new : ContainerValue) (s after : TriesValue) (done : DoneText) →
@@ -79,9 +81,9 @@ pub fn single_calls_alone_end_early()
     ensures ended { (start : Start) (events : List Event) (a : Errand) (e : Ended) (tries : List Try) →
         EndStands start events a e → e.outcome ≡ Revoked tries → length tries < 3 →
         EntersOnce start.deployment a.asks }
-    ensures stopped { (c : ContainerValue) (asks : List Answer → Next) (s after : TriesValue) (a : AttemptValue)
+    ensures stopped { (c new : ContainerValue) (asks : List Answer → Next) (s after : TriesValue) (a : AttemptValue)
         (e : Ended) (tries : List Try) → IsUnderWay c.boot asks a →
-        StepsAs c asks s (Some a) (progress.Ended e) after → e.outcome ≡ Revoked tries → length tries < 3 →
+        StepsAs c asks s (Some a) (progress.Ended e) new after → e.outcome ≡ Revoked tries → length tries < 3 →
         HasEnteredOnce c.boot.start.deployment asks a.answers }
     ensures refused { (old new : ContainerValue) (asks : List Answer → Next) (s after : TriesValue) (a : AttemptValue)
         (done : DoneText) (e : Ended) (tries : List Try) → IsUnderWay old.boot asks a →
@@ -92,12 +94,12 @@ pub fn single_calls_alone_end_early()
 /// An end tells where the first try of its request began: where the open attempt began, or the first try before it; and
 /// no step and no commit after which the request goes on changes that.
 pub fn ends_begin_with_the_first_try()
-    ensures stopped { (c : ContainerValue) (asks : List Answer → Next) (s after : TriesValue) (e : Ended) →
-        StepsAs c asks s s.attempt (progress.Ended e) after → e.from.0 ≡ begun_at s (length c.boot.entries) }
+    ensures stopped { (c new : ContainerValue) (asks : List Answer → Next) (s after : TriesValue) (e : Ended) →
+        StepsAs c asks s s.attempt (progress.Ended e) new after → e.from.0 ≡ begun_at s (length c.boot.entries) }
     ensures committed { (old new : ContainerValue) (s after : TriesValue) (done : DoneText) (e : Ended) →
         CommitsAs old s s.attempt done (Some e) new after → e.from.0 ≡ begun_at s (length old.boot.entries) }
-    ensures stepped { (c : ContainerValue) (asks : List Answer → Next) (s after : TriesValue) (to : Progress)
-        (later : ℕ) → StepsAs c asks s s.attempt to after → end_of to ≡ None →
+    ensures stepped { (c new : ContainerValue) (asks : List Answer → Next) (s after : TriesValue) (to : Progress)
+        (later : ℕ) → StepsAs c asks s s.attempt to new after → end_of to ≡ None →
         begun_at after later ≡ begun_at s (length c.boot.entries) }
     ensures tried { (old new : ContainerValue) (s after : TriesValue) (done : DoneText) (later : ℕ) →
         CommitsAs old s s.attempt done None new after → begun_at after later ≡ begun_at s (length old.boot.entries) }
@@ -107,11 +109,11 @@ pub fn ends_begin_with_the_first_try()
 /// was an enter by a method that may not be called again, the request ends with its next step; or, where its program is
 /// done, with its commit.
 pub fn single_calls_are_made_once()
-    ensures step { (c : ContainerValue) (asks : List Answer → Next) (s after : TriesValue) (a : AttemptValue)
+    ensures step { (c new : ContainerValue) (asks : List Answer → Next) (s after : TriesValue) (a : AttemptValue)
         (shown : Stale) (to : Progress) → IsUnderWay c.boot asks a →
         HasEnteredOnce c.boot.start.deployment asks a.answers →
         stale_in c.boot.entries a.ticket.call.touched ≡ Some shown →
-        StepsAs c asks s (Some a) to after → to ≢ progress.Went }
+        StepsAs c asks s (Some a) to new after → to ≢ progress.Went }
     ensures commit { (old new : ContainerValue) (asks : List Answer → Next) (s after : TriesValue) (a : AttemptValue)
         (shown : Stale) (done : DoneText) (end : Option Ended) → IsUnderWay old.boot asks a →
         HasEnteredOnce old.boot.start.deployment asks a.answers →
@@ -120,15 +122,16 @@ pub fn single_calls_are_made_once()
 {}
 
 /// Where nothing hinders it a request ends as a page. While no group that the open attempt entered was rebooted since,
-/// and none that it enters is down, its step is answered, or finds the program done: so it is after at most 128 answers
-/// (`call_attempts::attempts_come_to_their_end`). Where it is done then, nothing that it read or writes was written
-/// since it began, and the journal has room, its commit ends as a page: of its own entry, or of the one that was there
-/// already. Else the keeper failed, whose count has then risen.
+/// none that it enters is down, and no component that it enters fails, its step is answered, or finds the program done:
+/// so it is after at most 128 answers (`call_attempts::attempts_come_to_their_end`). Where it is done then, nothing
+/// that it read or writes was written since it began, and the journal has room, its commit ends as a page: of its own
+/// entry, or of the one that was there already. Else the keeper failed, whose count has then risen.
 pub fn unhindered_requests_are_served()
-    ensures step { (c : ContainerValue) (asks : List Answer → Next) (s after : TriesValue) (a : AttemptValue)
+    ensures step { (c new : ContainerValue) (asks : List Answer → Next) (s after : TriesValue) (a : AttemptValue)
         (to : Progress) → stale_in c.boot.entries a.ticket.call.touched ≡ None →
         ((x : ComponentNo) (m : ℕ) → wanted asks a ≡ next.Enter x m →
-        down_of c.boot.entries (group_of c.boot.start.deployment x.0) ≡ None) → StepsAs c asks s (Some a) to after →
+        (down_of c.boot.entries (group_of c.boot.start.deployment x.0) ≡ None)
+        × (failure x (fault_of c.boot x) ≡ None)) → StepsAs c asks s (Some a) to new after →
         ((done : DoneText) × (to ≡ progress.Done done)) ⊎ ((to ≡ progress.Went) × (later : AttemptValue)
         × (after.attempt ≡ Some later) × (length later.answers ≡ length a.answers + 1)) }
     ensures commit { (old new : ContainerValue) (s after : TriesValue) (a : AttemptValue) (done : DoneText)

@@ -1,7 +1,7 @@
 //! What becomes of a request in a container.
 
 use container_core::{DoneText, FullAt, ReadMark, Stale};
-use crash_base::{GroupNo, Items, Place};
+use crash_base::{ComponentNo, GroupNo, Items, Place};
 
 /// The most tries of a request.
 pub const MAX_TRIES: usize = 3;
@@ -28,13 +28,17 @@ pub struct Try {
 /// Tries of a request, in order.
 pub type TryList = Items<Try>;
 
-/// What became of a request. A component that failed would be another outcome; none is told now.
+/// What became of a request.
 #[derive(Drop)]
 pub enum RequestOutcome {
     /// It is committed, by the entry at this place of the journal: by an earlier call of it where `again` is true.
     Page { place: Place, again: bool },
     /// The group of a component that it enters is down, by the Down at this place.
     Sentinel { group: GroupNo, down: Place },
+    /// A component that it enters does not come back, by the fault plan of this number.
+    Hung { component: ComponentNo, fault: u16 },
+    /// A component that it enters fails, by the fault plan of this number.
+    Raised { component: ComponentNo, fault: u16 },
     /// Its last try was revoked.
     Revoked(TryList),
     /// Its last try, the third, was in conflict.

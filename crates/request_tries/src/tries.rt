@@ -3,11 +3,11 @@
 ghost use Rattle.std.specs.Prelude.{◌≡◌, ◌≢◌, ◌≤◌, List, None, Some, IfOk, IfSome, IsErr, OnOk, OnErr};
 ghost use Rattle.boot_core.specs.Fits.{FitsIn};
 ghost use Rattle.call_ticket.specs.declared.next.Next.TheVariants as next;
-ghost use Rattle.container_core.specs.Container.{HasGrownBy, events_of};
+ghost use Rattle.container_core.specs.Container.{HasGrownBy, IsButEntered, events_of};
 ghost use Rattle.container_core.specs.History.{entries_in};
 ghost use Rattle.call_attempts.specs.Attempt.{IsUnderWay, attempt_of};
 ghost use Rattle.request_tries.specs.Serving.{IsServing, closed, has_begun, unbegun, wanted_by};
-ghost use Rattle.request_tries.specs.Steps.{AddsNothing, Advances, AnswersOwn, Brings, CommitsAs, EndsTry, HearsCommit, IfDone, IsRefused, IsStopped, KeepsHistory, KeepsNothing, CauseAddsNothing, StepsAs, end_of, ended_at, from_of, front_at, outcome_by, progress_of};
+ghost use Rattle.request_tries.specs.Steps.{AddsNothing, Advances, AnswersOwn, Brings, CommitsAs, EndsTry, HearsCommit, IfDone, IsRefused, IsStopped, KeepsHistory, KeepsNothing, LeavesBoot, CauseAddsNothing, StepsAs, end_of, ended_at, from_of, front_at, outcome_by, progress_of};
 
 use crate::answers::copied_done_at;
 use crate::outcome::{
@@ -281,7 +281,7 @@ impl RequestTries {
         }
     }
 
-    /// Hears that a reboot stopped a try that began at this place.
+    /// Hears what stopped a try that began at this place.
     fn hear_stop(
         &mut self,
         alloc: Global,
@@ -300,13 +300,23 @@ impl RequestTries {
                 let outcome = RequestOutcome::Sentinel { group, down };
                 Ok(Some(ended_at(now, from, outcome, None)))
             }
+            Stop::Hung { component, fault } => {
+                let from = self.from_of(at);
+                let outcome = RequestOutcome::Hung { component, fault };
+                Ok(Some(ended_at(now, from, outcome, None)))
+            }
+            Stop::Raised { component, fault } => {
+                let from = self.from_of(at);
+                let outcome = RequestOutcome::Raised { component, fault };
+                Ok(Some(ended_at(now, from, outcome, None)))
+            }
             Stop::Revoked(stale) => {
                 self.end_try(alloc, now, at, TryCause::Revoked(stale), repeats)
             }
         }
     }
 
-    /// A reboot stopped the open attempt, which is given up.
+    /// The open attempt was stopped, and is given up.
     fn stop<K: Keeper + Drop>(
         &mut self,
         alloc: Global,
@@ -374,7 +384,10 @@ impl RequestTries {
         ensures advances { IfOk result (λ came.
             Advances container.old.boot (P.asks program.now) self.old came self.new) }
         ensures held { IfSome self.new.attempt (λ a. FitsIn container.new.boot a.ticket.call) }
-        ensures same { container.new ≡ container.old }
+        ensures leaves { IfOk result (λ came.
+            LeavesBoot container.old (P.asks program.now) self.old.attempt came container.new) }
+        ensures but_entered { IsButEntered container.old container.new }
+        ensures grown { HasGrownBy container.old container.new }
     {
         match &mut self.attempt {
             None => Ok(None),
@@ -388,7 +401,7 @@ impl RequestTries {
     /// Makes one step of the request: the begin of an attempt, where none is open; or the step that its program asks
     /// for. Where the program is done there is none to make: `Done` is answered, as often as it is asked, until the
     /// attempt is committed by `commit`. Where the request has ended nothing is held. A step adds nothing to the
-    /// history.
+    /// history, and leaves the container as it was but for how often its components were entered.
     ///
     /// # Errors
     /// Out of memory: the request can only be given up, by `abandon`.
@@ -401,12 +414,12 @@ impl RequestTries {
         requires accepts { P.accepts program.now container.old.boot.start.deployment }
         requires serving { IsServing container.old.boot (P.asks program.now) self.old }
         ensures steps { IfOk result (λ to.
-            StepsAs container.old (P.asks program.now) self.old self.old.attempt to self.new) }
+            StepsAs container.old (P.asks program.now) self.old self.old.attempt to container.new self.new) }
         ensures brings { IfOk result (λ to.
             Brings container.old container.new (P.asks program.now) self.old self.new (end_of to)) }
         ensures done { IfOk result (λ to. IfDone to (λ done. (self.new ≡ self.old)
-            × (wanted_by (P.asks program.now) self.new ≡ Some (next.Done done)))) }
-        ensures same { container.new ≡ container.old }
+            × (wanted_by (P.asks program.now) self.new ≡ Some (next.Done done)) × (container.new ≡ container.old))) }
+        ensures but_entered { IsButEntered container.old container.new }
         ensures held { IfSome self.new.attempt (λ a. FitsIn container.new.boot a.ticket.call) }
         ensures ended { IfOk result (λ to. end_of to ≢ None → self.new.attempt ≡ None) }
         ensures grown { HasGrownBy container.old container.new }

@@ -20,7 +20,7 @@ use Rattle.request_tries.specs.Serving.{TriesValue, errand_of}
 use Rattle.request_tries.specs.Steps.{Brings}
 use Rattle.request_tries.specs.declared.outcome.Ended.{Ended}
 use Rattle.request_tries.specs.declared.outcome.RequestOutcome.{RequestOutcome}
-use Rattle.request_tries.specs.declared.outcome.RequestOutcome.TheVariants.{Page, Sentinel, Revoked, Conflict, JournalFull, KeeperFailed}
+use Rattle.request_tries.specs.declared.outcome.RequestOutcome.TheVariants.{Page, Sentinel, Hung, Raised, Revoked, Conflict, JournalFull, KeeperFailed}
 use Rattle.outcome_items.specs.Traces.{added_if, events_of_end}
 use Rattle.outcome_items.specs.declared.item.Holds.{Holds}
 use Rattle.outcome_items.specs.declared.outcome.ItemOutcome.{ItemOutcome}
@@ -104,6 +104,8 @@ grows old new errand from held (Page place false) is adds stands =
     let there = same_entry new.boot.start (Started new.boot.start ∷ old.since) (events_of new) errand from held place adds.0 events at stands in
     record { added = Added (Commit adds.0) ∷ []; grown = adds.1; tells = sym (ap added_if there) }
 grows old new errand from held (Sentinel group down) is adds stands = nothing old new errand held (Sentinel group down) adds refl
+grows old new errand from held (Hung component fault) is adds stands = nothing old new errand held (Hung component fault) adds refl
+grows old new errand from held (Raised component fault) is adds stands = nothing old new errand held (Raised component fault) adds refl
 grows old new errand from held (Revoked tries) is adds stands = nothing old new errand held (Revoked tries) adds refl
 grows old new errand from held (Conflict tries) is adds stands = nothing old new errand held (Conflict tries) adds refl
 grows old new errand from held (JournalFull full) is adds stands = nothing old new errand held (JournalFull full) adds refl
@@ -118,6 +120,8 @@ left_accounts asks start history errand v ready (Page place again) holds own end
   by_ready (Respond bytes) = ends
   by_ready (Write order shown) = ends
 left_accounts asks start history errand v ready (Sentinel group down) holds own ends = ends
+left_accounts asks start history errand v ready (Hung component fault) holds own ends = ends
+left_accounts asks start history errand v ready (Raised component fault) holds own ends = ends
 left_accounts asks start history errand v ready (Revoked tries) holds own ends = ends
 left_accounts asks start history errand v ready (Conflict tries) holds own ends = ends
 left_accounts asks start history errand v ready (JournalFull full) holds own ends = ends
@@ -184,7 +188,7 @@ by_serving : {P : Type 0} (asks : P → List Answer → Next) (errand : Errand) 
 by_serving {P} asks errand own old new container after tries program closing work by is_new served is =
     let s = by.serves in
     let adds = by_end asks errand own container after old tries by.after program s.end served is s.brings
-    (λ none. errand_kept container after (asks program) tries s.mid by.after s.to s.end none s.steps s.goes_on) in
+    (λ none. errand_kept container s.between after (asks program) tries s.mid by.after s.to s.end none s.steps s.goes_on) in
     let to : new ≡ after_closing_if (option_map (closing_of old.facts old.lease (events_of after)) s.end) (record old { work = Serving by.after program }) =
     is_new ∙ ap (λ (w : Work P). after_closing_if closing (record old { work = w })) by.work_is
     ∙ ap (λ (c : Option Closing). after_closing_if c (record old { work = Serving by.after program })) s.closing_is in

@@ -13,7 +13,7 @@ use Rattle.outside.specs.declared.link.LinkEvent.{LinkEvent}
 use Rattle.request_tries.specs.Ends.{done_of}
 use Rattle.request_tries.specs.declared.outcome.Ended.{Ended}
 use Rattle.request_tries.specs.declared.outcome.RequestOutcome.{RequestOutcome}
-use Rattle.request_tries.specs.declared.outcome.RequestOutcome.TheVariants.{Page, Sentinel, Revoked, Conflict, JournalFull, KeeperFailed}
+use Rattle.request_tries.specs.declared.outcome.RequestOutcome.TheVariants.{Page, Sentinel, Hung, Raised, Revoked, Conflict, JournalFull, KeeperFailed}
 use Rattle.request_tries.specs.Serving.{TriesValue}
 use Rattle.send_windows.specs.Windows.{WindowsValue}
 use Rattle.send_windows.specs.declared.fact.WindowFact.{WindowFact}
@@ -321,6 +321,8 @@ left_counts {P} begin v ready (Page place again) s = by (ready again) where
   by (Respond bytes) = record { held = s.held; told = no_less _ begin v.counts s.held }
   by (Write order shown) = record { held = no_less _ begin v.counts s.held; told = no_less _ begin v.counts s.held }
 left_counts begin v ready (Sentinel group down) s = record { held = s.held; told = no_less _ begin v.counts s.held }
+left_counts begin v ready (Hung component fault) s = record { held = s.held; told = no_less _ begin v.counts s.held }
+left_counts begin v ready (Raised component fault) s = record { held = s.held; told = no_less _ begin v.counts s.held }
 left_counts begin v ready (Revoked tries) s = record { held = s.held; told = no_less _ begin v.counts s.held }
 left_counts begin v ready (Conflict tries) s = record { held = s.held; told = no_less _ begin v.counts s.held }
 left_counts begin v ready (JournalFull full) s = record { held = s.held; told = no_less _ begin v.counts s.held }

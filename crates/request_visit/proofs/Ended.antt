@@ -24,15 +24,16 @@ use Rattle.request_tries.specs.declared.outcome.Progress.TheVariants as progress
 use Rattle.request_tries.specs.declared.outcome.TryCause.{TryCause}
 use Rattle.request_tries.specs.declared.outcome.TryCause.TheVariants as cause
 use Rattle.request_visit.specs.Serving.{GoesOn}
+use Rattle.request_visit.proofs.Between.{step_entries}
 
 -- the law that an end tells where the first try of its request began, and that no step changes that
 pub record BeginWithFirstTries : Type 0 where
-  pub stopped : (c : ContainerValue) (asks : List Answer → Next) (s after : TriesValue) (e : Ended)
-      → StepsAs c asks s s.attempt (progress.Ended e) after → e.from.0 ≡ begun_at s (length c.boot.entries)
+  pub stopped : (c : ContainerValue) (asks : List Answer → Next) (new : ContainerValue) (s after : TriesValue) (e : Ended)
+      → StepsAs c asks s s.attempt (progress.Ended e) new after → e.from.0 ≡ begun_at s (length c.boot.entries)
   pub committed : (old new : ContainerValue) (s after : TriesValue) (done : DoneText) (e : Ended)
       → CommitsAs old s s.attempt done (Some e) new after → e.from.0 ≡ begun_at s (length old.boot.entries)
-  pub stepped : (c : ContainerValue) (asks : List Answer → Next) (s after : TriesValue) (to : Progress) (later : ℕ)
-      → StepsAs c asks s s.attempt to after → end_of to ≡ None → begun_at after later ≡ begun_at s (length c.boot.entries)
+  pub stepped : (c : ContainerValue) (asks : List Answer → Next) (new : ContainerValue) (s after : TriesValue) (to : Progress) (later : ℕ)
+      → StepsAs c asks s s.attempt to new after → end_of to ≡ None → begun_at after later ≡ begun_at s (length c.boot.entries)
   pub tried : (old new : ContainerValue) (s after : TriesValue) (done : DoneText) (later : ℕ)
       → CommitsAs old s s.attempt done None new after → begun_at after later ≡ begun_at s (length old.boot.entries)
 
@@ -72,16 +73,18 @@ commit_front old new s after (Some a) done e c =
 stop_front : (now : HistoryFront) (s after : TriesValue) (at : Place) (repeats : Bool) (stop : Stop) (e : Ended)
     → IsStopped now s at repeats stop (Some e) after → e.front ≡ now.front
 stop_front now s after at repeats (stops.Sentinel group down) e h = ap (λ (x : Ended). x.front) (some_is h)
+stop_front now s after at repeats (stops.Hung component fault) e h = ap (λ (x : Ended). x.front) (some_is h)
+stop_front now s after at repeats (stops.Raised component fault) e h = ap (λ (x : Ended). x.front) (some_is h)
 stop_front now s after at repeats (stops.Revoked shown) e h = try_front now s after at (cause.Revoked shown) repeats e h
 
 -- the end that a step came to
 told_end : (end : Option Ended) (e : Ended) → progress.Ended e ≡ progress_of end → end ≡ Some e
 told_end end e is = sym (end_is end) ∙ sym (ap end_of is)
 
-step_front : (c : ContainerValue) (asks : List Answer → Next) (s after : TriesValue) (a : Option AttemptValue) (e : Ended)
-    → StepsAs c asks s a (progress.Ended e) after → e.front.0 ≡ length c.boot.entries
-step_front c asks s after None e steps = let never = steps.0 in absurd (cc)
-step_front c asks s after (Some a) e steps = ap (λ (p : Place). p.0) (go steps.0 steps.3) where
+step_front : (c new : ContainerValue) (asks : List Answer → Next) (s after : TriesValue) (a : Option AttemptValue) (e : Ended)
+    → StepsAs c asks s a (progress.Ended e) new after → e.front.0 ≡ length c.boot.entries
+step_front c new asks s after None e steps = let never = steps.0 in absurd (cc)
+step_front c new asks s after (Some a) e steps = ap (λ (p : Place). p.0) (go steps.0 steps.3) where
   go : (came : Stepped) → ComesTo c asks s a came (progress.Ended e) after → e.front ≡ (front_at c).front
   go coming.Went h = let never = h.0 in absurd (cc)
   go (coming.Done d) h = let never = h.0 in absurd (cc)
@@ -90,29 +93,30 @@ step_front c asks s after (Some a) e steps = ap (λ (p : Place). p.0) (go steps.
       (subst (λ (o : Option Ended). IsStopped (front_at c) (closed s) a.ticket.call.at a.repeats stop o after) (told_end h.0 e h.1) h.2)
 
 -- A request that has ended tells how far the journal has come.
-pub ended_front : (old new : ContainerValue) (asks : List Answer → Next) (s mid after : TriesValue) (to : Progress) (e : Ended)
-    → StepsAs old asks s s.attempt to mid → GoesOn old mid to (Some e) new after → e.front.0 ≡ length new.boot.entries
-ended_front old new asks s mid after progress.Went e steps goes = let never = goes.0 in absurd (cc)
-ended_front old new asks s mid after (progress.Done done) e steps goes = commit_front old new mid after mid.attempt done e goes
-ended_front old new asks s mid after (progress.Ended end) e steps goes =
-    ap (λ (x : Ended). x.front.0) (some_is goes.0) ∙ step_front old asks s mid s.attempt end steps
+pub ended_front : (old between new : ContainerValue) (asks : List Answer → Next) (s mid after : TriesValue) (to : Progress) (e : Ended)
+    → StepsAs old asks s s.attempt to between mid → GoesOn between mid to (Some e) new after → e.front.0 ≡ length new.boot.entries
+ended_front old between new asks s mid after progress.Went e steps goes = let never = goes.0 in absurd (cc)
+ended_front old between new asks s mid after (progress.Done done) e steps goes = commit_front between new mid after mid.attempt done e goes
+ended_front old between new asks s mid after (progress.Ended end) e steps goes =
+    ap (λ (x : Ended). x.front.0) (some_is goes.0) ∙ step_front old between asks s mid s.attempt end steps
+    ∙ sym (ap length (step_entries old between asks s mid s.attempt (progress.Ended end) steps))
     ∙ ap (λ (c : ContainerValue). length c.boot.entries) (sym goes.1)
 
 module _ (first : BeginWithFirstTries) where
   -- It began where its first try did.
-  pub ended_from : (old new : ContainerValue) (asks : List Answer → Next) (s mid after : TriesValue) (to : Progress) (e : Ended)
-      → StepsAs old asks s s.attempt to mid → GoesOn old mid to (Some e) new after → e.from.0 ≡ begun_at s (length old.boot.entries)
-  ended_from old new asks s mid after progress.Went e steps goes = let never = goes.0 in absurd (cc)
-  ended_from old new asks s mid after (progress.Done done) e steps goes =
-      first.committed old new mid after done e goes ∙ first.stepped old asks s mid (progress.Done done) (length old.boot.entries) steps refl
-  ended_from old new asks s mid after (progress.Ended end) e steps goes =
-      ap (λ (x : Ended). x.from.0) (some_is goes.0) ∙ first.stopped old asks s mid end steps
+  pub ended_from : (old between new : ContainerValue) (asks : List Answer → Next) (s mid after : TriesValue) (to : Progress) (e : Ended)
+      → StepsAs old asks s s.attempt to between mid → GoesOn between mid to (Some e) new after → e.from.0 ≡ begun_at s (length old.boot.entries)
+  ended_from old between new asks s mid after progress.Went e steps goes = let never = goes.0 in absurd (cc)
+  ended_from old between new asks s mid after (progress.Done done) e steps goes =
+      first.committed between new mid after done e goes ∙ first.stepped old asks between s mid (progress.Done done) (length between.boot.entries) steps refl
+  ended_from old between new asks s mid after (progress.Ended end) e steps goes =
+      ap (λ (x : Ended). x.from.0) (some_is goes.0) ∙ first.stopped old asks between s mid end steps
 
   -- And so does one that goes on.
-  pub begun_kept : (old new : ContainerValue) (asks : List Answer → Next) (s mid after : TriesValue) (to : Progress) (later : ℕ)
-      → StepsAs old asks s s.attempt to mid → GoesOn old mid to None new after → begun_at after later ≡ begun_at s (length old.boot.entries)
-  begun_kept old new asks s mid after progress.Went later steps goes =
-      ap (λ (x : TriesValue). begun_at x later) goes.2 ∙ first.stepped old asks s mid progress.Went later steps refl
-  begun_kept old new asks s mid after (progress.Done done) later steps goes =
-      first.tried old new mid after done later goes ∙ first.stepped old asks s mid (progress.Done done) (length old.boot.entries) steps refl
-  begun_kept old new asks s mid after (progress.Ended end) later steps goes = let never = goes.0 in absurd (cc)
+  pub begun_kept : (old between new : ContainerValue) (asks : List Answer → Next) (s mid after : TriesValue) (to : Progress) (later : ℕ)
+      → StepsAs old asks s s.attempt to between mid → GoesOn between mid to None new after → begun_at after later ≡ begun_at s (length old.boot.entries)
+  begun_kept old between new asks s mid after progress.Went later steps goes =
+      ap (λ (x : TriesValue). begun_at x later) goes.2 ∙ first.stepped old asks between s mid progress.Went later steps refl
+  begun_kept old between new asks s mid after (progress.Done done) later steps goes =
+      first.tried between new mid after done later goes ∙ first.stepped old asks between s mid (progress.Done done) (length between.boot.entries) steps refl
+  begun_kept old between new asks s mid after (progress.Ended end) later steps goes = let never = goes.0 in absurd (cc)

@@ -259,17 +259,17 @@ serves_goes {P} first stays accepts asks old container after tries program closi
         serving = serves.brings.serving none;
         since =
             subst (λ (n : ℕ). old.facts.front.0 ≤ n)
-            (sym (begun_kept first container after (asks program) tries serves.mid later serves.to (length after.boot.entries) serves.steps
-            (subst (λ (o : Option Ended). GoesOn container serves.mid serves.to o after later) none serves.goes_on)))
+            (sym (begun_kept first container serves.between after (asks program) tries serves.mid later serves.to (length after.boot.entries) serves.steps
+            (subst (λ (o : Option Ended). GoesOn serves.between serves.mid serves.to o after later) none serves.goes_on)))
             s.since;
       }
 
       by : (end : Option Ended) → serves.end ≡ end → MayGoOn accepts asks after.boot (after_closing_if (option_map (closing_of old.facts old.lease (events_of after)) end) (record old { work = Serving later program }))
       by None is = other_work accepts asks after.boot old (Serving later program) (on is) now
       by (Some e) is =
-          let goes = subst (λ (o : Option Ended). GoesOn container serves.mid serves.to o after later) is serves.goes_on in
-          let from = ended_from first container after (asks program) tries serves.mid later serves.to e serves.steps goes in
-          let front = ended_front container after (asks program) tries serves.mid later serves.to e serves.steps goes in
+          let goes = subst (λ (o : Option Ended). GoesOn serves.between serves.mid serves.to o after later) is serves.goes_on in
+          let from = ended_from first container serves.between after (asks program) tries serves.mid later serves.to e serves.steps goes in
+          let front = ended_front container serves.between after (asks program) tries serves.mid later serves.to e serves.steps goes in
           let stands = subst (λ (o : Option Ended). MayEnd after.boot.start (events_of after) (errand_of tries (asks program)) o) is serves.brings.ended in
           left_goes accepts asks after.boot _ (closing_of old.facts old.lease (events_of after) e).closed
           (subst (λ (n : ℕ). old.facts.front.0 ≤ n) (sym from) s.since) stands.from (omega (arith, front)) g.small

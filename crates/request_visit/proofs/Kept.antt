@@ -39,6 +39,8 @@ by_try now s after at why repeats (Some e) none ends = absurd (cc)
 by_stop : (now : HistoryFront) (s after : TriesValue) (at : Place) (repeats : Bool) (stop : Stop) (end : Option Ended)
     → end ≡ None → IsStopped now (closed s) at repeats stop end after → AreKept s after
 by_stop now s after at repeats (stops.Sentinel group down) end none stopped = absurd (cc)
+by_stop now s after at repeats (stops.Hung component fault) end none stopped = absurd (cc)
+by_stop now s after at repeats (stops.Raised component fault) end none stopped = absurd (cc)
 by_stop now s after at repeats (stops.Revoked shown) end none stopped = by_try now s after at _ repeats end none stopped
 
 -- a step that did not end the request, as an end
@@ -53,10 +55,10 @@ by_coming c asks s after a (coming.Done done) to comes none = from_same s after 
 by_coming c asks s after a (coming.Stopped stop) to comes none =
     by_stop _ s after a.ticket.call.at a.repeats stop comes.0 (no_end comes.0 to comes.1 none) comes.2
 
-by_step : (c : ContainerValue) (asks : List Answer → Next) (s after : TriesValue) (a : Option AttemptValue) (to : Progress)
-    → StepsAs c asks s a to after → end_of to ≡ None → AreKept s after
-by_step c asks s after None to steps none = from_same s after _ steps.1 (refl, refl)
-by_step c asks s after (Some a) to steps none = by_coming c asks s after a steps.0 to steps.3 none
+by_step : (c new : ContainerValue) (asks : List Answer → Next) (s after : TriesValue) (a : Option AttemptValue) (to : Progress)
+    → StepsAs c asks s a to new after → end_of to ≡ None → AreKept s after
+by_step c new asks s after None to steps none = from_same s after _ steps.1 (refl, refl)
+by_step c new asks s after (Some a) to steps none = by_coming c asks s after a steps.0 to steps.3 none
 
 by_refusal : (now : HistoryFront) (es : List Entry) (s after : TriesValue) (at : Place) (repeats : Bool) (why : CommitRefusal) (end : Option Ended)
     → end ≡ None → IsRefused now es (closed s) at why repeats end after → AreKept s after
@@ -91,11 +93,11 @@ unended old new mid after (progress.Done done) end none goes = refl
 unended old new mid after (progress.Ended e) end none goes = let some = goes.0 in absurd (cc)
 
 -- A request that goes on asks for what it asked for.
-pub errand_kept : (old new : ContainerValue) (asks : List Answer → Next) (s mid after : TriesValue) (to : Progress) (end : Option Ended)
-    → end ≡ None → StepsAs old asks s s.attempt to mid → GoesOn old mid to end new after → errand_of after asks ≡ errand_of s asks
-errand_kept old new asks s mid after to end none steps goes =
-    let first = by_step old asks s mid s.attempt to steps (unended old new mid after to end none goes) in
-    let then = through old new mid after to end none goes in
+pub errand_kept : (old between new : ContainerValue) (asks : List Answer → Next) (s mid after : TriesValue) (to : Progress) (end : Option Ended)
+    → end ≡ None → StepsAs old asks s s.attempt to between mid → GoesOn between mid to end new after → errand_of after asks ≡ errand_of s asks
+errand_kept old between new asks s mid after to end none steps goes =
+    let first = by_step old between asks s mid s.attempt to steps (unended between new mid after to end none goes) in
+    let then = through between new mid after to end none goes in
     let number : after.request ≡ s.request = then.0 ∙ first.0 in
     let text : after.text ≡ s.text = then.1 ∙ first.1 in
     cc

@@ -1,4 +1,5 @@
 pub mod Accounting
+pub mod Between
 pub mod Chaining
 pub mod Counted
 pub mod Ended

@@ -33,7 +33,7 @@ use Rattle.request_tries.specs.Ends.{done_of}
 use Rattle.request_tries.specs.Serving.{TriesValue}
 use Rattle.request_tries.specs.declared.outcome.Ended.{Ended}
 use Rattle.request_tries.specs.declared.outcome.RequestOutcome.{RequestOutcome}
-use Rattle.request_tries.specs.declared.outcome.RequestOutcome.TheVariants.{Page, Sentinel, Revoked, Conflict, JournalFull, KeeperFailed}
+use Rattle.request_tries.specs.declared.outcome.RequestOutcome.TheVariants.{Page, Sentinel, Hung, Raised, Revoked, Conflict, JournalFull, KeeperFailed}
 use Rattle.outcome_items.specs.Traces.{marks_of_outcome, marks_of_write, uncounted, window_trace}
 use Rattle.outcome_items.specs.declared.item.Item.{Item}
 use Rattle.request_visit.specs.Advancing.{Advances, HearsReadOf, IsItemOf, after_read, departed}
@@ -274,6 +274,8 @@ left_marks marks v ready (Page place again) none rests = by_ready (ready again) 
   by_ready (Respond bytes) = record { rests = rests.rests; marks_are = rests.marks_are ∙ sym (ap marks_of_write none) }
   by_ready (Write order shown) = (none, rests.marks_are)
 left_marks marks v ready (Sentinel group down) none rests = (none, rests)
+left_marks marks v ready (Hung component fault) none rests = (none, rests)
+left_marks marks v ready (Raised component fault) none rests = (none, rests)
 left_marks marks v ready (Revoked tries) none rests = (none, rests)
 left_marks marks v ready (Conflict tries) none rests = (none, rests)
 left_marks marks v ready (JournalFull full) none rests = (none, rests)

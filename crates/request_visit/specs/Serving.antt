@@ -12,7 +12,7 @@ use Rattle.request_tries.specs.declared.outcome.Ended.{Ended}
 use Rattle.request_tries.specs.declared.outcome.Progress.{Progress}
 use Rattle.request_tries.specs.declared.outcome.Progress.TheVariants as progress
 use Rattle.request_tries.specs.declared.outcome.RequestOutcome.{RequestOutcome}
-use Rattle.request_tries.specs.declared.outcome.RequestOutcome.TheVariants.{Page, Sentinel, Revoked, Conflict, JournalFull, KeeperFailed}
+use Rattle.request_tries.specs.declared.outcome.RequestOutcome.TheVariants.{Page, Sentinel, Hung, Raised, Revoked, Conflict, JournalFull, KeeperFailed}
 use Rattle.session_way.specs.declared.lease.SessionLease.{SessionLease}
 use Rattle.outcome_items.specs.declared.item.Holds.{Holds}
 use Rattle.outcome_items.specs.declared.outcome.ItemOutcome.TheVariants as item
@@ -31,6 +31,8 @@ holds_of e = record { from = e.from; front = e.front; held = e.held }
 abbrev pub closed_with : (Bool → Ready) → RequestOutcome → Closed
 closed_with ready (Page place again) = closed.Page place again (ready again)
 closed_with ready (Sentinel group down) = closed.Other (item.Ended (Sentinel group down))
+closed_with ready (Hung component fault) = closed.Other (item.Ended (Hung component fault))
+closed_with ready (Raised component fault) = closed.Other (item.Ended (Raised component fault))
 closed_with ready (Revoked tries) = closed.Other (item.Ended (Revoked tries))
 closed_with ready (Conflict tries) = closed.Other (item.Ended (Conflict tries))
 closed_with ready (JournalFull full) = closed.Other (item.Ended (JournalFull full))
@@ -65,13 +67,14 @@ pub record Commits (old : ContainerValue) (asks : List Answer → Next) (facts :
   pub brings : Brings old new asks s after end
   pub closing_is : closing ≡ option_map (closing_of facts lease (events_of new)) end
 
--- A request made one step in the container, and its commit where its program is done; and it left the container where
--- that has ended it.
+-- A request made one step in the container, which may count an entering, and its commit where its program is done; and
+-- it left the container where that has ended it.
 pub record Serves (old : ContainerValue) (asks : List Answer → Next) (facts : VisitFacts) (lease : Option SessionLease) (s : TriesValue) (closing : Option Closing) (new : ContainerValue) (after : TriesValue) : Type 0 where
   pub to : Progress
+  pub between : ContainerValue
   pub mid : TriesValue
   pub end : Option Ended
-  pub steps : StepsAs old asks s s.attempt to mid
-  pub goes_on : GoesOn old mid to end new after
+  pub steps : StepsAs old asks s s.attempt to between mid
+  pub goes_on : GoesOn between mid to end new after
   pub brings : Brings old new asks s after end
   pub closing_is : closing ≡ option_map (closing_of facts lease (events_of new)) end

@@ -28,7 +28,7 @@ use Rattle.session_way.specs.declared.way.SessionWay.{SessionWay}
 use Rattle.session_way.specs.declared.way.SessionWay.TheVariants as way
 use Rattle.request_tries.specs.Ends.{done_at}
 use Rattle.request_tries.specs.declared.outcome.RequestOutcome.{RequestOutcome}
-use Rattle.request_tries.specs.declared.outcome.RequestOutcome.TheVariants.{Page, Sentinel, Revoked, Conflict, JournalFull, KeeperFailed}
+use Rattle.request_tries.specs.declared.outcome.RequestOutcome.TheVariants.{Page, Sentinel, Hung, Raised, Revoked, Conflict, JournalFull, KeeperFailed}
 use Rattle.outcome_items.specs.declared.item.Item.{Item}
 use Rattle.outcome_items.specs.declared.outcome.ItemOutcome.{ItemOutcome}
 use Rattle.outcome_items.specs.declared.outcome.ItemOutcome.TheVariants as item
@@ -71,8 +71,8 @@ pub record IsOrderOf (facts : VisitFacts) (lease : Option SessionLease) (what : 
   pub nonce_is : order.nonce ≡ facts.write
   pub expiry_is : order.expiry.0 ≡ facts.now.0 + 1800000
 
--- A write of this order has begun by passes that were taken for it; its value is to be stored by at least one brick, and
--- by no more than a cookie may name.
+-- A write of this order has begun by passes that were taken for it; its value is to be stored by at least one brick,
+-- and by no more than a cookie may name.
 pub record HasBegun (order : WriteOrder) (begun : WritingState) : Type 0 where
   pub old : WindowsValue
   pub new : WindowsValue
@@ -164,6 +164,8 @@ CookieTold makes facts lease what (Some cookie) = HasCome makes facts lease what
 abbrev pub EndTold : {L : Type 0} → (L → LinkEvent → L → Type 0) → List Entry → VisitFacts → Option SessionLease → Option Cookie → RequestOutcome → Type 0
 EndTold makes es facts lease cookie (Page place again) = CookieTold makes facts lease (done_at es place) cookie
 EndTold makes es facts lease cookie (Sentinel group down) = cookie ≡ None
+EndTold makes es facts lease cookie (Hung component fault) = cookie ≡ None
+EndTold makes es facts lease cookie (Raised component fault) = cookie ≡ None
 EndTold makes es facts lease cookie (Revoked tries) = cookie ≡ None
 EndTold makes es facts lease cookie (Conflict tries) = cookie ≡ None
 EndTold makes es facts lease cookie (JournalFull full) = cookie ≡ None

@@ -240,9 +240,10 @@ impl<P: Drop> Visit<P> {
             counts,
             lease,
             cookie,
-            way: _,
+            way,
             work,
         } = self;
+        drop(way);
         let value = value_of(lease);
         match work {
             Work::Left(fate) => Item {

@@ -8,6 +8,8 @@ ghost use Rattle.outcome_items.specs.Traces.{again_in_end};
 ghost use Rattle.call_ticket.specs.declared.next.Next.TheVariants as next;
 ghost use Rattle.request_tries.specs.Serving.{IsServing, wanted_by};
 ghost use Rattle.request_tries.specs.Steps.{KeepsNothing};
+ghost use Rattle.outcome_items.specs.declared.outcome.ItemOutcome.{ItemOutcome};
+ghost use Rattle.request_visit.specs.declared.serving.Closed.{Closed};
 ghost use Rattle.request_visit.specs.Serving.{Commits, Serves, closing_after, ready_after};
 
 use crate::facts::VisitFacts;
@@ -67,6 +69,14 @@ fn ready_after(
     }
 }
 
+/// How a request leaves the container that is not committed. What was made for its page is let go.
+fn other(outcome: RequestOutcome, ready: Option<Ready>) -> Closed
+    ensures { result ≡ Closed.Other (ItemOutcome.Ended outcome) }
+{
+    drop(ready);
+    Closed::Other(ItemOutcome::Ended(outcome))
+}
+
 /// How a request leaves the container that has ended so, where this was made before its commit.
 fn closing_after(
     alloc: Global,
@@ -98,21 +108,20 @@ fn closing_after(
             }
         }
         RequestOutcome::Sentinel { group, down } => {
-            Closed::Other(ItemOutcome::Ended(RequestOutcome::Sentinel { group, down }))
+            other(RequestOutcome::Sentinel { group, down }, ready)
         }
-        RequestOutcome::Revoked(tries) => {
-            Closed::Other(ItemOutcome::Ended(RequestOutcome::Revoked(tries)))
+        RequestOutcome::Hung { component, fault } => {
+            other(RequestOutcome::Hung { component, fault }, ready)
         }
-        RequestOutcome::Conflict(tries) => {
-            Closed::Other(ItemOutcome::Ended(RequestOutcome::Conflict(tries)))
+        RequestOutcome::Raised { component, fault } => {
+            other(RequestOutcome::Raised { component, fault }, ready)
         }
-        RequestOutcome::JournalFull(full) => {
-            Closed::Other(ItemOutcome::Ended(RequestOutcome::JournalFull(full)))
-        }
-        RequestOutcome::KeeperFailed => {
-            Closed::Other(ItemOutcome::Ended(RequestOutcome::KeeperFailed))
-        }
+        RequestOutcome::Revoked(tries) => other(RequestOutcome::Revoked(tries), ready),
+        RequestOutcome::Conflict(tries) => other(RequestOutcome::Conflict(tries), ready),
+        RequestOutcome::JournalFull(full) => other(RequestOutcome::JournalFull(full), ready),
+        RequestOutcome::KeeperFailed => other(RequestOutcome::KeeperFailed, ready),
     };
+    drop(done);
     Ok(Closing { closed, holds })
 }
 

@@ -14,7 +14,7 @@ use Rattle.journal_model.specs.Calls.{entry_of}
 use Rattle.journal_model.specs.Reboots.{undone_of}
 use Rattle.journal_model.specs.declared.entry.Entry.{Entry}
 use Rattle.journal_model.specs.declared.entry.Entry.TheVariants.{Commit, Down, Up}
-use Rattle.line_steps.specs.Callers.{begin_step, caller_at}
+use Rattle.line_steps.specs.Callers.{begin_step, caller_at, call_step}
 use Rattle.line_steps.specs.declared.callers.Caller.{Caller}
 use Rattle.line_steps.specs.declared.callers.Caller.TheVariants.{Absent, Live}
 use Rattle.scenario_text.proofs.Leaving.{Leaves, leaves-or_refused}
@@ -24,9 +24,12 @@ use Rattle.scenario_text.specs.declared.boot_line.BootLine.TheVariants as boots
 use Rattle.scenario_text.specs.declared.session_line.SessionLine.{SessionLine}
 use Rattle.seat_lines.specs.Site.{SiteState}
 use Rattle.session_steps.specs.Sessions.{SessionsState, session_line}
-use Rattle.scenario_engine.specs.Running.{with_callers, with_sessions, with_boot_entry, since_refused, commit_ends, with_keeper, boot_refusal, caller_commits, caller_drops, commit_step, drop_step, scope_of, goes_down, reboots, down_step, up_step, reboot_step, table_step, journal_step, boot_line}
+use Rattle.scenario_engine.specs.Running.{with_callers, with_called, with_sessions, with_boot_entry, since_refused, commit_ends, with_keeper, boot_refusal, caller_commits, caller_drops, commit_step, drop_step, scope_of, goes_down, reboots, down_step, up_step, reboot_step, table_step, journal_step, boot_line}
 use Rattle.scenario_engine.specs.State.{RunningState, site_of}
 use Rattle.scenario_engine.proofs.SessionSerials.{GoesOn, session_goes}
+use Rattle.boot_core.specs.Boot.{BootValue}
+use Rattle.scenario_engine.proofs.Entered.{leaves_called}
+use Rattle.scenario_text.specs.declared.call_line.CallLine.{CallLine}
 
 -- A site goes on to another of the same boot: the key is the same, the moment is none before, and events were added.
 pub record Continues (s t : SiteState) : Type 0 where
@@ -62,9 +65,13 @@ adds r q more seats sessions start since =
 pub beside_itself : (r : RunningState) → Beside r r
 beside_itself r = adds r r [] refl refl refl (sym (append-nil r.since))
 
-pub beside_callers : (r : RunningState) (a : Answer (List Caller)) → Leaves (Beside r) (within (with_callers r) a)
+beside_callers : (r : RunningState) (a : Answer (List Caller)) → Leaves (Beside r) (within (with_callers r) a)
 beside_callers r Refused = tt
 beside_callers r (Done callers text) = adds r (with_callers r callers) [] refl refl refl (sym (append-nil r.since))
+
+pub beside_called : (r : RunningState) (n : ℕ) (line : CallLine) → Leaves (Beside r) (within (with_called r) (call_step r.boot r.callers n line))
+beside_called r n line =
+    leaves_called (Beside r) r n line (λ done is. adds r (with_called r done) [] refl refl (ap (λ (b : BootValue). b.start) is) (sym (append-nil r.since)))
 
 pub beside_sessions : (r : RunningState) (line : SessionLine) → Leaves (Beside r) (within (with_sessions r) (session_line r.sessions line))
 beside_sessions r line = by (session_line r.sessions line) (session_goes r.sessions line)

@@ -38,10 +38,12 @@ use Rattle.scenario_engine.proofs.SeatChanges.{HasStep, ReplyLaw, changed_step, 
 use Rattle.scenario_engine.proofs.SeatRows.{is_done, hands_on, first_calls, step_done, there_where, no_hands, near_of, bricks_of, done_alike}
 use Rattle.scenario_engine.specs.KeeperCalls.{KeeperCall, Gave, Kept, Failed, apply_calls, TellsCalls}
 use Rattle.scenario_engine.specs.Opening.{StartReplies, Opened, UnstartedBoot, is_spent, opening, opening_of, opening_over, calls_over_rows, start_calls, start_calls_of}
-use Rattle.scenario_engine.specs.Running.{commit_ends, with_keeper, boot_refusal, keep_calls, caller_commits, caller_calls, commit_step, with_callers, with_sessions, commit_calls, boot_line}
+use Rattle.scenario_engine.specs.Running.{commit_ends, with_keeper, boot_refusal, keep_calls, caller_commits, caller_calls, commit_step, with_called, with_sessions, commit_calls, boot_line}
 use Rattle.scenario_engine.specs.State.{RunningState, State, Heading, Running, Outcome, RefusedIn, DoneTo, UnstartedIn, UnderWayIn, site_of}
 use Rattle.scenario_engine.specs.Transcript.{Turn, lines_in, first, answer_to, turn_outcome, calls_to, turn_calls, calls_from, transcript, End, end_from, Ended, RefusedAt, TooLong, Unstarted, UnderWay, IsAnswered}
 use Rattle.scenario_engine.proofs.TellingCalls.{none_after}
+use Rattle.crash_base.specs.declared.fault_plans.FaultPlan.{FaultPlan}
+use Rattle.component_pool.specs.Plans.{left_by_process}
 
 -- the last value of a count of calls
 abbrev pub LAST_COUNT : ℕ
@@ -223,50 +225,50 @@ apply_decided ws false true calls others v a b twins = absurd (cc (lost_left (Ke
 
 -- how a boot opens
 
-unspent_decided : (parts : Parts) (limits : JournalLimits) (rows : List RowWrite) (spent keeps other : Bool) (calls others : List KeeperCall) (v a b : KeeperTold)
+unspent_decided : (parts : Parts) (plans : List FaultPlan) (limits : JournalLimits) (rows : List RowWrite) (spent keeps other : Bool) (calls others : List KeeperCall) (v a b : KeeperTold)
     → Twins ((if spent then [] else apply_calls (boot_row (last_boot rows + 1) ∷ []) keeps) ++ calls) ((if spent then [] else apply_calls (boot_row (last_boot rows + 1) ∷ []) other) ++ others) v a b
-    → Decided (if spent then UnstartedBoot causes.BootsSpent else (if keeps then Opened (start_over parts limits rows) else UnstartedBoot causes.KeeperFailed)) (if spent then UnstartedBoot causes.BootsSpent else (if other then Opened (start_over parts limits rows) else UnstartedBoot causes.KeeperFailed)) calls others a b
-unspent_decided parts limits rows true keeps other calls others v a b twins = undecided (UnstartedBoot causes.BootsSpent) calls others v a b twins
-unspent_decided parts limits rows false keeps other calls others v a b twins =
-    decided_as (λ (keeps : Bool). if keeps then Opened (start_over parts limits rows) else UnstartedBoot causes.KeeperFailed) keeps other calls others a b
+    → Decided (if spent then UnstartedBoot causes.BootsSpent else (if keeps then Opened (start_over parts plans limits rows) else UnstartedBoot causes.KeeperFailed)) (if spent then UnstartedBoot causes.BootsSpent else (if other then Opened (start_over parts plans limits rows) else UnstartedBoot causes.KeeperFailed)) calls others a b
+unspent_decided parts plans limits rows true keeps other calls others v a b twins = undecided (UnstartedBoot causes.BootsSpent) calls others v a b twins
+unspent_decided parts plans limits rows false keeps other calls others v a b twins =
+    decided_as (λ (keeps : Bool). if keeps then Opened (start_over parts plans limits rows) else UnstartedBoot causes.KeeperFailed) keeps other calls others a b
     (apply_decided (boot_row (last_boot rows + 1) ∷ []) keeps other calls others v a b twins)
 
-over_decided : (parts : Parts) (limits : JournalLimits) (rows : List RowWrite) (bad : Option RowId) (keeps other : Bool) (calls others : List KeeperCall) (v a b : KeeperTold)
+over_decided : (parts : Parts) (plans : List FaultPlan) (limits : JournalLimits) (rows : List RowWrite) (bad : Option RowId) (keeps other : Bool) (calls others : List KeeperCall) (v a b : KeeperTold)
     → Twins (calls_over_rows rows keeps bad ++ calls) (calls_over_rows rows other bad ++ others) v a b
-    → Decided (opening_over parts limits rows keeps bad) (opening_over parts limits rows other bad) calls others a b
-over_decided parts limits rows (Some id) keeps other calls others v a b twins = undecided (UnstartedBoot (causes.BadRow id)) calls others v a b twins
-over_decided parts limits rows None keeps other calls others v a b twins =
-    unspent_decided parts limits rows (is_spent rows) keeps other calls others v a b twins
+    → Decided (opening_over parts plans limits rows keeps bad) (opening_over parts plans limits rows other bad) calls others a b
+over_decided parts plans limits rows (Some id) keeps other calls others v a b twins = undecided (UnstartedBoot (causes.BadRow id)) calls others v a b twins
+over_decided parts plans limits rows None keeps other calls others v a b twins =
+    unspent_decided parts plans limits rows (is_spent rows) keeps other calls others v a b twins
 
-given_decided : (parts : Parts) (limits : JournalLimits) (rows more : List RowWrite) (keeps other : Bool) (calls others : List KeeperCall) (v a b : KeeperTold)
+given_decided : (parts : Parts) (plans : List FaultPlan) (limits : JournalLimits) (rows more : List RowWrite) (keeps other : Bool) (calls others : List KeeperCall) (v a b : KeeperTold)
     → Twins (Gave rows ∷ calls_over_rows rows keeps (first_bad rows) ++ calls) (Gave more ∷ calls_over_rows more other (first_bad more) ++ others) v a b
-    → Decided (opening_over parts limits rows keeps (first_bad rows)) (opening_over parts limits more other (first_bad more)) calls others a b
-given_decided parts limits rows more keeps other calls others v a b twins =
+    → Decided (opening_over parts plans limits rows keeps (first_bad rows)) (opening_over parts plans limits more other (first_bad more)) calls others a b
+given_decided parts plans limits rows more keeps other calls others v a b twins =
     let P : List RowWrite → Type 0 = λ given. Twins (Gave rows ∷ calls_over_rows rows keeps (first_bad rows) ++ calls) (Gave given ∷ calls_over_rows given other (first_bad given) ++ others) v a b
-    → Decided (opening_over parts limits rows keeps (first_bad rows)) (opening_over parts limits given other (first_bad given)) calls others a b in
+    → Decided (opening_over parts plans limits rows keeps (first_bad rows)) (opening_over parts plans limits given other (first_bad given)) calls others a b in
     let same : rows ≡ more = twins.left.1.0.0 ∙ sym twins.right.1.0.0 in
     let here : P rows = λ both.
-    over_decided parts limits rows (first_bad rows) keeps other calls others (after (Gave rows) v) a b
+    over_decided parts plans limits rows (first_bad rows) keeps other calls others (after (Gave rows) v) a b
     (twins_next (Gave rows) (calls_over_rows rows keeps (first_bad rows) ++ calls) (calls_over_rows rows other (first_bad rows) ++ others) v a b both) in
     subst P same here twins
 
-replied_decided : (parts : Parts) (limits : JournalLimits) (given more : Option (List RowWrite)) (keeps other : Bool) (calls others : List KeeperCall) (v a b : KeeperTold)
+replied_decided : (parts : Parts) (plans : List FaultPlan) (limits : JournalLimits) (given more : Option (List RowWrite)) (keeps other : Bool) (calls others : List KeeperCall) (v a b : KeeperTold)
     → Twins (start_calls_of given keeps ++ calls) (start_calls_of more other ++ others) v a b
-    → Decided (opening_of parts limits given keeps) (opening_of parts limits more other) calls others a b
-replied_decided parts limits None None keeps other calls others v a b twins =
+    → Decided (opening_of parts plans limits given keeps) (opening_of parts plans limits more other) calls others a b
+replied_decided parts plans limits None None keeps other calls others v a b twins =
     record { same = refl; told = after Failed v; twins = twins_next Failed calls others v a b twins }
-replied_decided parts limits None (Some more) keeps other calls others v a b twins =
+replied_decided parts plans limits None (Some more) keeps other calls others v a b twins =
     absurd (cc (lost_left (Gave more) calls (calls_over_rows more other (first_bad more) ++ others) v a b twins))
-replied_decided parts limits (Some rows) None keeps other calls others v a b twins =
+replied_decided parts plans limits (Some rows) None keeps other calls others v a b twins =
     absurd (cc (lost_right (Gave rows) (calls_over_rows rows keeps (first_bad rows) ++ calls) others v a b twins))
-replied_decided parts limits (Some rows) (Some more) keeps other calls others v a b twins =
-    given_decided parts limits rows more keeps other calls others v a b twins
+replied_decided parts plans limits (Some rows) (Some more) keeps other calls others v a b twins =
+    given_decided parts plans limits rows more keeps other calls others v a b twins
 
-start_decided : (parts : Parts) (limits : JournalLimits) (replies other : StartReplies) (calls others : List KeeperCall) (v a b : KeeperTold)
+start_decided : (parts : Parts) (plans : List FaultPlan) (limits : JournalLimits) (replies other : StartReplies) (calls others : List KeeperCall) (v a b : KeeperTold)
     → Twins (start_calls replies ++ calls) (start_calls other ++ others) v a b
-    → Decided (opening parts limits replies) (opening parts limits other) calls others a b
-start_decided parts limits replies other calls others v a b twins =
-    replied_decided parts limits replies.rows other.rows replies.keeps other.keeps calls others v a b twins
+    → Decided (opening parts plans limits replies) (opening parts plans limits other) calls others a b
+start_decided parts plans limits replies other calls others v a b twins =
+    replied_decided parts plans limits replies.rows other.rows replies.keeps other.keeps calls others v a b twins
 
 target_decided : (s : State) (event : Bool) (replies other : StartReplies) (calls others : List KeeperCall) (v a b : KeeperTold)
     → Twins (target_calls s event replies ++ calls) (target_calls s event other ++ others) v a b
@@ -274,8 +276,8 @@ target_decided : (s : State) (event : Bool) (replies other : StartReplies) (call
 target_decided (Running r) event replies other calls others v a b twins = undecided (TheBoot r) calls others v a b twins
 target_decided (Heading head) false replies other calls others v a b twins = undecided (TheHead head) calls others v a b twins
 target_decided (Heading head) true replies other calls others v a b twins =
-    decided_as (opened_target head) (opening head.parts head.limits replies) (opening head.parts head.limits other) calls others a b
-    (start_decided head.parts head.limits replies other calls others v a b twins)
+    decided_as (opened_target head) (opening head.parts head.plans head.limits replies) (opening head.parts head.plans head.limits other) calls others a b
+    (start_decided head.parts head.plans head.limits replies other calls others v a b twins)
 
 -- a commit
 
@@ -506,7 +508,7 @@ module _ (unasked : ReplyLaw) where
   boot_decided r lines.Pass replies other calls others v a b hx hy twins = undecided (DoneTo (Running r) []) calls others v a b twins
   boot_decided r (lines.Head line) replies other calls others v a b hx hy twins = undecided (RefusedIn (Running r)) calls others v a b twins
   boot_decided r (lines.Call n line) replies other calls others v a b hx hy twins =
-      undecided (in_boot r (within (with_callers r) (call_step r.boot r.callers n line))) calls others v a b twins
+      undecided (in_boot r (within (with_called r) (call_step r.boot r.callers n line))) calls others v a b twins
   boot_decided r (lines.Boot line) replies other calls others v a b hx hy twins =
       undecided (in_boot r (boot_line r line)) calls others v a b twins
   boot_decided r (lines.Session line) replies other calls others v a b hx hy twins =
@@ -517,7 +519,7 @@ module _ (unasked : ReplyLaw) where
   boot_decided r (lines.Seat line) replies other calls others v a b hx hy twins = seat_decided r line replies.keeps other.keeps calls others v a b hx hy twins
   boot_decided r lines.Reopen replies other calls others v a b hx hy twins =
       decided_as (reopens r) (next_opening r replies.again) (next_opening r other.again) calls others a b
-      (start_decided r.boot.start.deployment r.boot.start.limits replies.again other.again calls others v a b twins)
+      (start_decided r.boot.start.deployment (left_by_process r.boot.start.plans) r.boot.start.limits replies.again other.again calls others v a b twins)
 
   line_decided : (target : Target) (line : Line) (replies other : Replies) (calls others : List KeeperCall) (v a b : KeeperTold)
       → IsThere (line_on target line replies) → IsThere (line_on target line other) → Twins (calls_on target line replies ++ calls) (calls_on target line other ++ others) v a b

@@ -12,7 +12,7 @@ use Rattle.scenario_text.specs.declared.answer.LineAnswer.{LineAnswer}
 use Rattle.scenario_text.specs.declared.answer.LineAnswer.TheVariants as answers
 use Rattle.scenario_text.specs.declared.seat_line.SeatLine.{SeatLine}
 use Rattle.scenario_text.specs.declared.seat_line.SeatLine.TheVariants as lines
-use Rattle.seat_lines.specs.Handing.{Handed, TellsHanded, AreCounted as CountedEach, AreHanded, AreSomeHanded, HasDone, LeftAsItWas, BreaksStep, BreaksRun, BreaksOff, IsAsStepLeaves, line_hands, step_hands, step_in, run_hands}
+use Rattle.seat_lines.specs.Handing.{Handed, TellsHanded, AreCounted as CountedEach, AreHanded, AreSomeHanded, HasDone, HasAddedNothing, BreaksStep, BreaksRun, BreaksOff, IsAsStepLeaves, line_hands, step_hands, step_in, run_hands}
 use Rattle.seat_lines.specs.Lines.{is_beyond, step_line, step_over}
 use Rattle.seat_lines.specs.Making.{StepHearsSpelled}
 use Rattle.session_lanes.specs.Lanes.{LanesState}
@@ -114,9 +114,9 @@ nothing_asked handed old new h none =
 broken_heard : (n : ℕ) (old new : ContainerValue) (sessions : SessionsState) (seats : SeatsState) (h : BreaksStep n old sessions seats new) → AreSomeAsked [] (seen old.told old.faults) (seen new.told new.faults) ⊎ StepHearsSpelled (step_in old sessions seats n h.keeps)
 broken_heard n old new sessions seats h = go h.added
   where
-    go : (LeftAsItWas h.handed.made old new ⊎ ((h.handed.more ≡ []) × (new.told ≡ h.handed.between) × IsAsStepLeaves (step_line (site_in old sessions seats) n h.keeps) new × StepHearsSpelled (step_in old sessions seats n h.keeps)))
+    go : (HasAddedNothing h.handed.made old new ⊎ ((h.handed.more ≡ []) × (new.told ≡ h.handed.between) × IsAsStepLeaves (step_line (site_in old sessions seats) n h.keeps) new × StepHearsSpelled (step_in old sessions seats n h.keeps)))
         → AreSomeAsked [] (seen old.told old.faults) (seen new.told new.faults) ⊎ StepHearsSpelled (step_in old sessions seats n h.keeps)
-    go (inl (none, boot, since)) = inl (nothing_asked (step_hands (site_in old sessions seats) n (h.keeps ∷ [])) old new h.handed none)
+    go (inl (none, keeps)) = inl (nothing_asked (step_hands (site_in old sessions seats) n (h.keeps ∷ [])) old new h.handed none)
     go (inr (all, told, left, heard)) = inr heard
 
 -- a run that is under way

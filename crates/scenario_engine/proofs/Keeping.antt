@@ -28,7 +28,7 @@ use Rattle.seat_lines.specs.Site.{no_seats}
 use Rattle.scenario_engine.specs.Opening.{StartReplies, Opening, Opened, UnstartedBoot, opening}
 use Rattle.session_steps.specs.Sessions.{session_line}
 use Rattle.session_steps.specs.Setup.{set_up}
-use Rattle.scenario_engine.specs.Running.{started, reopened_over, with_callers, with_sessions, commit_step, boot_line}
+use Rattle.scenario_engine.specs.Running.{started, reopened_over, with_called, with_sessions, commit_step, boot_line}
 use Rattle.scenario_engine.specs.State.{RunningState, State, Heading, Running, Outcome, RefusedIn, DoneTo, UnstartedIn, UnderWayIn}
 use Rattle.scenario_engine.specs.Transcript.{Turn, answer_to, turn_outcome, ends_to, turn_ends, boots_in, boots_from, end_from, last_state, RefusedAt, TooLong, Unstarted, UnderWay}
 
@@ -64,10 +64,10 @@ HoldsIn H R (Running r) = R r
 -- Each line keeps what holds of a head, and of a boot with its callers; and a boot that starts has it.
 pub record Keeps (H : Head → Type 0) (R : RunningState → Type 0) : Type 0 where
   pub heads : (head : Head) (line : Line) → H head → Leaves H (head_line head line)
-  pub opens : (head : Head) (replies : StartReplies) (start : Start) → H head → opening head.parts head.limits replies ≡ Opened start → R (started (set_up head.setup 0) no_seats head.site start)
+  pub opens : (head : Head) (replies : StartReplies) (start : Start) → H head → opening head.parts head.plans head.limits replies ≡ Opened start → R (started (set_up head.setup 0) no_seats head.site start)
   pub reopens : (r : RunningState) (replies : StartReplies) (start : Start) → R r → next_opening r replies ≡ Opened start → R (reopened_over r start)
   pub commits : (r : RunningState) (n : ℕ) (keeps : Bool) → R r → Leaves R (commit_step r n keeps)
-  pub calls : (r : RunningState) (n : ℕ) (line : CallLine) → IsShortCall line → R r → Leaves R (within (with_callers r) (call_step r.boot r.callers n line))
+  pub calls : (r : RunningState) (n : ℕ) (line : CallLine) → IsShortCall line → R r → Leaves R (within (with_called r) (call_step r.boot r.callers n line))
   pub boots : (r : RunningState) (line : BootLine) → R r → Leaves R (boot_line r line)
   pub sessions : (r : RunningState) (line : SessionLine) → R r → Leaves R (within (with_sessions r) (session_line r.sessions line))
   pub seats : (r : RunningState) (line : SeatLine) (replies : List Bool) → R r → LeavesTo (HoldsIn H R) (seat_over r line replies)
@@ -79,14 +79,14 @@ HoldsOf H R (TheBoot r) = R r
 HoldsOf H R (TheUnstarted head refusal) = H head
 
 module _ (H : Head → Type 0) (R : RunningState → Type 0) (B : BootValue → Type 0) (keeps : Keeps H R) (of_boot : (r : RunningState) → R r → B r.boot) where
-  kept_opened : (head : Head) (replies : StartReplies) (how : Opening) → opening head.parts head.limits replies ≡ how → H head → HoldsOf H R (opened_target head how)
+  kept_opened : (head : Head) (replies : StartReplies) (how : Opening) → opening head.parts head.plans head.limits replies ≡ how → H head → HoldsOf H R (opened_target head how)
   kept_opened head replies (Opened start) opens holds = keeps.opens head replies start holds opens
   kept_opened head replies (UnstartedBoot refusal) opens holds = holds
 
   kept_target : (s : State) (event : Bool) (replies : StartReplies) → HoldsIn H R s → HoldsOf H R (target_of s event replies)
   kept_target (Running r) event replies holds = holds
   kept_target (Heading head) false replies holds = holds
-  kept_target (Heading head) true replies holds = kept_opened head replies (opening head.parts head.limits replies) refl holds
+  kept_target (Heading head) true replies holds = kept_opened head replies (opening head.parts head.plans head.limits replies) refl holds
 
   kept_in_head : (head : Head) (a : Answer Head) → H head → Leaves H a → LeavesTo (HoldsIn H R) (in_head head a)
   kept_in_head head Refused holds left = holds
@@ -104,7 +104,7 @@ module _ (H : Head → Type 0) (R : RunningState → Type 0) (B : BootValue → 
   kept_line_over r lines.Pass replies short holds = holds
   kept_line_over r (lines.Head line) replies short holds = holds
   kept_line_over r (lines.Call n line) replies short holds =
-      kept_in_boot r (within (with_callers r) (call_step r.boot r.callers n line)) holds (keeps.calls r n line short holds)
+      kept_in_boot r (within (with_called r) (call_step r.boot r.callers n line)) holds (keeps.calls r n line short holds)
   kept_line_over r (lines.Commit n) replies short holds =
       kept_in_boot r (commit_step r n (first_keeps replies.keeps)) holds (keeps.commits r n (first_keeps replies.keeps) holds)
   kept_line_over r (lines.Boot line) replies short holds = kept_in_boot r (boot_line r line) holds (keeps.boots r line holds)

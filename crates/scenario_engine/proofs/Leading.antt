@@ -16,7 +16,7 @@ use Rattle.line_steps.specs.declared.callers.Caller.{Caller}
 use Rattle.line_steps.specs.declared.callers.Caller.TheVariants.{Absent, Live}
 use Rattle.line_steps.specs.declared.head.Head.{Head}
 use Rattle.line_steps.specs.Callers.{caller_at, begin_step, call_step}
-use Rattle.line_steps.specs.Head.{declares, head_line, head_step, open_step, site_step, with_site, with_parts, with_setup, component_step, reference_step, owns_step, limit_step}
+use Rattle.line_steps.specs.Head.{declares, head_line, head_step, open_step, site_step, with_site, with_parts, with_setup, component_step, reference_step, owns_step, limit_step, with_plans, fault_step}
 use Rattle.scenario_text.proofs.Leaving.{Leaves, leaves-refused_if, leaves-or_refused}
 use Rattle.scenario_text.specs.Answer.{Answer, Refused, Done, within}
 use Rattle.scenario_text.specs.Line.{is_event}
@@ -44,19 +44,26 @@ use Rattle.seat_lines.specs.Giving.{sessions_given_back, without_seats}
 use Rattle.seat_lines.specs.Site.{SeatsState, no_seats}
 use Rattle.line_steps.specs.declared.head.TheConstants.{SITE_BRICKS, SITE_MOST, SITE_LEAST}
 use Rattle.scenario_engine.specs.Opening.{Opening, Opened, UnstartedBoot, opening}
-use Rattle.scenario_engine.specs.Running.{started, reopened_over, with_callers, with_sessions, commit_ends, with_keeper, boot_refusal, caller_commits, caller_drops, commit_step, drop_step, scope_of, goes_down, reboots, down_step, up_step, reboot_step, table_step, journal_step, boot_line}
+use Rattle.scenario_engine.specs.Running.{started, reopened_over, with_callers, with_called, with_sessions, commit_ends, with_keeper, boot_refusal, caller_commits, caller_drops, commit_step, drop_step, scope_of, goes_down, reboots, down_step, up_step, reboot_step, table_step, journal_step, boot_line}
 use Rattle.scenario_engine.specs.Sessions.{AreSessionsOf, lent_if_any, turns_over, turns_by, first_start, starts_by, starts_on, turns_to, turn_on_sessions, session_turns}
 use Rattle.scenario_engine.specs.State.{RunningState, State, Heading, Running, Outcome, RefusedIn, DoneTo, UnstartedIn, UnderWayIn, site_of}
 use Rattle.scenario_engine.specs.Transcript.{Turn, TooLong, RefusedAt, Unstarted, UnderWay, end_from, last_state, answer_to, turn_outcome}
+use Rattle.boot_core.specs.Boot.{BootValue}
+use Rattle.scenario_engine.proofs.Entered.{leaves_called}
+use Rattle.scenario_text.specs.declared.call_line.CallLine.{CallLine}
+use Rattle.crash_base.specs.declared.fault_plans.FaultPlan.{FaultPlan}
 
 -- lines that leave the sessions and the connections as they were, and the boot the one that was started
 
 abbrev pub SameSessions : RunningState → RunningState → Type 0
 SameSessions old new = (new.sessions ≡ old.sessions) × (new.boot.start ≡ old.boot.start) × (new.seats ≡ old.seats)
 
-pub same_called : (r : RunningState) (a : Answer (List Caller)) → Leaves (SameSessions r) (within (with_callers r) a)
+same_called : (r : RunningState) (a : Answer (List Caller)) → Leaves (SameSessions r) (within (with_callers r) a)
 same_called r Refused = tt
 same_called r (Done callers text) = (refl, refl, refl)
+
+pub same_entered : (r : RunningState) (n : ℕ) (line : CallLine) → Leaves (SameSessions r) (within (with_called r) (call_step r.boot r.callers n line))
+same_entered r n line = leaves_called (SameSessions r) r n line (λ done is. (refl, ap (λ (b : BootValue). b.start) is, refl))
 
 same_committed : (r : RunningState) (n : ℕ) (ticket : TicketValue) (refusal : Option CommitRefusal) → Leaves (SameSessions r) (commit_ends r n ticket refusal)
 same_committed r n ticket None = (refl, refl, refl)
@@ -159,7 +166,7 @@ same_boot r boots.Journal = (refl, refl, refl)
 leads_over : DrawLaws → (r : RunningState) → SiteHasDrawn (site_of r) → (line : Line) (replies : Replies) → LeadsOver r (turns_over r line replies) (line_over r line replies)
 leads_over laws r has lines.Pass replies = (r, refl, refl, has)
 leads_over laws r has (lines.Head line) replies = refl
-leads_over laws r has (lines.Call c line) replies = leads_same laws r has (turns_over r (lines.Call c line) replies) _ (λ t text. refl) (same_called r (call_step r.boot r.callers c line))
+leads_over laws r has (lines.Call c line) replies = leads_same laws r has (turns_over r (lines.Call c line) replies) _ (λ t text. refl) (same_entered r c line)
 leads_over laws r has (lines.Commit c) replies = leads_same laws r has (turns_over r (lines.Commit c) replies) (commit_step r c (first_keeps replies.keeps)) (λ t text. refl) (same_commit r c (first_keeps replies.keeps))
 leads_over laws r has (lines.Boot line) replies = leads_same laws r has (turns_over r (lines.Boot line) replies) (boot_line r line) (λ t text. refl) (same_boot r line)
 leads_over laws r has lines.Reopen replies = leads_reopen r replies (next_opening r replies.again)
@@ -185,6 +192,10 @@ counts_setup head (Done t text) keeps = keeps t text refl
 counts_parts : (head : Head) (a : Answer Parts) → Leaves (KeepsCounts head) (within (with_parts head) a)
 counts_parts head Refused = tt
 counts_parts head (Done parts text) = λ has. has
+
+counts_plans : (head : Head) (a : Answer (List FaultPlan)) → Leaves (KeepsCounts head) (within (with_plans head) a)
+counts_plans head Refused = tt
+counts_plans head (Done plans text) = λ has. has
 
 counts_limit : (head : Head) (entries bytes : ℕ) → Leaves (KeepsCounts head) (limit_step head entries bytes)
 unfolding limit_step
@@ -217,6 +228,7 @@ open_counts law head (heads.Component name) = counts_parts head (component_step 
 open_counts law head (heads.Hard from to) = counts_parts head (reference_step head.parts from to true)
 open_counts law head (heads.Soft from to) = counts_parts head (reference_step head.parts from to false)
 open_counts law head (heads.Owns name table) = counts_parts head (owns_step head.parts name table)
+open_counts law head (heads.Fault name after kind level) = counts_plans head (fault_step head.parts head.plans name after kind level)
 open_counts law head (heads.Limit entries bytes) = counts_limit head entries bytes
 open_counts law head (heads.Bricks bricks most least) =
     counts_setup head (bricks_step head.setup bricks most least) (λ t text is has. law.bricks head.setup bricks most least t text is)
@@ -310,7 +322,7 @@ leads_step law laws (Heading head) has line replies = go (is_event line)
   where
     go : (event : Bool) → LeadsTo (Heading head) (first_start (Heading head) (target_of (Heading head) event replies.first)) (λ t text. first_start (Heading head) (target_of (Heading head) event replies.first) ++ turns_by (target_of (Heading head) event replies.first) line replies t text) (line_on (target_of (Heading head) event replies.first) line replies)
     go false = leads_heading head (in_head head (head_line head line)) (stays_head law head line)
-    go true = leads_opened laws head (opening head.parts head.limits replies.first) line replies
+    go true = leads_opened laws head (opening head.parts head.plans head.limits replies.first) line replies
 
 leads_answer : CountsLaw → DrawLaws → (s : State) → StateHasDrawn s → (o : Option Line) (replies : Replies) → LeadsTo s (starts_by s o replies) (turns_to s o replies) (answer_to s o replies)
 leads_answer law laws s has None replies = stays s has

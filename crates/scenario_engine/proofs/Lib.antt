@@ -1,3 +1,4 @@
+pub mod Entered
 pub mod BricksKept
 pub mod Calls
 pub mod Committing

@@ -1,10 +1,10 @@
 -- The journal of each boot of a scenario is meant, whatever the turns are.
-use Rattle.std.proofs.Common.{◌≡◌, inl, inr, ℕ, ◌<◌, ◌≤◌, ◌^◌, Bool, true, List, [], ◌∷◌, ◌++◌, Option, Some, None, refl, ap, ◌∙◌, subst, arith}
+use Rattle.std.proofs.Common.{◌≡◌, inl, inr, ℕ, ◌<◌, ◌≤◌, ◌^◌, Bool, true, List, [], ◌∷◌, ◌++◌, Option, Some, None, refl, ap, ◌∙◌, subst, arith, sym}
 use Rattle.std.specs.Prelude.{All}
 use Rattle.std.proofs.lemmas.List.Elements.{All-nil, All-weaker}
 use Rattle.auction_rows.specs.Parts.{site_parts}
 use Rattle.auction_site.specs.Meant.{AreMeant}
-use Rattle.boot_core.specs.Boot.{BootValue, new_boot, with_entry}
+use Rattle.boot_core.specs.Boot.{BootValue, new_boot, with_entry, HasGrown, HasOnlyEntered}
 use Rattle.boot_core.specs.Refusals.{reboot_refusal}
 use Rattle.boot_core.specs.declared.boot.Start.{Start}
 use Rattle.boot_core.specs.declared.refusals.CommitRefusal.{CommitRefusal}
@@ -19,7 +19,7 @@ use Rattle.journal_model.specs.Reboots.{undone_of}
 use Rattle.journal_model.specs.declared.entry.CommitEntry.{CommitEntry}
 use Rattle.journal_model.specs.declared.entry.Entry.{Entry}
 use Rattle.journal_model.specs.declared.entry.Entry.TheVariants.{Commit, Down, Up}
-use Rattle.line_steps.specs.Callers.{caller_at, begin_step, call_step, ended}
+use Rattle.line_steps.specs.Callers.{caller_at, begin_step, ended}
 use Rattle.line_steps.specs.Head.{IsOfSite}
 use Rattle.line_steps.specs.declared.callers.Caller.{Caller}
 use Rattle.line_steps.specs.declared.callers.Caller.TheVariants.{Absent, Live}
@@ -39,7 +39,7 @@ use Rattle.session_steps.specs.Setup.{set_up}
 use Rattle.session_steps.specs.declared.sessions.TheConstants.{MAX_MOMENT}
 use Rattle.shepherd.specs.Shepherds.{fresh}
 use Rattle.scenario_engine.specs.Opening.{Opening}
-use Rattle.scenario_engine.specs.Running.{started, with_callers, with_sessions, with_boot_entry, commit_ends, with_keeper, boot_refusal, caller_commits, caller_drops, commit_step, drop_step, scope_of, goes_down, reboots, down_step, up_step, reboot_step, table_step, journal_step, boot_line}
+use Rattle.scenario_engine.specs.Running.{started, with_callers, with_called, with_sessions, with_boot_entry, commit_ends, with_keeper, boot_refusal, caller_commits, caller_drops, commit_step, drop_step, scope_of, goes_down, reboots, down_step, up_step, reboot_step, table_step, journal_step, boot_line}
 use Rattle.scenario_engine.specs.Seats.{seat_over}
 use Rattle.scenario_engine.specs.Sound.{CommitsAsMeant}
 use Rattle.scenario_engine.specs.State.{RunningState}
@@ -48,6 +48,10 @@ use Rattle.scenario_engine.proofs.Keeping.{HoldsIn, Keeps, LeavesTo, kept_boots}
 use Rattle.scenario_engine.proofs.OfSite.{OpensOver, of_head, opens_over}
 use Rattle.scenario_engine.proofs.SeatsFit.{SeatLaws}
 use Rattle.scenario_engine.proofs.SeatsHold.{IfHas, StepLaws, has_seat}
+use Rattle.component_pool.specs.Plans.{left_by_process}
+use Rattle.line_steps.specs.CallLines.{CallDone}
+use Rattle.scenario_engine.proofs.Entered.{leaves_called, entered_once}
+use Rattle.line_steps.proofs.Fitting.{grown_entered}
 
 -- what is promised of journals that are meant: by the site of each entry, and of the steps of connections
 pub record MeantLaws : Type 0 where
@@ -98,12 +102,25 @@ module _ (laws : MeantLaws) (seats : SeatLaws) where
   meant_ended r n run = record { meant = run.meant; time = run.time; seats = run.seats }
 
   -- in a boot that has grown the connections mean what they ask
-  means_entry : (boot : BootValue) (e : Entry) (places : List (Option Seat)) → SeatsMean boot places → SeatsMean (with_entry boot e) places
-  means_entry boot e places its = record { of_site = its.of_site; each = All-weaker (IfHas IsMeantSite MeansIn InTime boot) (IfHas IsMeantSite MeansIn InTime (with_entry boot e)) on places its.each }
+  means_grown : (old new : BootValue) (places : List (Option Seat)) → HasGrown old new → SeatsMean old places → SeatsMean new places
+  means_grown old new places grown its = record {
+    of_site = ap (λ (s : Start). s.deployment) grown.start ∙ its.of_site;
+    each = All-weaker (IfHas IsMeantSite MeansIn InTime old) (IfHas IsMeantSite MeansIn InTime new) on places its.each;
+  }
     where
-      on : (o : Option Seat) → IfHas IsMeantSite MeansIn InTime boot o → IfHas IsMeantSite MeansIn InTime (with_entry boot e) o
+      on : (o : Option Seat) → IfHas IsMeantSite MeansIn InTime old o → IfHas IsMeantSite MeansIn InTime new o
       on None has = tt
-      on (Some seat) has = (seats.meanwhile boot (with_entry boot e) seat (record { start = refl; more = e ∷ []; entries = refl }) has.0, has.1)
+      on (Some seat) has = (seats.meanwhile old new seat grown has.0, has.1)
+
+  means_entry : (boot : BootValue) (e : Entry) (places : List (Option Seat)) → SeatsMean boot places → SeatsMean (with_entry boot e) places
+  means_entry boot e places its = means_grown boot (with_entry boot e) places (record { start = refl; more = e ∷ []; entries = refl }) its
+
+  meant_called : (r : RunningState) (done : CallDone (List Caller)) → HasOnlyEntered r.boot done.boot → IsMeantRun r → IsMeantRun (with_called r done)
+  meant_called r done is run = record {
+    meant = subst (λ (b : BootValue). CommitsAsMeant b) (sym is) run.meant;
+    time = run.time;
+    seats = λ at. means_grown r.boot done.boot r.seats.seats (grown_entered r.boot done.boot is) (run.seats at);
+  }
 
   -- the journal has one entry more
   meant_entry : (r : RunningState) (e : Entry) → CommitsAsMeant (with_entry r.boot e) → IsMeantRun r → IsMeantRun (with_boot_entry r e)
@@ -193,7 +210,7 @@ module _ (laws : MeantLaws) (seats : SeatLaws) where
   before_end moment time = let last = laws.last in omega (arith, time, last)
 
   grown_site : (boot now : BootValue) → CommitsAtMost boot now → boot.start.deployment ≡ site_parts → now.start.deployment ≡ site_parts
-  grown_site boot now (inl same) of_site = ap (λ (b : BootValue). b.start.deployment) same ∙ of_site
+  grown_site boot now (inl enters) of_site = ap (λ (b : BootValue). b.start.deployment) (entered_once boot now enters) ∙ of_site
   grown_site boot now (inr commit) of_site = ap (λ (b : BootValue). b.start.deployment) commit.added ∙ of_site
 
   step_laws : StepLaws IsMeantSite MeansIn InTime
@@ -224,13 +241,13 @@ module _ (laws : MeantLaws) (seats : SeatLaws) where
     heads = of_head;
     opens = (λ head replies start h opened.
         let P : Opening → Type 0 = OpensOver head.parts in
-        meant_started (set_up head.setup 0) 1 head.site start head.parts first_time h (subst P opened (opens_over head.parts head.limits replies)));
+        meant_started (set_up head.setup 0) 1 head.site start head.parts first_time h (subst P opened (opens_over head.parts head.plans head.limits replies)));
     reopens = (λ r replies start run opened.
         let P : Opening → Type 0 = OpensOver r.boot.start.deployment in
         meant_started (sessions_given_back r.seats.seats r.sessions) r.seats.word r.site start r.boot.start.deployment run.time (λ is. (run.seats is).of_site)
-        (subst P opened (opens_over r.boot.start.deployment r.boot.start.limits replies)));
+        (subst P opened (opens_over r.boot.start.deployment (left_by_process r.boot.start.plans) r.boot.start.limits replies)));
     commits = meant_commit;
-    calls = (λ r n line short run. meant_callers r (call_step r.boot r.callers n line) run);
+    calls = (λ r n line short run. leaves_called IsMeantRun r n line (λ done is. meant_called r done is run));
     boots = meant_boot;
     sessions = (λ r line run. meant_session r line (session_line r.sessions line) refl run);
     seats = meant_seats;

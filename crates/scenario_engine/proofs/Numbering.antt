@@ -17,6 +17,7 @@ use Rattle.journal_model.specs.Rows.{writes_of, rows_after}
 use Rattle.journal_model.proofs.Adding.{last_write-append}
 use Rattle.journal_model.proofs.Reading.{value_found}
 use Rattle.boot_core.specs.declared.boot.Start.{Start}
+use Rattle.component_pool.specs.Plans.{left_by_process}
 use Rattle.boot_core.specs.Boot.{BootValue}
 use Rattle.boot_core.specs.Sound.{IsSound}
 use Rattle.container_core.specs.Start.{boot_id, boot_row, number_in, last_boot}
@@ -27,6 +28,7 @@ use Rattle.scenario_engine.specs.Told.{IsOver, Follows, AreChained}
 pub record GoesOn (b : BootValue) (start : Start) : Type 0 where
   pub over : IsOver (rows_after b.start.base b.entries) start
   pub deployment : start.deployment ≡ b.start.deployment
+  pub plans : start.plans ≡ left_by_process b.start.plans
   pub limits : start.limits ≡ b.start.limits
 
 -- the first boot is started so, and each other one goes on from the one before
@@ -82,6 +84,7 @@ followed : (rows : List RowWrite) (b : BootValue) (start : Start) → IsOver row
 followed rows b start is sound next = record {
   over = next.over;
   deployment = next.deployment;
+  plans = next.plans;
   limits = next.limits;
   number = ap (λ (s : Start). s.boot) next.over.over ∙ ap (λ n. n + 1) (number_left rows b is sound);
 }

@@ -7,7 +7,7 @@ use Rattle.crash_base.specs.declared.rows.RowWrite.{RowWrite}
 use Rattle.deployment.specs.declared.parts.Parts.{Parts}
 use Rattle.journal_model.specs.declared.limits.JournalLimits.{JournalLimits}
 use Rattle.journal_model.specs.declared.limits.TheConstants.{MAX_ENTRIES, MAX_JOURNAL_BYTES}
-use Rattle.line_steps.specs.Head.{IsOfSite, component_step, declares, head_line, head_step, limit_step, open_step, owns_step, reference_step, site_step, with_parts, with_setup, with_site}
+use Rattle.line_steps.specs.Head.{IsOfSite, component_step, declares, head_line, head_step, limit_step, open_step, owns_step, reference_step, site_step, with_parts, with_setup, with_site, with_plans, fault_step}
 use Rattle.line_steps.specs.declared.head.Head.{Head}
 use Rattle.line_steps.specs.declared.head.TheConstants.{SITE_BRICKS, SITE_LEAST, SITE_MOST}
 use Rattle.scenario_text.proofs.Leaving.{Leaves, leaves-refused_if}
@@ -19,6 +19,7 @@ use Rattle.scenario_text.specs.declared.line.Line.{Line}
 use Rattle.scenario_text.specs.declared.line.Line.TheVariants as lines
 use Rattle.scenario_engine.specs.Opening.{StartReplies, Opening, Opened, UnstartedBoot, is_spent, opening, opening_of, opening_over}
 use Rattle.scenario_engine.specs.declared.failure.UnstartedCause.TheVariants as causes
+use Rattle.crash_base.specs.declared.fault_plans.FaultPlan.{FaultPlan}
 
 -- what two properties say of what an answer leaves, both say
 pub leaves_both : {S : Type 0} (P Q : S → Type 0) (a : Answer S) → Leaves P a → Leaves Q a → Leaves (λ s. P s × Q s) a
@@ -34,6 +35,10 @@ not_site false allowed = refl
 of_declared : (head : Head) (a : Answer Parts) → head.site ≡ false → Leaves IsOfSite (within (with_parts head) a)
 of_declared head Refused none = tt
 of_declared head (Done parts text) none = λ is. let both : true ≡ false = sym is ∙ none in absurd (cc)
+
+of_plans : (head : Head) (a : Answer (List FaultPlan)) → IsOfSite head → Leaves IsOfSite (within (with_plans head) a)
+of_plans head Refused its = tt
+of_plans head (Done plans text) its = its
 
 of_setup : (head : Head) (a : Answer SetupState) → IsOfSite head → Leaves IsOfSite (within (with_setup head) a)
 of_setup head Refused its = tt
@@ -58,6 +63,7 @@ of_open_step head (heads.Component name) its allowed = of_declared head (compone
 of_open_step head (heads.Hard from to) its allowed = of_declared head (reference_step head.parts from to true) (not_site head.site allowed)
 of_open_step head (heads.Soft from to) its allowed = of_declared head (reference_step head.parts from to false) (not_site head.site allowed)
 of_open_step head (heads.Owns name table) its allowed = of_declared head (owns_step head.parts name table) (not_site head.site allowed)
+of_open_step head (heads.Fault name after kind level) its allowed = of_plans head (fault_step head.parts head.plans name after kind level) its
 of_open_step head (heads.Limit entries bytes) its allowed = of_limit head entries bytes its
 of_open_step head (heads.Bricks bricks most least) its allowed = of_setup head (bricks_step head.setup bricks most least) its
 of_open_step head (heads.Key bytes) its allowed = of_setup head (key_step head.setup bytes) its
@@ -82,18 +88,18 @@ abbrev pub OpensOver : Parts → Opening → Type 0
 OpensOver parts (Opened start) = start.deployment ≡ parts
 OpensOver parts (UnstartedBoot refusal) = Unit {0}
 
-pub opens_over : (parts : Parts) (limits : JournalLimits) (replies : StartReplies) → OpensOver parts (opening parts limits replies)
-opens_over parts limits replies = given replies.rows
+pub opens_over : (parts : Parts) (plans : List FaultPlan) (limits : JournalLimits) (replies : StartReplies) → OpensOver parts (opening parts plans limits replies)
+opens_over parts plans limits replies = given replies.rows
   where
-    kept : (rows : List RowWrite) (spent keeps : Bool) → OpensOver parts (if spent then UnstartedBoot causes.BootsSpent else (if keeps then Opened (start_over parts limits rows) else UnstartedBoot causes.KeeperFailed))
+    kept : (rows : List RowWrite) (spent keeps : Bool) → OpensOver parts (if spent then UnstartedBoot causes.BootsSpent else (if keeps then Opened (start_over parts plans limits rows) else UnstartedBoot causes.KeeperFailed))
     kept rows true keeps = tt
     kept rows false true = refl
     kept rows false false = tt
 
-    over : (rows : List RowWrite) (bad : Option RowId) → OpensOver parts (opening_over parts limits rows replies.keeps bad)
+    over : (rows : List RowWrite) (bad : Option RowId) → OpensOver parts (opening_over parts plans limits rows replies.keeps bad)
     over rows (Some id) = tt
     over rows None = kept rows (is_spent rows) replies.keeps
 
-    given : (o : Option (List RowWrite)) → OpensOver parts (opening_of parts limits o replies.keeps)
+    given : (o : Option (List RowWrite)) → OpensOver parts (opening_of parts plans limits o replies.keeps)
     given None = tt
     given (Some rows) = over rows (first_bad rows)

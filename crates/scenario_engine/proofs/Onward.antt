@@ -314,7 +314,7 @@ module _ (draw : DrawLaws) (laws : StandLaws) (grows : GrowsLaw) (events : Event
       go : (event : Bool) → All IsKnown (makes_on (target_of (Heading head) event replies.first) line replies)
           → EachOn (TurnOnward (line_on (target_of (Heading head) event replies.first) line replies)) (makes_on (target_of (Heading head) event replies.first) line replies)
       go false known = tt
-      go true known = opened_turn head (opening head.parts head.limits replies.first) line replies known
+      go true known = opened_turn head (opening head.parts head.plans head.limits replies.first) line replies known
 
   answer_turn : (s : State) → StateHasDrawn s → (o : Option Line) (replies : Replies) → All IsKnown (makes_to s o replies) → EachOn (TurnOnward (answer_to s o replies)) (makes_to s o replies)
   answer_turn s has None replies known = tt

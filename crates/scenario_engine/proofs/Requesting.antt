@@ -15,7 +15,7 @@ use Rattle.journal_model.specs.declared.entry.Entry.TheVariants.{Commit, Down, U
 use Rattle.journal_model.specs.Calls.{entry_of, seen, listed}
 use Rattle.journal_model.specs.Reboots.{undone_of}
 use Rattle.journal_model.proofs.Places.{all_there}
-use Rattle.boot_core.specs.Boot.{BootValue, new_boot}
+use Rattle.boot_core.specs.Boot.{BootValue, new_boot, HasOnlyEntered, with_entered}
 use Rattle.boot_core.specs.declared.boot.Start.{Start}
 use Rattle.call_ticket.specs.Access.{may_enter}
 use Rattle.boot_core.specs.Refusals.{enter_refusal, exit_refusal, read_refusal, list_refusal, put_refusal, reboot_refusal}
@@ -31,7 +31,7 @@ use Rattle.line_steps.specs.declared.callers.Caller.{Caller}
 use Rattle.line_steps.specs.declared.callers.Caller.TheVariants.{Absent, Live}
 use Rattle.session_steps.specs.Sessions.{SessionsState, session_line}
 use Rattle.scenario_text.specs.Answer.{Answer, Refused, Done, refused_if, or_refused, within}
-use Rattle.line_steps.specs.CallLines.{step_answer, row, row_id, rows_then, enter_step, exit_step, read_step, list_step, put_step, call_line}
+use Rattle.line_steps.specs.CallLines.{step_answer, row, row_id, rows_then, enter_step, exit_step, read_step, list_step, put_step, call_line, CallDone, done_within}
 use Rattle.line_steps.specs.Callers.{caller_at, padded, can_begin, new_ticket, caller_line, begin_step, call_step, ended}
 use Rattle.line_steps.specs.Head.{IsOfSite, no_head}
 use Rattle.line_steps.specs.Tables.{table_of}
@@ -46,13 +46,17 @@ use Rattle.scenario_text.specs.declared.seat_line.SeatLine.{SeatLine}
 use Rattle.session_steps.specs.Setup.{set_up}
 use Rattle.scenario_engine.specs.Opening.{Opening}
 use Rattle.scenario_engine.specs.Seats.{seat_over}
-use Rattle.scenario_engine.specs.Running.{started, with_callers, with_sessions, with_boot_entry, commit_ends, with_keeper, boot_refusal, caller_commits, caller_drops, commit_step, drop_step, scope_of, goes_down, reboots, down_step, up_step, reboot_step, table_step, journal_step, boot_line}
+use Rattle.scenario_engine.specs.Running.{started, with_callers, with_sessions, with_boot_entry, commit_ends, with_keeper, boot_refusal, caller_commits, caller_drops, commit_step, drop_step, scope_of, goes_down, reboots, down_step, up_step, reboot_step, table_step, journal_step, boot_line, with_called}
 use Rattle.scenario_engine.specs.Sound.{CommitsOwnRequests}
 use Rattle.scenario_engine.specs.State.{RunningState}
 use Rattle.scenario_engine.specs.Transcript.{Turn, first, boots_from}
 use Rattle.scenario_engine.proofs.Keeping.{HoldsIn, Keeps, LeavesTo, kept_boots}
-use Rattle.scenario_engine.proofs.OfSite.{OpensOver, of_head, opens_over}
-use Rattle.scenario_engine.proofs.SeatsFit.{IfFits, SeatLaws, SeatsFit, fits_entry, fits_seat}
+use Rattle.scenario_engine.proofs.OfSite.{OpensOver, of_head, opens_over, leaves_both}
+use Rattle.scenario_engine.proofs.SeatsFit.{IfFits, SeatLaws, SeatsFit, fits_entry, fits_seat, fits_grown}
+use Rattle.component_pool.specs.Plans.{left_by_process}
+use Rattle.scenario_engine.proofs.Entered.{entered_once}
+use Rattle.line_steps.proofs.Fitting.{grown_entered}
+use Rattle.line_steps.proofs.Called.{call_enters, HasEntered}
 
 -- the call of a ticket makes a request of this boot
 abbrev IsOwn : ℕ → TicketValue → Type 0
@@ -68,6 +72,10 @@ OwnEntry boot (Commit e) = e.request.boot ≡ boot
 OwnEntry boot (Down s) = Unit {0}
 OwnEntry boot (Up s) = Unit {0}
 
+-- so does the ticket that a line of a call left
+abbrev OwnDone : ℕ → CallDone TicketValue → Type 0
+OwnDone boot done = IsOwn boot done.left
+
 -- so do the entries of a boot, and its callers; at the site each connection fits the boot
 record IsOwnRun (r : RunningState) : Type 0 where
   entries : All (OwnEntry r.boot.start.boot) r.boot.entries
@@ -76,75 +84,79 @@ record IsOwnRun (r : RunningState) : Type 0 where
 
 -- one call
 
-own_step : (boot caller : ℕ) (ticket next : TicketValue) (text : List ℕ) (refusal : Option CallRefusal) → IsOwn boot ticket → IsOwn boot next → Leaves (IsOwn boot) (step_answer caller ticket refusal next text)
-own_step boot caller ticket next text None own after = after
-own_step boot caller ticket next text (Some refusal) own after = own
+own_step : (b : BootValue) (boot caller : ℕ) (ticket next : TicketValue) (now : BootValue) (text : List ℕ) (refusal : Option CallRefusal) → IsOwn boot ticket → IsOwn boot next → Leaves (OwnDone boot) (step_answer b caller ticket refusal now next text)
+own_step b boot caller ticket next now text None own after = after
+own_step b boot caller ticket next now text (Some refusal) own after = own
 
-own_judged : (boot caller : ℕ) (ticket next : TicketValue) (text : List ℕ) (refusal : Option CallRefusal) (barred : Bool) → IsOwn boot ticket → IsOwn boot next
-    → Leaves (IsOwn boot) (refused_if barred (step_answer caller ticket refusal next text))
-own_judged boot caller ticket next text refusal barred own after =
-    leaves-refused_if (IsOwn boot) barred (step_answer caller ticket refusal next text) (λ free. own_step boot caller ticket next text refusal own after)
+own_judged : (b : BootValue) (boot caller : ℕ) (ticket next : TicketValue) (now : BootValue) (text : List ℕ) (refusal : Option CallRefusal) (shut : Bool) → IsOwn boot ticket → IsOwn boot next
+    → Leaves (OwnDone boot) (refused_if shut (step_answer b caller ticket refusal now next text))
+own_judged b boot caller ticket next now text refusal shut own after =
+    leaves-refused_if (OwnDone boot) shut (step_answer b caller ticket refusal now next text) (λ free. own_step b boot caller ticket next now text refusal own after)
 
 -- a step that needs a component or a table, which is found by this number
-own_found : (boot caller : ℕ) (ticket : TicketValue) (o : Option ℕ) (next : ℕ → TicketValue) (text : ℕ → List ℕ) (refusal : ℕ → Option CallRefusal) (barred : ℕ → Bool) → IsOwn boot ticket → ((x : ℕ) → IsOwn boot (next x))
-    → Leaves (IsOwn boot) (or_refused o (λ x. refused_if (barred x) (step_answer caller ticket (refusal x) (next x) (text x))))
-own_found boot caller ticket o next text refusal barred own after =
-    leaves-or_refused (IsOwn boot) o (λ x. refused_if (barred x) (step_answer caller ticket (refusal x) (next x) (text x))) (λ x is.
-    own_judged boot caller ticket (next x) (text x) (refusal x) (barred x) own (after x))
+own_found : (b : BootValue) (boot caller : ℕ) (ticket : TicketValue) (o : Option ℕ) (next : ℕ → TicketValue) (now : ℕ → BootValue) (text : ℕ → List ℕ) (refusal : ℕ → Option CallRefusal) (shut : ℕ → Bool) → IsOwn boot ticket → ((x : ℕ) → IsOwn boot (next x))
+    → Leaves (OwnDone boot) (or_refused o (λ x. refused_if (shut x) (step_answer b caller ticket (refusal x) (now x) (next x) (text x))))
+own_found b boot caller ticket o next now text refusal shut own after =
+    leaves-or_refused (OwnDone boot) o (λ x. refused_if (shut x) (step_answer b caller ticket (refusal x) (now x) (next x) (text x))) (λ x is.
+    own_judged b boot caller ticket (next x) (now x) (text x) (refusal x) (shut x) own (after x))
 
-own_enter : (b : BootValue) (boot caller : ℕ) (ticket : TicketValue) (name : List ℕ) → IsOwn boot ticket → Leaves (IsOwn boot) (enter_step b caller ticket name)
+own_enter : (b : BootValue) (boot caller : ℕ) (ticket : TicketValue) (name : List ℕ) → IsOwn boot ticket → Leaves (OwnDone boot) (enter_step b caller ticket name)
 unfolding enter_step
 own_enter b boot caller ticket name own =
     let parts = b.start.deployment in
-    own_found boot caller ticket (named parts.components name)
+    own_found b boot caller ticket (named parts.components name)
     (λ x. ticket_entered b.entries (group_of parts x) (component_no x) ticket)
+    (λ x. with_entered b (component_no x))
     (λ x. [])
-    (λ x. enter_refusal b.entries ticket.call (group_of parts x))
+    (λ x. enter_refusal b ticket.call (component_no x))
     (λ x. not (may_enter parts ticket.call (component_no x))) own (λ x. own)
 
-own_exit : (b : BootValue) (boot caller : ℕ) (ticket : TicketValue) → IsOwn boot ticket → Leaves (IsOwn boot) (exit_step b caller ticket)
+own_exit : (b : BootValue) (boot caller : ℕ) (ticket : TicketValue) → IsOwn boot ticket → Leaves (OwnDone boot) (exit_step b caller ticket)
 unfolding exit_step
 own_exit b boot caller ticket own =
-    own_judged boot caller ticket (ticket_left ticket) [] (exit_refusal b.entries ticket.call) (length ticket.call.frames == 0) own own
+    own_judged b boot caller ticket (ticket_left ticket) b [] (exit_refusal b.entries ticket.call) (length ticket.call.frames == 0) own own
 
-own_read : (b : BootValue) (boot caller : ℕ) (ticket : TicketValue) (number key : ℕ) → IsOwn boot ticket → Leaves (IsOwn boot) (read_step b caller ticket number key)
+own_read : (b : BootValue) (boot caller : ℕ) (ticket : TicketValue) (number key : ℕ) → IsOwn boot ticket → Leaves (OwnDone boot) (read_step b caller ticket number key)
 unfolding read_step
 own_read b boot caller ticket number key own =
-    own_found boot caller ticket (table_of number)
+    own_found b boot caller ticket (table_of number)
     (λ table. ticket_has_read (rows_then b ticket) (row_id table key) ticket)
+    (λ table. b)
     (λ table. row_answer_text caller (seen (rows_then b ticket) ticket.call.writes (row_id table key)))
     (λ table. read_refusal b.entries ticket.call (row_id table key))
     (is_outside b ticket) own (λ table. own)
 
-own_list : (b : BootValue) (boot caller : ℕ) (ticket : TicketValue) (number : ℕ) → IsOwn boot ticket → Leaves (IsOwn boot) (list_step b caller ticket number)
+own_list : (b : BootValue) (boot caller : ℕ) (ticket : TicketValue) (number : ℕ) → IsOwn boot ticket → Leaves (OwnDone boot) (list_step b caller ticket number)
 unfolding list_step
 own_list b boot caller ticket number own =
-    own_found boot caller ticket (table_of number)
+    own_found b boot caller ticket (table_of number)
     (λ table. ticket_has_listed table ticket)
+    (λ table. b)
     (λ table. list_answer_text caller (listed (rows_then b ticket) ticket.call.writes table))
     (λ table. list_refusal b.entries ticket.call table)
     (is_outside b ticket) own (λ table. own)
 
-own_put : (b : BootValue) (boot caller : ℕ) (ticket : TicketValue) (number key : ℕ) (bytes : List ℕ) → IsOwn boot ticket → Leaves (IsOwn boot) (put_step b caller ticket number key bytes)
+own_put : (b : BootValue) (boot caller : ℕ) (ticket : TicketValue) (number key : ℕ) (bytes : List ℕ) → IsOwn boot ticket → Leaves (OwnDone boot) (put_step b caller ticket number key bytes)
 unfolding put_step
 own_put b boot caller ticket number key bytes own =
-    own_found boot caller ticket (table_of number)
+    own_found b boot caller ticket (table_of number)
     (λ table. ticket_kept (row table key bytes) ticket)
+    (λ table. b)
     (λ table. [])
     (λ table. put_refusal b.entries ticket.call (row_id table key))
     (is_outside b ticket) own (λ table. own)
 
-own_call_line : (b : BootValue) (boot caller : ℕ) (line : CallLine) (ticket : TicketValue) → IsOwn boot ticket → Leaves (IsOwn boot) (call_line b caller ticket line)
+own_call_line : (b : BootValue) (boot caller : ℕ) (line : CallLine) (ticket : TicketValue) → IsOwn boot ticket → Leaves (OwnDone boot) (call_line b caller ticket line)
 own_call_line b boot caller (calls.Enter name) ticket own = own_enter b boot caller ticket name own
 own_call_line b boot caller calls.Exit ticket own = own_exit b boot caller ticket own
 own_call_line b boot caller (calls.Read table key) ticket own = own_read b boot caller ticket table key own
 own_call_line b boot caller (calls.List table) ticket own = own_list b boot caller ticket table own
 own_call_line b boot caller (calls.Put table key bytes) ticket own = own_put b boot caller ticket table key bytes own
 
-own_caller_line : (b : BootValue) (boot n : ℕ) (line : CallLine) (caller : Caller) → OwnCaller boot caller → Leaves (OwnCaller boot) (caller_line b n line caller)
+own_caller_line : (b : BootValue) (boot n : ℕ) (line : CallLine) (caller : Caller) → OwnCaller boot caller → Leaves (λ (done : CallDone Caller). OwnCaller boot done.left) (caller_line b n line caller)
 own_caller_line b boot n line Absent own = tt
 own_caller_line b boot n line (Live ticket) own =
-    leaves-within (OwnCaller boot) (λ t. Live t) (call_line b n ticket line) (own_call_line b boot n line ticket own)
+    leaves-within (λ (done : CallDone Caller). OwnCaller boot done.left) (done_within (λ t. Live t)) (call_line b n ticket line) (own_call_line b boot n line ticket own)
 
 -- callers
 
@@ -169,15 +181,32 @@ own_begin r n run =
     (leaves-refused_if (All P) (not (can_begin r.callers n)) (Done (slice_set (padded r.callers n) n (Live (new_ticket r.boot n))) []) (λ free.
     All-set P (padded r.callers n) n (Live (new_ticket r.boot n)) refl all))
 
-own_call : (r : RunningState) (n : ℕ) (line : CallLine) → IsOwnRun r → Leaves IsOwnRun (within (with_callers r) (call_step r.boot r.callers n line))
+-- a line of a call leaves callers of the boot's own requests
+own_call_step : (b : BootValue) (boot : ℕ) (callers : List Caller) (n : ℕ) (line : CallLine) → All (OwnCaller boot) callers → Leaves (λ (done : CallDone (List Caller)). All (OwnCaller boot) done.left) (call_step b callers n line)
 unfolding call_step
-own_call r n line run =
-    let P : Caller → Type 0 = OwnCaller r.boot.start.boot in
-    let a : Answer Caller = caller_line r.boot n line (caller_at r.callers n) in
-    own_callers r (within (slice_set r.callers n) a) run
-    (leaves-within (All P) (slice_set r.callers n) a
-    (leaves-weaker P (λ x. All P (slice_set r.callers n x)) a (λ x own. All-set P r.callers n x own run.callers)
-    (own_caller_line r.boot r.boot.start.boot n line (caller_at r.callers n) (own_at r.boot.start.boot r.callers n run.callers))))
+own_call_step b boot callers n line own =
+    let P : Caller → Type 0 = OwnCaller boot in
+    let Q : CallDone (List Caller) → Type 0 = λ done. All P done.left in
+    let whole : CallDone Caller → CallDone (List Caller) = done_within (slice_set callers n) in
+    let a : Answer (CallDone Caller) = caller_line b n line (caller_at callers n) in
+    leaves-within Q whole a
+    (leaves-weaker (λ (done : CallDone Caller). P done.left) (λ done. Q (whole done)) a (λ done its. All-set P callers n done.left its own)
+    (own_caller_line b boot n line (caller_at callers n) (own_at boot callers n own)))
+
+own_called : (seats : SeatLaws) (r : RunningState) (done : CallDone (List Caller)) → HasOnlyEntered r.boot done.boot → All (OwnCaller r.boot.start.boot) done.left → IsOwnRun r → IsOwnRun (with_called r done)
+own_called seats r done is own run = record {
+  entries = subst (λ (b : BootValue). All (OwnEntry b.start.boot) b.entries) (sym is) run.entries;
+  callers = subst (λ (b : BootValue). All (OwnCaller b.start.boot) done.left) (sym is) own;
+  seats = λ at. fits_grown seats r.boot done.boot r.seats.seats (grown_entered r.boot done.boot is) (run.seats at);
+}
+
+own_call : (seats : SeatLaws) (r : RunningState) (n : ℕ) (line : CallLine) → IsOwnRun r → Leaves IsOwnRun (within (with_called r) (call_step r.boot r.callers n line))
+own_call seats r n line run =
+    let a : Answer (CallDone (List Caller)) = call_step r.boot r.callers n line in
+    let Own : CallDone (List Caller) → Type 0 = λ done. All (OwnCaller r.boot.start.boot) done.left in
+    leaves-within IsOwnRun (with_called r) a
+    (leaves-weaker (λ done. HasEntered r.boot done × Own done) (λ done. IsOwnRun (with_called r done)) a (λ done both. own_called seats r done both.0 both.1 run)
+    (leaves_both (HasEntered r.boot) Own a (call_enters r.boot r.callers n line) (own_call_step r.boot r.boot.start.boot r.callers n line run.callers)))
 
 -- a caller's call ends
 own_ended : (r : RunningState) (n : ℕ) → IsOwnRun r → IsOwnRun (with_callers r (ended r.callers n))
@@ -274,7 +303,7 @@ own_at_seats : (seats : SeatLaws) (callers : List Caller) (g : SeatGivens) (seat
 own_at_seats seats callers g seat w fits run = go (seat_step g seat w).world.boot (seats.commits g seat w fits)
   where
     go : (now : BootValue) → CommitsAtMost w.boot now → OwnWith callers now
-    go now (inl same) = subst (OwnWith callers) (sym same) run
+    go now (inl enters) = subst (OwnWith callers) (sym (entered_once w.boot now enters)) run
     go now (inr commit) =
         let e : Entry = Commit (entry_of commit.call (Some commit.action)) in
         subst (OwnWith callers) (sym commit.added) (All-push (OwnEntry w.boot.start.boot) w.boot.entries e run.0 commit.is_own.own, run.1)
@@ -293,13 +322,13 @@ own_keeps seats = record {
   heads = of_head;
   opens = (λ head replies start h opened.
       let P : Opening → Type 0 = OpensOver head.parts in
-      own_started (set_up head.setup 0) 1 head.site start head.parts h (subst P opened (opens_over head.parts head.limits replies)));
+      own_started (set_up head.setup 0) 1 head.site start head.parts h (subst P opened (opens_over head.parts head.plans head.limits replies)));
   reopens = (λ r replies start run opened.
       let P : Opening → Type 0 = OpensOver r.boot.start.deployment in
       own_started (sessions_given_back r.seats.seats r.sessions) r.seats.word r.site start r.boot.start.deployment (λ is. (run.seats is).of_site)
-      (subst P opened (opens_over r.boot.start.deployment r.boot.start.limits replies)));
+      (subst P opened (opens_over r.boot.start.deployment (left_by_process r.boot.start.plans) r.boot.start.limits replies)));
   commits = own_commit seats;
-  calls = (λ r n line short run. own_call r n line run);
+  calls = (λ r n line short run. own_call seats r n line run);
   boots = own_boot seats;
   sessions = (λ r line run. own_session r (session_line r.sessions line) run);
   seats = own_seats seats;

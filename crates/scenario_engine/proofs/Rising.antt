@@ -33,12 +33,12 @@ use Rattle.seat_lines.specs.Site.{no_seats}
 use Rattle.scenario_engine.proofs.Keeping.{LeavesTo}
 use Rattle.scenario_engine.proofs.SeatRows.{BootIn, kept_seat, start_changed}
 use Rattle.scenario_engine.specs.Opening.{Opening, Opened, UnstartedBoot, opening}
-use Rattle.scenario_engine.specs.Running.{started, reopened_over, commit_ends, with_keeper, boot_refusal, caller_commits, with_callers, with_sessions, commit_step, boot_line}
+use Rattle.scenario_engine.specs.Running.{started, reopened_over, commit_ends, with_keeper, boot_refusal, caller_commits, with_called, with_sessions, commit_step, boot_line}
 use Rattle.scenario_engine.specs.Sessions.{lent_if_any, lent_in, seat_turns, start_turns, turns_over, turns_by, first_start, starts_by, starts_on, turns_to, turn_on_sessions, session_turns}
 use Rattle.scenario_engine.specs.State.{RunningState, State, Heading, Running, Outcome, RefusedIn, DoneTo, UnstartedIn, UnderWayIn, site_of}
 use Rattle.scenario_engine.specs.Told.{IsOver, Follows, AreChained, Tells}
 use Rattle.scenario_engine.specs.Transcript.{Turn, first, answer_to, turn_outcome, ends_to, turn_ends, boots_in, boots_from}
-use Rattle.scenario_engine.proofs.Telling.{HasSameRows, rows_called, rows_boot, rows_session}
+use Rattle.scenario_engine.proofs.Telling.{HasSameRows, rows_entered, rows_boot, rows_session}
 
 -- numbers of boots: those that start in turns of sessions, and those of boots
 
@@ -136,8 +136,8 @@ counts_over : (r : RunningState) (line : Line) (replies : Replies) → Counts (R
 counts_over r lines.Pass replies = refl
 counts_over r (lines.Head line) replies = refl
 counts_over r (lines.Call c line) replies =
-    let a : Answer RunningState = within (with_callers r) (call_step r.boot r.callers c line) in
-    counts_same r (lines.Call c line) replies a (λ t text. refl) (start_kept r a (rows_called r (call_step r.boot r.callers c line)))
+    let a : Answer RunningState = within (with_called r) (call_step r.boot r.callers c line) in
+    counts_same r (lines.Call c line) replies a (λ t text. refl) (start_kept r a (rows_entered r c line))
 counts_over r (lines.Commit c) replies = counts_same r (lines.Commit c) replies (commit_step r c (first_keeps replies.keeps)) (λ t text. refl) (start_commit r c (first_keeps replies.keeps))
 counts_over r (lines.Boot line) replies =
     counts_same r (lines.Boot line) replies (boot_line r line) (λ t text. refl) (start_kept r (boot_line r line) (rows_boot r line))
@@ -185,7 +185,7 @@ counts_step (Heading head) line replies = go (is_event line)
   where
     go : (event : Bool) → Counts (Heading head) (ends_on (target_of (Heading head) event replies.first) line replies) (first_start (Heading head) (target_of (Heading head) event replies.first)) (λ t text. first_start (Heading head) (target_of (Heading head) event replies.first) ++ turns_by (target_of (Heading head) event replies.first) line replies t text) (line_on (target_of (Heading head) event replies.first) line replies)
     go false = counts_in_head head line
-    go true = counts_opened head (opening head.parts head.limits replies.first) line replies
+    go true = counts_opened head (opening head.parts head.plans head.limits replies.first) line replies
 
 counts_answer : (s : State) (o : Option Line) (replies : Replies) → Counts s (ends_to s o replies) (starts_by s o replies) (turns_to s o replies) (answer_to s o replies)
 counts_answer s None replies = sym (append-nil (numbers_of (boots_in s)))

@@ -3,7 +3,7 @@ use Rattle.std.specs.Prelude.{IfSome}
 use Rattle.std.proofs.Common.{arith, ◌≡◌, ℕ, ◌≤◌, Bool, true, false, cond, List, [], ◌∷◌, Option, Some, None, is_some, refl, sym, ap, ◌∙◌, subst}
 use Rattle.std.proofs.lemmas.List.{get_or_past}
 use Rattle.auction_rows.specs.Parts.{site_parts}
-use Rattle.boot_core.specs.Boot.{BootValue, HasGrown, new_boot, with_entry}
+use Rattle.boot_core.specs.Boot.{BootValue, HasGrown, new_boot, with_entry, HasOnlyEntered}
 use Rattle.boot_core.specs.declared.boot.Start.{Start}
 use Rattle.boot_core.specs.declared.refusals.CommitRefusal.{CommitRefusal}
 use Rattle.boot_core.specs.declared.refusals.RebootRefusal.{RebootRefusal}
@@ -15,7 +15,7 @@ use Rattle.journal_model.specs.Calls.{entry_of}
 use Rattle.journal_model.specs.Reboots.{undone_of}
 use Rattle.journal_model.specs.declared.entry.Entry.{Entry}
 use Rattle.journal_model.specs.declared.entry.Entry.TheVariants.{Commit, Down, Up}
-use Rattle.line_steps.specs.Callers.{begin_step, call_step, caller_at}
+use Rattle.line_steps.specs.Callers.{begin_step, caller_at}
 use Rattle.line_steps.specs.Head.{IsOfSite, no_head}
 use Rattle.line_steps.specs.declared.callers.Caller.{Caller}
 use Rattle.line_steps.specs.declared.callers.Caller.TheVariants.{Absent, Live}
@@ -42,12 +42,16 @@ use Rattle.scenario_engine.proofs.OfSite.{OpensOver, of_head, opens_over}
 use Rattle.scenario_engine.proofs.RunsLeft.{RunLaws, SeatsCounted, each-counted, seats-step, seats-still}
 use Rattle.scenario_engine.proofs.SeatRows.{RunsTo, bricks_of, line_of_run, near_of, run_to}
 use Rattle.scenario_engine.specs.Opening.{Opening}
-use Rattle.scenario_engine.specs.Running.{started, with_callers, with_sessions, with_boot_entry, commit_ends, with_keeper, boot_refusal, caller_commits, caller_drops, commit_step, drop_step, scope_of, goes_down, reboots, down_step, up_step, reboot_step, table_step, journal_step, boot_line}
+use Rattle.scenario_engine.specs.Running.{started, with_callers, with_called, with_sessions, with_boot_entry, commit_ends, with_keeper, boot_refusal, caller_commits, caller_drops, commit_step, drop_step, scope_of, goes_down, reboots, down_step, up_step, reboot_step, table_step, journal_step, boot_line}
 use Rattle.scenario_engine.specs.RunsLeft.{RunIsCounted}
 use Rattle.scenario_engine.specs.Seats.{in_boot, after_steps, by_replies, seat_over}
 use Rattle.scenario_engine.specs.Sessions.{AreSessionsOf, HasSessions, session_turns}
 use Rattle.scenario_engine.specs.State.{RunningState, State, Running, Outcome, RefusedIn, site_of, with_site}
 use Rattle.scenario_engine.specs.Transcript.{Turn, first, end_from, last_state}
+use Rattle.component_pool.specs.Plans.{left_by_process}
+use Rattle.line_steps.specs.CallLines.{CallDone}
+use Rattle.scenario_engine.proofs.Entered.{leaves_called}
+use Rattle.line_steps.proofs.Fitting.{grown_entered}
 
 -- the laws by which the steps of a run are counted wherever the boot has grown
 pub record CountedLaws : Type 0 where
@@ -151,6 +155,16 @@ module _ (laws : CountedLaws) where
         counted = λ n. each-counted r.boot new (λ x was. laws.meanwhile r.boot new x grown was) (seat_at r.seats.seats n) (its.counted n);
       }
 
+  counted_called : (r : RunningState) (done : CallDone (List Caller)) → HasOnlyEntered r.boot done.boot → CountedRun r → CountedRun (with_called r done)
+  counted_called r done is run = λ at.
+      let its : SeatsCounted (site_of r) = run at in
+      let new : BootValue = done.boot in
+      let grown : HasGrown r.boot new = grown_entered r.boot new is in
+      record {
+        of_site = ap (λ (s : Start). s.deployment) grown.start ∙ its.of_site;
+        counted = λ n. each-counted r.boot new (λ x was. laws.meanwhile r.boot new x grown was) (seat_at r.seats.seats n) (its.counted n);
+      }
+
   counted_commit_ends : (r : RunningState) (n : ℕ) (ticket : TicketValue) (refusal : Option CommitRefusal) → CountedRun r → Leaves CountedRun (commit_ends r n ticket refusal)
   counted_commit_ends r n ticket None run = counted_entry r (Commit (entry_of ticket.call None)) run
   counted_commit_ends r n ticket (Some refusal) run = λ is. let its : SeatsCounted (site_of r) = run is in record { of_site = its.of_site; counted = its.counted }
@@ -222,13 +236,13 @@ counted_keeps laws = record {
   heads = of_head;
   opens = (λ head replies start h opened.
       let P : Opening → Type 0 = OpensOver head.parts in
-      counted_started (set_up head.setup 0) 1 head.site start head.parts h (subst P opened (opens_over head.parts head.limits replies)));
+      counted_started (set_up head.setup 0) 1 head.site start head.parts h (subst P opened (opens_over head.parts head.plans head.limits replies)));
   reopens = (λ r replies start run opened.
       let P : Opening → Type 0 = OpensOver r.boot.start.deployment in
       counted_started (sessions_given_back r.seats.seats r.sessions) r.seats.word r.site start r.boot.start.deployment (λ is. (run is).of_site)
-      (subst P opened (opens_over r.boot.start.deployment r.boot.start.limits replies)));
+      (subst P opened (opens_over r.boot.start.deployment (left_by_process r.boot.start.plans) r.boot.start.limits replies)));
   commits = λ r n keeps run. counted_commit laws r n keeps run;
-  calls = (λ r n line short run. counted_callers r (call_step r.boot r.callers n line) run);
+  calls = (λ r n line short run. leaves_called CountedRun r n line (λ done is. counted_called laws r done is run));
   boots = λ r line run. counted_boot laws r line run;
   sessions = (λ r line run. counted_sessions r (session_line r.sessions line) run);
   seats = λ r line replies run. counted_seats laws.runs r run line replies;

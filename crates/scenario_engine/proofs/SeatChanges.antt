@@ -2,9 +2,9 @@
 use Rattle.std.proofs.Common.{◌≡◌, ◌⊎◌, inl, inr, ℕ, Bool, true, false, List, [], ◌∷◌, Option, Some, None, is_some, refl, ap, ◌∙◌}
 use Rattle.auction_calls.specs.declared.action.ActionCall.{ActionCall}
 use Rattle.auction_site.specs.Actions.{steps_of}
-use Rattle.boot_core.specs.Boot.{BootValue, with_entry}
+use Rattle.boot_core.specs.Boot.{BootValue, with_entry, HasOnlyEntered}
 use Rattle.boot_core.specs.declared.refusals.CommitRefusal.{CommitRefusal}
-use Rattle.call_attempts.specs.Attempt.{AttemptValue, stop_of_attempt, wanted}
+use Rattle.call_attempts.specs.Attempt.{AttemptValue, stop_of_attempt, wanted, boot_after}
 use Rattle.call_attempts.specs.declared.attempt.Stepped.{Stepped}
 use Rattle.call_attempts.specs.declared.attempt.Stepped.TheVariants as coming
 use Rattle.call_ticket.specs.declared.next.Answer.{Answer as Told}
@@ -39,13 +39,23 @@ use Rattle.shepherd.specs.declared.shepherd.Stage.{Stage}
 use Rattle.shepherd.specs.declared.shepherd.Stage.TheVariants.{Resting, Serving, Refusing, Over}
 use Rattle.shepherd_steps.specs.Inside.{came_by, commit_inside, commits_by, handed, handed_at, handed_by, handed_in, handed_of, inside, inside_of, stride, stride_by, untold, with_keeper}
 use Rattle.shepherd_steps.specs.Stepping.{event_at, step}
+use Rattle.call_ticket.specs.declared.next.Next.TheVariants as next
 
 -- A step made this of a boot: it handed nothing to the keeper, or the keeper did not keep it, and the boot is as it
--- was; or the journal has one entry more, with just these writes.
+-- was but for how often its components were entered; or the journal has one entry more, with just these writes.
 abbrev pub Changes : BootValue → List RowWrite → Bool → BootValue → Type 0
 Changes old writes keeps new =
-    ((new ≡ old) × ((writes ≡ []) ⊎ (keeps ≡ false)))
+    (HasOnlyEntered old new × ((writes ≡ []) ⊎ (keeps ≡ false)))
     ⊎ ((e : Entry) × (new ≡ with_entry old e) × (writes_in e ≡ writes) × ((writes ≡ []) ⊎ (keeps ≡ true)))
+
+-- an answered step only counts
+only_counts : (b : BootValue) (x : Next) → HasOnlyEntered b (boot_after b x)
+only_counts b (next.Enter c m) = refl
+only_counts b (next.Read id) = refl
+only_counts b (next.List table) = refl
+only_counts b (next.Put w) = refl
+only_counts b next.Exit = refl
+only_counts b (next.Done d) = refl
 
 changed_by_commit : (keeps : Bool) (c : ContainerValue) (s : TriesValue) (a : AttemptValue) (done : DoneText) → Changes c.boot (handed_by (refusal_of c s a done) a.ticket.call.writes) keeps (commit_inside keeps c s a done).container.boot
 changed_by_commit keeps c s a done = go (refusal_of c s a done) a.ticket.call.writes refl keeps
@@ -61,7 +71,7 @@ changed_by_stride asks keeps c s None = inl (refl, inl refl)
 changed_by_stride asks keeps c s (Some a) = by (came_by (wanted asks a) (stop_of_attempt c.boot asks a))
   where
     by : (came : Stepped) → Changes c.boot (handed_at c s a came) keeps (stride_by asks keeps c s a came).container.boot
-    by coming.Went = inl (refl, inl refl)
+    by coming.Went = inl (only_counts c.boot (wanted asks a), inl refl)
     by (coming.Done done) = changed_by_commit keeps c s a done
     by (coming.Stopped stop) = inl (refl, inl refl)
 

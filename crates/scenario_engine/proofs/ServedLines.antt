@@ -22,12 +22,12 @@ use Rattle.seat_steps.specs.declared.seat.Seat.{Seat}
 use Rattle.session_steps.specs.Sessions.{session_line}
 use Rattle.scenario_engine.specs.Connections.{makes_over, makes_to, seat_makes, turn_makes}
 use Rattle.scenario_engine.specs.Engine.{Replies, first_keeps, line_over, step}
-use Rattle.scenario_engine.specs.Running.{boot_line, commit_step, with_callers, with_sessions}
+use Rattle.scenario_engine.specs.Running.{boot_line, commit_step, with_called, with_sessions}
 use Rattle.scenario_engine.specs.Seats.{after_steps, by_replies, in_boot, seat_over}
 use Rattle.scenario_engine.specs.Serving.{HasServed, StaysWith, bytes_of, bytes_to, steps_of}
 use Rattle.scenario_engine.specs.State.{RunningState, Running, Outcome, RefusedIn, DoneTo, UnstartedIn, UnderWayIn, site_of, with_site}
 use Rattle.scenario_engine.specs.Transcript.{Turn, answer_to, turn_outcome}
-use Rattle.scenario_engine.proofs.Continuing.{Beside, beside_boot, beside_callers, beside_commit, beside_sessions}
+use Rattle.scenario_engine.proofs.Continuing.{Beside, beside_boot, beside_called, beside_commit, beside_sessions}
 use Rattle.scenario_engine.proofs.SeatRows.{RunsTo, bricks_of, line_of_run, near_of, run_to}
 use Rattle.scenario_engine.proofs.ServedSteps.{LeavesOther, ServeLaws, line-leaves, made_at, run-leaves, served-bytes, served-continues, served-end, served-run, served-step}
 
@@ -176,7 +176,7 @@ module _ (laws : ServeLaws) (n : ℕ) (from : SiteState) where
     any-line lines.Pass replies again conn made = no-more bytes steps (DoneTo (Running r) []) (r, refl, its)
     any-line (lines.Head line) replies again conn made = tt
     any-line (lines.Call c line) replies again conn made =
-        no-more bytes steps (in_boot r (within (with_callers r) (call_step r.boot r.callers c line))) (beside (within (with_callers r) (call_step r.boot r.callers c line)) (beside_callers r (call_step r.boot r.callers c line)))
+        no-more bytes steps (in_boot r (within (with_called r) (call_step r.boot r.callers c line))) (beside (within (with_called r) (call_step r.boot r.callers c line)) (beside_called r c line))
     any-line (lines.Commit c) replies again conn made =
         no-more bytes steps (in_boot r (commit_step r c (first_keeps replies.keeps))) (beside (commit_step r c (first_keeps replies.keeps)) (beside_commit r c (first_keeps replies.keeps)))
     any-line (lines.Boot line) replies again conn made = no-more bytes steps (in_boot r (boot_line r line)) (beside (boot_line r line) (beside_boot r line))

@@ -23,7 +23,7 @@ use Rattle.journal_model.specs.Revoked.{IsUnrebooted}
 use Rattle.journal_model.specs.Serial.{IsSerial}
 use Rattle.journal_model.proofs.Undone.{found_of}
 use Rattle.boot_core.specs.declared.boot.Start.{Start}
-use Rattle.boot_core.specs.Boot.{BootValue, new_boot, with_entry}
+use Rattle.boot_core.specs.Boot.{BootValue, new_boot, with_entry, HasGrown}
 use Rattle.boot_core.specs.Fits.{FitsIn}
 use Rattle.boot_core.specs.Refusals.{commit_refusal, reboot_refusal}
 use Rattle.boot_core.specs.Sound.{IsSound}
@@ -39,17 +39,17 @@ use Rattle.session_steps.specs.Sessions.{SessionsState, session_line}
 use Rattle.session_steps.specs.Setup.{set_up}
 use Rattle.line_steps.specs.Callers.{caller_at, begin_step, call_step, ended, AllFit, FitsCaller}
 use Rattle.line_steps.proofs.FewParts.{AreFew, few_head}
-use Rattle.line_steps.proofs.Fitting.{fit_set, fit_at, fit_after}
+use Rattle.line_steps.proofs.Fitting.{fit_set, fit_at, fit_after, fit_meanwhile, grown_entered}
 use Rattle.scenario_text.proofs.Leaving.{Leaves, leaves-or_refused, leaves-within, leaves-weaker}
-use Rattle.line_steps.proofs.Stepping.{IsShortCall, fits_begin_step, fits_call_step, group_known}
+use Rattle.line_steps.proofs.Stepping.{GoOn, IsShortCall, fits_begin_step, goes_call_step, group_known}
 use Rattle.line_steps.specs.Head.{IsOfSite, head_line, no_head}
 use Rattle.line_steps.specs.declared.head.Head.{Head}
 use Rattle.scenario_engine.proofs.Keeping.{HoldsIn, Keeps, LeavesTo, kept_boots, kept_at_end}
 use Rattle.scenario_engine.proofs.OfSite.{OpensOver, leaves_both, of_head, opens_over}
 use Rattle.scenario_engine.proofs.Rebooting.{undone_last}
-use Rattle.scenario_engine.proofs.SeatsFit.{IfFits, SeatLaws, SeatsFit, fits_entry, fits_seat}
+use Rattle.scenario_engine.proofs.SeatsFit.{IfFits, SeatLaws, SeatsFit, fits_entry, fits_grown, fits_seat}
 use Rattle.scenario_engine.specs.Opening.{Opening}
-use Rattle.scenario_engine.specs.Running.{started, with_callers, with_sessions, with_boot_entry, commit_ends, with_keeper, boot_refusal, caller_commits, caller_drops, commit_step, drop_step, scope_of, goes_down, reboots, down_step, up_step, reboot_step, table_step, journal_step, boot_line}
+use Rattle.scenario_engine.specs.Running.{started, with_callers, with_called, with_sessions, with_boot_entry, commit_ends, with_keeper, boot_refusal, caller_commits, caller_drops, commit_step, drop_step, scope_of, goes_down, reboots, down_step, up_step, reboot_step, table_step, journal_step, boot_line}
 use Rattle.scenario_engine.specs.Seats.{seat_over}
 use Rattle.scenario_engine.specs.Sound.{CommitsUnrebooted, RunsSerially}
 use Rattle.scenario_text.specs.declared.seat_line.SeatLine.{SeatLine}
@@ -59,6 +59,9 @@ use Rattle.seat_steps.specs.Seats.{SeatGivens, SeatWorld, seat_step}
 use Rattle.seat_steps.specs.declared.seat.Seat.{Seat}
 use Rattle.scenario_engine.specs.State.{RunningState}
 use Rattle.scenario_engine.specs.Transcript.{Turn, first, boots_in, boots_from, end_from, last_state}
+use Rattle.component_pool.specs.Plans.{left_by_process}
+use Rattle.line_steps.specs.CallLines.{CallDone}
+use Rattle.scenario_engine.proofs.Entered.{entered_once, sound_entered}
 
 -- What boots promise of themselves and of their calls.
 pub record BootLaws : Type 0 where
@@ -82,8 +85,21 @@ sound_callers r a run h =
 sound_begin : (r : RunningState) (n : ℕ) → IsSoundRun r → Leaves IsSoundRun (within (with_callers r) (begin_step r.boot r.callers n))
 sound_begin r n run = sound_callers r (begin_step r.boot r.callers n) run (fits_begin_step r.boot r.callers n run.fit)
 
-sound_call : (r : RunningState) (n : ℕ) (line : CallLine) → IsShortCall line → IsSoundRun r → Leaves IsSoundRun (within (with_callers r) (call_step r.boot r.callers n line))
-sound_call r n line short run = sound_callers r (call_step r.boot r.callers n line) run (fits_call_step r.boot r.callers n line short run.few run.fit)
+sound_called : SeatLaws → (r : RunningState) (done : CallDone (List Caller)) → GoOn r.boot done → IsSoundRun r → IsSoundRun (with_called r done)
+sound_called seats r done goes run =
+    let grown : HasGrown r.boot done.boot = grown_entered r.boot done.boot goes.entered in
+    record {
+      sound = sound_entered r.boot done.boot goes.entered run.sound;
+      few = subst (λ (s : Start). AreFew s.deployment) (sym grown.start) run.few;
+      fit = goes.fit;
+      seats = λ is. fits_grown seats r.boot done.boot r.seats.seats grown (run.seats is);
+    }
+
+sound_call : SeatLaws → (r : RunningState) (n : ℕ) (line : CallLine) → IsShortCall line → IsSoundRun r → Leaves IsSoundRun (within (with_called r) (call_step r.boot r.callers n line))
+sound_call seats r n line short run =
+    let a : Answer (CallDone (List Caller)) = call_step r.boot r.callers n line in
+    leaves-within IsSoundRun (with_called r) a
+    (leaves-weaker (GoOn r.boot) (λ done. IsSoundRun (with_called r done)) a (λ done goes. sound_called seats r done goes run) (goes_call_step r.boot r.callers n line short run.few run.fit))
 
 -- a caller's call ends
 
@@ -210,7 +226,9 @@ sound_at_seats seats callers g seat w fits run =
     go (seat_step g seat w).world.boot (seats.commits g seat w fits) (seats.sound g seat w fits run.0)
   where
     go : (now : BootValue) → CommitsAtMost w.boot now → IsSound now → SoundWith callers now
-    go now (inl same) sound = subst (SoundWith callers) (sym same) run
+    go now (inl enters) sound =
+        let grown : HasGrown w.boot now = grown_entered w.boot now (entered_once w.boot now enters) in
+        (sound, subst (λ (s : Start). AreFew s.deployment) (sym grown.start) run.1, fit_meanwhile w.boot now callers grown run.2)
     go now (inr commit) sound =
         let P : BootValue → Type 0 = λ b. AreFew b.start.deployment × AllFit b callers in
         let e : Entry = Commit (entry_of commit.call (Some commit.action)) in
@@ -234,13 +252,13 @@ sound_keeps laws seats = record {
   heads = (λ head line h. leaves_both (λ (x : Head). AreFew x.parts) IsOfSite (head_line head line) (few_head head line h.0) (of_head head line h.1));
   opens = (λ head replies start h opened.
       let P : Opening → Type 0 = OpensOver head.parts in
-      sound_started laws (set_up head.setup 0) 1 head.site start head.parts h.0 h.1 (subst P opened (opens_over head.parts head.limits replies)));
+      sound_started laws (set_up head.setup 0) 1 head.site start head.parts h.0 h.1 (subst P opened (opens_over head.parts head.plans head.limits replies)));
   reopens = (λ r replies start run opened.
       let P : Opening → Type 0 = OpensOver r.boot.start.deployment in
       sound_started laws (sessions_given_back r.seats.seats r.sessions) r.seats.word r.site start r.boot.start.deployment run.few (λ is. (run.seats is).of_site)
-      (subst P opened (opens_over r.boot.start.deployment r.boot.start.limits replies)));
+      (subst P opened (opens_over r.boot.start.deployment (left_by_process r.boot.start.plans) r.boot.start.limits replies)));
   commits = sound_commit laws seats;
-  calls = sound_call;
+  calls = sound_call seats;
   boots = sound_boot laws seats;
   sessions = (λ r line run. sound_session r (session_line r.sessions line) run);
   seats = sound_seats seats;

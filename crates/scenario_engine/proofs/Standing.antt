@@ -1,6 +1,6 @@
 -- Whatever the turns of a scenario over boots that rise, the connections that are there stand over its bricks, where
 -- what their steps hear is spelled.
-use Rattle.std.proofs.Common.{◌≡◌, ◌≢◌, inl, inr, ℕ, ◌+◌, ◌-◌, ◌^◌, ◌<◌, ◌≤◌, Bool, true, false, cond, if◌then◌else◌, append-nil, append_assoc, List, [], ◌∷◌, ◌++◌, Option, Some, None, is_some, refl, sym, ap, ◌∙◌, subst, arith}
+use Rattle.std.proofs.Common.{◌≡◌, ◌≢◌, inl, inr, ℕ, ◌-◌, ◌^◌, ◌<◌, ◌≤◌, Bool, true, false, cond, if◌then◌else◌, append-nil, append_assoc, List, [], ◌∷◌, ◌++◌, Option, Some, None, is_some, refl, sym, ap, ◌∙◌, subst, arith}
 use Rattle.std.specs.Prelude.{All, IfSome, slice_get}
 use Rattle.std.proofs.lemmas.List.Elements.{All-nil}
 use Rattle.crash_base.specs.declared.numbers.Version.{Version}
@@ -41,14 +41,14 @@ use Rattle.ssm_world.specs.declared.event.WorldEvent.{WorldEvent}
 use Rattle.scenario_engine.specs.Connections.{makes_on, makes_over, makes_to, seat_makes, turn_makes}
 use Rattle.scenario_engine.specs.Engine.{Replies, first_keeps, in_head, line_on, line_over, next_opening, opened_target, reopens, step, target_of}
 use Rattle.scenario_engine.specs.Opening.{Opening, Opened, UnstartedBoot, opening}
-use Rattle.scenario_engine.specs.Running.{boot_line, commit_step, started, with_callers, with_sessions}
+use Rattle.scenario_engine.specs.Running.{boot_line, commit_step, started, with_called, with_sessions}
 use Rattle.scenario_engine.specs.Seats.{after_steps, by_replies, in_boot, seat_over}
 use Rattle.scenario_engine.specs.Sessions.{first_start, starts_by, starts_on, turn_on_sessions, turns_by, turns_to}
 use Rattle.scenario_engine.specs.State.{RunningState, State, Heading, Running, Outcome, RefusedIn, DoneTo, UnstartedIn, UnderWayIn, site_of, with_site}
 use Rattle.scenario_engine.specs.Transcript.{Turn, answer_to, turn_outcome}
 use Rattle.scenario_engine.proofs.BricksKept.{LimitsLaw, NewLaw, lead_limits, turn_bricks}
 use Rattle.scenario_engine.proofs.Keeping.{LeavesTo}
-use Rattle.scenario_engine.proofs.Leading.{LeadsTo, Reaches, SameSessions, StateHasDrawn, first_drew, same_boot, same_called, same_commit}
+use Rattle.scenario_engine.proofs.Leading.{LeadsTo, Reaches, SameSessions, StateHasDrawn, first_drew, same_boot, same_commit, same_entered}
 use Rattle.scenario_engine.proofs.SeatRows.{RunsTo, bricks_of, line_of_run, near_of, run_to}
 use Rattle.scenario_engine.proofs.SeatsLead.{DrawLaws, IfDrew, SiteHasDrawn, Stays, drew_here, stays_bytes, stays_conn, stays_end}
 use Rattle.scenario_engine.proofs.SeatsStand.{ArePlaced, IsGood, IsStep, IsWhole, KeptLaws, StandLaws, WholeIf, bytes_whole, conn_whole, end_whole, hears_done, known_line, no_seats_placed, step_goes, steps_go, under}
@@ -263,7 +263,7 @@ module _ (L : LanesState → Type 0) (K : ℕ → Option ℕ → Type 0) (kept :
     stand_over : (line : Line) (replies : Replies) → All StepHearsSpelled (makes_over r line replies) → StandTo (line_over r line replies) × All (IsStep L K) (makes_over r line replies)
     stand_over lines.Pass replies heard = (all, All-nil (IsStep L K))
     stand_over (lines.Head line) replies heard = (all, All-nil (IsStep L K))
-    stand_over (lines.Call n line) replies heard = (stand_same (within (with_callers r) (call_step r.boot r.callers n line)) (same_called r (call_step r.boot r.callers n line)), All-nil (IsStep L K))
+    stand_over (lines.Call n line) replies heard = (stand_same (within (with_called r) (call_step r.boot r.callers n line)) (same_entered r n line), All-nil (IsStep L K))
     stand_over (lines.Commit n) replies heard = (stand_same (commit_step r n (first_keeps replies.keeps)) (same_commit r n (first_keeps replies.keeps)), All-nil (IsStep L K))
     stand_over (lines.Boot line) replies heard = (stand_same (boot_line r line) (same_boot r line), All-nil (IsStep L K))
     stand_over lines.Reopen replies heard = (stand_reopen (next_opening r replies.again), All-nil (IsStep L K))
@@ -303,7 +303,7 @@ module _ (L : LanesState → Type 0) (K : ℕ → Option ℕ → Type 0) (kept :
       go : (event : Bool) → BootsRise 0 (first_start (Heading head) (target_of (Heading head) event replies.first)) → All StepHearsSpelled (makes_on (target_of (Heading head) event replies.first) line replies)
           → AllTo (line_on (target_of (Heading head) event replies.first) line replies) (makes_on (target_of (Heading head) event replies.first) line replies)
       go false rise heard = (stand_head head (head_line head line), All-nil (IsStep L K))
-      go true rise heard = stand_opened head (opening head.parts head.limits replies.first) line replies counts later rise heard
+      go true rise heard = stand_opened head (opening head.parts head.plans head.limits replies.first) line replies counts later rise heard
 
   stand_answer : (s : State) (before : List SessionTurn) → StoryOf L before s → StandAt K s → (o : Option Line) (replies : Replies) → BootsRise 0 (before ++ starts_by s o replies) → All StepHearsSpelled (makes_to s o replies) → AllTo (answer_to s o replies) (makes_to s o replies)
   stand_answer s before story all None replies rise heard = (all, All-nil (IsStep L K))

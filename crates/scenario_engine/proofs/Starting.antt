@@ -18,6 +18,8 @@ use Rattle.scenario_engine.specs.KeeperCalls.{KeeperCall, Gave, KeeperSeen, seen
 use Rattle.scenario_engine.specs.Opening.{StartReplies, Opened, UnstartedBoot, is_spent, opening_over, opening_of, calls_over_rows, start_calls_of}
 use Rattle.scenario_engine.specs.Telling.{Opens, OpensPartly, FailsToOpen, failure_of}
 use Rattle.scenario_engine.proofs.Calls.{counted_unfailed, counted_failed, none_of}
+use Rattle.crash_base.specs.declared.fault_plans.FaultPlan.{FaultPlan}
+use Rattle.component_pool.specs.Plans.{left_by_process}
 
 -- whether a number has come up to another
 
@@ -28,10 +30,10 @@ same_number : (n m : ℕ) → n ≡ m → nat_le m n ≡ true
 same_number n m same = grind (arith, nat_tests)
 
 -- how a boot opens over good rows
-good_opening : (parts : Parts) (limits : JournalLimits) (rows : List RowWrite) (keeps : Bool) → first_bad rows ≡ None → last_boot rows < greatest_boot → cond keeps (Opened (start_over parts limits rows)) (UnstartedBoot causes.KeeperFailed) ≡ opening_of parts limits (Some rows) keeps
-good_opening parts limits rows keeps good left =
-    sym (ap (λ o. opening_over parts limits rows keeps o) good
-    ∙ ap (λ b. cond b (UnstartedBoot causes.BootsSpent) (cond keeps (Opened (start_over parts limits rows)) (UnstartedBoot causes.KeeperFailed))) (below (last_boot rows) greatest_boot left))
+good_opening : (parts : Parts) (plans : List FaultPlan) (limits : JournalLimits) (rows : List RowWrite) (keeps : Bool) → first_bad rows ≡ None → last_boot rows < greatest_boot → cond keeps (Opened (start_over parts plans limits rows)) (UnstartedBoot causes.KeeperFailed) ≡ opening_of parts plans limits (Some rows) keeps
+good_opening parts plans limits rows keeps good left =
+    sym (ap (λ o. opening_over parts plans limits rows keeps o) good
+    ∙ ap (λ b. cond b (UnstartedBoot causes.BootsSpent) (cond keeps (Opened (start_over parts plans limits rows)) (UnstartedBoot causes.KeeperFailed))) (below (last_boot rows) greatest_boot left))
 
 good_calls : (rows : List RowWrite) (keeps : Bool) → first_bad rows ≡ None → last_boot rows < greatest_boot → Gave rows ∷ apply_calls (boot_row (last_boot rows + 1) ∷ []) keeps ≡ start_calls_of (Some rows) keeps
 good_calls rows keeps good left =
@@ -42,14 +44,14 @@ good_calls rows keeps good left =
 gives : List RowWrite → Bool → StartReplies
 gives rows keeps = record { rows = Some rows; keeps = keeps }
 
-pub opened : (parts : Parts) (limits : JournalLimits) (old new : KeeperSeen) (boot : BootValue) → IsOpened parts limits old.told boot new.told → old.faults ≤ new.faults → (start : Start) × (boot ≡ new_boot start) × Opens parts limits (Opened start) old new
-opened parts limits old new boot h count =
+pub opened : (parts : Parts) (plans : List FaultPlan) (limits : JournalLimits) (old new : KeeperSeen) (boot : BootValue) → IsOpened parts plans limits old.told boot new.told → old.faults ≤ new.faults → (start : Start) × (boot ≡ new_boot start) × Opens parts plans limits (Opened start) old new
+opened parts plans limits old new boot h count =
     let P : List KeeperCall → Type 0 = λ calls. AreMade calls old new in (
-      start_over parts limits h.rows,
+      start_over parts plans limits h.rows,
       h.boot,
       record {
         replies = record { rows = Some h.rows; keeps = true };
-        opens = good_opening parts limits h.rows true h.good h.unspent;
+        opens = good_opening parts plans limits h.rows true h.good h.unspent;
         made = subst P (good_calls h.rows true h.good h.unspent) (record {
           told = (loaded old.told, (h.given, refl), (new.told, h.kept, refl));
           counted = counted_unfailed _ old.faults new.faults refl count;
@@ -58,17 +60,17 @@ opened parts limits old new boot h count =
     )
 
 -- the keeper failed
-left_by_fault : (parts : Parts) (limits : JournalLimits) (old new : KeeperSeen) → IsRefusedStart refusals.KeeperFailed old.told new.told → old.faults ≤ new.faults → Rose old.faults new.faults → Opens parts limits (UnstartedBoot causes.KeeperFailed) old new
-left_by_fault parts limits old new (inl tells) count rose = record {
+left_by_fault : (parts : Parts) (plans : List FaultPlan) (limits : JournalLimits) (old new : KeeperSeen) → IsRefusedStart refusals.KeeperFailed old.told new.told → old.faults ≤ new.faults → Rose old.faults new.faults → Opens parts plans limits (UnstartedBoot causes.KeeperFailed) old new
+left_by_fault parts plans limits old new (inl tells) count rose = record {
   replies = record { rows = None; keeps = true };
   opens = refl;
   made = record { told = (new.told, tells, refl); counted = counted_failed _ old.faults new.faults count rose };
 }
-left_by_fault parts limits old new (inr (rows, good, tells)) count rose =
+left_by_fault parts plans limits old new (inr (rows, good, tells)) count rose =
     let P : List KeeperCall → Type 0 = λ calls. AreMade calls old new in
     record {
       replies = record { rows = Some rows; keeps = false };
-      opens = good_opening parts limits rows false good.good good.unspent;
+      opens = good_opening parts plans limits rows false good.good good.unspent;
       made = subst P (good_calls rows false good.good good.unspent) (record {
         told = (loaded old.told, (good.given, refl), (new.told, tells, refl));
         counted = counted_failed _ old.faults new.faults count rose;
@@ -103,24 +105,24 @@ left_by_memory old new (inr (rows, good, after)) count = record {
 }
 
 -- a boot that was not started
-pub not_opened : (parts : Parts) (limits : JournalLimits) (old new : KeeperSeen) (refusal : StartRefusal) → IsRefusedStart refusal old.told new.told → old.faults ≤ new.faults → (refusal ≡ refusals.KeeperFailed → Rose old.faults new.faults) → FailsToOpen (failure_of refusal) parts limits old new
-not_opened parts limits old new refusals.KeeperFailed h count rose = left_by_fault parts limits old new h count (rose refl)
-not_opened parts limits old new (refusals.BadRow id) (rows, given, bad, is) count rose =
+pub not_opened : (parts : Parts) (plans : List FaultPlan) (limits : JournalLimits) (old new : KeeperSeen) (refusal : StartRefusal) → IsRefusedStart refusal old.told new.told → old.faults ≤ new.faults → (refusal ≡ refusals.KeeperFailed → Rose old.faults new.faults) → FailsToOpen (failure_of refusal) parts plans limits old new
+not_opened parts plans limits old new refusals.KeeperFailed h count rose = left_by_fault parts plans limits old new h count (rose refl)
+not_opened parts plans limits old new (refusals.BadRow id) (rows, given, bad, is) count rose =
     let P : List KeeperCall → Type 0 = λ calls. AreMade calls old new in
     let none : Gave rows ∷ [] ≡ start_calls_of (Some rows) true = ap (λ o. Gave rows ∷ calls_over_rows rows true o) (sym bad) in
     record {
       replies = record { rows = Some rows; keeps = true };
-      opens = ap (λ o. opening_over parts limits rows true o) (sym bad);
+      opens = ap (λ o. opening_over parts plans limits rows true o) (sym bad);
       made = subst P none (record {
         told = (loaded old.told, (given, refl), is);
         counted = counted_unfailed _ old.faults new.faults refl count;
       });
     }
-not_opened parts limits old new refusals.BootsSpent (rows, given, good, last, is) count rose =
+not_opened parts plans limits old new refusals.BootsSpent (rows, given, good, last, is) count rose =
     let P : List KeeperCall → Type 0 = λ calls. AreMade calls old new in
     let spent : is_spent rows ≡ true = same_number (last_boot rows) greatest_boot last in
     let none : start_calls_of (Some rows) true ≡ Gave rows ∷ [] = ap (λ o. Gave rows ∷ calls_over_rows rows true o) good ∙ ap (λ b. Gave rows ∷ cond b [] (apply_calls (boot_row (last_boot rows + 1) ∷ []) true)) spent in
-    let stays_unstarted : opening_of parts limits (Some rows) true ≡ UnstartedBoot causes.BootsSpent = ap (λ o. opening_over parts limits rows true o) good ∙ ap (λ b. cond b (UnstartedBoot causes.BootsSpent) (Opened (start_over parts limits rows))) spent in
+    let stays_unstarted : opening_of parts plans limits (Some rows) true ≡ UnstartedBoot causes.BootsSpent = ap (λ o. opening_over parts plans limits rows true o) good ∙ ap (λ b. cond b (UnstartedBoot causes.BootsSpent) (Opened (start_over parts plans limits rows))) spent in
     record {
       replies = record { rows = Some rows; keeps = true };
       opens = sym stays_unstarted;
@@ -129,7 +131,7 @@ not_opened parts limits old new refusals.BootsSpent (rows, given, good, last, is
         counted = counted_unfailed _ old.faults new.faults refl count;
       });
     }
-not_opened parts limits old new refusals.OutOfMemory h count rose = left_by_memory old new h count
+not_opened parts plans limits old new refusals.OutOfMemory h count rose = left_by_memory old new h count
 
 -- memory ran out before the keeper was called
 pub unopened_at_once : (k : KeeperSeen) → OpensPartly k k
@@ -137,15 +139,15 @@ unopened_at_once k = record { replies = record { rows = None; keeps = true }; ma
 
 -- over the parts of a boot that is reopened
 
-pub reopened_so : (c n : ContainerValue) (boot : BootValue) (k : KeeperSeen) → c.boot ≡ boot → seen c.told c.faults ≡ k → IsOpened c.boot.start.deployment c.boot.start.limits c.told n.boot n.told → c.faults ≤ n.faults → (start : Start) × (n.boot ≡ new_boot start) × Opens boot.start.deployment boot.start.limits (Opened start) k (seen n.told n.faults)
+pub reopened_so : (c n : ContainerValue) (boot : BootValue) (k : KeeperSeen) → c.boot ≡ boot → seen c.told c.faults ≡ k → IsOpened c.boot.start.deployment (left_by_process c.boot.start.plans) c.boot.start.limits c.told n.boot n.told → c.faults ≤ n.faults → (start : Start) × (n.boot ≡ new_boot start) × Opens boot.start.deployment (left_by_process boot.start.plans) boot.start.limits (Opened start) k (seen n.told n.faults)
 reopened_so c n boot k b e h count =
-    let o = opened c.boot.start.deployment c.boot.start.limits (seen c.told c.faults) (seen n.told n.faults) n.boot h count in
-    let P : BootValue → Type 0 = λ b. Opens b.start.deployment b.start.limits (Opened o.0) k (seen n.told n.faults) in
-    let Q : KeeperSeen → Type 0 = λ k. Opens c.boot.start.deployment c.boot.start.limits (Opened o.0) k (seen n.told n.faults) in
+    let o = opened c.boot.start.deployment (left_by_process c.boot.start.plans) c.boot.start.limits (seen c.told c.faults) (seen n.told n.faults) n.boot h count in
+    let P : BootValue → Type 0 = λ b. Opens b.start.deployment (left_by_process b.start.plans) b.start.limits (Opened o.0) k (seen n.told n.faults) in
+    let Q : KeeperSeen → Type 0 = λ k. Opens c.boot.start.deployment (left_by_process c.boot.start.plans) c.boot.start.limits (Opened o.0) k (seen n.told n.faults) in
     (o.0, o.1, subst P b (subst Q e o.2))
 
-pub not_reopened_so : (c : ContainerValue) (boot : BootValue) (k new : KeeperSeen) (refusal : StartRefusal) → c.boot ≡ boot → seen c.told c.faults ≡ k → IsRefusedStart refusal c.told new.told → c.faults ≤ new.faults → (refusal ≡ refusals.KeeperFailed → Rose c.faults new.faults) → FailsToOpen (failure_of refusal) boot.start.deployment boot.start.limits k new
+pub not_reopened_so : (c : ContainerValue) (boot : BootValue) (k new : KeeperSeen) (refusal : StartRefusal) → c.boot ≡ boot → seen c.told c.faults ≡ k → IsRefusedStart refusal c.told new.told → c.faults ≤ new.faults → (refusal ≡ refusals.KeeperFailed → Rose c.faults new.faults) → FailsToOpen (failure_of refusal) boot.start.deployment (left_by_process boot.start.plans) boot.start.limits k new
 not_reopened_so c boot k new refusal b e h count rose =
-    let P : BootValue → Type 0 = λ b. FailsToOpen (failure_of refusal) b.start.deployment b.start.limits k new in
-    let Q : KeeperSeen → Type 0 = λ k. FailsToOpen (failure_of refusal) c.boot.start.deployment c.boot.start.limits k new in
-    subst P b (subst Q e (not_opened c.boot.start.deployment c.boot.start.limits (seen c.told c.faults) new refusal h count rose))
+    let P : BootValue → Type 0 = λ b. FailsToOpen (failure_of refusal) b.start.deployment (left_by_process b.start.plans) b.start.limits k new in
+    let Q : KeeperSeen → Type 0 = λ k. FailsToOpen (failure_of refusal) c.boot.start.deployment (left_by_process c.boot.start.plans) c.boot.start.limits k new in
+    subst P b (subst Q e (not_opened c.boot.start.deployment (left_by_process c.boot.start.plans) c.boot.start.limits (seen c.told c.faults) new refusal h count rose))

@@ -31,6 +31,7 @@ use Rattle.scenario_engine.specs.Transcript.{calls_to}
 use Rattle.scenario_engine.specs.State.{RunningState, RunningValue, EngineValue, State, Heading, Running, Outcome, RefusedIn, DoneTo, UnstartedIn, site_of}
 use Rattle.scenario_engine.specs.Telling.{Opens, FailsToOpen, Commits, CommitsPartly, AnswersSeat, BreaksSeat, EndsSeat, Reaches, FailsToReach, DoesOn, DoesPartlyOn, BreaksOffOn, AnswersOn, EndsOn, Does, DoesPartly, BreaksOff, Answers, Ends, WereMade}
 use Rattle.scenario_engine.proofs.Calls.{none_made, none_of, all_made, then_made, then_some, some_first}
+use Rattle.component_pool.specs.Plans.{left_by_process}
 
 -- replies that nobody asks for
 abbrev no_start : StartReplies
@@ -51,14 +52,14 @@ reached (Running r) k = record { replies = no_start; is = refl; made = none_made
 pub reached_running : (r : RunningState) (k : KeeperSeen) → Reaches (Running r) true (TheBoot r) k k
 reached_running r k = record { replies = no_start; is = refl; made = none_made k }
 
-pub reached_opened : (head : Head) (start : Start) (old new : KeeperSeen) → Opens head.parts head.limits (Opened start) old new → Reaches (Heading head) true (TheBoot (started (set_up head.setup 0) no_seats head.site start)) old new
+pub reached_opened : (head : Head) (start : Start) (old new : KeeperSeen) → Opens head.parts head.plans head.limits (Opened start) old new → Reaches (Heading head) true (TheBoot (started (set_up head.setup 0) no_seats head.site start)) old new
 reached_opened head start old new h = record {
   replies = h.replies;
   is = ap (λ o. opened_target head o) h.opens;
   made = h.made;
 }
 
-pub fails_to_reach : (head : Head) (failure : LineFailure) (old new : KeeperSeen) → FailsToOpen failure head.parts head.limits old new → FailsToReach failure (Heading head) true old new
+pub fails_to_reach : (head : Head) (failure : LineFailure) (old new : KeeperSeen) → FailsToOpen failure head.parts head.plans head.limits old new → FailsToReach failure (Heading head) true old new
 fails_to_reach head (failures.Unstarted cause) old new h = (
   head,
   record {
@@ -107,7 +108,7 @@ commit_partly r caller old new h = record { replies = no_replies; unkept = refl;
 abbrev to_reopen : StartReplies → Replies
 to_reopen again = record { first = no_start; again = again; keeps = [] }
 
-pub reopened : (r next : RunningState) (start : Start) (text : List ℕ) (old new : KeeperSeen) → next ≡ reopened_over r start → Opens r.boot.start.deployment r.boot.start.limits (Opened start) old new → text ≡ boot_text next.boot.start.boot → DoesOn (TheBoot r) lines.Reopen (DoneTo (Running next) text) old new
+pub reopened : (r next : RunningState) (start : Start) (text : List ℕ) (old new : KeeperSeen) → next ≡ reopened_over r start → Opens r.boot.start.deployment (left_by_process r.boot.start.plans) r.boot.start.limits (Opened start) old new → text ≡ boot_text next.boot.start.boot → DoesOn (TheBoot r) lines.Reopen (DoneTo (Running next) text) old new
 reopened r next start text old new is h wrote =
     let P : RunningState → Type 0 = λ n. text ≡ boot_text n.boot.start.boot → DoesOn (TheBoot r) lines.Reopen (DoneTo (Running n) text) old new in
     subst P (sym is) (λ w. record {
@@ -117,11 +118,11 @@ reopened r next start text old new is h wrote =
       steps = no_steps;
     }) wrote
 
-pub reopened_partly : (r : RunningState) (start : Start) (old new : KeeperSeen) → Opens r.boot.start.deployment r.boot.start.limits (Opened start) old new → DoesPartlyOn (TheBoot r) lines.Reopen old new
+pub reopened_partly : (r : RunningState) (start : Start) (old new : KeeperSeen) → Opens r.boot.start.deployment (left_by_process r.boot.start.plans) r.boot.start.limits (Opened start) old new → DoesPartlyOn (TheBoot r) lines.Reopen old new
 reopened_partly r start old new h =
     record { replies = to_reopen h.replies; unkept = refl; made = all_made (start_calls h.replies) old new h.made }
 
-pub reopen_ends : (r : RunningState) (failure : LineFailure) (old new : KeeperSeen) → FailsToOpen failure r.boot.start.deployment r.boot.start.limits old new → EndsOn failure (TheBoot r) lines.Reopen old new
+pub reopen_ends : (r : RunningState) (failure : LineFailure) (old new : KeeperSeen) → FailsToOpen failure r.boot.start.deployment (left_by_process r.boot.start.plans) r.boot.start.limits old new → EndsOn failure (TheBoot r) lines.Reopen old new
 reopen_ends r (failures.Unstarted cause) old new h =
     (Running r, record { replies = to_reopen h.replies; answers = ap (reopens r) h.opens; made = h.made; steps = no_steps })
 reopen_ends r failures.OutOfMemory old new h =
@@ -301,13 +302,13 @@ line_done (Err failure) v w after line reach h = ends_line failure v.state line 
 
 -- a boot that was started, or not
 
-pub started_so : (v : EngineValue) (head : Head) (k : KeeperSeen) (r : RunningValue) (start : Start) → heading head k ≡ v → r.running ≡ started (set_up head.setup 0) no_seats head.site start → Opens head.parts head.limits (Opened start) k r.keeper → Reaches v.state true (TheBoot r.running) v.keeper r.keeper
+pub started_so : (v : EngineValue) (head : Head) (k : KeeperSeen) (r : RunningValue) (start : Start) → heading head k ≡ v → r.running ≡ started (set_up head.setup 0) no_seats head.site start → Opens head.parts head.plans head.limits (Opened start) k r.keeper → Reaches v.state true (TheBoot r.running) v.keeper r.keeper
 started_so v head k r start is so opens =
     let P : EngineValue → Type 0 = λ v. Reaches v.state true (TheBoot r.running) v.keeper r.keeper in
     let Q : RunningState → Type 0 = λ s. Reaches (Heading head) true (TheBoot s) k r.keeper in
     subst P is (subst Q (sym so) (reached_opened head start k r.keeper opens))
 
-pub not_started_so : (v : EngineValue) (head : Head) (k new : KeeperSeen) (failure : LineFailure) → heading head k ≡ v → FailsToOpen failure head.parts head.limits k new → FailsToReach failure v.state true v.keeper new
+pub not_started_so : (v : EngineValue) (head : Head) (k new : KeeperSeen) (failure : LineFailure) → heading head k ≡ v → FailsToOpen failure head.parts head.plans head.limits k new → FailsToReach failure v.state true v.keeper new
 not_started_so v head k new failure is fails =
     let P : EngineValue → Type 0 = λ v. FailsToReach failure v.state true v.keeper new in
     subst P is (fails_to_reach head failure k new fails)

@@ -44,7 +44,7 @@ use Rattle.scenario_engine.specs.Engine.{Replies, first_keeps, Target, TheHead, 
 use Rattle.scenario_engine.specs.Seats.{in_boot, seat_over}
 use Rattle.scenario_engine.specs.KeeperCalls.{apply_calls, TellsCalls}
 use Rattle.scenario_engine.specs.Opening.{StartReplies, Opening, Opened, UnstartedBoot, is_spent, opening, opening_of, opening_over, calls_over_rows, start_calls, start_calls_of}
-use Rattle.scenario_engine.specs.Running.{with_callers, with_sessions, with_boot_entry, commit_ends, with_keeper, boot_refusal, keep_calls, caller_commits, caller_calls, caller_drops, commit_step, commit_calls, drop_step, scope_of, goes_down, reboots, down_step, up_step, reboot_step, table_step, journal_step, boot_line}
+use Rattle.scenario_engine.specs.Running.{with_callers, with_called, with_sessions, with_boot_entry, commit_ends, with_keeper, boot_refusal, keep_calls, caller_commits, caller_calls, caller_drops, commit_step, commit_calls, drop_step, scope_of, goes_down, reboots, down_step, up_step, reboot_step, table_step, journal_step, boot_line}
 use Rattle.scenario_engine.specs.State.{RunningState, State, Heading, Running, Outcome, RefusedIn, DoneTo, UnstartedIn, UnderWayIn}
 use Rattle.scenario_engine.specs.Told.{HoldsStateRows, IsOver, IsChained, Tells}
 use Rattle.scenario_engine.specs.Transcript.{Turn, first, answer_to, turn_outcome, calls_to, turn_calls, ends_to, turn_ends, calls_from, boots_in, boots_from, end_from, last_state, RefusedAt, TooLong, Unstarted, UnderWay}
@@ -52,20 +52,25 @@ use Rattle.scenario_engine.proofs.Numbering.{GoesOn, AreLinked, chained_over}
 use Rattle.scenario_engine.proofs.Keeping.{LeavesTo}
 use Rattle.scenario_engine.proofs.SeatRows.{HoldsIn, left_seat}
 use Rattle.scenario_engine.proofs.TellingCalls.{none_after, Halves, halves, rows_told, rows_failed}
+use Rattle.crash_base.specs.declared.fault_plans.FaultPlan.{FaultPlan}
+use Rattle.component_pool.specs.Plans.{left_by_process}
+use Rattle.scenario_engine.proofs.Entered.{leaves_called}
+use Rattle.scenario_text.specs.declared.call_line.CallLine.{CallLine}
 
 -- what a start leaves
 
 -- The boot that opens is over the rows that the keeper held, of these parts and limits, and begins with those that it
 -- holds; else they stay.
-record OpensOver (parts : Parts) (limits : JournalLimits) (t u : KeeperTold) (start : Start) : Type 0 where
+record OpensOver (parts : Parts) (plans : List FaultPlan) (limits : JournalLimits) (t u : KeeperTold) (start : Start) : Type 0 where
   over : IsOver t.rows start
   deployment : start.deployment ≡ parts
+  planned : start.plans ≡ plans
   limited : start.limits ≡ limits
   rows : u.rows ≡ rows_after start.base []
 
-abbrev StartLeaves : Parts → JournalLimits → KeeperTold → KeeperTold → Opening → Type 0
-StartLeaves parts limits t u (Opened start) = OpensOver parts limits t u start
-StartLeaves parts limits t u (UnstartedBoot refusal) = u.rows ≡ t.rows
+abbrev StartLeaves : Parts → List FaultPlan → JournalLimits → KeeperTold → KeeperTold → Opening → Type 0
+StartLeaves parts plans limits t u (Opened start) = OpensOver parts plans limits t u start
+StartLeaves parts plans limits t u (UnstartedBoot refusal) = u.rows ≡ t.rows
 
 above : (n m : ℕ) → nat_le n m ≡ false → m < n
 above n m less = grind (arith, nat_tests)
@@ -74,46 +79,47 @@ above n m less = grind (arith, nat_tests)
 is_left : (rows : List RowWrite) → is_spent rows ≡ false → last_boot rows < greatest_boot
 is_left rows left = above greatest_boot (last_boot rows) left
 
-start_kept : (parts : Parts) (limits : JournalLimits) (rows : List RowWrite) (t v u : KeeperTold) (keeps : Bool) → rows ≡ t.rows → AreOrdered rows → v.rows ≡ t.rows
+start_kept : (parts : Parts) (plans : List FaultPlan) (limits : JournalLimits) (rows : List RowWrite) (t v u : KeeperTold) (keeps : Bool) → rows ≡ t.rows → AreOrdered rows → v.rows ≡ t.rows
     → first_bad rows ≡ None → is_spent rows ≡ false
     → TellsCalls (apply_calls (boot_row (last_boot rows + 1) ∷ []) keeps) (Some v) (Some u)
-    → StartLeaves parts limits t u (if keeps then Opened (start_over parts limits rows) else UnstartedBoot causes.KeeperFailed)
-start_kept parts limits rows t v u true given ordered same good left told =
+    → StartLeaves parts plans limits t u (if keeps then Opened (start_over parts plans limits rows) else UnstartedBoot causes.KeeperFailed)
+start_kept parts plans limits rows t v u true given ordered same good left told =
     let row : List RowWrite = boot_row (last_boot rows + 1) ∷ [] in
     let put : u.rows ≡ put_all row v.rows = ap rows_told told.2 ∙ ap rows_told told.1 in
-    let P : List RowWrite → Type 0 = λ held. IsOver held (start_over parts limits rows) in
+    let P : List RowWrite → Type 0 = λ held. IsOver held (start_over parts plans limits rows) in
     record {
       over = subst P given (record { over = refl; good = good; unspent = is_left rows left });
       deployment = refl;
+      planned = refl;
       limited = refl;
       rows = put ∙ ap (put_all row) (same ∙ sym given) ∙ start_rows rows (last_boot rows + 1) ordered;
     }
-start_kept parts limits rows t v u false given ordered same good left told = rows_failed v u told ∙ same
+start_kept parts plans limits rows t v u false given ordered same good left told = rows_failed v u told ∙ same
 
-start_unspent : (parts : Parts) (limits : JournalLimits) (rows : List RowWrite) (t v u : KeeperTold) (spent keeps : Bool) → rows ≡ t.rows → AreOrdered rows → v.rows ≡ t.rows
+start_unspent : (parts : Parts) (plans : List FaultPlan) (limits : JournalLimits) (rows : List RowWrite) (t v u : KeeperTold) (spent keeps : Bool) → rows ≡ t.rows → AreOrdered rows → v.rows ≡ t.rows
     → first_bad rows ≡ None → is_spent rows ≡ spent
     → TellsCalls (if spent then [] else apply_calls (boot_row (last_boot rows + 1) ∷ []) keeps) (Some v) (Some u)
-    → StartLeaves parts limits t u (if spent then UnstartedBoot causes.BootsSpent else (if keeps then Opened (start_over parts limits rows) else UnstartedBoot causes.KeeperFailed))
-start_unspent parts limits rows t v u true keeps given ordered same good left told = ap rows_told told ∙ same
-start_unspent parts limits rows t v u false keeps given ordered same good left told = start_kept parts limits rows t v u keeps given ordered same good left told
+    → StartLeaves parts plans limits t u (if spent then UnstartedBoot causes.BootsSpent else (if keeps then Opened (start_over parts plans limits rows) else UnstartedBoot causes.KeeperFailed))
+start_unspent parts plans limits rows t v u true keeps given ordered same good left told = ap rows_told told ∙ same
+start_unspent parts plans limits rows t v u false keeps given ordered same good left told = start_kept parts plans limits rows t v u keeps given ordered same good left told
 
-start_given : (parts : Parts) (limits : JournalLimits) (rows : List RowWrite) (t v u : KeeperTold) (bad : Option RowId) (keeps : Bool) → rows ≡ t.rows → AreOrdered rows → v.rows ≡ t.rows
+start_given : (parts : Parts) (plans : List FaultPlan) (limits : JournalLimits) (rows : List RowWrite) (t v u : KeeperTold) (bad : Option RowId) (keeps : Bool) → rows ≡ t.rows → AreOrdered rows → v.rows ≡ t.rows
     → first_bad rows ≡ bad
-    → TellsCalls (calls_over_rows rows keeps bad) (Some v) (Some u) → StartLeaves parts limits t u (opening_over parts limits rows keeps bad)
-start_given parts limits rows t v u (Some id) keeps given ordered same good told = ap rows_told told ∙ same
-start_given parts limits rows t v u None keeps given ordered same good told =
-    start_unspent parts limits rows t v u (is_spent rows) keeps given ordered same good refl told
+    → TellsCalls (calls_over_rows rows keeps bad) (Some v) (Some u) → StartLeaves parts plans limits t u (opening_over parts plans limits rows keeps bad)
+start_given parts plans limits rows t v u (Some id) keeps given ordered same good told = ap rows_told told ∙ same
+start_given parts plans limits rows t v u None keeps given ordered same good told =
+    start_unspent parts plans limits rows t v u (is_spent rows) keeps given ordered same good refl told
 
-start_replied : (parts : Parts) (limits : JournalLimits) (t u : KeeperTold) (given : Option (List RowWrite)) (keeps : Bool)
-    → TellsCalls (start_calls_of given keeps) (Some t) (Some u) → StartLeaves parts limits t u (opening_of parts limits given keeps)
-start_replied parts limits t u None keeps told = rows_failed t u told
-start_replied parts limits t u (Some rows) keeps (between, (given, is), rest) =
+start_replied : (parts : Parts) (plans : List FaultPlan) (limits : JournalLimits) (t u : KeeperTold) (given : Option (List RowWrite)) (keeps : Bool)
+    → TellsCalls (start_calls_of given keeps) (Some t) (Some u) → StartLeaves parts plans limits t u (opening_of parts plans limits given keeps)
+start_replied parts plans limits t u None keeps told = rows_failed t u told
+start_replied parts plans limits t u (Some rows) keeps (between, (given, is), rest) =
     let P : Option KeeperTold → Type 0 = λ o. TellsCalls (calls_over_rows rows keeps (first_bad rows)) o (Some u) in
-    start_given parts limits rows t (after_call t) u (first_bad rows) keeps given.0 given.1 refl refl (subst P is rest)
+    start_given parts plans limits rows t (after_call t) u (first_bad rows) keeps given.0 given.1 refl refl (subst P is rest)
 
-start_leaves : (parts : Parts) (limits : JournalLimits) (replies : StartReplies) (t u : KeeperTold)
-    → TellsCalls (start_calls replies) (Some t) (Some u) → StartLeaves parts limits t u (opening parts limits replies)
-start_leaves parts limits replies t u told = start_replied parts limits t u replies.rows replies.keeps told
+start_leaves : (parts : Parts) (plans : List FaultPlan) (limits : JournalLimits) (replies : StartReplies) (t u : KeeperTold)
+    → TellsCalls (start_calls replies) (Some t) (Some u) → StartLeaves parts plans limits t u (opening parts plans limits replies)
+start_leaves parts plans limits replies t u told = start_replied parts plans limits t u replies.rows replies.keeps told
 
 -- where a keeper that tells stands to a state: it holds the rows that the journal leaves, and the boot is started as
 -- the next one has to be; where no boot is started, it holds the rows that it held first, and the next one has to be
@@ -140,7 +146,7 @@ same_told P t u same h = let Q : Option KeeperTold → Type 0 = λ o. IfSome o P
 first_over : (held : List RowWrite) (P : Start → Type 0) (t : KeeperTold) (start : Start) → HoldsFirst held P t → IsOver t.rows start → P start
 first_over held P t start holds over = let Q : List RowWrite → Type 0 = λ rows. IsOver rows start in holds.0 start (subst Q holds.1 over)
 
-on_opened : (held : List RowWrite) (P : Start → Type 0) (head : Head) (how : Opening) (t u : KeeperTold) → HoldsFirst held P t → StartLeaves head.parts head.limits t u how → IsOn held P u (opened_target head how)
+on_opened : (held : List RowWrite) (P : Start → Type 0) (head : Head) (how : Opening) (t u : KeeperTold) → HoldsFirst held P t → StartLeaves head.parts head.plans head.limits t u how → IsOn held P u (opened_target head how)
 on_opened held P head (Opened start) t u holds leaves =
     (first_over held P t start holds leaves.over, leaves.rows)
 on_opened held P head (UnstartedBoot refusal) t u holds leaves = (holds.0, leaves ∙ holds.1)
@@ -150,7 +156,7 @@ on_target : (held : List RowWrite) (P : Start → Type 0) (s : State) (event : B
 on_target held P (Running r) event replies t u at told = same_told (λ v. HoldsBoot P v r.boot) t u told at
 on_target held P (Heading head) false replies t u at told = same_told (HoldsFirst held P) t u told at
 on_target held P (Heading head) true replies t u at told =
-    on_opened held P head (opening head.parts head.limits replies) t u at (start_leaves head.parts head.limits replies t u told)
+    on_opened held P head (opening head.parts head.plans head.limits replies) t u at (start_leaves head.parts head.plans head.limits replies t u told)
 
 -- lines that leave the rows
 
@@ -170,6 +176,11 @@ pub rows_called : (r : RunningState) (a : Answer (List Caller)) → Leaves (HasS
 rows_called r a =
     leaves-within (HasSameRows r) (with_callers r) a
     (leaves-weaker (λ callers. Unit {0}) (λ callers. HasSameRows r (with_callers r callers)) a (λ callers h. (refl, refl)) (leaves-nothing a))
+
+pub rows_entered : (r : RunningState) (n : ℕ) (line : CallLine) → Leaves (HasSameRows r) (within (with_called r) (call_step r.boot r.callers n line))
+rows_entered r n line =
+    leaves_called (HasSameRows r) r n line (λ done is.
+    (ap (λ (b : BootValue). b.start) is, ap (λ (b : BootValue). rows_after b.start.base b.entries) is))
 
 rows_dropped : (r : RunningState) (n : ℕ) (caller : Caller) → Leaves (HasSameRows r) (caller_drops r n caller)
 rows_dropped r n Absent = tt
@@ -301,11 +312,11 @@ commit_refused : (r : RunningState) (n : ℕ) (keeps : Bool) (t u : KeeperTold) 
 unfolding commit_step commit_calls
 commit_refused r n keeps t u told is = caller_refused r n keeps (caller_at r.callers n) t u told is
 
-left_reopened : (held : List RowWrite) (P : Start → Type 0) (t u : KeeperTold) (r : RunningState) (how : Opening) → HoldsBoot P t r.boot → StartLeaves r.boot.start.deployment r.boot.start.limits t u how
+left_reopened : (held : List RowWrite) (P : Start → Type 0) (t u : KeeperTold) (r : RunningState) (how : Opening) → HoldsBoot P t r.boot → StartLeaves r.boot.start.deployment (left_by_process r.boot.start.plans) r.boot.start.limits t u how
     → AreLinkedTo P (ended_by r how) (IsLeft held u (reopens r how))
 left_reopened held P t u r (Opened start) holds leaves =
     let Q : List RowWrite → Type 0 = λ rows. IsOver rows start in
-    let next : GoesOn r.boot start = record { over = subst Q holds.1 leaves.over; deployment = leaves.deployment; limits = leaves.limited } in
+    let next : GoesOn r.boot start = record { over = subst Q holds.1 leaves.over; deployment = leaves.deployment; plans = leaves.planned; limits = leaves.limited } in
     (holds.0, (next, leaves.rows))
 left_reopened held P t u r (UnstartedBoot refusal) holds leaves = (holds.0, leaves ∙ holds.1)
 
@@ -329,7 +340,7 @@ left_over held P t u r lines.Pass replies holds told =
 left_over held P t u r (lines.Head line) replies holds told =
     left_in_boot held P t u r Refused holds (ap rows_told told) tt
 left_over held P t u r (lines.Call n line) replies holds told =
-    left_in_boot held P t u r (within (with_callers r) (call_step r.boot r.callers n line)) holds (ap rows_told told) (rows_called r (call_step r.boot r.callers n line))
+    left_in_boot held P t u r (within (with_called r) (call_step r.boot r.callers n line)) holds (ap rows_told told) (rows_entered r n line)
 left_over held P t u r (lines.Boot line) replies holds told =
     left_in_boot held P t u r (boot_line r line) holds (ap rows_told told) (rows_boot r line)
 left_over held P t u r (lines.Session line) replies holds told =
@@ -341,7 +352,7 @@ left_over held P t u r (lines.Seat line) replies holds told =
     left_in_site held P u r (seat_over r line replies.keeps) holds.0 (left_seat r line replies.keeps t u holds.1 told)
 left_over held P t u r lines.Reopen replies holds told =
     left_reopened held P t u r (next_opening r replies.again) holds
-    (start_leaves r.boot.start.deployment r.boot.start.limits replies.again t u told)
+    (start_leaves r.boot.start.deployment (left_by_process r.boot.start.plans) r.boot.start.limits replies.again t u told)
 
 left_on : (held : List RowWrite) (P : Start → Type 0) (t u : KeeperTold) (target : Target) (line : Line) (replies : Replies) → IsOn held P t target
     → TellsCalls (calls_on target line replies) (Some t) (Some u)

@@ -21,7 +21,7 @@ use Rattle.session_steps.specs.Sessions.{session_line}
 use Rattle.scenario_engine.specs.Engine.{Replies, Target, TheHead, TheBoot, TheUnstarted, calls_on, first_keeps, in_head, line_calls, line_on, line_over, next_calls, next_opening, reopens, step, target_calls, target_of, with_reply}
 use Rattle.scenario_engine.specs.KeeperCalls.{AreCounted, AreMade, AreSomeAsked, KeeperCall, Kept, Failed, KeeperSeen, TellsCalls}
 use Rattle.scenario_engine.specs.Opening.{Opening, Opened, UnstartedBoot}
-use Rattle.scenario_engine.specs.Running.{boot_line, commit_step, with_callers, with_sessions}
+use Rattle.scenario_engine.specs.Running.{boot_line, commit_step, with_called, with_sessions}
 use Rattle.scenario_engine.specs.Seats.{after_steps, by_replies, handed_calls, in_boot, next_calls_over, seat_calls, seat_over, step_calls, steps_made}
 use Rattle.scenario_engine.specs.State.{Heading, RefusedIn, Running, RunningState, State, UnderWayIn, site_of, with_site}
 use Rattle.scenario_engine.specs.Transcript.{Turn, answer_to, calls_to, turn_outcome}
@@ -66,7 +66,7 @@ record WaitsOver (r : RunningState) (line : Line) (replies : List Bool) (mid : S
 over_waits : (r : RunningState) (line : Line) (replies : Replies) (mid : State) → line_over r line replies ≡ UnderWayIn mid → WaitsOver r line replies.keeps mid
 over_waits r lines.Pass replies mid is = absurd (cc)
 over_waits r (lines.Head line) replies mid is = absurd (cc)
-over_waits r (lines.Call caller line) replies mid is = absurd (not_in_boot r (within (with_callers r) (call_step r.boot r.callers caller line)) mid is)
+over_waits r (lines.Call caller line) replies mid is = absurd (not_in_boot r (within (with_called r) (call_step r.boot r.callers caller line)) mid is)
 over_waits r (lines.Commit caller) replies mid is = absurd (not_in_boot r (commit_step r caller (first_keeps replies.keeps)) mid is)
 over_waits r (lines.Boot line) replies mid is = absurd (not_in_boot r (boot_line r line) mid is)
 over_waits r lines.Reopen replies mid is = absurd (not_reopened r (next_opening r replies.again) mid is)

@@ -1,6 +1,7 @@
 -- What a line does to the state of a scenario, and what it asks of the keeper.
 use Rattle.std.specs.Prelude.{◌≡◌, ℕ, Bool, true, false, List, [], ◌∷◌, ◌++◌, Option, Some, None}
 use Rattle.boot_core.specs.Boot.{BootValue}
+use Rattle.component_pool.specs.Plans.{left_by_process}
 use Rattle.scenario_engine.specs.declared.failure.UnstartedCause.{UnstartedCause}
 use Rattle.deployment.specs.Refusals.{deploy_refusal}
 use Rattle.outside.specs.Keeper.{KeeperTold}
@@ -18,7 +19,7 @@ use Rattle.scenario_engine.specs.declared.engine.Stage.{Stage}
 use Rattle.scenario_engine.specs.declared.engine.Stage.TheVariants as stages
 use Rattle.scenario_engine.specs.KeeperCalls.{KeeperCall, seen}
 use Rattle.scenario_engine.specs.Opening.{StartReplies, Opening, Opened, UnstartedBoot, opening, start_calls}
-use Rattle.scenario_engine.specs.Running.{started, reopened_over, with_callers, with_sessions, commit_step, commit_calls, boot_line}
+use Rattle.scenario_engine.specs.Running.{started, reopened_over, with_called, with_sessions, commit_step, commit_calls, boot_line}
 use Rattle.scenario_engine.specs.Seats.{in_boot, seat_over, seat_calls, next_calls_over}
 use Rattle.scenario_engine.specs.State.{RunningState, EngineValue, State, Heading, Running, Outcome, RefusedIn, DoneTo, UnstartedIn}
 use Rattle.seat_lines.specs.Site.{no_seats}
@@ -80,7 +81,7 @@ abbrev pub target_of : State → Bool → StartReplies → Target
 target_of (Running r) event replies = TheBoot r
 target_of (Heading head) false replies = TheHead head
 target_of (Heading head) true replies =
-    opened_target head (opening head.parts head.limits replies)
+    opened_target head (opening head.parts head.plans head.limits replies)
 
 -- the calls of the keeper until a line has what it is done to
 abbrev pub target_calls : State → Bool → StartReplies → List KeeperCall
@@ -93,9 +94,10 @@ abbrev pub in_head : Head → Answer Head → Outcome
 in_head head Refused = RefusedIn (Heading head)
 in_head head (Done next text) = DoneTo (Heading next) text
 
--- how the next boot of the same deployment and limits opens
+-- how the next boot of the same deployment and limits opens, with the fault plans that a reboot of the process leaves
 abbrev pub next_opening : RunningState → StartReplies → Opening
-next_opening r replies = opening r.boot.start.deployment r.boot.start.limits replies
+next_opening r replies =
+    opening r.boot.start.deployment (left_by_process r.boot.start.plans) r.boot.start.limits replies
 
 -- the next boot, where it opens so; the callers and the connections of the boot before are gone, and the sessions stay
 abbrev pub reopens : RunningState → Opening → Outcome
@@ -107,7 +109,7 @@ abbrev pub line_over : RunningState → Line → Replies → Outcome
 line_over r lines.Pass replies = DoneTo (Running r) []
 line_over r (lines.Head line) replies = RefusedIn (Running r)
 line_over r (lines.Call caller line) replies =
-    in_boot r (within (with_callers r) (call_step r.boot r.callers caller line))
+    in_boot r (within (with_called r) (call_step r.boot r.callers caller line))
 line_over r (lines.Commit caller) replies = in_boot r (commit_step r caller (first_keeps replies.keeps))
 line_over r (lines.Boot line) replies = in_boot r (boot_line r line)
 line_over r lines.Reopen replies = reopens r (next_opening r replies.again)

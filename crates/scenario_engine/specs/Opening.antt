@@ -1,5 +1,6 @@
 -- How a boot of a scenario opens over the rows of its keeper, by what the keeper replies.
 use Rattle.std.specs.Prelude.{◌+◌, nat_le, Bool, if◌then◌else◌, List, [], ◌∷◌, Option, Some, None}
+use Rattle.crash_base.specs.declared.fault_plans.FaultPlan.{FaultPlan}
 use Rattle.crash_base.specs.declared.row_id.RowId.{RowId}
 use Rattle.crash_base.specs.declared.rows.RowWrite.{RowWrite}
 use Rattle.deployment.specs.declared.parts.Parts.{Parts}
@@ -26,20 +27,20 @@ abbrev pub is_spent : List RowWrite → Bool
 is_spent rows = nat_le greatest_boot (last_boot rows)
 
 -- over rows of which this is the id of the first bad one: it takes the number after that of the last boot
-abbrev pub opening_over : Parts → JournalLimits → List RowWrite → Bool → Option RowId → Opening
-opening_over parts limits rows keeps (Some id) = UnstartedBoot (causes.BadRow id)
-opening_over parts limits rows keeps None =
+abbrev pub opening_over : Parts → List FaultPlan → JournalLimits → List RowWrite → Bool → Option RowId → Opening
+opening_over parts plans limits rows keeps (Some id) = UnstartedBoot (causes.BadRow id)
+opening_over parts plans limits rows keeps None =
     if is_spent rows then UnstartedBoot causes.BootsSpent else (
-    if keeps then Opened (start_over parts limits rows) else UnstartedBoot causes.KeeperFailed)
+    if keeps then Opened (start_over parts plans limits rows) else UnstartedBoot causes.KeeperFailed)
 
 -- over the rows that the keeper gives, if it does
-abbrev pub opening_of : Parts → JournalLimits → Option (List RowWrite) → Bool → Opening
-opening_of parts limits None keeps = UnstartedBoot causes.KeeperFailed
-opening_of parts limits (Some rows) keeps = opening_over parts limits rows keeps (first_bad rows)
+abbrev pub opening_of : Parts → List FaultPlan → JournalLimits → Option (List RowWrite) → Bool → Opening
+opening_of parts plans limits None keeps = UnstartedBoot causes.KeeperFailed
+opening_of parts plans limits (Some rows) keeps = opening_over parts plans limits rows keeps (first_bad rows)
 
--- How a boot of these parts and limits opens, where the keeper replies so.
-abbrev pub opening : Parts → JournalLimits → StartReplies → Opening
-opening parts limits replies = opening_of parts limits replies.rows replies.keeps
+-- How a boot of these parts, fault plans and limits opens, where the keeper replies so.
+abbrev pub opening : Parts → List FaultPlan → JournalLimits → StartReplies → Opening
+opening parts plans limits replies = opening_of parts plans limits replies.rows replies.keeps
 
 -- the calls after rows were given, of which this is the id of the first bad one
 abbrev pub calls_over_rows : List RowWrite → Bool → Option RowId → List KeeperCall

@@ -32,6 +32,7 @@ use Rattle.seat_lines.specs.Giving.{sessions_given_back, without_seats}
 use Rattle.seat_lines.specs.Site.{SeatsState}
 use Rattle.session_steps.specs.Sessions.{SessionsState, reopened}
 use Rattle.scenario_text.specs.Answer.{Answer, Refused, Done, or_refused, within}
+use Rattle.line_steps.specs.CallLines.{CallDone}
 use Rattle.line_steps.specs.Callers.{caller_at, ended, begin_step}
 use Rattle.line_steps.specs.Texts.{committed_text, commit_refusal_text, down_text, up_text, reboot_refusal_text, table_text, journal_text}
 
@@ -55,6 +56,10 @@ reopened_over r start = started (sessions_given_back r.seats.seats r.sessions) (
 -- the same boot with these callers
 abbrev pub with_callers : RunningState → List Caller → RunningState
 with_callers r callers = record r { callers = callers }
+
+-- the boot and the callers that a line of a call left
+abbrev pub with_called : RunningState → CallDone (List Caller) → RunningState
+with_called r done = record r { boot = done.boot; callers = done.left }
 
 -- the same boot with these sessions
 abbrev pub with_sessions : RunningState → SessionsState → RunningState

@@ -5,6 +5,7 @@ use Rattle.boot_core.specs.declared.refusals.StartRefusal.{StartRefusal}
 use Rattle.boot_core.specs.declared.refusals.StartRefusal.TheVariants as refusals
 use Rattle.container_core.specs.Start.{boot_row}
 use Rattle.crash_base.specs.Rows.{put_all}
+use Rattle.crash_base.specs.declared.fault_plans.FaultPlan.{FaultPlan}
 use Rattle.deployment.specs.declared.parts.Parts.{Parts}
 use Rattle.journal_model.specs.declared.limits.JournalLimits.{JournalLimits}
 use Rattle.outside.specs.Keeper.{KeeperTold}
@@ -28,9 +29,9 @@ use Rattle.scenario_engine.specs.State.{RunningState, State, Running, Outcome, R
 use Rattle.scenario_engine.specs.Transcript.{answer_to, calls_to}
 
 -- A boot opened so.
-pub record Opens (parts : Parts) (limits : JournalLimits) (how : Opening) (old new : KeeperSeen) : Type 0 where
+pub record Opens (parts : Parts) (plans : List FaultPlan) (limits : JournalLimits) (how : Opening) (old new : KeeperSeen) : Type 0 where
   pub replies : StartReplies
-  pub opens : how ≡ opening parts limits replies
+  pub opens : how ≡ opening parts plans limits replies
   pub made : AreMade (start_calls replies) old new
 
 -- Memory ran out while a boot was opened.
@@ -39,11 +40,11 @@ pub record OpensPartly (old new : KeeperSeen) : Type 0 where
   pub made : AreSomeMade (start_calls replies) old new
 
 -- A boot was not opened: it was left unstarted, or memory ran out.
-abbrev pub FailsToOpen : LineFailure → Parts → JournalLimits
+abbrev pub FailsToOpen : LineFailure → Parts → List FaultPlan → JournalLimits
     → KeeperSeen → KeeperSeen → Type 0
-FailsToOpen (failures.Unstarted cause) parts limits old new =
-    Opens parts limits (UnstartedBoot cause) old new
-FailsToOpen failures.OutOfMemory parts limits old new = OpensPartly old new
+FailsToOpen (failures.Unstarted cause) parts plans limits old new =
+    Opens parts plans limits (UnstartedBoot cause) old new
+FailsToOpen failures.OutOfMemory parts plans limits old new = OpensPartly old new
 
 -- The call of a caller committed, or was refused, with this answer.
 pub record Commits (r : RunningState) (caller : ℕ) (answer : Answer RunningState) (old new : KeeperSeen) : Type 0 where

@@ -3,6 +3,7 @@ use Rattle.std.specs.Prelude.{◌≡◌, ◌+◌, ◌<◌, List, [], ◌∷◌, 
 use Rattle.crash_base.specs.declared.rows.RowWrite.{RowWrite}
 use Rattle.journal_model.specs.Rows.{rows_after}
 use Rattle.outside.specs.Keeper.{KeeperTold}
+use Rattle.component_pool.specs.Plans.{left_by_process}
 use Rattle.boot_core.specs.declared.boot.Start.{Start}
 use Rattle.boot_core.specs.Boot.{BootValue}
 use Rattle.container_core.specs.Container.{HoldsRows}
@@ -22,15 +23,16 @@ HoldsStateRows old new (Running r) = HoldsRows new r.boot
 -- A boot is started over these rows: they are good, a number is left, and the boot takes the one after the last that
 -- they have, which stands over them.
 pub record IsOver (rows : List RowWrite) (start : Start) : Type 0 where
-  pub over : start ≡ start_over start.deployment start.limits rows
+  pub over : start ≡ start_over start.deployment start.plans start.limits rows
   pub good : first_bad rows ≡ None
   pub unspent : last_boot rows < greatest_boot
 
 -- A start is that of the next boot: over the rows that this one leaves, of the same deployment and limits, with the
--- next number.
+-- fault plans that a reboot of the process leaves, and the next number.
 pub record Follows (b : BootValue) (start : Start) : Type 0 where
   pub over : IsOver (rows_after b.start.base b.entries) start
   pub deployment : start.deployment ≡ b.start.deployment
+  pub plans : start.plans ≡ left_by_process b.start.plans
   pub limits : start.limits ≡ b.start.limits
   pub number : start.boot ≡ b.start.boot + 1
 

@@ -127,8 +127,8 @@ pub fn boots_rise()
 
 /// Whatever the turns, a keeper that was called as they say, and that tells, holds just the rows that the journal of
 /// the last boot leaves, or those that it held first where no boot is started; and each boot was started over the rows
-/// that the one before left, with its deployment, its limits and the next number. So what was answered as committed
-/// stays, over all boots, and nothing else comes.
+/// that the one before left, with its deployment, its limits, those of its fault plans that a reboot of the process
+/// leaves, and the next number. So what was answered as committed stays, over all boots, and nothing else comes.
 pub fn keepers_tell()
     ensures { (turns : List Turn) (old new : Option KeeperTold) →
         TellsCalls (calls_from first turns) old new → Tells turns old new }

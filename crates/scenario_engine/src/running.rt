@@ -13,6 +13,7 @@ ghost use Rattle.seat_lines.specs.Site.{AllGoOn, no_seats, site_in};
 ghost use Rattle.container_core.specs.Container.{HasGrownBy};
 ghost use Rattle.scenario_engine.specs.Seats.{BreaksSite, DoesSite};
 ghost use Rattle.boot_core.specs.Boot.{new_boot};
+ghost use Rattle.component_pool.specs.Plans.{left_by_process};
 ghost use Rattle.boot_core.specs.declared.boot.Start.{Start};
 ghost use Rattle.outside.specs.Faults.{Rose};
 ghost use Rattle.session_steps.specs.Sessions.{session_line};
@@ -21,13 +22,15 @@ ghost use Rattle.scenario_engine.specs.declared.failure.LineFailure.{LineFailure
 ghost use Rattle.scenario_engine.specs.declared.failure.UnstartedCause.{UnstartedCause};
 ghost use Rattle.scenario_engine.specs.KeeperCalls.{seen};
 ghost use Rattle.scenario_engine.specs.Opening.{Opened};
-ghost use Rattle.scenario_engine.specs.Running.{started, reopened_over, with_callers, with_sessions, scope_of, drop_step, down_step, up_step, reboot_step, table_step, journal_step, boot_line};
+ghost use Rattle.scenario_engine.specs.Running.{started, reopened_over, with_callers, with_called, with_sessions, scope_of, drop_step, down_step, up_step, reboot_step, table_step, journal_step, boot_line};
 ghost use Rattle.scenario_engine.specs.Telling.{Opens, FailsToOpen, Commits, CommitsPartly, AnswersSeat, EndsSeat, failure_of};
 
 use crate::failure::{LineFailure, UnstartedCause, failure_of};
 use boot_core::{Boot, JournalLimits};
 use container_core::{Container, StartFail, histories_grow};
-use crash_base::{APPLICATION, LatestRows, OutOfMemory, Place, Scope, WordText, WorkerNo};
+use crash_base::{
+    APPLICATION, FaultList, LatestRows, OutOfMemory, Place, Scope, WordText, WorkerNo,
+};
 use deployment::Deployment;
 use line_steps::{
     Callers, Head, commit_refusal_text, committed_text, down_text, journal_text,
@@ -187,6 +190,7 @@ impl<K: Keeper + Drop> Running<K> {
     fn open(
         alloc: Global,
         deployment: Deployment,
+        plans: FaultList,
         limits: JournalLimits,
         sessions: Sessions,
         router: Option<SiteRouter>,
@@ -195,8 +199,8 @@ impl<K: Keeper + Drop> Running<K> {
         requires site { is_some router ≡ true → deployment ≡ site_parts }
         ensures opens { MatchResult result
             (λ r. (start : Start) × (r.running ≡ started sessions no_seats (is_some router) start)
-            × Opens deployment limits (Opened start) (seen (K.told keeper) (K.faults keeper)) r.keeper)
-            (λ u. FailsToOpen u.failure deployment limits (seen (K.told keeper) (K.faults keeper))
+            × Opens deployment plans limits (Opened start) (seen (K.told keeper) (K.faults keeper)) r.keeper)
+            (λ u. FailsToOpen u.failure deployment plans limits (seen (K.told keeper) (K.faults keeper))
             (seen (K.told u.keeper) (K.faults u.keeper))) }
         ensures failed { IfErr result (λ u.
             u.failure ≡ LineFailure.Unstarted UnstartedCause.KeeperFailed
@@ -204,7 +208,7 @@ impl<K: Keeper + Drop> Running<K> {
         ensures count { MatchResult result (λ r. K.faults keeper ≤ r.keeper.faults)
             (λ u. K.faults keeper ≤ K.faults u.keeper) }
     {
-        match Container::start(alloc, deployment, keeper, limits) {
+        match Container::start(alloc, deployment, keeper, plans, limits) {
             Ok(container) => Ok(Running::over(
                 alloc,
                 container,
@@ -220,15 +224,15 @@ impl<K: Keeper + Drop> Running<K> {
         }
     }
 
-    /// Starts the first boot, over the deployment and the limits of the head. Where it is not started, the keeper is
-    /// handed back.
+    /// Starts the first boot, over the deployment, the fault plans and the limits of the head. Where it is not started,
+    /// the keeper is handed back.
     pub(crate) fn start(alloc: Global, head: Head, keeper: K) -> Result<Running<K>, Unopened<K>>
         requires accepted { deploy_refusal head.parts ≡ None }
         requires of_site { IsOfSite head }
         ensures opens { MatchResult result
             (λ r. (start : Start) × (r.running ≡ started (set_up head.setup 0) no_seats head.site start)
-            × Opens head.parts head.limits (Opened start) (seen (K.told keeper) (K.faults keeper)) r.keeper)
-            (λ u. FailsToOpen u.failure head.parts head.limits (seen (K.told keeper) (K.faults keeper))
+            × Opens head.parts head.plans head.limits (Opened start) (seen (K.told keeper) (K.faults keeper)) r.keeper)
+            (λ u. FailsToOpen u.failure head.parts head.plans head.limits (seen (K.told keeper) (K.faults keeper))
             (seen (K.told u.keeper) (K.faults u.keeper))) }
         ensures failed { IfErr result (λ u.
             u.failure ≡ LineFailure.Unstarted UnstartedCause.KeeperFailed
@@ -237,8 +241,10 @@ impl<K: Keeper + Drop> Running<K> {
             (λ u. K.faults keeper ≤ K.faults u.keeper) }
     {
         let limits = head.limits;
+        let plans = head.plans;
         let Ok(sessions) = Sessions::new(alloc, head.setup) else {
             drop(head.parts);
+            drop(plans);
             return Err(Unopened {
                 failure: LineFailure::OutOfMemory,
                 keeper,
@@ -246,6 +252,7 @@ impl<K: Keeper + Drop> Running<K> {
         };
         let Ok(router) = router_for(alloc, head.site) else {
             drop(head.parts);
+            drop(plans);
             drop(sessions);
             return Err(Unopened {
                 failure: LineFailure::OutOfMemory,
@@ -253,7 +260,9 @@ impl<K: Keeper + Drop> Running<K> {
             });
         };
         match Deployment::check(head.parts) {
-            Ok(deployment) => Running::open(alloc, deployment, limits, sessions, router, keeper),
+            Ok(deployment) => {
+                Running::open(alloc, deployment, plans, limits, sessions, router, keeper)
+            }
             Err(_) => unreachable!(),
         }
     }
@@ -275,15 +284,16 @@ impl<K: Keeper + Drop> Running<K> {
         }
     }
 
-    /// Starts the next boot, over the same deployment and limits. The callers and the connections of this one are gone,
-    /// which gave back what they held, and the sessions stay. Where it is not started, the keeper is handed back.
+    /// Starts the next boot, over the same deployment and limits, with the fault plans that a reboot of the process
+    /// leaves. The callers and the connections of this one are gone, which gave back what they held, and the sessions
+    /// stay. Where it is not started, the keeper is handed back.
     pub(crate) fn reopen(self, alloc: Global) -> Result<Running<K>, Unopened<K>>
         ensures opens { MatchResult result
             (λ r. (start : Start) × (r.running ≡ reopened_over self.running start)
-            × Opens self.running.boot.start.deployment self.running.boot.start.limits (Opened start)
-            self.keeper r.keeper)
+            × Opens self.running.boot.start.deployment (left_by_process self.running.boot.start.plans)
+            self.running.boot.start.limits (Opened start) self.keeper r.keeper)
             (λ u. FailsToOpen u.failure self.running.boot.start.deployment
-            self.running.boot.start.limits self.keeper (seen (K.told u.keeper) (K.faults u.keeper))) }
+            (left_by_process self.running.boot.start.plans) self.running.boot.start.limits self.keeper (seen (K.told u.keeper) (K.faults u.keeper))) }
         ensures failed { IfErr result (λ u.
             u.failure ≡ LineFailure.Unstarted UnstartedCause.KeeperFailed
             → Rose self.keeper.faults (K.faults u.keeper)) }
@@ -489,13 +499,14 @@ impl<K: Keeper + Drop> Running<K> {
         caller: u64,
         line: CallLine,
     ) -> Result<LineAnswer, OutOfMemory>
-        ensures answer { IfOk result (λ a. answer_of a self.new.running ≡ within (with_callers self.old.running)
+        ensures answer { IfOk result (λ a. answer_of a self.new.running ≡ within (with_called self.old.running)
             (call_step self.old.running.boot self.old.running.callers caller line)) }
         ensures refused { IfOk result (λ a. KeepsRefused a self.old.running self.new.running) }
         ensures kept { self.new.keeper ≡ self.old.keeper }
     {
+        self.seats.stay();
         self.callers
-            .call_step(alloc, self.container.as_boot(), caller, line)
+            .call_step(alloc, &mut self.container, caller, line)
     }
 
     /// A line over the boot.

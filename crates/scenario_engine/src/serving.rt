@@ -41,9 +41,9 @@ use seat_steps::seats_answer_their_requests;
 /// as its boot runs: whatever other lines come between, also in a run that is under way, and where the connection is
 /// gone. What was drawn for its requests are the numbers that its steps drew, each as it was next; what it put out, and
 /// its items, are what its steps put out and gave; so all that `seat_laws::seats_serve_their_requests` says of these
-/// holds of it, and its items follow on one another in the journal (`items_of_seats_follow_one_another`). The steps were
-/// made by their calls (`AllMade`), as the contract of each line tells it. Where it is given up, as before the next
-/// boot, the item that is left joins its items.
+/// holds of it, and its items follow on one another in the journal (`items_of_seats_follow_one_another`). The steps
+/// were made by their calls (`AllMade`), as the contract of each line tells it. Where it is given up, as before the
+/// next boot, the item that is left joins its items.
 pub fn connections_serve_their_requests()
     ensures served { (turns : List Turn) → AllMade first turns → AllServed turns }
     ensures given_up { (turns : List Turn) (c : Connection turns) (it : IsServed c) (seat : Seat) (st : LanesState)

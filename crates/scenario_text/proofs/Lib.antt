@@ -5,6 +5,7 @@ pub mod Leaving
 pub mod OneWord
 pub mod Splits
 pub mod Hexadecimal
+pub mod FaultWords
 pub mod SessionWords
 pub mod WordKinds
 pub mod LineForms

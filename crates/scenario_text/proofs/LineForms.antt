@@ -3,9 +3,9 @@ use Rattle.std.proofs.Common.{◌≡◌, ℕ, Bool, true, false, cond, List, [],
 use Rattle.std.specs.Option.{option_map, option_zip}
 use Rattle.std.specs.Str.{bytes_eq}
 use Rattle.std.proofs.lemmas.Slice.Eq.{bytes_eq-Decides}
-use Rattle.scenario_text.specs.Words.{no_words, one_word, two_words, three_words}
+use Rattle.scenario_text.specs.Words.{no_words, one_word, two_words, three_words, four_words}
 use Rattle.crash_base.proofs.Options.{map_some}
-use Rattle.scenario_text.proofs.WordKinds.{Kind, one_spelled, two_spelled, three_spelled}
+use Rattle.scenario_text.proofs.WordKinds.{Kind, one_spelled, two_spelled, three_spelled, four_spelled}
 
 -- a grammar of lines: what their fields may be, and their words
 pub record Grammar (L : Type 0) : Type 1 where
@@ -41,7 +41,7 @@ made_words {L} {A} G word mk own IsIn fits words line o says h =
     let there : AreWords G (word ∷ words) (mk a) = rw s (fits a r) in
     same_line G (word ∷ words) (mk a) line k there
 
--- a form of one line, with no further word, with one, with two and with three
+-- a form of one line, with no further word, with one, with two, with three and with four
 pub no_form : {L : Type 0} (G : Grammar L) (word : List ℕ) (made : L) → AreWords G (word ∷ []) made → (first : List ℕ) (words : List (List ℕ)) (line : L) (later : Option L) → (later ≡ Some line → AreWords G (first ∷ words) line) → cond (bytes_eq first word) (option_map (λ _. made) (no_words words)) later ≡ Some line → AreWords G (first ∷ words) line
 no_form G word made fits first words line later = form G word first words line (option_map (λ _. made) (no_words words)) later (made_words G word (λ _. made) (λ _. []) (λ _. Unit {0}) (λ _ _. fits) words line (no_words words) (none words))
   where
@@ -57,3 +57,6 @@ two_form G J K word mk fits first words line later = form G word first words lin
 
 pub three_form : {L A B C : Type 0} (G : Grammar L) (J : Kind A) (K : Kind B) (M : Kind C) (word : List ℕ) (mk : A × (B × C) → L) → ((p : A × (B × C)) → J.IsIn p.0 × K.IsIn p.1.0 × M.IsIn p.1.1 → AreWords G (word ∷ J.word p.0 ∷ K.word p.1.0 ∷ M.word p.1.1 ∷ []) (mk p)) → (first : List ℕ) (words : List (List ℕ)) (line : L) (later : Option L) → (later ≡ Some line → AreWords G (first ∷ words) line) → cond (bytes_eq first word) (option_map mk (option_and_then (λ w. option_zip (J.says w.0) (option_zip (K.says w.1) (M.says w.2))) (three_words words))) later ≡ Some line → AreWords G (first ∷ words) line
 three_form G J K M word mk fits first words line later = form G word first words line (option_map mk (option_and_then (λ w. option_zip (J.says w.0) (option_zip (K.says w.1) (M.says w.2))) (three_words words))) later (made_words G word mk (λ p. J.word p.0 ∷ K.word p.1.0 ∷ M.word p.1.1 ∷ []) (λ p. J.IsIn p.0 × K.IsIn p.1.0 × M.IsIn p.1.1) fits words line (option_and_then (λ w. option_zip (J.says w.0) (option_zip (K.says w.1) (M.says w.2))) (three_words words)) (three_spelled J K M words))
+
+pub four_form : {L A B C D : Type 0} (G : Grammar L) (I : Kind A) (J : Kind B) (K : Kind C) (M : Kind D) (word : List ℕ) (mk : A × (B × (C × D)) → L) → ((p : A × (B × (C × D))) → I.IsIn p.0 × J.IsIn p.1.0 × K.IsIn p.1.1.0 × M.IsIn p.1.1.1 → AreWords G (word ∷ I.word p.0 ∷ J.word p.1.0 ∷ K.word p.1.1.0 ∷ M.word p.1.1.1 ∷ []) (mk p)) → (first : List ℕ) (words : List (List ℕ)) (line : L) (later : Option L) → (later ≡ Some line → AreWords G (first ∷ words) line) → cond (bytes_eq first word) (option_map mk (option_and_then (λ w. option_zip (I.says w.0) (option_zip (J.says w.1) (option_zip (K.says w.2) (M.says w.3)))) (four_words words))) later ≡ Some line → AreWords G (first ∷ words) line
+four_form G I J K M word mk fits first words line later = form G word first words line (option_map mk (option_and_then (λ w. option_zip (I.says w.0) (option_zip (J.says w.1) (option_zip (K.says w.2) (M.says w.3)))) (four_words words))) later (made_words G word mk (λ p. I.word p.0 ∷ J.word p.1.0 ∷ K.word p.1.1.0 ∷ M.word p.1.1.1 ∷ []) (λ p. I.IsIn p.0 × J.IsIn p.1.0 × K.IsIn p.1.1.0 × M.IsIn p.1.1.1) fits words line (option_and_then (λ w. option_zip (I.says w.0) (option_zip (J.says w.1) (option_zip (K.says w.2) (M.says w.3)))) (four_words words)) (four_spelled I J K M words))

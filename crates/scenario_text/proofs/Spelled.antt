@@ -13,21 +13,21 @@ use Rattle.scenario_text.specs.Texts.{hex_text}
 use Rattle.scenario_text.specs.Words.{words_of, four_words}
 use Rattle.scenario_text.specs.Reading.{line_of, line_of_words, head_line, event_line, call_or_other, call_line, boot_or_other, session_or_seat, boot_line, put_line, passes, is_comment_byte}
 use Rattle.scenario_text.specs.Spelling.{Spells, IsInRange, IsHeadInRange, IsCallInRange, IsBootInRange, IsComment, spelling, words_of_line, words_of_head_line, words_of_call_line, words_of_boot_line}
-use Rattle.scenario_text.specs.FieldSpelling.{IsCaller, caller_word}
+use Rattle.scenario_text.specs.FieldSpelling.{IsCaller, caller_word, kind_word, level_word}
 use Rattle.scenario_text.specs.SeatReading.{seat_line}
 use Rattle.scenario_text.specs.SessionReading.{session_line}
 use Rattle.scenario_text.specs.declared.line.Line.{Line}
 use Rattle.scenario_text.specs.declared.line.Line.TheVariants.{Pass, Head, Call, Commit, Boot, Reopen, Session, Seat}
 use Rattle.scenario_text.specs.declared.head_line.HeadLine.{HeadLine}
-use Rattle.scenario_text.specs.declared.head_line.HeadLine.TheVariants.{Component, Hard, Soft, Owns, Limit, Bricks, Key, Site}
+use Rattle.scenario_text.specs.declared.head_line.HeadLine.TheVariants.{Component, Hard, Soft, Owns, Fault, Limit, Bricks, Key, Site}
 use Rattle.scenario_text.specs.declared.call_line.CallLine.{CallLine}
 use Rattle.scenario_text.specs.declared.call_line.CallLine.TheVariants.{Enter, Exit, Read, List as ListLine, Put}
 use Rattle.scenario_text.specs.declared.boot_line.BootLine.{BootLine}
 use Rattle.scenario_text.specs.declared.boot_line.BootLine.TheVariants.{Begin, Drop, Down, Up, Reboot, Table, Journal}
 use Rattle.crash_base.proofs.Options.{then_some, map_some}
 use Rattle.scenario_text.proofs.Splits.{words_joined}
-use Rattle.scenario_text.proofs.WordKinds.{names, numbers, callers, texts, bytes, four_are}
-use Rattle.scenario_text.proofs.LineForms.{Grammar, AreWords, same_line, form, no_form, one_form, two_form, three_form}
+use Rattle.scenario_text.proofs.WordKinds.{names, numbers, callers, texts, faults, levels, bytes, four_are}
+use Rattle.scenario_text.proofs.LineForms.{Grammar, AreWords, same_line, form, no_form, one_form, two_form, three_form, four_form}
 use Rattle.scenario_text.proofs.LineReads.{IsRead, no_read, one_read, two_read}
 use Rattle.scenario_text.proofs.SeatSpelled.{seat_spelled, seat_read}
 use Rattle.scenario_text.proofs.SessionSpelled.{one_of, session_spelled, session_read}
@@ -68,11 +68,12 @@ head_spelled first words line h =
     two_form heads names names (codes "hard") (λ p. Hard p.0 p.1) (λ _ r. (r, refl)) first words line _ (
     two_form heads names names (codes "soft") (λ p. Soft p.0 p.1) (λ _ r. (r, refl)) first words line _ (
     two_form heads names numbers (codes "owns") (λ p. Owns p.0 p.1) (λ _ r. (r, refl)) first words line _ (
+    four_form heads names numbers faults levels (codes "fault") (λ p. Fault p.0 p.1.0 p.1.1.0 p.1.1.1) (λ _ r. ((r.0, r.1, r.2), refl)) first words line _ (
     two_form heads numbers numbers (codes "limit") (λ p. Limit p.0 p.1) (λ _ r. (r, refl)) first words line _ (
     three_form heads numbers numbers numbers (codes "bricks") (λ p. Bricks p.0 p.1.0 p.1.1) (λ _ r. (r, refl)) first words line _ (
     one_form heads bytes (codes "key") (λ b. Key b) (λ _ r. (r, refl)) first words line _ (
     no_form heads (codes "site") Site (tt, refl) first words line _ (
-    λ k. cc)))))))) h
+    λ k. cc))))))))) h
 
 -- a line of a live call
 call_spelled : (first : List ℕ) (words : List (List ℕ)) (line : ℕ × CallLine) → call_line first words ≡ Some line → AreWords calls (first ∷ words) line
@@ -206,6 +207,7 @@ head_read (Component name) h = one_read names (Head (Component name)) (codes "co
 head_read (Hard name other) (h, k) = two_read names names (Head (Hard name other)) (codes "hard") name other h k (as_head (λ p. Hard p.0 p.1)) refl refl refl refl refl
 head_read (Soft name other) (h, k) = two_read names names (Head (Soft name other)) (codes "soft") name other h k (as_head (λ p. Soft p.0 p.1)) refl refl refl refl refl
 head_read (Owns name table) (h, k) = two_read names numbers (Head (Owns name table)) (codes "owns") name table h k (as_head (λ p. Owns p.0 p.1)) refl refl refl refl refl
+head_read (Fault name after kind level) (n, a, k) = (refl, words_joined (codes "fault") (name ∷ decimal after ∷ kind_word kind ∷ level_word level ∷ []) refl (names.whole name n, (numbers.whole after a, (faults.whole kind k, (levels.whole level tt, tt)))), rw (names.read name n, numbers.read after a, faults.read kind k, levels.read level tt) refl)
 head_read (Limit entries room) (h, k) = two_read numbers numbers (Head (Limit entries room)) (codes "limit") entries room h k (as_head (λ p. Limit p.0 p.1)) refl refl refl refl refl
 head_read (Bricks bricks most least) (h, k, l) = (refl, words_joined (codes "bricks") (decimal bricks ∷ decimal most ∷ decimal least ∷ []) refl (numbers.whole bricks h, (numbers.whole most k, (numbers.whole least l, tt))), rw (numbers.read bricks h, numbers.read most k, numbers.read least l) refl)
 head_read (Key key) h = one_read bytes (Head (Key key)) (codes "key") key h (as_head (λ a. Key a)) refl refl refl refl refl

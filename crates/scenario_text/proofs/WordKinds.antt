@@ -9,13 +9,16 @@ use Rattle.scenario_text.specs.declared.line.TheConstants.{MAX_CALLER}
 use Rattle.scenario_text.specs.declared.seat_line.TheConstants.{MAX_SEAT}
 use Rattle.scenario_text.specs.declared.session_line.TheConstants.{MAX_KEY}
 use Rattle.scenario_text.specs.declared.session_line.Freed.{Freed}
-use Rattle.scenario_text.specs.Fields.{name_of, decimal_number, brick_number, caller_number, key_number, seat_number, hex_bytes, text_of, freed_of}
+use Rattle.crash_base.specs.declared.fault_plans.FaultKind.{FaultKind}
+use Rattle.scenario_text.specs.declared.head_line.CureLevel.{CureLevel}
+use Rattle.scenario_text.specs.Fields.{name_of, decimal_number, brick_number, caller_number, key_number, seat_number, hex_bytes, text_of, freed_of, kind_of, level_of}
 use Rattle.scenario_text.specs.Texts.{hex_text}
-use Rattle.scenario_text.specs.FieldSpelling.{IsName, IsNumber, IsBrick, IsCaller, IsSessionKey, IsSeat, IsText, AreBytes, caller_word, key_word, seat_word, freed_word}
+use Rattle.scenario_text.specs.FieldSpelling.{IsName, IsNumber, IsBrick, IsCaller, IsSessionKey, IsSeat, IsText, IsKind, AreBytes, caller_word, key_word, seat_word, freed_word, kind_word, level_word}
 use Rattle.scenario_text.specs.Words.{one_word, two_words, three_words, four_words}
 use Rattle.scenario_text.proofs.OneWord.{number_read, number_spelled, brick_read, brick_spelled, decimal_digits, lettered_read, lettered_spelled, is_name_read, name_read, name_spelled}
 use Rattle.scenario_text.proofs.Splits.{is_whole, whole_more, digits_whole, name_whole}
 use Rattle.scenario_text.proofs.SessionWords.{text_read, text_spelled, text_whole, freed_read, freed_spelled, freed_whole}
+use Rattle.scenario_text.proofs.FaultWords.{kind_read, kind_spelled, kind_whole, level_read, level_spelled, level_whole}
 use Rattle.scenario_text.proofs.Hexadecimal.{hex_spelled, hex_read, hex_whole}
 
 -- A kind of words: what one says, the word of what it says, and what that may be. Each of both follows from the other.
@@ -69,6 +72,12 @@ texts = record { says = text_of; word = λ t. t; IsIn = IsText; spelled = text_s
 abbrev pub outcomes : Kind Freed
 outcomes = record { says = freed_of; word = freed_word; IsIn = λ _. Unit {0}; spelled = freed_spelled; read = λ f _. freed_read f; whole = λ f _. freed_whole f }
 
+abbrev pub faults : Kind FaultKind
+faults = record { says = kind_of; word = kind_word; IsIn = IsKind; spelled = kind_spelled; read = kind_read; whole = kind_whole }
+
+abbrev pub levels : Kind CureLevel
+levels = record { says = level_of; word = level_word; IsIn = λ _. Unit {0}; spelled = level_spelled; read = λ l _. level_read l; whole = λ l _. level_whole l }
+
 abbrev pub bytes : Kind (List ℕ)
 bytes = record { says = hex_bytes; word = hex_text; IsIn = AreBytes; spelled = hex_spelled; read = hex_read; whole = λ a h. hex_whole a }
 
@@ -108,7 +117,24 @@ three_spelled K L M (u ∷ v ∷ w ∷ []) p h =
     (rw (x, y, z) refl, (i, j, k))
 three_spelled K L M (u ∷ v ∷ w ∷ more ∷ words) p h = cc
 
--- and where four are
+-- where four are
+pub four_spelled : {A B C D : Type 0} (J : Kind A) (K : Kind B) (L : Kind C) (M : Kind D) (words : List (List ℕ)) (p : A × (B × (C × D))) → option_and_then (λ w. option_zip (J.says w.0) (option_zip (K.says w.1) (option_zip (L.says w.2) (M.says w.3)))) (four_words words) ≡ Some p → (words ≡ J.word p.0 ∷ K.word p.1.0 ∷ L.word p.1.1.0 ∷ M.word p.1.1.1 ∷ []) × (J.IsIn p.0 × K.IsIn p.1.0 × L.IsIn p.1.1.0 × M.IsIn p.1.1.1)
+four_spelled J K L M [] p h = cc
+four_spelled J K L M (t ∷ []) p h = cc
+four_spelled J K L M (t ∷ u ∷ []) p h = cc
+four_spelled J K L M (t ∷ u ∷ v ∷ []) p h = cc
+four_spelled J K L M (t ∷ u ∷ v ∷ w ∷ []) p h =
+    let (d, some) = both_some (J.says t) (option_zip (K.says u) (option_zip (L.says v) (M.says w))) p h in
+    let (e, more) = both_some (K.says u) (option_zip (L.says v) (M.says w)) p.1 some in
+    let (f, g) = both_some (L.says v) (M.says w) p.1.1 more in
+    let (a, i) = J.spelled t p.0 d in
+    let (x, j) = K.spelled u p.1.0 e in
+    let (y, k) = L.spelled v p.1.1.0 f in
+    let (z, l) = M.spelled w p.1.1.1 g in
+    (rw (a, x, y, z) refl, (i, j, k, l))
+four_spelled J K L M (t ∷ u ∷ v ∷ w ∷ more ∷ words) p h = cc
+
+-- and what four words are
 pub four_are : (words : List (List ℕ)) (w : List ℕ × List ℕ × List ℕ × List ℕ) → four_words words ≡ Some w → words ≡ w.0 ∷ w.1 ∷ w.2 ∷ w.3 ∷ []
 four_are [] w h = cc
 four_are (a ∷ []) w h = cc

@@ -1,9 +1,11 @@
 -- What the words after a first one say together.
 use Rattle.std.specs.Prelude.{ℕ, List, Option, option_and_then}
 use Rattle.std.specs.Option.{option_zip}
+use Rattle.crash_base.specs.declared.fault_plans.FaultKind.{FaultKind}
+use Rattle.scenario_text.specs.declared.head_line.CureLevel.{CureLevel}
 use Rattle.scenario_text.specs.declared.session_line.Freed.{Freed}
-use Rattle.scenario_text.specs.Fields.{name_of, decimal_number, brick_number, caller_number, key_number, seat_number, hex_bytes, text_of, freed_of}
-use Rattle.scenario_text.specs.Words.{one_word, two_words, three_words}
+use Rattle.scenario_text.specs.Fields.{name_of, decimal_number, brick_number, caller_number, key_number, seat_number, hex_bytes, text_of, freed_of, kind_of, level_of}
+use Rattle.scenario_text.specs.Words.{one_word, two_words, three_words, four_words}
 
 -- the name that is the only word
 abbrev pub one_name : List (List ℕ) → Option (List ℕ)
@@ -27,6 +29,14 @@ two_numbers words =
 abbrev pub name_and_number : List (List ℕ) → Option (List ℕ × ℕ)
 name_and_number words =
     option_and_then (λ w. option_zip (name_of w.0) (decimal_number w.1)) (two_words words)
+
+-- four words, a name, a number, and the words for what a component does that fails and for what cures it
+abbrev pub name_and_fault : List (List ℕ) → Option (List ℕ × (ℕ × (FaultKind × CureLevel)))
+name_and_fault words =
+    option_and_then
+    (λ w.
+    option_zip (name_of w.0) (option_zip (decimal_number w.1) (option_zip (kind_of w.2) (level_of w.3))))
+    (four_words words)
 
 -- two words, a caller and a name
 abbrev pub caller_and_name : List (List ℕ) → Option (ℕ × List ℕ)

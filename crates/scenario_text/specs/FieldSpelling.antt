@@ -1,7 +1,11 @@
 -- What the words of a line may say, and what spells it.
-use Rattle.std.specs.Prelude.{◌≡◌, ◌≢◌, ℕ, ◌^◌, ◌<◌, ◌≤◌, ◌⊎◌, List, ◌∷◌, length, All, codes}
+use Rattle.std.specs.Prelude.{◌≡◌, ◌≢◌, ℕ, ◌^◌, ◌<◌, ◌≤◌, ◌⊎◌, List, ◌∷◌, length, All, codes, []}
 use Rattle.std.specs.Fmt.{decimal}
 use Rattle.crash_base.specs.declared.names.TheConstants.{MAX_NAME_BYTES}
+use Rattle.crash_base.specs.declared.fault_plans.FaultKind.{FaultKind}
+use Rattle.crash_base.specs.declared.fault_plans.FaultKind.TheVariants.{Raise, Hang, Leak}
+use Rattle.scenario_text.specs.declared.head_line.CureLevel.{CureLevel}
+use Rattle.scenario_text.specs.declared.head_line.CureLevel.TheVariants.{Group, App, Process}
 use Rattle.scenario_text.specs.declared.line.TheConstants.{MAX_HEX_BYTES, MAX_CALLER}
 use Rattle.scenario_text.specs.declared.seat_line.TheConstants.{MAX_SEAT}
 use Rattle.scenario_text.specs.declared.session_line.TheConstants.{MAX_KEY}
@@ -65,3 +69,21 @@ seat_word seat = 115 ∷ decimal seat
 abbrev pub freed_word : Freed → List ℕ
 freed_word Answered = codes "answered"
 freed_word Silent = codes "silent"
+
+-- what a component may do that fails, as a line says it
+abbrev pub IsKind : FaultKind → Type 0
+IsKind Raise = Unit {0}
+IsKind Hang = Unit {0}
+IsKind Leak = ⊥
+
+-- the word for what a component does that fails; none is for one that leaks
+abbrev pub kind_word : FaultKind → List ℕ
+kind_word Raise = codes "raise"
+kind_word Hang = codes "hang"
+kind_word Leak = []
+
+-- the word for what cures a fault
+abbrev pub level_word : CureLevel → List ℕ
+level_word Group = codes "group"
+level_word App = codes "app"
+level_word Process = codes "process"

@@ -5,6 +5,10 @@ use Rattle.std.specs.Option.{option_map}
 use Rattle.std.specs.Str.{bytes_eq}
 use Rattle.std.specs.List.{list_all}
 use Rattle.crash_base.specs.Names.{is_name}
+use Rattle.crash_base.specs.declared.fault_plans.FaultKind.{FaultKind}
+use Rattle.crash_base.specs.declared.fault_plans.FaultKind.TheVariants.{Raise, Hang}
+use Rattle.scenario_text.specs.declared.head_line.CureLevel.{CureLevel}
+use Rattle.scenario_text.specs.declared.head_line.CureLevel.TheVariants.{Group, App, Process}
 use Rattle.scenario_text.specs.declared.line.TheConstants.{MAX_HEX_BYTES, MAX_CALLER}
 use Rattle.scenario_text.specs.declared.seat_line.TheConstants.{MAX_SEAT}
 use Rattle.scenario_text.specs.declared.session_line.TheConstants.{MAX_KEY}
@@ -99,3 +103,16 @@ abbrev pub freed_of : List ℕ → Option Freed
 freed_of word =
     if bytes_eq word (codes "answered") then Some Answered else (
     if bytes_eq word (codes "silent") then Some Silent else None)
+
+-- what a component does that fails, by the word for it
+abbrev pub kind_of : List ℕ → Option FaultKind
+kind_of word =
+    if bytes_eq word (codes "raise") then Some Raise else (
+    if bytes_eq word (codes "hang") then Some Hang else None)
+
+-- what cures a fault, by the word for it
+abbrev pub level_of : List ℕ → Option CureLevel
+level_of word =
+    if bytes_eq word (codes "group") then Some Group else (
+    if bytes_eq word (codes "app") then Some App else (
+    if bytes_eq word (codes "process") then Some Process else None))

@@ -8,14 +8,14 @@ use Rattle.scenario_text.specs.declared.line.TheConstants.{MAX_LINE_BYTES}
 use Rattle.scenario_text.specs.declared.line.Line.{Line}
 use Rattle.scenario_text.specs.declared.line.Line.TheVariants.{Pass, Head, Call, Commit, Boot, Reopen, Session, Seat}
 use Rattle.scenario_text.specs.declared.head_line.HeadLine.{HeadLine}
-use Rattle.scenario_text.specs.declared.head_line.HeadLine.TheVariants.{Component, Hard, Soft, Owns, Limit, Bricks, Key, Site}
+use Rattle.scenario_text.specs.declared.head_line.HeadLine.TheVariants.{Component, Hard, Soft, Owns, Fault, Limit, Bricks, Key, Site}
 use Rattle.scenario_text.specs.declared.call_line.CallLine.{CallLine}
 use Rattle.scenario_text.specs.declared.call_line.CallLine.TheVariants.{Enter, Exit, Read, List as ListLine, Put}
 use Rattle.scenario_text.specs.declared.boot_line.BootLine.{BootLine}
 use Rattle.scenario_text.specs.declared.boot_line.BootLine.TheVariants.{Begin, Drop, Down, Up, Reboot, Table, Journal}
 use Rattle.scenario_text.specs.Fields.{decimal_number, caller_number, hex_bytes}
 use Rattle.scenario_text.specs.Words.{words_of, no_words, four_words}
-use Rattle.scenario_text.specs.Arguments.{one_name, one_caller, one_bytes, one_text, two_names, two_numbers, name_and_number, caller_and_name, caller_and_number, caller_and_two_numbers, three_numbers}
+use Rattle.scenario_text.specs.Arguments.{one_name, one_caller, one_bytes, one_text, two_names, two_numbers, name_and_number, name_and_fault, caller_and_name, caller_and_number, caller_and_two_numbers, three_numbers}
 use Rattle.scenario_text.specs.SeatReading.{seat_line}
 use Rattle.scenario_text.specs.SessionReading.{session_line}
 
@@ -56,10 +56,11 @@ head_line first words =
     if bytes_eq first (codes "hard") then option_map (λ p. Hard p.0 p.1) (two_names words) else (
     if bytes_eq first (codes "soft") then option_map (λ p. Soft p.0 p.1) (two_names words) else (
     if bytes_eq first (codes "owns") then option_map (λ p. Owns p.0 p.1) (name_and_number words) else (
+    if bytes_eq first (codes "fault") then option_map (λ p. Fault p.0 p.1.0 p.1.1.0 p.1.1.1) (name_and_fault words) else (
     if bytes_eq first (codes "limit") then option_map (λ p. Limit p.0 p.1) (two_numbers words) else (
     if bytes_eq first (codes "bricks") then option_map (λ p. Bricks p.0 p.1.0 p.1.1) (three_numbers words) else (
     if bytes_eq first (codes "key") then option_map (λ b. Key b) (one_bytes words) else (
-    if bytes_eq first (codes "site") then option_map (λ _. Site) (no_words words) else None)))))))
+    if bytes_eq first (codes "site") then option_map (λ _. Site) (no_words words) else None))))))))
 
 -- the line about sessions, or else about connections, that they spell
 abbrev pub session_or_seat : List ℕ → List (List ℕ) → Option Line

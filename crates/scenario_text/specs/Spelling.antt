@@ -6,13 +6,13 @@ use Rattle.scenario_text.specs.declared.line.TheConstants.{MAX_LINE_BYTES}
 use Rattle.scenario_text.specs.declared.line.Line.{Line}
 use Rattle.scenario_text.specs.declared.line.Line.TheVariants.{Pass, Head, Call, Commit, Boot, Reopen, Session, Seat}
 use Rattle.scenario_text.specs.declared.head_line.HeadLine.{HeadLine}
-use Rattle.scenario_text.specs.declared.head_line.HeadLine.TheVariants.{Component, Hard, Soft, Owns, Limit, Bricks, Key, Site}
+use Rattle.scenario_text.specs.declared.head_line.HeadLine.TheVariants.{Component, Hard, Soft, Owns, Fault, Limit, Bricks, Key, Site}
 use Rattle.scenario_text.specs.declared.call_line.CallLine.{CallLine}
 use Rattle.scenario_text.specs.declared.call_line.CallLine.TheVariants.{Enter, Exit, Read, List as ListLine, Put}
 use Rattle.scenario_text.specs.declared.boot_line.BootLine.{BootLine}
 use Rattle.scenario_text.specs.declared.boot_line.BootLine.TheVariants.{Begin, Drop, Down, Up, Reboot, Table, Journal}
 use Rattle.scenario_text.specs.Texts.{hex_text}
-use Rattle.scenario_text.specs.FieldSpelling.{IsName, IsNumber, IsCaller, IsText, AreBytes, caller_word}
+use Rattle.scenario_text.specs.FieldSpelling.{IsName, IsNumber, IsCaller, IsText, IsKind, AreBytes, caller_word, kind_word, level_word}
 use Rattle.scenario_text.specs.SeatSpelling.{IsSeatInRange, words_of_seat_line}
 use Rattle.scenario_text.specs.SessionSpelling.{IsSessionInRange, words_of_session_line}
 
@@ -22,6 +22,7 @@ IsHeadInRange (Component name) = IsName name
 IsHeadInRange (Hard name other) = IsName name × IsName other
 IsHeadInRange (Soft name other) = IsName name × IsName other
 IsHeadInRange (Owns name table) = IsName name × IsNumber table
+IsHeadInRange (Fault name after kind level) = IsName name × IsNumber after × IsKind kind
 IsHeadInRange (Limit entries bytes) = IsNumber entries × IsNumber bytes
 IsHeadInRange (Bricks bricks most least) = IsNumber bricks × IsNumber most × IsNumber least
 IsHeadInRange (Key bytes) = AreBytes bytes
@@ -62,6 +63,8 @@ words_of_head_line (Component name) = codes "component" ∷ name ∷ []
 words_of_head_line (Hard name other) = codes "hard" ∷ name ∷ other ∷ []
 words_of_head_line (Soft name other) = codes "soft" ∷ name ∷ other ∷ []
 words_of_head_line (Owns name table) = codes "owns" ∷ name ∷ decimal table ∷ []
+words_of_head_line (Fault name after kind level) =
+    codes "fault" ∷ name ∷ decimal after ∷ kind_word kind ∷ level_word level ∷ []
 words_of_head_line (Limit entries bytes) = codes "limit" ∷ decimal entries ∷ decimal bytes ∷ []
 words_of_head_line (Bricks bricks most least) =
     codes "bricks" ∷ decimal bricks ∷ decimal most ∷ decimal least ∷ []

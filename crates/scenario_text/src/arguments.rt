@@ -1,17 +1,18 @@
 //! What the words after a first one say together, or None where they do not say it.
 
 ghost use Rattle.std.specs.Prelude.{◌≡◌, IfOk};
-ghost use Rattle.scenario_text.specs.Arguments.{one_name, one_number, one_caller, one_key, one_bytes, one_text, two_names, two_numbers, name_and_number, caller_and_name, caller_and_number, key_and_bytes, one_brick, brick_and_number, brick_and_freed, caller_and_two_numbers, three_numbers, one_seat, seat_and_bytes};
+ghost use Rattle.scenario_text.specs.Arguments.{one_name, one_number, one_caller, one_key, one_bytes, one_text, two_names, two_numbers, name_and_number, name_and_fault, caller_and_name, caller_and_number, key_and_bytes, one_brick, brick_and_number, brick_and_freed, caller_and_two_numbers, three_numbers, one_seat, seat_and_bytes};
 ghost use Rattle.scenario_text.specs.Words.{words_after};
 
 use crate::fields::{
-    brick_number, caller_number, decimal_number, freed_of, hex_bytes, key_number, name_of,
-    seat_number, text_of,
+    brick_number, caller_number, decimal_number, freed_of, hex_bytes, key_number, kind_of,
+    level_of, name_of, seat_number, text_of,
 };
+use crate::head_line::CureLevel;
 use crate::line::HexBytes;
 use crate::session_line::Freed;
-use crate::words::{one_word, three_words, two_words};
-use crash_base::{ComponentName, OutOfMemory, WordText};
+use crate::words::{four_words, one_word, three_words, two_words};
+use crash_base::{ComponentName, FaultKind, OutOfMemory, WordText};
 use std::alloc::Global;
 
 /// The name that is the only word.
@@ -66,6 +67,20 @@ pub fn name_and_number(
     };
     let name = name_of(alloc, name)?;
     Ok(name.zip(decimal_number(number)))
+}
+
+/// Four words, a name, a number, and the words for what a component does that fails and for what cures it.
+pub fn name_and_fault(
+    alloc: Global,
+    left: &[u8],
+) -> Result<Option<(ComponentName, (u64, (FaultKind, CureLevel)))>, OutOfMemory>
+    ensures { IfOk result (λ words. words ≡ name_and_fault (words_after left.now)) }
+{
+    let Some((name, number, kind, level)) = four_words(left) else {
+        return Ok(None);
+    };
+    let name = name_of(alloc, name)?;
+    Ok(name.zip(decimal_number(number).zip(kind_of(kind).zip(level_of(level)))))
 }
 
 /// Two words, a caller and a name.

@@ -3,12 +3,13 @@
 ghost use Rattle.std.specs.Prelude.{◌≡◌, ◌<◌, ◌≤◌, ◌*◌, length, IfOk, IfSome, Option};
 ghost use Rattle.std.specs.Option.{option_map};
 ghost use Rattle.std.specs.List.{list_all};
-ghost use Rattle.scenario_text.specs.Fields.{name_of, decimal_number, brick_number, lettered_number, caller_number, key_number, seat_number, hex_digit, hex_byte, bytes_of_digits, hex_bytes, is_text_byte, text_of, freed_of};
+ghost use Rattle.scenario_text.specs.Fields.{name_of, decimal_number, brick_number, lettered_number, caller_number, key_number, seat_number, hex_digit, hex_byte, bytes_of_digits, hex_bytes, is_text_byte, text_of, freed_of, kind_of, level_of};
 
+use crate::head_line::CureLevel;
 use crate::line::{HexBytes, MAX_CALLER, MAX_HEX_BYTES};
 use crate::seat_line::MAX_SEAT;
 use crate::session_line::{Freed, MAX_KEY};
-use crash_base::{ComponentName, OutOfMemory, WordText, is_name};
+use crash_base::{ComponentName, FaultKind, OutOfMemory, WordText, is_name};
 use std::alloc::Global;
 
 /// A copy of a word that is a name.
@@ -180,6 +181,34 @@ pub fn freed_of(word: &[u8]) -> Option<Freed>
         Some(Freed::Answered)
     } else if word == b"silent".as_slice() {
         Some(Freed::Silent)
+    } else {
+        None
+    }
+}
+
+/// What a component does that fails, by the word for it.
+pub fn kind_of(word: &[u8]) -> Option<FaultKind>
+    ensures { result ≡ kind_of word.now }
+{
+    if word == b"raise".as_slice() {
+        Some(FaultKind::Raise)
+    } else if word == b"hang".as_slice() {
+        Some(FaultKind::Hang)
+    } else {
+        None
+    }
+}
+
+/// What cures a fault, by the word for it.
+pub fn level_of(word: &[u8]) -> Option<CureLevel>
+    ensures { result ≡ level_of word.now }
+{
+    if word == b"group".as_slice() {
+        Some(CureLevel::Group)
+    } else if word == b"app".as_slice() {
+        Some(CureLevel::App)
+    } else if word == b"process".as_slice() {
+        Some(CureLevel::Process)
     } else {
         None
     }

@@ -1,7 +1,18 @@
 //! Lines of the head.
 
 use crate::line::HexBytes;
-use crash_base::ComponentName;
+use crash_base::{ComponentName, FaultKind};
+
+/// The least level of a reboot that cures a fault.
+#[derive(Clone, Copy)]
+pub enum CureLevel {
+    /// One recovery group, which is that of the component.
+    Group,
+    /// The whole application.
+    App,
+    /// The process that the application runs in.
+    Process,
+}
 
 /// A line of the head, with what its words say, in their order.
 #[derive(Drop)]
@@ -14,6 +25,9 @@ pub enum HeadLine {
     Soft(ComponentName, ComponentName),
     /// The component, and the number of a table of its own.
     Owns(ComponentName, u64),
+    /// The component that fails, how often it is entered before the first time that it fails, what it does then, and
+    /// what cures it.
+    Fault(ComponentName, u64, FaultKind, CureLevel),
     /// The most entries of the journal, and the most bytes.
     Limit(u64, u64),
     /// How many bricks there are, the most that a write asks, and the fewest that are to store its value.

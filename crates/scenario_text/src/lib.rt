@@ -8,6 +8,8 @@
 //! component desk
 //! hard desk ledger
 //! owns ledger 1
+//! fault ledger 2 raise group
+//! fault desk 0 hang process
 //! limit 1000 65536
 //! bricks 5 3 2
 //! key 000102030405060708090a0b0c0d0e0f
@@ -57,15 +59,16 @@
 //! end s1
 //! ```
 //!
-//! `ended_line` takes the first line that has ended off a text, and `read_line` answers which line it
-//! spells. Words are separated by single spaces. A name is 1 to 32 letters, digits or `_`; a caller
-//! is `c` and a number from 1 to 65,535 (`MAX_CALLER`), a session key is `k` and a number from 1 to
-//! 65,535 (`MAX_KEY`), and a connection is `s` and a number from 1 to 64 (`MAX_SEAT`); numbers are decimal without
-//! leading zeros, and below 2^64, and a brick is a number from 1 on; bytes are in lower case hexadecimal, at most 4,000
-//! (`MAX_HEX_BYTES`), and `-` where there are none. A text is any word: some bytes of ASCII, none of them a space or a
-//! carriage return. So `present` has a text, and so have `down`, `up` and `reboot`, whose text the boot is asked for. A
-//! pass is freed as `answered` or as `silent`. An empty line passes, and so does a comment: `#` and then ASCII without
-//! a carriage return. A line has at most 8,192 bytes (`MAX_LINE_BYTES`).
+//! `ended_line` takes the first line that has ended off a text, and `read_line` answers which line it spells. Words are
+//! separated by single spaces. A name is 1 to 32 letters, digits or `_`; a caller is `c` and a number from 1 to 65,535
+//! (`MAX_CALLER`), a session key is `k` and a number from 1 to 65,535 (`MAX_KEY`), and a connection is `s` and a number
+//! from 1 to 64 (`MAX_SEAT`); numbers are decimal without leading zeros, and below 2^64, and a brick is a number from 1
+//! on; bytes are in lower case hexadecimal, at most 4,000 (`MAX_HEX_BYTES`), and `-` where there are none. A text is
+//! any word: some bytes of ASCII, none of them a space or a carriage return. So `present` has a text, and so have
+//! `down`, `up` and `reboot`, whose text the boot is asked for. A pass is freed as `answered` or as `silent`. A
+//! component that fails does `raise` or `hang`, and is cured by a reboot of its `group`, of the `app` or of the
+//! `process`. An empty line passes, and so does a comment: `#` and then ASCII without a carriage return. A line has at
+//! most 8,192 bytes (`MAX_LINE_BYTES`).
 //!
 //! A line is sorted when it is read, by what it acts on: the head, the live call of a caller, the boot,
 //! the sessions, or the connections. So a new form has its place in one of `HeadLine`, `CallLine`, `BootLine`,
@@ -101,7 +104,8 @@ pub use answer::LineAnswer;
 pub use boot_line::BootLine;
 pub use call_line::CallLine;
 pub use cutting::ended_line;
-pub use head_line::HeadLine;
+pub use fields::decimal_number;
+pub use head_line::{CureLevel, HeadLine};
 pub use laws::{lines_law, spelling_law};
 pub use line::{HexBytes, Line, MAX_CALLER, MAX_HEX_BYTES, MAX_LINE_BYTES};
 pub use reading::read_line;

@@ -6,8 +6,8 @@ ghost use Rattle.scenario_text.specs.Words.{words_after};
 ghost use Rattle.scenario_text.specs.Reading.{line_of, passes, is_comment_byte, line_from, head_line, event_line, call_or_other, call_line, boot_or_other, session_or_seat, boot_line, put_line};
 
 use crate::arguments::{
-    caller_and_name, caller_and_number, caller_and_two_numbers, name_and_number, one_bytes,
-    one_caller, one_name, one_text, three_numbers, two_names, two_numbers,
+    caller_and_name, caller_and_number, caller_and_two_numbers, name_and_fault, name_and_number,
+    one_bytes, one_caller, one_name, one_text, three_numbers, two_names, two_numbers,
 };
 use crate::boot_line::BootLine;
 use crate::call_line::CallLine;
@@ -98,6 +98,10 @@ fn head_line(alloc: Global, first: &[u8], left: &[u8]) -> Result<Option<HeadLine
         Ok(two_names(alloc, left)?.map(|(name, other)| HeadLine::Soft(name, other)))
     } else if first == b"owns".as_slice() {
         Ok(name_and_number(alloc, left)?.map(|(name, table)| HeadLine::Owns(name, table)))
+    } else if first == b"fault".as_slice() {
+        Ok(name_and_fault(alloc, left)?.map(|(name, plan)| {
+            HeadLine::Fault(name, plan.0, plan.1.0, plan.1.1)
+        }))
     } else if first == b"limit".as_slice() {
         Ok(two_numbers(left).map(|(entries, bytes)| HeadLine::Limit(entries, bytes)))
     } else if first == b"bricks".as_slice() {

@@ -1,6 +1,6 @@
 -- The call of an open attempt fits the boot behind a step in the container, and so does the one that is committed.
 use Rattle.std.specs.Prelude.{IfSome, IsSome}
-use Rattle.std.proofs.Common.{◌≡◌, inl, inr, ◌∙◌, ◌<◌, ◌&&◌, ◌+◌, ℕ, Bool, true, false, nat_lt, if◌then◌else◌, List, [], ◌∷◌, ◌++◌, length, Option, Some, None, option_map, refl, sym, ap, subst, arith}
+use Rattle.std.proofs.Common.{◌≡◌, inl, inr, ◌∙◌, ◌<◌, ◌&&◌, ◌+◌, ℕ, Bool, true, false, nat_lt, if◌then◌else◌, List, [], ◌∷◌, ◌++◌, append-nil, length, Option, Some, None, option_map, refl, sym, ap, subst, arith}
 use Rattle.auction_calls.specs.Calls.{is_action}
 use Rattle.auction_calls.specs.declared.action.ActionCall.{ActionCall}
 use Rattle.auction_rows.specs.Parts.{site_components, site_parts}
@@ -9,11 +9,12 @@ use Rattle.boot_core.proofs.Fitting.{fits_entering, fits_leaving, fits_listing, 
 use Rattle.boot_core.proofs.Refusing.{first_none, map_none}
 use Rattle.boot_core.specs.Boot.{BootValue, HasGrown}
 use Rattle.boot_core.specs.Fits.{FitsIn}
+use Rattle.boot_core.specs.declared.boot.Start.{Start}
 use Rattle.boot_core.specs.declared.refusals.CommitRefusal.{CommitRefusal}
 use Rattle.boot_core.specs.declared.refusals.CommitRefusal.TheVariants as commits
-use Rattle.call_attempts.proofs.UnderWay.{begins, goes_on, same_request, stays}
-use Rattle.call_attempts.specs.Attempt.{AttemptValue, Continues, IsUnderWay, rows_at_begin, stepped, stop_of_attempt, ticket_after, wanted}
-use Rattle.call_attempts.specs.Stops.{stop_of}
+use Rattle.call_attempts.proofs.UnderWay.{begins, boot_grows, goes_on, same_request, stays}
+use Rattle.call_attempts.specs.Attempt.{AttemptValue, Continues, IsUnderWay, boot_after, rows_at_begin, stepped, stop_of_attempt, ticket_after, wanted}
+use Rattle.call_attempts.specs.Stops.{fault_stops, stop_of}
 use Rattle.call_attempts.specs.declared.attempt.Stepped.TheVariants as coming
 use Rattle.call_attempts.specs.declared.stop.Stop.{Stop}
 use Rattle.call_attempts.specs.declared.stop.Stop.TheVariants as stops
@@ -48,7 +49,7 @@ use Rattle.request_tries.specs.declared.outcome.TryCause.TheVariants as cause
 use Rattle.shepherd_steps.specs.Inside.{Course, Ends, Goes, Stride, after_entry, after_refusal, after_stop, after_try, came_by, commits_by, stride, stride_by, with_keeper}
 use Rattle.seat_laws.proofs.Passing.{CourseServes}
 use Rattle.seat_laws.proofs.Running.{action-runs}
-use Rattle.seat_laws.specs.Fitting.{CommitsAtMost, IsOpenFor, IsOwnCall, ServesInBoot}
+use Rattle.seat_laws.specs.Fitting.{CommitsAtMost, EntersAtMost, IsOpenFor, IsOwnCall, ServesInBoot}
 
 -- a call that follows its program may make the step that is asked for next
 abbrev pub FollowLaw : Type 0
@@ -57,10 +58,9 @@ FollowLaw = (parts : Parts) (asks : List Answer → Next) (rows : List RowWrite)
 
 -- the boot has grown by what was committed
 pub grown-by : (old new : BootValue) → CommitsAtMost old new → HasGrown old new
-grown-by old new (inl same) = subst (λ (b : BootValue). HasGrown old b) (sym same) (record { start = refl; more = []; entries = sym (append-none old.entries) }) where
-  append-none : (es : List Entry) → es ++ [] ≡ es
-  append-none [] = refl
-  append-none (e ∷ es) = ap (λ (rest : List Entry). e ∷ rest) (append-none es)
+grown-by old new (inl (inl same)) = subst (λ (b : BootValue). HasGrown old b) (sym same) (record { start = refl; more = []; entries = sym (append-nil old.entries) })
+grown-by old new (inl (inr (component, counts))) =
+    subst (λ (b : BootValue). HasGrown old b) (sym counts) (record { start = refl; more = []; entries = sym (append-nil old.entries) })
 grown-by old new (inr has) =
     let e : Entry = Commit (entry_of has.call (Some has.action)) in
     subst (λ (b : BootValue). HasGrown old b) (sym has.added) (record { start = refl; more = e ∷ []; entries = refl })
@@ -85,17 +85,19 @@ group-known parts c is within =
     omega (arith, few, below, within)
 
 -- nothing that stops an enter leaves its group up
-up-where : (boot : BootValue) (call : Call) (c : ComponentNo) (m : ℕ) → stop_of boot.start.deployment boot.entries call (next.Enter c m) ≡ None
+up-where : (boot : BootValue) (call : Call) (c : ComponentNo) (m : ℕ) → stop_of boot call (next.Enter c m) ≡ None
     → down_of boot.entries (group_of boot.start.deployment c.0) ≡ None
 up-where boot call c m none =
     let g : ℕ = group_of boot.start.deployment c.0 in
     let first : Option Stop = option_map (λ (s : Stale). stops.Revoked s) (stale_in boot.entries call.touched) in
     let second : Option Stop = option_map (λ (place : Place). stops.Sentinel (group_no g) place) (down_of boot.entries g) in
-    map_none (λ (place : Place). stops.Sentinel (group_no g) place) (down_of boot.entries g) (first_none second [] (first_none first (second ∷ []) none).1).0
+    let third : Option Stop = fault_stops boot (next.Enter c m) in
+    map_none (λ (place : Place). stops.Sentinel (group_no g) place) (down_of boot.entries g)
+    (first_none second (third ∷ []) (first_none first (second ∷ third ∷ []) none).1).0
 
 -- The call of a step that it may make, and that nothing stops, still fits.
 fits-step : (boot : BootValue) (t : TicketValue) (x : Next) → boot.start.deployment ≡ site_parts → FitsIn boot t.call → MayMake boot.start.deployment t.call x
-    → stop_of boot.start.deployment boot.entries t.call x ≡ None → Continues x → FitsIn boot (ticket_after boot t x).call
+    → stop_of boot t.call x ≡ None → Continues x → FitsIn boot (ticket_after boot t x).call
 fits-step boot t (next.Enter c m) site fits may none on =
     fits_entering boot t.call c fits (group-known boot.start.deployment c.0 site may.0) (up-where boot t.call c m none)
 fits-step boot t (next.Read id) site fits may none on = fits_reading boot t.call id fits
@@ -112,15 +114,26 @@ module _ (follow : FollowLaw) (boot : BootValue) (program : ActionCall) (site : 
       follow boot.start.deployment (steps_of program) rows a.answers a.ticket.call
       (subst (λ (p : Parts). IsSome (run_of p (steps_of program) rows)) (sym site) (action-runs program rows action)) way.follows
 
-  -- An attempt that was answered is under way still.
+  -- An attempt that was answered is under way still, in the boot that counts what it entered.
   pub steps-on : (a : AttemptValue) (request : RequestNo) → IsOpenFor boot program request a → Continues (wanted (steps_of program) a) → stop_of_attempt boot (steps_of program) a ≡ None
-      → IsOpenFor boot program request (stepped boot a (wanted (steps_of program) a))
+      → IsOpenFor (boot_after boot (wanted (steps_of program) a)) program request (stepped boot a (wanted (steps_of program) a))
   steps-on a request opened on none =
       let x : Next = wanted (steps_of program) a in
+      let way : IsUnderWay boot (steps_of program) (stepped boot a x) =
+      goes_on boot (steps_of program) a x opened.way refl on (fits-step boot a.ticket x site opened.way.fits (may-make a opened.way) none on) in
       record {
-        way = goes_on boot (steps_of program) a x opened.way refl on (fits-step boot a.ticket x site opened.way.fits (may-make a opened.way) none on);
+        way = stays boot (boot_after boot x) (steps_of program) (stepped boot a x) (boot_grows boot x) way;
         request_is = same_request boot a.ticket x ∙ opened.request_is;
       }
+
+-- a step that was answered counts one entering more at most
+enters-at-most : (boot : BootValue) (x : Next) → EntersAtMost boot (boot_after boot x)
+enters-at-most boot (next.Enter component method) = inr (component, refl)
+enters-at-most boot (next.Read id) = inl refl
+enters-at-most boot (next.List table) = inl refl
+enters-at-most boot (next.Put write) = inl refl
+enters-at-most boot next.Exit = inl refl
+enters-at-most boot (next.Done done) = inl refl
 
 -- what a step comes to is served in the boot then, where it is served still
 abbrev pub CourseFits : BootValue → ActionCall → Course → Type 0
@@ -142,6 +155,8 @@ try-fits now boot s program at why repeats serves = by (nat_lt (length s.tries +
 
 stop-fits : (now : HistoryFront) (boot : BootValue) (s : TriesValue) (program : ActionCall) (at : Place) (repeats : Bool) (stop : Stop) → ServesInBoot boot s program → CourseFits boot program (after_stop now s at repeats stop)
 stop-fits now boot s program at repeats (stops.Sentinel group down) serves = tt
+stop-fits now boot s program at repeats (stops.Hung component fault) serves = tt
+stop-fits now boot s program at repeats (stops.Raised component fault) serves = tt
 stop-fits now boot s program at repeats (stops.Revoked shown) serves = try-fits now boot s program at (cause.Revoked shown) repeats serves
 
 refusal-fits : (now : HistoryFront) (boot : BootValue) (es : List Entry) (s : TriesValue) (program : ActionCall) (at : Place) (repeats : Bool) (refusal : CommitRefusal) → ServesInBoot boot s program
@@ -170,11 +185,12 @@ commits-fit c tries program a done None serves opened free = record {
 commits-fit c tries program a done (Some refusal) serves opened free =
     let after : ContainerValue = after_entry c a.ticket.call (action_of tries done) (Some refusal) in
     record {
-      commits = inl refl;
+      commits = inl (inl refl);
       course = refusal-fits (front_at after) c.boot after.boot.entries (closed tries) program a.ticket.call.at a.repeats refusal (closed-fits c.boot tries program serves);
     }
 
--- the step of a request leaves the boot as it was, or with its commit; and the request is served still in it
+-- the step of a request leaves the boot as it was, or counts an entering, or adds its commit; and the request is served
+-- still in it
 pub stride-fits : FollowLaw → (keeps : Bool) (c : ContainerValue) (tries : TriesValue) (program : ActionCall) → c.boot.start.deployment ≡ site_parts → ServesInBoot c.boot tries program
     → StrideFits c.boot program (stride (steps_of program) keeps c tries tries.attempt)
 stride-fits follow keeps c tries program site serves = by tries.attempt serves.attempt where
@@ -186,13 +202,17 @@ stride-fits follow keeps c tries program site serves = by tries.attempt serves.a
   open-fits a opened x is o stop = at x is o stop where
     went : Continues (wanted asks a) → stop_of_attempt c.boot asks a ≡ None → StrideFits c.boot program (stride_by asks keeps c tries a coming.Went)
     went on none = record {
-      commits = inl refl;
-      course = record { action = serves.action; own = serves.own; attempt = steps-on follow c.boot program site serves.action a tries.request opened on none };
+      commits = inl (enters-at-most c.boot (wanted asks a));
+      course = record {
+        action = serves.action;
+        own = serves.own ∙ sym (ap (λ (s : Start). s.boot) (boot_grows c.boot (wanted asks a)).start);
+        attempt = steps-on follow c.boot program site serves.action a tries.request opened on none;
+      };
     }
 
     stopped : (stop : Stop) → StrideFits c.boot program (stride_by asks keeps c tries a (coming.Stopped stop))
     stopped stop = record {
-      commits = inl refl;
+      commits = inl (inl refl);
       course = stop-fits (front_at c) c.boot (closed tries) program a.ticket.call.at a.repeats stop (closed-fits c.boot tries program serves);
     }
 
@@ -215,7 +235,7 @@ stride-fits follow keeps c tries program site serves = by tries.attempt serves.a
 
   by : (o : Option AttemptValue) → IfSome o (IsOpenFor c.boot program tries.request) → StrideFits c.boot program (stride asks keeps c tries o)
   by None opened = record {
-    commits = inl refl;
+    commits = inl (inl refl);
     course = record {
       action = serves.action;
       own = serves.own;

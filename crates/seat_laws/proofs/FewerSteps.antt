@@ -272,6 +272,8 @@ try-leaves now s a at why repeats = by (nat_lt (length s.tries + 1) MAX_TRIES &&
 
 stop-leaves : (now : HistoryFront) (s : TriesValue) (a : AttemptValue) (at : Place) (repeats : Bool) (stop : Stop) → CourseLeaves (steps_of (length s.tries) (Some a)) (after_stop now (closed s) at repeats stop)
 stop-leaves now s a at repeats (stops.Sentinel group down) = tt
+stop-leaves now s a at repeats (stops.Hung component fault) = tt
+stop-leaves now s a at repeats (stops.Raised component fault) = tt
 stop-leaves now s a at repeats (stops.Revoked shown) = try-leaves now s a at (cause.Revoked shown) repeats
 
 refusal-leaves : (now : HistoryFront) (es : List Entry) (s : TriesValue) (a : AttemptValue) (at : Place) (repeats : Bool) (refusal : CommitRefusal) → (refusal ≡ commits.OutOfMemory → ⊥)

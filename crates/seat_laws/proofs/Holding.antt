@@ -10,7 +10,7 @@ use Rattle.lane_link.specs.Links.{lane_link_tally}
 use Rattle.lane_link.specs.declared.link.LaneLink.{LaneLink}
 use Rattle.outcome_items.specs.declared.item.Item.{Item}
 use Rattle.request_tries.specs.declared.outcome.RequestOutcome.{RequestOutcome}
-use Rattle.request_tries.specs.declared.outcome.RequestOutcome.TheVariants.{Page, Sentinel, Revoked, Conflict, JournalFull, KeeperFailed}
+use Rattle.request_tries.specs.declared.outcome.RequestOutcome.TheVariants.{Page, Sentinel, Hung, Raised, Revoked, Conflict, JournalFull, KeeperFailed}
 use Rattle.request_visit.specs.Advancing.{after_leaving, departed, item_of}
 use Rattle.request_visit.specs.Ready.{ready_of}
 use Rattle.request_tries.specs.Ends.{done_of}
@@ -209,6 +209,8 @@ module _ (v : Visit ActionCall) (o : ReadOutcome) (hears : read_behind v.work v.
     left : (x : RequestOutcome) → H (left_so (closed_with follows x) (record v { holds = holds_of end }))
     left (Page place again) = shown place again (follows again)
     left (Sentinel group down) = is
+    left (Hung component fault) = is
+    left (Raised component fault) = is
     left (Revoked tries) = is
     left (Conflict tries) = is
     left (JournalFull full) = is

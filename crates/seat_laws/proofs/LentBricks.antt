@@ -5,6 +5,7 @@ use Rattle.std.proofs.lemmas.Bool.Decides.{nat_tests}
 use Rattle.auction_calls.specs.declared.action.ActionCall.{ActionCall}
 use Rattle.auction_site.specs.Actions.{steps_of}
 use Rattle.boot_core.specs.declared.refusals.CommitRefusal.{CommitRefusal}
+use Rattle.call_attempts.proofs.UnderWay.{boot_grows}
 use Rattle.call_attempts.specs.Attempt.{AttemptValue, stop_of_attempt, wanted}
 use Rattle.call_attempts.specs.declared.attempt.Stepped.{Stepped}
 use Rattle.call_attempts.specs.declared.attempt.Stepped.TheVariants as coming
@@ -149,7 +150,7 @@ stride-start program keeps c s (Some a) = by (came_by (wanted program a) (stop_o
   commits done (Some refusal) = refl
 
   by : (x : Stepped) → (stride_by program keeps c s a x).container.boot.start ≡ c.boot.start
-  by coming.Went = refl
+  by coming.Went = (boot_grows c.boot (wanted program a)).start
   by (coming.Done done) = commits done (with_keeper (refusal_of c s a done) a.ticket.call.writes keeps)
   by (coming.Stopped stop) = refl
 

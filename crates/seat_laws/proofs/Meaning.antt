@@ -8,7 +8,7 @@ use Rattle.auction_site.specs.Meant.{AreMeant}
 use Rattle.boot_core.proofs.Sounding.{IsFree, is_free}
 use Rattle.boot_core.specs.Boot.{BootValue}
 use Rattle.boot_core.specs.declared.refusals.CommitRefusal.{CommitRefusal}
-use Rattle.call_attempts.specs.Attempt.{AttemptValue, stop_of_attempt, wanted}
+use Rattle.call_attempts.specs.Attempt.{AttemptValue, boot_after, stop_of_attempt, wanted}
 use Rattle.call_attempts.specs.declared.stop.Stop.{Stop}
 use Rattle.call_ticket.specs.Following.{Follows}
 use Rattle.call_ticket.specs.declared.next.Answer.{Answer}
@@ -66,6 +66,15 @@ commit-meant law c tries program a done None free is opened spells meant =
     law base c.boot.entries program a.answers call (record { text = tries.text; done = done }) spells opened.way.follows is may.current meant
 commit-meant law c tries program a done (Some refusal) free is opened spells meant = meant
 
+-- by the count of what a step enters
+meant-after : (boot : BootValue) (x : Next) → Meant boot → Meant (boot_after boot x)
+meant-after boot (next.Enter component method) meant = meant
+meant-after boot (next.Read id) meant = meant
+meant-after boot (next.List table) meant = meant
+meant-after boot (next.Put write) meant = meant
+meant-after boot next.Exit meant = meant
+meant-after boot (next.Done done) meant = meant
+
 -- by the step of a request
 stride-meant : FollowedLaw → (keeps : Bool) (c : ContainerValue) (tries : TriesValue) (program : ActionCall) → ServesInBoot c.boot tries program → TextSpells tries program → Meant c.boot
     → Meant (stride (steps_of program) keeps c tries tries.attempt).container.boot
@@ -74,15 +83,15 @@ stride-meant law keeps c tries program serves spells meant = by tries.attempt se
   asks = steps_of program
 
   at : (a : AttemptValue) → IsOpenFor c.boot program tries.request a → (x : Next) → wanted asks a ≡ x → (o : Option Stop) → Meant (stride_by asks keeps c tries a (came_by x o)).container.boot
-  at a opened (next.Enter component method) is None = meant
+  at a opened (next.Enter component method) is None = meant-after c.boot (wanted asks a) meant
   at a opened (next.Enter component method) is (Some stop) = meant
-  at a opened (next.Read id) is None = meant
+  at a opened (next.Read id) is None = meant-after c.boot (wanted asks a) meant
   at a opened (next.Read id) is (Some stop) = meant
-  at a opened (next.List table) is None = meant
+  at a opened (next.List table) is None = meant-after c.boot (wanted asks a) meant
   at a opened (next.List table) is (Some stop) = meant
-  at a opened (next.Put write) is None = meant
+  at a opened (next.Put write) is None = meant-after c.boot (wanted asks a) meant
   at a opened (next.Put write) is (Some stop) = meant
-  at a opened next.Exit is None = meant
+  at a opened next.Exit is None = meant-after c.boot (wanted asks a) meant
   at a opened next.Exit is (Some stop) = meant
   at a opened (next.Done done) is o =
       commit-meant law c tries program a done (with_keeper (refusal_of c tries a done) a.ticket.call.writes keeps) (unrefused (refusal_of c tries a done) a.ticket.call.writes keeps) is opened spells meant

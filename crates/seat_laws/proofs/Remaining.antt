@@ -495,6 +495,8 @@ try-tries now s program at why repeats = by (nat_lt (length s.tries + 1) MAX_TRI
 
 stop-tries : (now : HistoryFront) (s : TriesValue) (program : ActionCall) (at : Place) (repeats : Bool) (stop : Stop) → CourseTries program (after_stop now s at repeats stop)
 stop-tries now s program at repeats (stops.Sentinel group down) = tt
+stop-tries now s program at repeats (stops.Hung component fault) = tt
+stop-tries now s program at repeats (stops.Raised component fault) = tt
 stop-tries now s program at repeats (stops.Revoked shown) = try-tries now s program at (cause.Revoked shown) repeats
 
 refusal-tries : (now : HistoryFront) (es : List Entry) (s : TriesValue) (program : ActionCall) (at : Place) (repeats : Bool) (refusal : CommitRefusal) → Tries s program

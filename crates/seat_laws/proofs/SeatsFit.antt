@@ -136,7 +136,7 @@ inside-fits : FollowLaw → (keeps : Bool) (v : Visit ActionCall) (boot : BootVa
 unfolding inside
 inside-fits follow keeps v boot since site fits = by v.work fits where
   rests : InsideFits boot v boot
-  rests = record { commits = inl refl; work = fits }
+  rests = record { commits = inl (inl refl); work = fits }
 
   by : (w : Work ActionCall) → WorksInBoot boot w → InsideFits boot (inside_of steps_of keeps v w (untold boot since)).visit (inside_of steps_of keeps v w (untold boot since)).boot
   by Reading its = rests
@@ -208,7 +208,7 @@ module _ (laws : FitLaws) (g : SeatGivens) (seat : Seat) (w : SeatWorld) (its : 
 
   -- an event that leaves the boot as it was
   same : (stage : Stage ActionCall) → StageFits w.boot stage → EventFits w.boot stage w.boot
-  same stage fits = record { commits = inl refl; stage = fits }
+  same stage fits = record { commits = inl (inl refl); stage = fits }
 
   event-fits : (t : ShepherdTurn) → EventFits w.boot (E t).connection.stage (E t).boot
   event-fits turns.Bytes = same s.stage its.stage
@@ -234,7 +234,7 @@ module _ (laws : FitLaws) (g : SeatGivens) (seat : Seat) (w : SeatWorld) (its : 
   event-fits turns.Item = same s.stage its.stage
   event-fits (turns.Ended end) = same s.stage its.stage
 
-  -- A step adds the commit of a call that fits, or leaves the boot as it was.
+  -- A step adds the commit of a call that fits, or counts an entering, or leaves the boot as it was.
   pub step-commits : CommitsAtMost w.boot (seat_step g seat w).world.boot
   unfolding seat_step step
   step-commits = (event-fits (turn s)).commits
@@ -250,16 +250,18 @@ module _ (laws : FitLaws) (g : SeatGivens) (seat : Seat) (w : SeatWorld) (its : 
         stage = gone-passes (AsksInBoot (E (turn s)).boot) (ServesInBoot (E (turn s)).boot) (opens-fit (E (turn s)).boot) g (E (turn s)).connection event.stage;
       }
 
-  -- a boot that is as it was, or that has such a commit, keeps what was so
+  -- a boot that is as it was, or that has counted an entering, or that has such a commit, keeps what was so
 
   pub sound-at-seats : CommitLaw → IsSound w.boot → IsSound (seat_step g seat w).world.boot
   sound-at-seats commit sound = by (seat_step g seat w).world.boot step-commits where
     by : (new : BootValue) → CommitsAtMost w.boot new → IsSound new
-    by new (inl same) = subst IsSound (sym same) sound
+    by new (inl (inl same)) = subst IsSound (sym same) sound
+    by new (inl (inr (component, counts))) = subst IsSound (sym counts) (record { legal = sound.legal; within = sound.within; owned = sound.owned })
     by new (inr has) = subst IsSound (sym has.added) (commit w.boot has.call (Some has.action) sound has.is_own.fits has.unrefused)
 
   pub own-at-seats : CommitsAreOwn w.boot → CommitsAreOwn (seat_step g seat w).world.boot
   own-at-seats own = by (seat_step g seat w).world.boot step-commits where
     by : (new : BootValue) → CommitsAtMost w.boot new → CommitsAreOwn new
-    by new (inl same) = subst CommitsAreOwn (sym same) own
+    by new (inl (inl same)) = subst CommitsAreOwn (sym same) own
+    by new (inl (inr (component, counts))) = subst CommitsAreOwn (sym counts) own
     by new (inr has) = subst CommitsAreOwn (sym has.added) (own-more w.boot (entry_of has.call (Some has.action)) has.is_own.own own)

@@ -62,6 +62,8 @@ try-spells now s program at why repeats spells = by (nat_lt (length s.tries + 1)
 
 stop-spells : (now : HistoryFront) (s : TriesValue) (program : ActionCall) (at : Place) (repeats : Bool) (stop : Stop) → TextSpells s program → CourseSpells program (after_stop now s at repeats stop)
 stop-spells now s program at repeats (stops.Sentinel group down) spells = tt
+stop-spells now s program at repeats (stops.Hung component fault) spells = tt
+stop-spells now s program at repeats (stops.Raised component fault) spells = tt
 stop-spells now s program at repeats (stops.Revoked shown) spells = try-spells now s program at (cause.Revoked shown) repeats spells
 
 refusal-spells : (now : HistoryFront) (es : List Entry) (s : TriesValue) (program : ActionCall) (at : Place) (repeats : Bool) (refusal : CommitRefusal) → TextSpells s program

@@ -21,7 +21,7 @@ use Rattle.request_intake.specs.declared.intake.Arrival.{Arrival}
 use Rattle.request_intake.specs.declared.intake.Arrival.TheVariants as arrives
 use Rattle.request_tries.specs.Ends.{done_of}
 use Rattle.request_tries.specs.declared.outcome.RequestOutcome.{RequestOutcome}
-use Rattle.request_tries.specs.declared.outcome.RequestOutcome.TheVariants.{Page, Sentinel, Revoked, Conflict, JournalFull, KeeperFailed}
+use Rattle.request_tries.specs.declared.outcome.RequestOutcome.TheVariants.{Page, Sentinel, Hung, Raised, Revoked, Conflict, JournalFull, KeeperFailed}
 use Rattle.request_visit.specs.Advancing.{after_leaving, departed, item_of, outcome_in, value_of}
 use Rattle.request_visit.specs.Ready.{ready_of}
 use Rattle.request_visit.specs.Serving.{closed_with, holds_of}
@@ -191,6 +191,8 @@ module _ (P : Item → Type 0) where
       left : (x : RequestOutcome) → B (left_so (closed_with follows x) (record v { holds = holds_of end }))
       left (Page place again) = shown place again (follows again)
       left (Sentinel group down) = tt
+      left (Hung component fault) = tt
+      left (Raised component fault) = tt
       left (Revoked tries) = tt
       left (Conflict tries) = tt
       left (JournalFull full) = tt

@@ -4,10 +4,11 @@ use Rattle.auction_calls.specs.Calls.{is_action}
 use Rattle.auction_calls.specs.declared.action.ActionCall.{ActionCall}
 use Rattle.auction_rows.specs.Parts.{site_parts}
 use Rattle.auction_site.specs.Actions.{steps_of}
-use Rattle.boot_core.specs.Boot.{BootValue, with_entry}
+use Rattle.boot_core.specs.Boot.{BootValue, with_entered, with_entry}
 use Rattle.boot_core.specs.Fits.{FitsIn}
 use Rattle.boot_core.specs.Refusals.{commit_refusal}
 use Rattle.call_attempts.specs.Attempt.{AttemptValue, IsUnderWay}
+use Rattle.crash_base.specs.declared.numbers.ComponentNo.{ComponentNo}
 use Rattle.crash_base.specs.declared.numbers.RequestNo.{RequestNo}
 use Rattle.journal_model.specs.Calls.{Call, entry_of}
 use Rattle.journal_model.specs.declared.entry.ActionEntry.{ActionEntry}
@@ -98,9 +99,13 @@ pub record HasCommitted (old new : BootValue) : Type 0 where
   pub unrefused : commit_refusal old.start.limits old.entries call (Some action) ≡ None
   pub added : new ≡ with_entry old (Commit (entry_of call (Some action)))
 
--- A boot is as it was, or has one commit more.
+-- A boot is as it was, or counts that a component was entered once more.
+abbrev pub EntersAtMost : BootValue → BootValue → Type 0
+EntersAtMost old new = (new ≡ old) ⊎ ((component : ComponentNo) × (new ≡ with_entered old component))
+
+-- A boot is as it was, or counts one entering more, or has one commit more.
 abbrev pub CommitsAtMost : BootValue → BootValue → Type 0
-CommitsAtMost old new = (new ≡ old) ⊎ HasCommitted old new
+CommitsAtMost old new = EntersAtMost old new ⊎ HasCommitted old new
 
 -- Each commit of a boot is of a request of this boot.
 abbrev pub CommitsAreOwn : BootValue → Type 0

@@ -74,11 +74,12 @@ pub fn moments_stay_in_time()
         → session_line s line ≡ Done t text → t.moment.0 ≤ MAX_MOMENT }
 {}
 
-/// A step of a seat that fits leaves the boot as it was, or adds the one commit of a call that fits it, and that is of
-/// a request of it. So the boot has grown, a sound one stays sound, and each commit stays of a request of its own boot.
-/// And where the seat spells its calls, what it commits is what the site means by the call of its text over the rows at
-/// its own place: a journal that is meant stays so. `journals_stay_meant` says the same of an empty journal, of the
-/// begin and the end of a reboot, and of a caller's commit, which has no action.
+/// A step of a seat that fits leaves the boot as it was, or counts one entering of a component, or adds the one commit
+/// of a call that fits it, and that is of a request of it. So the boot has grown, a sound one stays sound, and each
+/// commit stays of a request of its own boot. And where the seat spells its calls, what it commits is what the site
+/// means by the call of its text over the rows at its own place: a journal that is meant stays so.
+/// `journals_stay_meant` says the same of an empty journal, of the begin and the end of a reboot, and of a caller's
+/// commit, which has no action.
 pub fn boots_stay_sound_at_seats()
     ensures commits { (g : SeatGivens) (seat : Seat) (w : SeatWorld) → SeatFits w.boot seat
         → CommitsAtMost w.boot (seat_step g seat w).world.boot }

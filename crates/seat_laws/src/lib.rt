@@ -12,8 +12,9 @@
 //! - `drawn_serials_rise`, `owed_writes_were_drawn`: what is drawn lies between the serial numbers that are next before
 //!   and after; and the nonce of a call that begins was drawn in that step, or was owed since the request was taken.
 //! - `attempts_fit`, `boots_stay_sound_at_seats`: the call of the attempt that a seat's request has open fits the boot,
-//!   and is of a request of it; so a step adds at most the commit of such a call, and a sound boot stays sound.
-//!   A journal stays meant, where what a seat serves has a text that spells its call.
+//!   and is of a request of it; so a step counts at most one entering of a component, or adds the commit of such a
+//!   call, and a sound boot stays sound. A journal stays meant, where what a seat serves has a text that spells
+//!   its call.
 //! - `seats_spell_their_calls`, `moments_stay_in_time`: it has such a text behind each step at a moment before 2^62,
 //!   and no line comes to a later one.
 //! - `bricks_go_by_lent_steps`, `seats_begin_with_drawn_nonces`: the same of any step, by the function alone, for

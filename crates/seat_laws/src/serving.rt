@@ -211,8 +211,8 @@ pub fn items_of_seats_come_in_order()
 
 /// The items of a connection follow on one another: the journal was no shorter when the container was first held for
 /// each than when it was last held for the one before (`next`), and no shorter at its last hold than at its first. That
-/// is so from the begin of a connection on, and behind each of its steps, where it serves its requests and goes on in its
-/// container. It refuses an item whose tries began before the container was last held for the item before.
+/// is so from the begin of a connection on, and behind each of its steps, where it serves its requests and goes on in
+/// its container. It refuses an item whose tries began before the container was last held for the item before.
 pub fn items_of_seats_follow_one_another()
     ensures begins { (now : Moment) (behind : ℕ) → ItemsFollow (opening now behind) }
     ensures step { (g : SeatGivens) (seat : Seat) (w : SeatWorld) (old : ContainerValue) (c : Course)

@@ -3,7 +3,7 @@ use Rattle.std.proofs.Common.{◌≡◌, ◌≢◌, ◌⊎◌, ◌∙◌, inl, i
 use Rattle.std.proofs.lemmas.List.{append-nil}
 use Rattle.auction_calls.specs.declared.action.ActionCall.{ActionCall}
 use Rattle.auction_site.specs.Actions.{steps_of}
-use Rattle.boot_core.specs.Boot.{BootValue}
+use Rattle.boot_core.specs.Boot.{BootValue, HasOnlyEntered}
 use Rattle.boot_core.specs.declared.boot.Start.{Start}
 use Rattle.container_core.specs.Container.{ContainerValue, HasGrownBy}
 use Rattle.container_core.specs.History.{entries_in}
@@ -228,19 +228,19 @@ module _ (law : InsideLaw) (g : SeatGivens) (seat : Seat) (old : ContainerValue)
       let at : IsAfter (turn seat.connection) made.mid.container = event_is (turn seat.connection) made.mid bytes made.calls in
       (sym (ap (λ (c : ContainerValue). c.boot) made.container_is) ∙ at.0, sym (ap (λ (c : ContainerValue). c.since) made.container_is) ∙ at.1)
 
--- a boot of whose events there are no more is as it was
-pub boot_stays : (old new : ContainerValue) → HasGrownBy old new → entries_in old.since ≡ old.boot.entries → entries_in new.since ≡ new.boot.entries → new.since ≡ old.since → new.boot ≡ old.boot
+-- a boot of whose events there are no more is as it was, but for how often its components were entered
+pub boot_stays : (old new : ContainerValue) → HasGrownBy old new → entries_in old.since ≡ old.boot.entries → entries_in new.since ≡ new.boot.entries → new.since ≡ old.since → HasOnlyEntered old.boot new.boot
 boot_stays old new grown before after since =
-    ap (λ (s : Start). let b : BootValue = record { start = s; entries = new.boot.entries } in b) grown.boot.start
-    ∙ ap (λ (es : List Entry). let b : BootValue = record { start = old.boot.start; entries = es } in b) (sym after ∙ (ap entries_in since ∙ before))
+    ap (λ (s : Start). let b : BootValue = record { start = s; entries = new.boot.entries; entered = new.boot.entered } in b) grown.boot.start
+    ∙ ap (λ (es : List Entry). let b : BootValue = record { start = old.boot.start; entries = es; entered = new.boot.entered } in b) (sym after ∙ (ap entries_in since ∙ before))
 
 -- memory ran out in a step of a seat
-pub broke_in : InsideLaw → (key : List ℕ) (now : Moment) (n : ℕ) (seat : Seat) (old new : ContainerValue) (lanes : LanesState) (next after : NextDraws) → BreaksOff key now seat old lanes next new after → moves (turn seat.connection) ≡ true → (new.since ≡ old.since → new.boot ≡ old.boot) → old.faults ≤ new.faults → BreaksIn key now n (Some seat) old (world_from old lanes next) new
+pub broke_in : InsideLaw → (key : List ℕ) (now : Moment) (n : ℕ) (seat : Seat) (old new : ContainerValue) (lanes : LanesState) (next after : NextDraws) → BreaksOff key now seat old lanes next new after → moves (turn seat.connection) ≡ true → (new.since ≡ old.since → HasOnlyEntered old.boot new.boot) → old.faults ≤ new.faults → BreaksIn key now n (Some seat) old (world_from old lanes next) new
 unfolding place_step
 broke_in law key now n seat old new lanes next after (inl nothing) moving stays count = record {
   keeps = true;
   handed = nothing_kept (handed_first (seat_writes seat.connection old.boot) true []) old new nothing.keeper count;
-  added = inl (refl, stays nothing.since, nothing.since);
+  added = inl (refl, (stays nothing.since, nothing.since));
 }
 broke_in law key now n seat old new lanes next after (inr (bytes, mid, link, made)) moving stays count =
     let keeps : Bool = kept_between old new in
@@ -267,7 +267,7 @@ pub broke_still : (key : List ℕ) (now : Moment) (n : ℕ) (seat : Option Seat)
 broke_still key now n seat c w = record {
   keeps = true;
   handed = nothing_kept (handed_first (writes_by seat c.boot) true []) c c (inl refl) (omega (arith));
-  added = inl (refl, refl, refl);
+  added = inl (refl, (refl, refl));
 }
 
 -- what is done is not refused

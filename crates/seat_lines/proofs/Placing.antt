@@ -15,7 +15,7 @@ use Rattle.session_steps.specs.Lent.{LentSessionsState, put_back}
 use Rattle.shepherd.specs.Shepherds.{turn}
 use Rattle.shepherd.specs.declared.shepherd.ShepherdTurn.{ShepherdTurn}
 use Rattle.shepherd.specs.declared.shepherd.ShepherdTurn.TheVariants as turns
-use Rattle.seat_lines.specs.Handing.{LeftAsItWas, AreHanded, BreaksIn, BreaksStep, Handed, HasMadeStep, HasMovedIn, IsAsPlaceLeaves, IsAsStepLeaves, handed_first, step_hands, step_in, writes_by}
+use Rattle.seat_lines.specs.Handing.{HasAddedNothing, AreHanded, BreaksIn, BreaksStep, Handed, HasMadeStep, HasMovedIn, IsAsPlaceLeaves, IsAsStepLeaves, handed_first, step_hands, step_in, writes_by}
 use Rattle.seat_lines.specs.Lines.{Place, givens_of, is_beyond, moves, place_step, step_line, step_over, steps_at, with_place, worker_of, world_of}
 use Rattle.seat_lines.specs.Making.{PlaceHearsSpelled, StepHearsSpelled, WasMade, WasStepped}
 use Rattle.seat_lines.specs.Runs.{rests}
@@ -149,8 +149,8 @@ module _ (n : ℕ) (old : ContainerValue) (lent : LentSessionsState) (lanes : La
     answer : Answer Place
     answer = place_step (record { key = lent.key; worker = worker_of n; now = lent.moment; keeps = broke.keeps }) n (seat_at seats.seats n) (world_of s lanes)
 
-    added : (LeftAsItWas broke.handed.made old new ⊎ ((broke.handed.more ≡ []) × (new.told ≡ broke.handed.between) × IsAsPlaceLeaves answer new × PlaceHearsSpelled (seat_at seats.seats n) lanes))
-        → (LeftAsItWas broke.handed.made old new ⊎ ((broke.handed.more ≡ []) × (new.told ≡ broke.handed.between) × IsAsStepLeaves (step_line s n broke.keeps) new × StepHearsSpelled (step_in old (put_back lent (Some lanes) serial) seats n broke.keeps)))
+    added : (HasAddedNothing broke.handed.made old new ⊎ ((broke.handed.more ≡ []) × (new.told ≡ broke.handed.between) × IsAsPlaceLeaves answer new × PlaceHearsSpelled (seat_at seats.seats n) lanes))
+        → (HasAddedNothing broke.handed.made old new ⊎ ((broke.handed.more ≡ []) × (new.told ≡ broke.handed.between) × IsAsStepLeaves (step_line s n broke.keeps) new × StepHearsSpelled (step_in old (put_back lent (Some lanes) serial) seats n broke.keeps)))
     added (inl none) = inl none
     added (inr (all, told, (place, text, is, boot, since), heard)) =
         inr (all, told, (with_place s n place, text, step_there s n broke.keeps lanes fits refl ∙ ap (within (with_place s n)) is, boot, since), step_hears broke.keeps heard)

@@ -164,7 +164,7 @@ module _ (n : ℕ) (old : ContainerValue) (sessions : SessionsState) (seats : Se
     run_gives_up can going = run_breaks mid can going (record {
       keeps = true;
       handed = nothing_kept (step_hands here n (true ∷ [])) mid mid (inl refl) (omega (arith));
-      added = inl (refl, refl, refl);
+      added = inl (refl, (refl, refl));
     })
 
     -- it is at its end

@@ -7,6 +7,7 @@ use Rattle.crash_base.specs.declared.rows.RowWrite.{RowWrite}
 use Rattle.outside.specs.Faults.{Rose}
 use Rattle.outside.specs.Keeper.{KeeperTold, TellsRefusal}
 use Rattle.outside.specs.declared.keeper.KeeperFault.TheVariants as faults
+use Rattle.request_tries.specs.Steps.{KeepsEvents}
 use Rattle.scenario_text.specs.Answer.{Answer, Refused, Done}
 use Rattle.scenario_text.specs.declared.seat_line.SeatLine.{SeatLine}
 use Rattle.scenario_text.specs.declared.seat_line.SeatLine.TheVariants as lines
@@ -104,10 +105,10 @@ pub record AreSomeHanded (handed : List Handed) (old new : ContainerValue) : Typ
   pub last : (new.told ≡ between) ⊎ ((made ≡ []) × TellsRefusal faults.OutOfMemory between new.told)
   pub counted : AreCounted made old.faults new.faults
 
--- Nothing was added to the boot of a container, or to the events since its start, and its keeper has kept nothing of
--- what it was handed.
-abbrev pub LeftAsItWas : List Handed → ContainerValue → ContainerValue → Type 0
-LeftAsItWas made old new = (made ≡ []) × (new.boot ≡ old.boot) × (new.since ≡ old.since)
+-- Nothing was added to the journal of a container, or to the events since its start, and its keeper has kept nothing of
+-- what it was handed. Its boot is as it was, but for how often its components were entered.
+abbrev pub HasAddedNothing : List Handed → ContainerValue → ContainerValue → Type 0
+HasAddedNothing made old new = (made ≡ []) × KeepsEvents old new
 
 -- The boot of a container, and the events since its start, are as a connection left them that made its step in a place.
 abbrev pub IsAsPlaceLeaves : Answer Place → ContainerValue → Type 0
@@ -139,7 +140,7 @@ step_in container sessions seats n keeps =
 pub record BreaksIn (key : List ℕ) (now : Moment) (n : ℕ) (seat : Option Seat) (old : ContainerValue) (w : SeatWorld) (new : ContainerValue) : Type 0 where
   pub keeps : Bool
   pub handed : AreSomeHanded (handed_first (writes_by seat old.boot) keeps []) old new
-  pub added : LeftAsItWas handed.made old new
+  pub added : HasAddedNothing handed.made old new
       ⊎ ((handed.more ≡ []) × (new.told ≡ handed.between)
       × IsAsPlaceLeaves (place_step (record { key = key; worker = worker_of n; now = now; keeps = keeps }) n seat w) new
       × PlaceHearsSpelled seat w.store)
@@ -189,7 +190,7 @@ pub record HasDone (line : SeatLine) (old : ContainerValue) (sessions : Sessions
 pub record BreaksStep (n : ℕ) (old : ContainerValue) (sessions : SessionsState) (seats : SeatsState) (new : ContainerValue) : Type 0 where
   pub keeps : Bool
   pub handed : AreSomeHanded (step_hands (site_in old sessions seats) n (keeps ∷ [])) old new
-  pub added : LeftAsItWas handed.made old new
+  pub added : HasAddedNothing handed.made old new
       ⊎ ((handed.more ≡ []) × (new.told ≡ handed.between)
       × IsAsStepLeaves (step_line (site_in old sessions seats) n keeps) new
       × StepHearsSpelled (step_in old sessions seats n keeps))

@@ -1,5 +1,5 @@
 -- A keeper that did not keep what it was handed has failed once more.
-use Rattle.std.proofs.Common.{◌≡◌, ◌∙◌, true, false, List, [], ◌∷◌, ◌++◌, Option, Some, None, Result, Ok, Err, refl, sym, ap}
+use Rattle.std.proofs.Common.{◌≡◌, ◌∙◌, ℕ, true, false, List, [], ◌∷◌, ◌++◌, Option, Some, None, Result, Ok, Err, refl, sym, ap, subst}
 use Rattle.std.specs.Prelude.{IfErr}
 use Rattle.auction_calls.specs.declared.action.ActionCall.{ActionCall}
 use Rattle.auction_site.specs.Actions.{steps_of}
@@ -17,7 +17,7 @@ use Rattle.journal_model.specs.declared.entry.DoneText.{DoneText}
 use Rattle.journal_model.specs.declared.entry.Entry.TheVariants.{Commit}
 use Rattle.outside.specs.Faults.{Rose}
 use Rattle.request_tries.specs.Serving.{TriesValue}
-use Rattle.request_tries.specs.Steps.{CommitsAs, action_of}
+use Rattle.request_tries.specs.Steps.{CommitsAs, StepsAs, action_of}
 use Rattle.request_tries.specs.declared.outcome.Ended.{Ended}
 use Rattle.request_tries.specs.declared.outcome.Progress.{Progress}
 use Rattle.request_tries.specs.declared.outcome.Progress.TheVariants as progress
@@ -36,6 +36,12 @@ behind (x ∷ xs) ys = behind xs ys
 none-behind : (xs : List Event) → added_to xs xs ≡ []
 none-behind [] = refl
 none-behind (x ∷ xs) = none-behind xs
+
+-- the step of an attempt that is open, if one is, adds no event, and leaves the count of faults
+steps-add : (old between : ContainerValue) (program : ActionCall) (s after : TriesValue) (o : Option AttemptValue) (to : Progress) → StepsAs old (steps_of program) s o to between after
+    → (between.since ≡ old.since) × (between.faults ≡ old.faults)
+steps-add old between program s after None to steps = (ap (λ (c : ContainerValue). c.since) steps.2, ap (λ (c : ContainerValue). c.faults) steps.2)
+steps-add old between program s after (Some a) to (came, next, stepped, comes, left) = (ap (λ (c : ContainerValue). c.since) left, ap (λ (c : ContainerValue). c.faults) left)
 
 module _ (old new : ContainerValue) (never : kept_between old new ≡ false) where
   -- the events are not as they were
@@ -73,13 +79,22 @@ module _ (old new : ContainerValue) (never : kept_between old new ≡ false) whe
   goes-rose mid (progress.Done done) end after goes = commit-rose mid mid.attempt done end after goes
   goes-rose mid (progress.Ended e) end after goes = same-box goes.1
 
+module _ (old new : ContainerValue) (never : kept_between old new ≡ false) where
+  serves-rose : (s : TriesValue) (o : Option AttemptValue) (program : ActionCall) (to : Progress) (between : ContainerValue) (mid : TriesValue) (end : Option Ended) (after : TriesValue)
+      → StepsAs old (steps_of program) s o to between mid → GoesOn between mid to end new after → Rose old.faults new.faults
+  serves-rose s o program to between mid end after steps goes =
+      let same : (between.since ≡ old.since) × (between.faults ≡ old.faults) = steps-add old between program s mid o to steps in
+      let still : kept_between between new ≡ false = subst (λ (xs : List Event). kept_in (added_to xs new.since) ≡ false) (sym same.0) never in
+      subst (λ (n : ℕ). Rose n new.faults) same.1 (goes-rose between new still mid to end after goes)
+
   -- The count of faults rose in the step of a request whose writes the keeper did not keep.
   pub visit-rose : (v w : Visit ActionCall) → VisitsInside steps_of v old w new → Rose old.faults new.faults
   visit-rose v w visits = by v.work visits.serves where
     by : (work : Work ActionCall) → ServesWork steps_of old v.facts v.lease work visits.closing new visits.work → Rose old.faults new.faults
     by Reading serves = absurd serves
     by Opening serves = absurd serves
-    by (Serving tries program) serves = goes-rose serves.serves.mid serves.serves.to serves.serves.end serves.after serves.serves.goes_on
+    by (Serving tries program) serves =
+        let it = serves.serves in serves-rose tries tries.attempt program it.to it.between it.mid it.end serves.after it.steps it.goes_on
     by (Committed place again shown) serves = absurd serves
     by (Decided became) serves = absurd serves
     by (Answered fate bytes) serves = absurd serves

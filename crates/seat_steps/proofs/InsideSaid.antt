@@ -6,7 +6,8 @@ use Rattle.boot_core.specs.Boot.{BootValue}
 use Rattle.boot_core.specs.declared.boot.Start.{Start}
 use Rattle.boot_core.specs.declared.refusals.CommitRefusal.{CommitRefusal}
 use Rattle.boot_core.specs.declared.refusals.CommitRefusal.TheVariants as commits
-use Rattle.call_attempts.specs.Attempt.{AttemptValue, stepped, stop_of_attempt, wanted}
+use Rattle.call_attempts.proofs.UnderWay.{boot_grows}
+use Rattle.call_attempts.specs.Attempt.{AttemptValue, stop_of_attempt, wanted}
 use Rattle.call_attempts.specs.declared.attempt.Stepped.{Stepped}
 use Rattle.call_attempts.specs.declared.attempt.Stepped.TheVariants as coming
 use Rattle.call_attempts.specs.declared.stop.Stop.{Stop}
@@ -29,7 +30,7 @@ use Rattle.request_tries.specs.Steps.{action_of, ended_at, from_of, front_at, ou
 use Rattle.request_tries.specs.declared.outcome.Ended.{Ended}
 use Rattle.request_tries.specs.declared.outcome.HistoryFront.{HistoryFront}
 use Rattle.request_tries.specs.declared.outcome.RequestOutcome.{RequestOutcome}
-use Rattle.request_tries.specs.declared.outcome.RequestOutcome.TheVariants.{Page, Sentinel, Revoked, Conflict, JournalFull, KeeperFailed}
+use Rattle.request_tries.specs.declared.outcome.RequestOutcome.TheVariants.{Page, Sentinel, Hung, Raised, Revoked, Conflict, JournalFull, KeeperFailed}
 use Rattle.request_tries.specs.declared.outcome.TheConstants.{MAX_TRIES}
 use Rattle.request_tries.specs.declared.outcome.TryCause.{TryCause}
 use Rattle.request_tries.specs.declared.outcome.TryCause.TheVariants as cause
@@ -76,6 +77,8 @@ left-says : (key : List ℕ) (es : List Entry) (out : List ℕ) (v : Visit Actio
 left-says key es out v lease (Page place again) none =
     ready-says key es out v place again (ready_of v.facts lease (done_at es place)) (value_to_write (set_in (done_at es place)) v.facts.now lease) refl none
 left-says key es out v lease (Sentinel group down) none = (none, λ p. p)
+left-says key es out v lease (Hung component fault) none = (none, λ p. p)
+left-says key es out v lease (Raised component fault) none = (none, λ p. p)
 left-says key es out v lease (Revoked tries) none = (none, λ p. p)
 left-says key es out v lease (Conflict tries) none = (none, λ p. p)
 left-says key es out v lease (JournalFull full) none = (none, λ p. p)
@@ -88,6 +91,8 @@ left-marks marks v ready (Page place again) none rests = by (ready again) where
   by (Respond bytes) = record { rests = rests.rests; marks_are = rests.marks_are ∙ sym (ap marks_of_write none) }
   by (Write order shown) = (none, rests.marks_are)
 left-marks marks v ready (Sentinel group down) none rests = (none, rests)
+left-marks marks v ready (Hung component fault) none rests = (none, rests)
+left-marks marks v ready (Raised component fault) none rests = (none, rests)
 left-marks marks v ready (Revoked tries) none rests = (none, rests)
 left-marks marks v ready (Conflict tries) none rests = (none, rests)
 left-marks marks v ready (JournalFull full) none rests = (none, rests)
@@ -129,6 +134,8 @@ try-held now s at why repeats = by (nat_lt (length s.tries + 1) MAX_TRIES && rep
 
 stop-held : (now : HistoryFront) (s : TriesValue) (at : Place) (repeats : Bool) (stop : Stop) → HeldAt now.held (after_stop now s at repeats stop)
 stop-held now s at repeats (stops.Sentinel group down) = refl
+stop-held now s at repeats (stops.Hung component fault) = refl
+stop-held now s at repeats (stops.Raised component fault) = refl
 stop-held now s at repeats (stops.Revoked shown) = try-held now s at (cause.Revoked shown) repeats
 
 refusal-held : (now : HistoryFront) (es : List Entry) (s : TriesValue) (at : Place) (repeats : Bool) (why : CommitRefusal) → HeldAt now.held (after_refusal now es s at repeats why)
@@ -178,7 +185,7 @@ stride-strides : (program : ActionCall) (keeps : Bool) (c : ContainerValue) (s :
 stride-strides program keeps c s None = still-strides c (GoesOn (has_begun c.boot s)) tt
 stride-strides program keeps c s (Some a) = by (came_by (wanted (steps_of program) a) (stop_of_attempt c.boot (steps_of program) a)) where
   by : (came : Stepped) → Strides c (stride_by (steps_of program) keeps c s a came)
-  by coming.Went = still-strides c (GoesOn (record s { attempt = Some (stepped c.boot a (wanted (steps_of program) a)) })) tt
+  by coming.Went = record { held = tt; more = []; start = (boot_grows c.boot (wanted (steps_of program) a)).start; since = sym (append-nil c.since) }
   by (coming.Done done) = entry-strides c s a done (with_keeper (refusal_of c s a done) a.ticket.call.writes keeps)
   by (coming.Stopped stop) =
       still-strides c (after_stop (front_at c) (closed s) a.ticket.call.at a.repeats stop) (stop-held (front_at c) (closed s) a.ticket.call.at a.repeats stop)

@@ -52,6 +52,8 @@ impl Seat {
             ≡ seat_gone self lanes }
     {
         let mut seat = self;
-        let_go(&mut seat.connection, container, lanes)
+        let left = let_go(&mut seat.connection, container, lanes);
+        drop(seat);
+        left
     }
 }

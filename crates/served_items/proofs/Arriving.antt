@@ -36,7 +36,7 @@ use Rattle.request_intake.specs.declared.intake.Arrival.TheVariants.{Refused, Se
 use Rattle.request_intake.specs.declared.intake.HomeBoot.{HomeBoot}
 use Rattle.request_tries.specs.Ends.{Errand, IsServed, OutcomeStands}
 use Rattle.request_tries.specs.declared.outcome.RequestOutcome.{RequestOutcome}
-use Rattle.request_tries.specs.declared.outcome.RequestOutcome.TheVariants.{Page, Sentinel, Revoked, Conflict, JournalFull, KeeperFailed}
+use Rattle.request_tries.specs.declared.outcome.RequestOutcome.TheVariants.{Page, Sentinel, Hung, Raised, Revoked, Conflict, JournalFull, KeeperFailed}
 use Rattle.request_visit.specs.Accounts.{Became, EndsWith}
 use Rattle.request_visit.specs.Sessions.{IsGone, IsKnown, SessionTold, TellsSession}
 use Rattle.request_visit.specs.declared.facts.VisitFacts.{VisitFacts}
@@ -209,6 +209,8 @@ module _ {P L : Type 0} (asks : P → List Answer → Next) (calls : L → LinkE
       let same : earlier ≡ again = cc in
       (place, ap committed_at so, subst (λ (b : Bool). EndsWith start history h.errand h.facts i.holds (Page place b) (trace_in history i)) same ends, was_admitted t.intake.arrival (λ a. IsErrandOf asks makes i.value h.errand a) on)
   by_end again (Sentinel group down) so is ends on = absurd (cc)
+  by_end again (Hung component fault) so is ends on = absurd (cc)
+  by_end again (Raised component fault) so is ends on = absurd (cc)
   by_end again (Revoked tries) so is ends on = absurd (cc)
   by_end again (Conflict tries) so is ends on = absurd (cc)
   by_end again (JournalFull full) so is ends on = absurd (cc)

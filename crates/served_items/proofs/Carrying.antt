@@ -13,7 +13,7 @@ use Rattle.request_tries.specs.Ends.{done_of}
 use Rattle.request_tries.specs.Serving.{TriesValue}
 use Rattle.request_tries.specs.declared.outcome.Ended.{Ended}
 use Rattle.request_tries.specs.declared.outcome.RequestOutcome.{RequestOutcome}
-use Rattle.request_tries.specs.declared.outcome.RequestOutcome.TheVariants.{Page, Sentinel, Revoked, Conflict, JournalFull, KeeperFailed}
+use Rattle.request_tries.specs.declared.outcome.RequestOutcome.TheVariants.{Page, Sentinel, Hung, Raised, Revoked, Conflict, JournalFull, KeeperFailed}
 use Rattle.request_visit.specs.Advancing.{Advances, HearsReadOf, after_leaving, after_read, decided_response, departed}
 use Rattle.request_visit.specs.Ready.{ready_of}
 use Rattle.request_visit.specs.Serving.{closed_with, closing_of, holds_of}
@@ -105,6 +105,8 @@ module _ (arrival : Arrival) (So : Option SessionLease → Admission → Type 0)
     by (Respond bytes) = h
     by (Write order page) = h
   shown mid ready (Sentinel group down) h = h
+  shown mid ready (Hung component fault) h = h
+  shown mid ready (Raised component fault) h = h
   shown mid ready (Revoked tries) h = h
   shown mid ready (Conflict tries) h = h
   shown mid ready (JournalFull full) h = h
@@ -116,6 +118,8 @@ module _ (arrival : Arrival) (So : Option SessionLease → Admission → Type 0)
     by (Respond bytes) = refl
     by (Write order page) = refl
   known mid ready (Sentinel group down) = refl
+  known mid ready (Hung component fault) = refl
+  known mid ready (Raised component fault) = refl
   known mid ready (Revoked tries) = refl
   known mid ready (Conflict tries) = refl
   known mid ready (JournalFull full) = refl

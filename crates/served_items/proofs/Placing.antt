@@ -18,7 +18,7 @@ use Rattle.outcome_items.specs.declared.outcome.ItemOutcome.{ItemOutcome}
 use Rattle.outcome_items.specs.declared.outcome.ItemOutcome.TheVariants as item
 use Rattle.request_tries.specs.Ends.{Errand, OutcomeStands}
 use Rattle.request_tries.specs.declared.outcome.RequestOutcome.{RequestOutcome}
-use Rattle.request_tries.specs.declared.outcome.RequestOutcome.TheVariants.{Page, Sentinel, Revoked, Conflict, JournalFull, KeeperFailed}
+use Rattle.request_tries.specs.declared.outcome.RequestOutcome.TheVariants.{Page, Sentinel, Hung, Raised, Revoked, Conflict, JournalFull, KeeperFailed}
 use Rattle.request_visit.specs.Accounts.{Became, EndsWith, IsUnheld}
 use Rattle.request_visit.specs.declared.facts.VisitFacts.{VisitFacts}
 use Rattle.served_items.specs.Served.{committed_at}
@@ -80,6 +80,8 @@ module _ (start : Start) (history : List Event) (errand : Errand) (facts : Visit
   paged_end : (place : Place) (end : RequestOutcome) → committed_at (item.Ended end) ≡ Some place → EndsWith start history errand facts holds end own → Paged place
   paged_end place (Page other again) is h = paged_so place other again is h
   paged_end place (Sentinel group down) is h = absurd (cc)
+  paged_end place (Hung component fault) is h = absurd (cc)
+  paged_end place (Raised component fault) is h = absurd (cc)
   paged_end place (Revoked tries) is h = absurd (cc)
   paged_end place (Conflict tries) is h = absurd (cc)
   paged_end place (JournalFull full) is h = absurd (cc)

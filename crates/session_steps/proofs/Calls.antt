@@ -29,7 +29,8 @@ use Rattle.session_lanes.proofs.LanesStay.{same_stay, lanes_same}
 use Rattle.session_steps.proofs.Lines.{passes_of, store_after_write}
 use Rattle.session_lanes.proofs.Storing.{gone_adds}
 
--- A call that began with bricks and these windows, as it is when it has gone on: its end, and what became of the bricks.
+-- A call that began with bricks and these windows, as it is when it has gone on: its end, and what became of the
+-- bricks.
 pub record CallGone (st : LanesState) (windows : WindowsValue) (c : Call) (v : LanesState) : Type 0 where
   pub end : Call
   pub there : slice_get v.world.calls (length st.world.calls) ≡ Some end

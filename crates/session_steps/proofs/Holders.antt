@@ -54,8 +54,8 @@ none_written w brick version k sound new same s was equal =
     let clash : true ≡ false = sym alike ∙ apart in
     cc
 
--- The history of a holder: what it stored, between events of the write and behind those until then; and newer ones since,
--- among which it stored nothing under the same version. The holder has crashed only before the write and since.
+-- The history of a holder: what it stored, between events of the write and behind those until then; and newer ones
+-- since, among which it stored nothing under the same version. The holder has crashed only before the write and since.
 pub record HolderWent (first : Moment) (before : List SessionTurn) (now : Moment) (since : List SessionTurn) (w : WorldValue) (holder : Holder) (k : Kept) : Type 0 where
   pub events : List BrickEvent
   pub history_is : history w holder.brick ≡ Some events

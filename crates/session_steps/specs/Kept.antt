@@ -19,8 +19,8 @@ abbrev pub HasSoundStore : Option LanesState → Type 0
 HasSoundStore None = Unit {0}
 HasSoundStore (Some st) = IsMade st.world × LanesAreOf st
 
--- The present moment is one of the clock, each cookie names 1 to 16 distinct bricks, and the bricks are as events and lanes
--- made them.
+-- The present moment is one of the clock, each cookie names 1 to 16 distinct bricks, and the bricks are as events and
+-- lanes made them.
 pub record IsSessions (s : SessionsState) : Type 0 where
   pub in_time : s.moment.0 ≤ MAX_MOMENT
   pub cookies : All HasHolders s.cookies

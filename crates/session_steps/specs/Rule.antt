@@ -57,8 +57,8 @@ abbrev pub found_or_lost : Option (List ℕ) → List BrickCause → Result (Lis
 found_or_lost (Some value) causes = Ok value
 found_or_lost None causes = Err (Lost causes)
 
--- What a read with this nonce answers that is made of a cookie now: Expired past its expiry; else the value of the first
--- holder that gives one; else Lost, with the cause of each holder in order.
+-- What a read with this nonce answers that is made of a cookie now: Expired past its expiry; else the value of the
+-- first holder that gives one; else Lost, with the cause of each holder in order.
 abbrev pub result_by_rule : LanesState → Version → Moment → Cookie → Result (List ℕ) ReadRefusal
 result_by_rule st nonce now cookie =
     if nat_lt cookie.expiry.0 now.0

@@ -101,8 +101,8 @@ pub fn lent_bricks_stay_sound()
         → HasSoundStore (Some st) → HasSoundStore (Some (after_lent st steps)) }
 {}
 
-/// What connections do with lent bricks leaves to others what is theirs: a nonce with which none of these steps begins a
-/// call stays new, and a call of which none is a turn stays as it is.
+/// What connections do with lent bricks leaves to others what is theirs: a nonce with which none of these steps begins
+/// a call stays new, and a call of which none is a turn stays as it is.
 pub fn lent_steps_leave_others()
     ensures nonces { (st : LanesState) (steps : List LentStep) (other : Version)
         → HasSoundStore (Some st) → All (BeginsSo (λ (nonce : Version). nonce ≢ other)) steps

@@ -84,8 +84,8 @@ impl LentSessions {
     }
 
     /// The sessions with sound bricks, if there are some, and the serial that is drawn next: what was lent, whatever
-    /// connections did with it. Where they drew from `PlainSerials`, one more draw tells that serial, `Ok` or spent, and
-    /// it is put back. It takes no memory.
+    /// connections did with it. Where they drew from `PlainSerials`, one more draw tells that serial, `Ok` or spent,
+    /// and it is put back. It takes no memory.
     pub fn put_back(self, store: Option<Lanes>, serial: u64) -> Sessions
         requires { HasSoundStore store }
         ensures { result ≡ put_back self store serial }

@@ -16,8 +16,8 @@ use session_lanes::Lanes;
 use std::alloc::Global;
 use std::marker::Model;
 
-/// The present moment; the number of the boot, and the serial that its next write or fetch draws; the key of the service;
-/// the cookie of each key, by its number, if it has one; and the bricks, if there are some.
+/// The present moment; the number of the boot, and the serial that its next write or fetch draws; the key of the
+/// service; the cookie of each key, by its number, if it has one; and the bricks, if there are some.
 #[derive(Drop)]
 pub(crate) struct Parts {
     pub(crate) moment: Moment,

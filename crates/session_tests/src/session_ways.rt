@@ -208,7 +208,7 @@ fn part(rt: &impl Abort, words: &mut String, way: &mut SessionWay) -> Option<Coo
     match mem::replace(way, SessionWay::Resting) {
         SessionWay::Writing(write) => {
             let WriteParts { outcome, passes } = write.into_parts();
-            *way = SessionWay::Holding(passes);
+            drop(mem::replace(way, SessionWay::Holding(passes)));
             add_outcome(rt, words, outcome)
         }
         _ => panic!(rt; "a write"),
@@ -310,7 +310,8 @@ fn happen(rt: &impl Abort, alloc: Global, words: &mut String, scene: &mut Scene,
     match name {
         "now" => scene.moment = number(rt, word(rt, line, 1)),
         "order" | "cookie" => {
-            scene.way = begin(rt, alloc, scene, line);
+            let next = begin(rt, alloc, scene, line);
+            drop(mem::replace(&mut scene.way, next));
             scene.serial = scene.serial.saturating_add(1);
         }
         "settle" => scene.way.settle(),
@@ -358,6 +359,7 @@ fn expect_way(rt: &impl Abort, alloc: Global, row: &str) {
     for line in lines.split('/') {
         happen_times(rt, alloc, &mut words, &mut scene, line.trim());
     }
+    drop(scene);
     expect_words(rt, &words, want, row);
 }
 

@@ -518,6 +518,7 @@ fn play(rt: &impl Abort, alloc: Global, dice: &mut Dice, answers: &mut Answers) 
     for number in 0..EVENTS {
         if let Some(event) = event(rt, alloc, dice, &mut game) {
             game.world.step(alloc, &event).expect(rt, "memory");
+            drop(event);
         }
         if number % 20 == 19 {
             look(rt, &mut game, answers);
@@ -530,6 +531,7 @@ fn play(rt: &impl Abort, alloc: Global, dice: &mut Dice, answers: &mut Answers) 
         "packets",
     );
     expect_so(rt, game.world.calls() == game.calls.len() as u64, "calls");
+    drop(game);
 }
 
 #[test]

@@ -27,26 +27,27 @@ fn write(rt: &impl Abort, alloc: Global, serial: u64) -> WorldEvent {
     }
 }
 
-fn step(rt: &impl Abort, alloc: Global, world: &mut World, event: &WorldEvent) {
-    world.step(alloc, event).expect(rt, "memory");
+fn step(rt: &impl Abort, alloc: Global, world: &mut World, event: WorldEvent) {
+    world.step(alloc, &event).expect(rt, "memory");
+    drop(event);
 }
 
 /// A write that is sent, delivered and heard, after as many as its serial: its packets are the next two.
 fn write_through(rt: &impl Abort, alloc: Global, world: &mut World, serial: u64) {
     let ask = world.packets();
-    step(rt, alloc, world, &write(rt, alloc, serial));
+    step(rt, alloc, world, write(rt, alloc, serial));
     let send = WorldEvent::Send {
         call: serial,
         silent: false,
         sent: true,
     };
-    step(rt, alloc, world, &send);
-    step(rt, alloc, world, &WorldEvent::Deliver { packet: ask });
+    step(rt, alloc, world, send);
+    step(rt, alloc, world, WorldEvent::Deliver { packet: ask });
     let hear = WorldEvent::Hear {
         call: serial,
         packet: ask.saturating_add(1),
     };
-    step(rt, alloc, world, &hear);
+    step(rt, alloc, world, hear);
 }
 
 #[test]
@@ -67,4 +68,5 @@ fn a_full_brick_is_a_cause(rt: HostRuntime) {
         "ok 1.1 missed 1:full(65536,65536) 65536",
         "a full brick",
     );
+    drop(world);
 }

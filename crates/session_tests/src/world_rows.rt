@@ -168,10 +168,12 @@ fn go_on(rt: &impl Abort, alloc: Global, world: &mut World, found: &mut String, 
         ["hear", call, packet, times] => {
             let event = plain_event(rt, &["hear", call, packet]);
             repeat(rt, alloc, world, &event, number(rt, times));
+            drop(event);
         }
         _ => {
             let event = event(rt, alloc, world, words);
             repeat(rt, alloc, world, &event, 1);
+            drop(event);
         }
     }
 }

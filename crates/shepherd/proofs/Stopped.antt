@@ -16,7 +16,7 @@ use Rattle.outcome_items.specs.declared.outcome.ItemOutcome.TheVariants as item_
 use Rattle.request_tries.specs.Ends.{Errand}
 use Rattle.request_tries.specs.Serving.{TriesValue}
 use Rattle.request_tries.specs.declared.outcome.RequestOutcome.{RequestOutcome}
-use Rattle.request_tries.specs.declared.outcome.RequestOutcome.TheVariants.{Page, Sentinel, Revoked, Conflict, JournalFull, KeeperFailed}
+use Rattle.request_tries.specs.declared.outcome.RequestOutcome.TheVariants.{Page, Sentinel, Hung, Raised, Revoked, Conflict, JournalFull, KeeperFailed}
 use Rattle.request_visit.specs.Accounts.{AccountsOf, Became, EndsWith, FateStands, IsUnheld}
 use Rattle.request_visit.specs.Advancing.{IsItemOf}
 use Rattle.request_visit.specs.Marks.{HasWrite, IsSettling, Marks, MarksOf, MayBeRead, Rests, WritesWith}
@@ -65,6 +65,8 @@ one_event : (es : List Entry) (request : Option RequestNo) (end : RequestOutcome
 one_event es request (Page place true) = omega arith
 one_event es request (Page place false) = one_entry (slice_get es place.0)
 one_event es request (Sentinel group down) = omega arith
+one_event es request (Hung component fault) = omega arith
+one_event es request (Raised component fault) = omega arith
 one_event es request (Revoked tries) = omega arith
 one_event es request (Conflict tries) = omega arith
 one_event es request (JournalFull full) = omega arith

@@ -15,36 +15,38 @@ const NOTHING: Served = Served {
     items: 0,
 };
 
-/// Asks `count` times for the page of the signed out. How many were answered with 200.
-pub(crate) fn pages(alloc: Global, count: u64) -> Result<Option<u64>, OutOfMemory> {
-    let Some(mut house) = House::start(alloc)? else {
-        return Ok(None);
-    };
+/// A loop of requests.
+#[derive(Clone, Copy)]
+pub(crate) enum Loop {
+    /// Asks for the page of the signed out. How many were answered with 200.
+    Pages,
+    /// Makes bids. How many were answered with 200.
+    Bids,
+    /// Makes the requests of bids, and sends none. How many have a body.
+    Forms,
+}
+
+/// Asks `count` times for the page of the signed out.
+fn pages(alloc: Global, house: &mut House, count: u64) -> Result<u64, OutOfMemory> {
     let mut served = NOTHING;
     for _ in 0..count {
         house.serve(alloc, &mut served, CURL)?;
     }
-    Ok(Some(served.answered))
+    Ok(served.answered)
 }
 
-/// Makes `count` bids. How many were answered with 200.
-pub(crate) fn bids(alloc: Global, count: u64) -> Result<Option<u64>, OutOfMemory> {
-    let Some(mut house) = House::start(alloc)? else {
-        return Ok(None);
-    };
+/// Makes `count` bids.
+fn bids(alloc: Global, house: &mut House, count: u64) -> Result<u64, OutOfMemory> {
     let mut served = NOTHING;
     for round in 0..count {
         let request = bid(alloc, house.cookie.as_str(), round)?;
         house.serve(alloc, &mut served, request.as_bytes())?;
     }
-    Ok(Some(served.answered))
+    Ok(served.answered)
 }
 
-/// Makes the requests of `count` bids, and sends none. How many have a body.
-pub(crate) fn forms(alloc: Global, count: u64) -> Result<Option<u64>, OutOfMemory> {
-    let Some(house) = House::start(alloc)? else {
-        return Ok(None);
-    };
+/// Makes the requests of `count` bids, and sends none.
+fn forms(alloc: Global, house: &House, count: u64) -> Result<u64, OutOfMemory> {
     let mut made: u64 = 0;
     for round in 0..count {
         let request = bid(alloc, house.cookie.as_str(), round)?;
@@ -52,7 +54,22 @@ pub(crate) fn forms(alloc: Global, count: u64) -> Result<Option<u64>, OutOfMemor
             made = made.wrapping_add(1);
         }
     }
-    Ok(Some(made))
+    Ok(made)
+}
+
+/// Goes round a loop `count` times in a new house. None where the house is not started.
+pub(crate) fn rounds(alloc: Global, of: Loop, count: u64) -> Result<Option<u64>, OutOfMemory> {
+    let Some(mut house) = House::start(alloc)? else {
+        return Ok(None);
+    };
+    let counted = match of {
+        Loop::Pages => pages(alloc, &mut house, count),
+        Loop::Bids => bids(alloc, &mut house, count),
+        Loop::Forms => forms(alloc, &house, count),
+    };
+    drop(house);
+    let counted = counted?;
+    Ok(Some(counted))
 }
 
 /// How a request went over a connection of its own.
@@ -99,23 +116,31 @@ fn attempt_again(alloc: Global, house: &mut House, bytes: &[u8], first: Tried) -
     }
 }
 
+/// Makes a bid, and then asks for a page with which the session is written. How both went.
+fn both(alloc: Global, house: &mut House) -> Result<Wanted, OutOfMemory> {
+    let request = bid(alloc, house.cookie.as_str(), 0)?;
+    let late = page(alloc, house.cookie.as_str())?;
+    let first = attempt(alloc, house, request.as_bytes());
+    let again = attempt_again(alloc, house, request.as_bytes(), first);
+    house.pass_time();
+    let last = attempt(alloc, house, late.as_bytes());
+    let last_again = attempt_again(alloc, house, late.as_bytes(), last);
+    Ok(Wanted {
+        bid: first,
+        bid_again: again,
+        page: last,
+        page_again: last_again,
+    })
+}
+
 /// Makes a bid, and then asks for a page with which the session is written. How both went. None where the house is not
 /// started.
 pub(crate) fn wants(alloc: Global) -> Result<Option<Wanted>, OutOfMemory> {
     let Some(mut house) = House::start(alloc)? else {
         return Ok(None);
     };
-    let request = bid(alloc, house.cookie.as_str(), 0)?;
-    let late = page(alloc, house.cookie.as_str())?;
-    let first = attempt(alloc, &mut house, request.as_bytes());
-    let again = attempt_again(alloc, &mut house, request.as_bytes(), first);
-    house.pass_time();
-    let last = attempt(alloc, &mut house, late.as_bytes());
-    let last_again = attempt_again(alloc, &mut house, late.as_bytes(), last);
-    Ok(Some(Wanted {
-        bid: first,
-        bid_again: again,
-        page: last,
-        page_again: last_again,
-    }))
+    let wanted = both(alloc, &mut house);
+    drop(house);
+    let wanted = wanted?;
+    Ok(Some(wanted))
 }

@@ -17,7 +17,7 @@ mod server;
 mod shop;
 
 use crash_base::OutOfMemory;
-use loops::{Tried, Wanted, bids, forms, pages, wants};
+use loops::{Loop, Tried, Wanted, rounds, wants};
 use std::alloc::Global;
 use std::process::ExitCode;
 use std::{env, io};
@@ -33,9 +33,9 @@ fn words(rt: &HostRuntime) -> Option<(String, u64)> {
 /// The count of a loop. None where there is no such loop, or its house is not started.
 fn count_of(alloc: Global, name: &str, count: u64) -> Result<Option<u64>, OutOfMemory> {
     match name {
-        "page" => pages(alloc, count),
-        "bid" => bids(alloc, count),
-        "form" => forms(alloc, count),
+        "page" => rounds(alloc, Loop::Pages, count),
+        "bid" => rounds(alloc, Loop::Bids, count),
+        "form" => rounds(alloc, Loop::Forms, count),
         _ => Ok(None),
     }
 }

@@ -2,7 +2,7 @@
 
 use crate::shop::{KEY, LEAST, cookie, rows};
 use container_core::{JournalLimits, MAX_ENTRIES, MAX_JOURNAL_BYTES, StartRefusal};
-use crash_base::{Moment, OutOfMemory};
+use crash_base::{FaultList, Moment, OutOfMemory};
 use link_memory::ScriptLink;
 use memory_site::{MemorySite, StepEnd};
 use outside::{CallList, MapKeeper};
@@ -60,21 +60,86 @@ fn unstarted(why: StartRefusal) -> Result<Option<House>, OutOfMemory> {
     }
 }
 
+/// What a shop is opened with.
+#[derive(Drop)]
+struct Parts {
+    keeper: MapKeeper,
+    link: ScriptLink,
+    windows: Windows,
+}
+
+/// A keeper of the rows of the shop, a link to three bricks, and their windows.
+fn new_parts(alloc: Global) -> Result<Parts, OutOfMemory> {
+    let keeper = MapKeeper::new(alloc, rows(alloc)?, CallList::new(alloc))?;
+    let link = match ScriptLink::new(alloc, 3) {
+        Ok(link) => link,
+        Err(OutOfMemory) => {
+            drop(keeper);
+            return Err(OutOfMemory);
+        }
+    };
+    match Windows::new(alloc, 3, 3, LEAST, false) {
+        Ok(windows) => Ok(Parts {
+            keeper,
+            link,
+            windows,
+        }),
+        Err(OutOfMemory) => {
+            drop(keeper);
+            drop(link);
+            Err(OutOfMemory)
+        }
+    }
+}
+
+/// The site, with a connection for the client with this cookie.
+fn connected(
+    alloc: Global,
+    mut site: MemorySite,
+    cookie: String,
+) -> Result<Option<House>, OutOfMemory> {
+    match site.connect(alloc) {
+        Ok(at) => Ok(Some(House { site, at, cookie })),
+        Err(OutOfMemory) => {
+            drop(site);
+            Err(OutOfMemory)
+        }
+    }
+}
+
+/// The shop, for the client with this cookie.
+fn opened(alloc: Global, parts: Parts, cookie: String) -> Result<Option<House>, OutOfMemory> {
+    let Parts {
+        keeper,
+        link,
+        windows,
+    } = parts;
+    let plans = FaultList::from_vec(Vec::new(alloc));
+    match MemorySite::start(alloc, keeper, plans, LIMITS, windows, link, KEY, 0) {
+        Ok(site) => connected(alloc, site, cookie),
+        Err(fail) => {
+            let why = fail.refusal;
+            drop(fail);
+            unstarted(why)
+        }
+    }
+}
+
 impl House {
     /// None where the shop is not started, or too few bricks stored the session of its client.
     pub(crate) fn start(alloc: Global) -> Result<Option<House>, OutOfMemory> {
-        let keeper = MapKeeper::new(alloc, rows(alloc)?, CallList::new(alloc))?;
-        let mut link = ScriptLink::new(alloc, 3)?;
-        let mut windows = Windows::new(alloc, 3, 3, LEAST, false)?;
-        let Some(cookie) = cookie(alloc, &mut link, &mut windows)? else {
-            return Ok(None);
-        };
-        let mut site = match MemorySite::start(alloc, keeper, LIMITS, windows, link, KEY, 0) {
-            Ok(site) => site,
-            Err(fail) => return unstarted(fail.refusal),
-        };
-        let at = site.connect(alloc)?;
-        Ok(Some(House { site, at, cookie }))
+        let mut parts = new_parts(alloc)?;
+        match cookie(alloc, &mut parts.link, &mut parts.windows) {
+            Ok(Some(cookie)) => opened(alloc, parts, cookie),
+            Ok(None) => {
+                drop(parts);
+                Ok(None)
+            }
+            Err(OutOfMemory) => {
+                drop(parts);
+                Err(OutOfMemory)
+            }
+        }
     }
 
     /// Half of the lease has gone by, and a moment more.

@@ -91,7 +91,7 @@ serves-so asks v old Reading closing new work serves = absurd serves
 serves-so asks v old Opening closing new work serves = absurd serves
 serves-so {P} asks v old (Serving tries program) closing new work serves =
     let s = serves.serves in
-    let comes = strides (asks program) old tries tries.attempt s.to s.mid s.end new serves.after refl s.steps s.goes_on in
+    let comes = strides (asks program) old tries tries.attempt s.to s.between s.mid s.end new serves.after refl s.steps s.goes_on in
     let to : Stride = stride (asks program) (kept_in (added_to old.since new.since)) old tries tries.attempt in
     together (record { visit = after_closing_if closing (record v { work = work }); boot = new.boot; since = new.since }) (inside_by v program to)
     (ap (λ (w : Work P). after_closing_if closing (record v { work = w })) serves.work_is

@@ -5,12 +5,12 @@ use Rattle.boot_core.specs.Refusals.{CommitAnswer, IsCause}
 use Rattle.boot_core.specs.declared.refusals.CommitRefusal.{CommitRefusal}
 use Rattle.boot_core.specs.declared.refusals.CommitRefusal.TheVariants as commits
 use Rattle.boot_core.specs.declared.refusals.Refused.{Refused}
-use Rattle.call_attempts.specs.Attempt.{AttemptValue, stop_of_attempt, wanted}
+use Rattle.call_attempts.specs.Attempt.{AttemptValue, boot_left, stop_of_attempt, wanted}
 use Rattle.call_attempts.specs.declared.attempt.Stepped.{Stepped}
 use Rattle.call_attempts.specs.declared.attempt.Stepped.TheVariants as coming
 use Rattle.call_ticket.specs.declared.next.Answer.{Answer}
 use Rattle.call_ticket.specs.declared.next.Next.{Next}
-use Rattle.container_core.specs.Container.{CommitLeaves, ContainerValue, RefusalLeaves}
+use Rattle.container_core.specs.Container.{CommitLeaves, ContainerValue, RefusalLeaves, with_boot}
 use Rattle.container_core.specs.declared.history.Event.{Event}
 use Rattle.container_core.specs.declared.history.Event.TheVariants.{Added, KeeperFailed}
 use Rattle.crash_base.specs.declared.numbers.Place.{Place}
@@ -32,7 +32,7 @@ use Rattle.request_visit.specs.declared.visit.Visit.{Visit}
 use Rattle.request_visit.specs.declared.visit.Work.{Work}
 use Rattle.request_visit.specs.declared.visit.Work.TheVariants.{Reading, Opening, Serving, Committed, Decided, Answered, Left}
 use Rattle.shepherd_steps.specs.Inside.{HasReplied, TellsReply, added_to, came_by, handed, handed_at, handed_by, handed_in, handed_of, kept_in, untold}
-use Rattle.shepherd_steps.proofs.Strides.{behind-all, came-so, gave-up, went-on}
+use Rattle.shepherd_steps.proofs.Strides.{behind-all, came-so, gave-up, was-done, went-on}
 
 -- the keeper kept the writes that it was handed, or was handed none
 kept-told : (writes : List RowWrite) (keeps : Bool) (added : List Event) (old new : Option KeeperTold) → kept_in added ≡ true → HasReplied keeps writes added
@@ -85,31 +85,28 @@ commit-told old s a done (Err why) end new after keeps is leaves hears = by why.
       subst (ToldBy keeps a.ticket.call.writes (added_to old.since new.since) old.told new.told) (sym some) (λ replies. left.1)
 
 -- the step of an open attempt, by what came of it
-attempt-told : (asks : List Answer → Next) (old : ContainerValue) (s : TriesValue) (a : AttemptValue) (came : Stepped) (to : Progress) (mid : TriesValue) (end : Option Ended) (new : ContainerValue) (after : TriesValue) (keeps : Bool)
-    → s.attempt ≡ Some a → ComesTo old asks s a came to mid → GoesOn old mid to end new after
+attempt-told : (asks : List Answer → Next) (old : ContainerValue) (s : TriesValue) (a : AttemptValue) (came : Stepped) (to : Progress) (between : ContainerValue) (mid : TriesValue) (end : Option Ended) (new : ContainerValue) (after : TriesValue) (keeps : Bool)
+    → s.attempt ≡ Some a → ComesTo old asks s a came to mid → between ≡ with_boot old (boot_left old.boot (wanted asks a) came) → GoesOn between mid to end new after
     → HasReplied keeps (handed_at old s a came) (added_to old.since new.since) → TellsReply (handed_at old s a came) keeps old.told new.told
-attempt-told asks old s a coming.Went to mid end new after keeps under comes goes replies =
-    ap (λ (c : ContainerValue). c.told) (went-on old mid to end new after comes.0 goes).0
-attempt-told asks old s a (coming.Done done) to mid end new after keeps under comes goes replies =
-    let now : GoesOn old mid (progress.Done done) end new after = subst (λ (p : Progress). GoesOn old mid p end new after) comes.0 goes in
-    let of_s : CommitsAs old s s.attempt done end new after = subst (λ (m : TriesValue). CommitsAs old m m.attempt done end new after) comes.1 now in
-    let of_a : CommitsAs old s (Some a) done end new after = subst (λ (o : Option AttemptValue). CommitsAs old s o done end new after) under of_s in
-    by of_a where
+attempt-told asks old s a coming.Went to between mid end new after keeps under comes left goes replies =
+    ap (λ (c : ContainerValue). c.told) ((went-on between mid to end new after comes.0 goes).0 ∙ left)
+attempt-told asks old s a (coming.Done done) to between mid end new after keeps under comes left goes replies =
+    by (was-done old s a done to between mid end new after under comes.0 comes.1 left goes) where
       by : CommitsTry old s a done end new after → TellsReply (handed_by (refusal_of old s a done) a.ticket.call.writes) keeps old.told new.told
       by h = commit-told old s a done h.answer end new after keeps h.is_answer h.leaves h.hears replies
-attempt-told asks old s a (coming.Stopped stop) to mid end new after keeps under comes goes replies =
-    ap (λ (c : ContainerValue). c.told) (gave-up old mid to comes.0 end new after comes.1 goes).0
+attempt-told asks old s a (coming.Stopped stop) to between mid end new after keeps under comes left goes replies =
+    ap (λ (c : ContainerValue). c.told) ((gave-up between mid to comes.0 end new after comes.1 goes).0 ∙ left)
 
-step-told : (asks : List Answer → Next) (old : ContainerValue) (s : TriesValue) (at : Option AttemptValue) (to : Progress) (mid : TriesValue) (end : Option Ended) (new : ContainerValue) (after : TriesValue) (keeps : Bool)
-    → s.attempt ≡ at → StepsAs old asks s at to mid → GoesOn old mid to end new after
+step-told : (asks : List Answer → Next) (old : ContainerValue) (s : TriesValue) (at : Option AttemptValue) (to : Progress) (between : ContainerValue) (mid : TriesValue) (end : Option Ended) (new : ContainerValue) (after : TriesValue) (keeps : Bool)
+    → s.attempt ≡ at → StepsAs old asks s at to between mid → GoesOn between mid to end new after
     → HasReplied keeps (handed_in asks (untold old.boot []) s at) (added_to old.since new.since) → TellsReply (handed_in asks (untold old.boot []) s at) keeps old.told new.told
-step-told asks old s None to mid end new after keeps under steps goes replies =
-    ap (λ (c : ContainerValue). c.told) (went-on old mid to end new after steps.0 goes).0
-step-told asks old s (Some a) to mid end new after keeps under steps goes replies =
+step-told asks old s None to between mid end new after keeps under steps goes replies =
+    ap (λ (c : ContainerValue). c.told) ((went-on between mid to end new after steps.0 goes).0 ∙ steps.2)
+step-told asks old s (Some a) to between mid end new after keeps under steps goes replies =
     same (came_by (wanted asks a) (stop_of_attempt old.boot asks a)) replies
     (λ r. subst (λ (c : Stepped). HasReplied keeps (handed_at old s a c) (added_to old.since new.since) → TellsReply (handed_at old s a c) keeps old.told new.told)
     (sym (came-so old.boot asks a steps.0 steps.1 steps.2))
-    (λ q. attempt-told asks old s a steps.0 to mid end new after keeps under steps.3 goes q) r) where
+    (λ q. attempt-told asks old s a steps.0 to between mid end new after keeps under steps.3 steps.4 goes q) r) where
       same : (came : Stepped) → HasReplied keeps (handed_at (untold old.boot []) s a came) (added_to old.since new.since)
           → (HasReplied keeps (handed_at old s a came) (added_to old.since new.since) → TellsReply (handed_at old s a came) keeps old.told new.told)
           → TellsReply (handed_at (untold old.boot []) s a came) keeps old.told new.told
@@ -124,7 +121,7 @@ work-told asks v old Reading closing new work keeps serves replies = absurd serv
 work-told asks v old Opening closing new work keeps serves replies = absurd serves
 work-told asks v old (Serving tries program) closing new work keeps serves replies =
     let s = serves.serves in
-    step-told (asks program) old tries tries.attempt s.to s.mid s.end new serves.after keeps refl s.steps s.goes_on replies
+    step-told (asks program) old tries tries.attempt s.to s.between s.mid s.end new serves.after keeps refl s.steps s.goes_on replies
 work-told asks v old (Committed place again shown) closing new work keeps serves replies = absurd serves
 work-told asks v old (Decided became) closing new work keeps serves replies = absurd serves
 work-told asks v old (Answered fate bytes) closing new work keeps serves replies = absurd serves

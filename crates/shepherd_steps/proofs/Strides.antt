@@ -8,7 +8,7 @@ use Rattle.boot_core.specs.Refusals.{CommitAnswer}
 use Rattle.boot_core.specs.declared.refusals.CommitRefusal.{CommitRefusal}
 use Rattle.boot_core.specs.declared.refusals.CommitRefusal.TheVariants as commits
 use Rattle.boot_core.specs.declared.refusals.Refused.{Refused}
-use Rattle.call_attempts.specs.Attempt.{AttemptValue, Continues, HasStepped, stop_of_attempt, stepped, wanted}
+use Rattle.call_attempts.specs.Attempt.{AttemptValue, Continues, HasStepped, boot_after, boot_left, stop_of_attempt, stepped, wanted}
 use Rattle.call_attempts.specs.declared.attempt.Stepped.{Stepped}
 use Rattle.call_attempts.specs.declared.attempt.Stepped.TheVariants as coming
 use Rattle.call_attempts.specs.declared.stop.Stop.{Stop}
@@ -16,7 +16,7 @@ use Rattle.call_attempts.specs.declared.stop.Stop.TheVariants as stops
 use Rattle.call_ticket.specs.declared.next.Answer.{Answer}
 use Rattle.call_ticket.specs.declared.next.Next.{Next}
 use Rattle.call_ticket.specs.declared.next.Next.TheVariants as next
-use Rattle.container_core.specs.Container.{CommitLeaves, ContainerValue, RefusalLeaves}
+use Rattle.container_core.specs.Container.{CommitLeaves, ContainerValue, RefusalLeaves, with_boot}
 use Rattle.container_core.specs.declared.history.Event.{Event}
 use Rattle.container_core.specs.declared.history.Event.TheVariants.{Added, KeeperFailed}
 use Rattle.crash_base.specs.declared.numbers.Place.{Place}
@@ -92,6 +92,8 @@ tried now s at why repeats (Some end) after h =
 stopped : (now : HistoryFront) (s : TriesValue) (at : Place) (repeats : Bool) (stop : Stop) (end : Option Ended) (after : TriesValue)
     → IsStopped now s at repeats stop end after → came_to end after ≡ after_stop now s at repeats stop
 stopped now s at repeats (stops.Sentinel group down) end after h = ends-so end after _ h
+stopped now s at repeats (stops.Hung component fault) end after h = ends-so end after _ h
+stopped now s at repeats (stops.Raised component fault) end after h = ends-so end after _ h
 stopped now s at repeats (stops.Revoked shown) end after h = tried now s at (cause.Revoked shown) repeats end after h
 
 refused : (now : HistoryFront) (es : List Entry) (s : TriesValue) (at : Place) (refusal : CommitRefusal) (repeats : Bool) (end : Option Ended) (after : TriesValue)
@@ -237,7 +239,7 @@ tries-commit old s a done end new after h =
     (sym (asked old s a done h.answer end new after h.is_answer h.leaves h.hears))
     (committed old s a done h.answer end new after h.leaves h.hears)
 
--- a step that changes nothing of the container
+-- a step that commits nothing leaves this container
 still-comes : (c new : ContainerValue) (to : Course) (end : Option Ended) (after : TriesValue) → new ≡ c → came_to end after ≡ to
     → Comes (record { course = to; container = c }) end after new
 still-comes c new to end after same course = record {
@@ -247,43 +249,50 @@ still-comes c new to end after same course = record {
 }
 
 -- a step that goes on, and then no more is done
-pub went-on : (old : ContainerValue) (mid : TriesValue) (to : Progress) (end : Option Ended) (new : ContainerValue) (after : TriesValue)
-    → to ≡ progress.Went → GoesOn old mid to end new after → (new ≡ old) × (came_to end after ≡ Goes mid)
-went-on old mid to end new after is goes =
-    let now : GoesOn old mid progress.Went end new after = subst (λ (p : Progress). GoesOn old mid p end new after) is goes in
+pub went-on : (between : ContainerValue) (mid : TriesValue) (to : Progress) (end : Option Ended) (new : ContainerValue) (after : TriesValue)
+    → to ≡ progress.Went → GoesOn between mid to end new after → (new ≡ between) × (came_to end after ≡ Goes mid)
+went-on between mid to end new after is goes =
+    let now : GoesOn between mid progress.Went end new after = subst (λ (p : Progress). GoesOn between mid p end new after) is goes in
     (now.1, goes-so end after now.0 ∙ ap Goes now.2)
 
 -- a step that was given up
-pub gave-up : (old : ContainerValue) (mid : TriesValue) (to : Progress) (ended end : Option Ended) (new : ContainerValue) (after : TriesValue)
-    → to ≡ progress_of ended → GoesOn old mid to end new after → (new ≡ old) × (came_to end after ≡ came_to ended mid)
-gave-up old mid to None end new after is goes = went-on old mid to end new after is goes
-gave-up old mid to (Some e) end new after is goes =
-    let now : GoesOn old mid (progress.Ended e) end new after = subst (λ (p : Progress). GoesOn old mid p end new after) is goes in
+pub gave-up : (between : ContainerValue) (mid : TriesValue) (to : Progress) (ended end : Option Ended) (new : ContainerValue) (after : TriesValue)
+    → to ≡ progress_of ended → GoesOn between mid to end new after → (new ≡ between) × (came_to end after ≡ came_to ended mid)
+gave-up between mid to None end new after is goes = went-on between mid to end new after is goes
+gave-up between mid to (Some e) end new after is goes =
+    let now : GoesOn between mid (progress.Ended e) end new after = subst (λ (p : Progress). GoesOn between mid p end new after) is goes in
     (now.1, ends-so end after e now.0)
 
--- the step of an open attempt, by what came of it
-attempt-comes : (asks : List Answer → Next) (old : ContainerValue) (s : TriesValue) (a : AttemptValue) (came : Stepped) (to : Progress) (mid : TriesValue) (end : Option Ended) (new : ContainerValue) (after : TriesValue)
-    → s.attempt ≡ Some a → ComesTo old asks s a came to mid → GoesOn old mid to end new after
-    → Comes (stride_by asks (kept_in (added_to old.since new.since)) old s a came) end after new
-attempt-comes asks old s a coming.Went to mid end new after under comes goes =
-    let went = went-on old mid to end new after comes.0 goes in
-    still-comes old new (Goes (record s { attempt = Some (stepped old.boot a (wanted asks a)) })) end after went.0 (went.1 ∙ ap Goes comes.1)
-attempt-comes asks old s a (coming.Done done) to mid end new after under comes goes =
-    let now : GoesOn old mid (progress.Done done) end new after = subst (λ (p : Progress). GoesOn old mid p end new after) comes.0 goes in
-    let of_s : CommitsAs old s s.attempt done end new after = subst (λ (m : TriesValue). CommitsAs old m m.attempt done end new after) comes.1 now in
-    let of_a : CommitsAs old s (Some a) done end new after = subst (λ (o : Option AttemptValue). CommitsAs old s o done end new after) under of_s in
-    tries-commit old s a done end new after of_a
-attempt-comes asks old s a (coming.Stopped stop) to mid end new after under comes goes =
-    let gone = gave-up old mid to comes.0 end new after comes.1 goes in
-    still-comes old new _ end after gone.0 (gone.1 ∙ stopped (front_at old) (closed s) a.ticket.call.at a.repeats stop comes.0 mid comes.2)
+-- a step that found its program done is committed in the container as it was
+pub was-done : (old : ContainerValue) (s : TriesValue) (a : AttemptValue) (done : DoneText) (to : Progress) (between : ContainerValue) (mid : TriesValue) (end : Option Ended) (new : ContainerValue) (after : TriesValue)
+    → s.attempt ≡ Some a → to ≡ progress.Done done → mid ≡ s → between ≡ old → GoesOn between mid to end new after → CommitsTry old s a done end new after
+was-done old s a done to between mid end new after under is same_tries same goes =
+    let now : GoesOn between mid (progress.Done done) end new after = subst (λ (p : Progress). GoesOn between mid p end new after) is goes in
+    let of_s : CommitsAs between s s.attempt done end new after = subst (λ (m : TriesValue). CommitsAs between m m.attempt done end new after) same_tries now in
+    let of_a : CommitsAs between s (Some a) done end new after = subst (λ (o : Option AttemptValue). CommitsAs between s o done end new after) under of_s in
+    subst (λ (c : ContainerValue). CommitsTry c s a done end new after) same of_a
 
-pub strides : (asks : List Answer → Next) (old : ContainerValue) (s : TriesValue) (at : Option AttemptValue) (to : Progress) (mid : TriesValue) (end : Option Ended) (new : ContainerValue) (after : TriesValue)
-    → s.attempt ≡ at → StepsAs old asks s at to mid → GoesOn old mid to end new after
+-- the step of an open attempt, by what came of it
+attempt-comes : (asks : List Answer → Next) (old : ContainerValue) (s : TriesValue) (a : AttemptValue) (came : Stepped) (to : Progress) (between : ContainerValue) (mid : TriesValue) (end : Option Ended) (new : ContainerValue) (after : TriesValue)
+    → s.attempt ≡ Some a → ComesTo old asks s a came to mid → between ≡ with_boot old (boot_left old.boot (wanted asks a) came) → GoesOn between mid to end new after
+    → Comes (stride_by asks (kept_in (added_to old.since new.since)) old s a came) end after new
+attempt-comes asks old s a coming.Went to between mid end new after under comes left goes =
+    let went = went-on between mid to end new after comes.0 goes in
+    still-comes (with_boot old (boot_after old.boot (wanted asks a))) new (Goes (record s { attempt = Some (stepped old.boot a (wanted asks a)) })) end after
+    (went.0 ∙ left) (went.1 ∙ ap Goes comes.1)
+attempt-comes asks old s a (coming.Done done) to between mid end new after under comes left goes =
+    tries-commit old s a done end new after (was-done old s a done to between mid end new after under comes.0 comes.1 left goes)
+attempt-comes asks old s a (coming.Stopped stop) to between mid end new after under comes left goes =
+    let gone = gave-up between mid to comes.0 end new after comes.1 goes in
+    still-comes old new _ end after (gone.0 ∙ left) (gone.1 ∙ stopped (front_at old) (closed s) a.ticket.call.at a.repeats stop comes.0 mid comes.2)
+
+pub strides : (asks : List Answer → Next) (old : ContainerValue) (s : TriesValue) (at : Option AttemptValue) (to : Progress) (between : ContainerValue) (mid : TriesValue) (end : Option Ended) (new : ContainerValue) (after : TriesValue)
+    → s.attempt ≡ at → StepsAs old asks s at to between mid → GoesOn between mid to end new after
     → Comes (stride asks (kept_in (added_to old.since new.since)) old s at) end after new
-strides asks old s None to mid end new after under steps goes =
-    let went = went-on old mid to end new after steps.0 goes in
-    still-comes old new (Goes (has_begun old.boot s)) end after went.0 (went.1 ∙ ap Goes steps.1)
-strides asks old s (Some a) to mid end new after under steps goes =
+strides asks old s None to between mid end new after under steps goes =
+    let went = went-on between mid to end new after steps.0 goes in
+    still-comes old new (Goes (has_begun old.boot s)) end after (went.0 ∙ steps.2) (went.1 ∙ ap Goes steps.1)
+strides asks old s (Some a) to between mid end new after under steps goes =
     subst (λ (c : Stepped). Comes (stride_by asks (kept_in (added_to old.since new.since)) old s a c) end after new)
     (sym (came-so old.boot asks a steps.0 steps.1 steps.2))
-    (attempt-comes asks old s a steps.0 to mid end new after under steps.3 goes)
+    (attempt-comes asks old s a steps.0 to between mid end new after under steps.3 steps.4 goes)

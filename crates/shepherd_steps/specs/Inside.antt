@@ -4,7 +4,7 @@ use Rattle.std.specs.Prelude.{◌≡◌, ◌+◌, ◌&&◌, nat_lt, Bool, true, 
 use Rattle.boot_core.specs.Boot.{BootValue}
 use Rattle.boot_core.specs.declared.refusals.CommitRefusal.{CommitRefusal}
 use Rattle.boot_core.specs.declared.refusals.CommitRefusal.TheVariants as commits
-use Rattle.call_attempts.specs.Attempt.{AttemptValue, stepped, stop_of_attempt, wanted}
+use Rattle.call_attempts.specs.Attempt.{AttemptValue, boot_after, stepped, stop_of_attempt, wanted}
 use Rattle.call_attempts.specs.declared.attempt.Stepped.{Stepped}
 use Rattle.call_attempts.specs.declared.attempt.Stepped.TheVariants as coming
 use Rattle.call_attempts.specs.declared.stop.Stop.{Stop}
@@ -12,7 +12,7 @@ use Rattle.call_attempts.specs.declared.stop.Stop.TheVariants as stops
 use Rattle.call_ticket.specs.declared.next.Answer.{Answer}
 use Rattle.call_ticket.specs.declared.next.Next.{Next}
 use Rattle.call_ticket.specs.declared.next.Next.TheVariants as next
-use Rattle.container_core.specs.Container.{ContainerValue, events_of, with_entry_event}
+use Rattle.container_core.specs.Container.{ContainerValue, events_of, with_boot, with_entry_event}
 use Rattle.container_core.specs.declared.history.Event.{Event}
 use Rattle.container_core.specs.declared.history.Event.TheVariants.{Added, KeeperFailed, Started, Stopped}
 use Rattle.crash_base.specs.declared.numbers.Place.{Place}
@@ -67,10 +67,14 @@ after_try now s at why repeats =
     then Goes (with_try s (try_ended now at why))
     else Ends (ended_at now (from_of s at) (outcome_by why (s.tries ++ try_ended now at why ∷ [])) None)
 
--- what a reboot makes of a request whose try it stopped
+-- what becomes of a request whose try was stopped
 abbrev pub after_stop : HistoryFront → TriesValue → Place → Bool → Stop → Course
 after_stop now s at repeats (stops.Sentinel group down) =
     Ends (ended_at now (from_of s at) (outcome.Sentinel group down) None)
+after_stop now s at repeats (stops.Hung component fault) =
+    Ends (ended_at now (from_of s at) (outcome.Hung component fault) None)
+after_stop now s at repeats (stops.Raised component fault) =
+    Ends (ended_at now (from_of s at) (outcome.Raised component fault) None)
 after_stop now s at repeats (stops.Revoked shown) = after_try now s at (cause.Revoked shown) repeats
 
 -- what a refusal makes of a request that would commit; without memory it is served still
@@ -143,10 +147,15 @@ abbrev pub commit_inside : Bool → ContainerValue → TriesValue → AttemptVal
 commit_inside keeps c s a done =
     commits_by c s a done (with_keeper (refusal_of c s a done) a.ticket.call.writes keeps)
 
--- the step of an open attempt, by what came of it: it goes on; it is committed; or it is given up
+-- the step of an open attempt, by what came of it: it goes on, and the container counts a component that was entered;
+-- it is committed; or it is given up
 abbrev pub stride_by : (List Answer → Next) → Bool → ContainerValue → TriesValue → AttemptValue → Stepped → Stride
 stride_by asks keeps c s a coming.Went =
-    still c (Goes (record s { attempt = Some (stepped c.boot a (wanted asks a)) }))
+    let x = wanted asks a in
+    record {
+      course = Goes (record s { attempt = Some (stepped c.boot a x) });
+      container = with_boot c (boot_after c.boot x);
+    }
 stride_by asks keeps c s a (coming.Done done) = commit_inside keeps c s a done
 stride_by asks keeps c s a (coming.Stopped stop) =
     still c (after_stop (front_at c) (closed s) a.ticket.call.at a.repeats stop)

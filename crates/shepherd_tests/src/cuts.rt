@@ -8,11 +8,11 @@ use std::fmt::Write;
 use std::process::Abort;
 
 /// A request of curl.
-const CURL: &str =
+pub const CURL: &str =
     "GET / HTTP/1.1\r\nHost: localhost\r\nUser-Agent: curl/8.5.0\r\nAccept: */*\r\n\r\n";
 
 /// The page of the signed out, of 120 bytes, behind its head.
-const HOME: &str =
+pub const HOME: &str =
     "HTTP/1.1 200 OK\r\nContent-Type: text/html; charset=utf-8\r\nContent-Length: 120\r\n\r\n\
 <!doctype html>\n<title>Auctions</title>\n<h1>Auctions</h1>\n<p>Signed out</p>\n\
 <p><a href=\"/categories\">Categories</a></p>\n";

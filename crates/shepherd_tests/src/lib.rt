@@ -13,6 +13,8 @@ mod connection;
 #[cfg(test)]
 mod cuts;
 #[cfg(test)]
+mod faults;
+#[cfg(test)]
 mod happening;
 #[cfg(test)]
 mod interleaved;

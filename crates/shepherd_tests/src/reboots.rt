@@ -118,8 +118,8 @@ fn other_requests_go_on(rt: HostRuntime) {
 }
 
 /// Gives a registration up behind so many steps of it, and sends it once more. It commits by its 22nd step, asks three
-/// bricks by the 24th to the 26th, and has heard two by the 28th; its response leaves before the 29th. So its item is told
-/// from then on, and its page is there the second time from the 22nd step on.
+/// bricks by the 24th to the 26th, and has heard two by the 28th; its response leaves before the 29th. So its item is
+/// told from then on, and its page is there the second time from the 22nd step on.
 fn expect_given_up(rt: &impl Abort, alloc: Global, steps: u64) {
     let mut play = shop_with(rt, alloc, "ben get /form/register");
     play.ask(rt, alloc, "ben", "post /register name=zoe&password=pw4");

@@ -1,7 +1,7 @@
 //! What requests go through: the site in memory.
 
 use container_core::JournalLimits;
-use crash_base::RowList;
+use crash_base::{FaultList, FaultPlan, RowList};
 use link_memory::ScriptLink;
 use memory_site::MemorySite;
 use outside::{CallList, MapKeeper};
@@ -18,6 +18,8 @@ pub struct Setting {
     pub failing: u64,
     /// The first serial number.
     pub serial: u64,
+    /// The plan by which a component fails, if one does.
+    pub fault: Option<FaultPlan>,
 }
 
 /// Room for all, no fault, and serial numbers from 0 on.
@@ -25,6 +27,7 @@ pub const PLAIN: Setting = Setting {
     entries: 1000,
     failing: 0,
     serial: 0,
+    fault: None,
 };
 
 /// A keeper of no rows, one call of which may fail.
@@ -36,6 +39,14 @@ fn keeper_of(rt: &impl Abort, alloc: Global, failing: u64) -> MapKeeper {
     MapKeeper::new(alloc, RowList::new(alloc), calls).expect(rt, "a keeper")
 }
 
+/// The plan, if there is one.
+fn plans_of(rt: &impl Abort, alloc: Global, fault: Option<FaultPlan>) -> FaultList {
+    match fault {
+        Some(plan) => FaultList::from_vec(Vec::from_slice(alloc, &[plan]).expect(rt, "a plan")),
+        None => FaultList::from_vec(Vec::new(alloc)),
+    }
+}
+
 /// The site of this setting, under a key of 32 zeros, with three bricks, of which two are to store a session.
 pub fn site_of(rt: &impl Abort, alloc: Global, setting: Setting) -> MemorySite {
     let limits = JournalLimits {
@@ -43,10 +54,20 @@ pub fn site_of(rt: &impl Abort, alloc: Global, setting: Setting) -> MemorySite {
         bytes: 1_000_000,
     };
     let keeper = keeper_of(rt, alloc, setting.failing);
+    let plans = plans_of(rt, alloc, setting.fault);
     let windows = Windows::new(alloc, 3, 3, 2, true).expect(rt, "windows");
     let link = ScriptLink::new(alloc, 3).expect(rt, "a link");
     let key = [0; 32];
-    match MemorySite::start(alloc, keeper, limits, windows, link, key, setting.serial) {
+    match MemorySite::start(
+        alloc,
+        keeper,
+        plans,
+        limits,
+        windows,
+        link,
+        key,
+        setting.serial,
+    ) {
         Ok(site) => site,
         Err(_) => panic!(rt; "the start is refused"),
     }

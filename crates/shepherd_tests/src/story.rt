@@ -5,9 +5,9 @@ use crate::scene::PLAIN;
 use crate::words::expect_words;
 use std::process::Abort;
 
-/// Ann offers an item, and Ben bids for it, sends his bid again, and buys it. Each form of a new client and each sign-in
-/// writes the session; each other request reads it. The write of serial S is heard of two bricks, from brick
-/// S mod 3 + 1 on.
+/// Ann offers an item, and Ben bids for it, sends his bid again, and buys it. Each form of a new client and each
+/// sign-in writes the session; each other request reads it. The write of serial S is heard of two bricks, from brick S
+/// mod 3 + 1 on.
 const SALE: &str = "\
 ann get / > 200 Auctions, page 0 | 1:0 0-1 2 0/0 at 0
 ann get /form/register > 200 Form register, page 1 | 1:2 1-2 3 0/3 at 0 cookie 4 1800000 2 3

@@ -78,6 +78,12 @@ fn add_end(rt: &impl Abort, words: &mut String, end: &RequestOutcome) {
         RequestOutcome::Sentinel { group, down } => {
             write!(words, "sentinel {} {}", group.0, down.0).expect(rt, "an end");
         }
+        RequestOutcome::Hung { component, fault } => {
+            write!(words, "hung {} {fault}", component.0).expect(rt, "an end");
+        }
+        RequestOutcome::Raised { component, fault } => {
+            write!(words, "raised {} {fault}", component.0).expect(rt, "an end");
+        }
         RequestOutcome::Revoked(tries) => add_tries(rt, words, "revoked", tries.as_slice()),
         RequestOutcome::Conflict(tries) => add_tries(rt, words, "conflict", tries.as_slice()),
         RequestOutcome::JournalFull(full) => {

@@ -1,13 +1,15 @@
 -- What requests of the site are touched by is within the reach of their actions.
 use Rattle.std.proofs.Common.{◌≡◌, ◌↔◌, ℕ, true, List, [], ◌∷◌, take, All, subst}
 use Rattle.std.proofs.lemmas.List.Elements.{All-cons, All-nil}
+use Rattle.crash_base.specs.declared.numbers.ComponentNo.{ComponentNo}
 use Rattle.crash_base.specs.declared.numbers.GroupNo.{GroupNo}
 use Rattle.crash_base.specs.declared.numbers.Place.{Place}
 use Rattle.deployment.specs.declared.parts.Parts.{Parts}
 use Rattle.journal_model.specs.declared.entry.Entry.{Entry}
 use Rattle.call_ticket.specs.declared.next.Answer.{Answer}
 use Rattle.call_ticket.specs.declared.next.Next.{Next}
-use Rattle.call_attempts.specs.Attempt.{Accesses, EntersGroup, EntersOnce, table_in}
+use Rattle.call_ticket.specs.declared.next.Next.TheVariants as next
+use Rattle.call_attempts.specs.Attempt.{Accesses, EntersComponent, EntersGroup, EntersOnce, table_in}
 use Rattle.auction_calls.specs.declared.action.Action.TheVariants.{Buy}
 use Rattle.auction_calls.specs.declared.action.ActionCall.{ActionCall}
 use Rattle.auction_rows.specs.Parts.{site_parts}
@@ -16,7 +18,7 @@ use Rattle.auction_site.specs.Reached.{reach_of}
 use Rattle.boot_core.specs.declared.boot.Start.{Start}
 use Rattle.container_core.specs.History.{entries_in}
 use Rattle.container_core.specs.declared.history.Event.{Event}
-use Rattle.reach_laws.specs.Uses.{MayEnterGroup, has_table}
+use Rattle.reach_laws.specs.Uses.{MayEnter, MayEnterGroup, has_table}
 use Rattle.request_tries.specs.Ends.{EndStands, Errand}
 use Rattle.request_tries.specs.Tries.{AreTries, CauseStands}
 use Rattle.request_tries.specs.declared.outcome.Ended.{Ended}
@@ -60,6 +62,30 @@ pub down_reached : GroupRule → (start : Start) (events : List Event) (errand :
 down_reached groups start events errand call e group down asks stands is =
     let shows = outcome_of_end start events errand e (outcomes.Sentinel group down) stands is in
     groups_reached groups start errand call group asks shows.1
+
+-- each component that a call enters is one that its action may enter
+abbrev pub ComponentRule : Type 0
+ComponentRule = (call : ActionCall) (answers : List Answer) (component : ComponentNo) (method : ℕ) → steps_of call answers ≡ next.Enter component method
+    → MayEnter call.action component method
+
+-- a component that an errand enters, its call may enter
+component_reached : ComponentRule → (start : Start) (errand : Errand) (call : ActionCall) (component : ComponentNo) → AsksSite start errand call
+    → EntersComponent errand.asks component → (method : ℕ) × MayEnter call.action component method
+component_reached rule start errand call component asks enters =
+    let steps : EntersComponent (steps_of call) component = subst (λ (steps : List Answer → Next). EntersComponent steps component) asks.steps_are enters in
+    (steps.method, rule call steps.answers component steps.method steps.asked)
+
+pub hung_reached : ComponentRule → (start : Start) (events : List Event) (errand : Errand) (call : ActionCall) (e : Ended) (component : ComponentNo) (fault : ℕ) → AsksSite start errand call
+    → EndStands start events errand e → e.outcome ≡ outcomes.Hung component fault → (method : ℕ) × MayEnter call.action component method
+hung_reached rule start events errand call e component fault asks stands is =
+    let shows = outcome_of_end start events errand e (outcomes.Hung component fault) stands is in
+    component_reached rule start errand call component asks shows.1
+
+pub raised_reached : ComponentRule → (start : Start) (events : List Event) (errand : Errand) (call : ActionCall) (e : Ended) (component : ComponentNo) (fault : ℕ) → AsksSite start errand call
+    → EndStands start events errand e → e.outcome ≡ outcomes.Raised component fault → (method : ℕ) × MayEnter call.action component method
+raised_reached rule start events errand call e component fault asks stands is =
+    let shows = outcome_of_end start events errand e (outcomes.Raised component fault) stands is in
+    component_reached rule start errand call component asks shows.1
 
 pub revoked_reached : GroupRule → TableRule → (start : Start) (events : List Event) (errand : Errand) (call : ActionCall) (e : Ended) (tries : List Try) → AsksSite start errand call
     → EndStands start events errand e → e.outcome ≡ outcomes.Revoked tries → All (TryIsReached call.action) tries

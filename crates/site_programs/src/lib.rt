@@ -19,6 +19,7 @@
 //! a journal without room      the entry that did not fit is what the site means by the call over the rows at its begin
 //! a group that was down,      is of Web, of what the action goes through, or of the owner of a table that the action
 //! or was rebooted             reaches
+//! a component that failed     is such a one
 //! a conflict                  is over a table that the action reaches
 //! fewer than three tries      by a purchase alone
 //! ```

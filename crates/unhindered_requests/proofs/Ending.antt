@@ -41,7 +41,7 @@ use Rattle.request_tries.specs.declared.outcome.Ended.{Ended}
 use Rattle.request_tries.specs.declared.outcome.Progress.{Progress}
 use Rattle.request_tries.specs.declared.outcome.Progress.TheVariants as progress
 use Rattle.request_tries.specs.declared.outcome.RequestOutcome.{RequestOutcome}
-use Rattle.request_tries.specs.declared.outcome.RequestOutcome.TheVariants.{Page, Sentinel, Revoked, Conflict, JournalFull, KeeperFailed}
+use Rattle.request_tries.specs.declared.outcome.RequestOutcome.TheVariants.{Page, Sentinel, Hung, Raised, Revoked, Conflict, JournalFull, KeeperFailed}
 use Rattle.request_visit.specs.Advancing.{Advances, HearsReadOf, after_leaving, after_read, departed}
 use Rattle.request_visit.specs.Ready.{ready_of}
 use Rattle.request_visit.specs.Serving.{GoesOn, closed_with, closing_of}
@@ -83,6 +83,8 @@ shown_fewer place again (Write order page) v = omega arith
 pub closed_fewer : {P : Type 0} (ready : Bool → Ready) (o : RequestOutcome) (v : Visit P) → steps_left (left_so (closed_with ready o) v) ≤ page_steps + calls_left v.way
 closed_fewer ready (Page place again) v = shown_fewer place again (ready again) v
 closed_fewer ready (Sentinel group down) v = omega arith
+closed_fewer ready (Hung component fault) v = omega arith
+closed_fewer ready (Raised component fault) v = omega arith
 closed_fewer ready (Revoked tries) v = omega arith
 closed_fewer ready (Conflict tries) v = omega arith
 closed_fewer ready (JournalFull full) v = omega arith
@@ -110,8 +112,8 @@ inside_fewer {P} law asks accepts done old new container after visits serving = 
   where
     served : (tries : TriesValue) (program : P) → ServesBy asks container old.facts old.lease tries program visits.closing after visits.work → accepts program container.boot.start.deployment → IsServing container.boot (asks program) tries → steps_left new < tries_left tries + page_steps + calls_left old.way
     served tries program s accepted serves =
-        let on = step_fewer law container (asks program) tries s.serves.mid tries.attempt s.serves.to (λ a. done program container.boot.start.deployment (rows_at_begin container.boot a.ticket.call) accepted) serves.few (under_way container (asks program) tries tries.attempt serves.attempt) refl s.serves.steps in
-        let less = goes_fewer container after tries s.serves.mid s.after s.serves.to s.serves.end on s.serves.goes_on in
+        let on = step_fewer law container (asks program) tries s.serves.between s.serves.mid tries.attempt s.serves.to (λ a. done program container.boot.start.deployment (rows_at_begin container.boot a.ticket.call) accepted) serves.few (under_way container (asks program) tries tries.attempt serves.attempt) refl s.serves.steps in
+        let less = goes_fewer s.serves.between after tries s.serves.mid s.after s.serves.to s.serves.end on s.serves.goes_on in
         subst (λ (v : Visit P). steps_left v < tries_left tries + page_steps + calls_left old.way) (sym visits.new_is)
         (subst (λ (c : Option Closing). steps_left (after_closing_if c (record old { work = visits.work })) < tries_left tries + page_steps + calls_left old.way) (sym s.serves.closing_is)
         (subst (λ (work : Work P). steps_left (after_closing_if (option_map (closing_of old.facts old.lease (events_of after)) s.serves.end) (record old { work = work })) < tries_left tries + page_steps + calls_left old.way) (sym s.work_is)

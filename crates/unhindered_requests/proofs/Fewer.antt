@@ -101,9 +101,9 @@ few_answers law c asks a some way goes = elim (cases_lt (length a.answers) MAX_S
 ]
 
 -- a step of an open try
-open_fewer : (law : DoneInTime) (c : ContainerValue) (asks : List Answer → Next) (s mid : TriesValue) (a : AttemptValue) (to : Progress) → IsSome (run_of c.boot.start.deployment asks (rows_at_begin c.boot a.ticket.call)) → IsUnderWay c.boot asks a
-    → s.attempt ≡ Some a → StepsAs c asks s (Some a) to mid → StepsOn s to mid
-open_fewer law c asks s mid a to some way is steps = go steps.0 steps.1 steps.2 steps.3
+open_fewer : (law : DoneInTime) (c : ContainerValue) (asks : List Answer → Next) (s : TriesValue) (new : ContainerValue) (mid : TriesValue) (a : AttemptValue) (to : Progress) → IsSome (run_of c.boot.start.deployment asks (rows_at_begin c.boot a.ticket.call)) → IsUnderWay c.boot asks a
+    → s.attempt ≡ Some a → StepsAs c asks s (Some a) to new mid → StepsOn s to mid
+open_fewer law c asks s new mid a to some way is steps = go steps.0 steps.1 steps.2 steps.3
   where
     here : tries_left s ≡ steps_of (length s.tries) (Some a)
     here = ap (λ o. steps_of (length s.tries) o) is
@@ -111,6 +111,8 @@ open_fewer law c asks s mid a to some way is steps = go steps.0 steps.1 steps.2 
     by_stop : (stop : Stop) (end : Option Ended) → IsStopped (front_at c) (closed s) a.ticket.call.at a.repeats stop end mid → StepsOn s (progress_of end) mid
     by_stop stop (Some e) h = tt
     by_stop (stops.Sentinel group down) None h = absurd (cc)
+    by_stop (stops.Hung component fault) None h = absurd (cc)
+    by_stop (stops.Raised component fault) None h = absurd (cc)
     by_stop (stops.Revoked shown) None h = (let less = try_fewer (front_at c) s mid a a.ticket.call.at (cause.Revoked shown) a.repeats None h refl in subst (λ n. tries_left mid < n) (sym here) less)
 
     go : (came : Stepped) (next : AttemptValue) → HasStepped c.boot asks a came next → ComesTo c asks s a came to mid → StepsOn s to mid
@@ -123,11 +125,11 @@ open_fewer law c asks s mid a to some way is steps = go steps.0 steps.1 steps.2 
     go (coming.Stopped stop) next made h = subst (λ (p : Progress). StepsOn s p mid) (sym h.1) (by_stop stop h.0 h.2)
 
 -- a step of a request that is served
-pub step_fewer : (law : DoneInTime) (c : ContainerValue) (asks : List Answer → Next) (s mid : TriesValue) (o : Option AttemptValue) (to : Progress) → ((a : AttemptValue) → IsSome (run_of c.boot.start.deployment asks (rows_at_begin c.boot a.ticket.call)))
-    → length s.tries < MAX_TRIES → IfSome o (λ a. IsUnderWay c.boot asks a) → s.attempt ≡ o → StepsAs c asks s o to mid → StepsOn s to mid
-step_fewer law c asks s mid None to some few way is steps =
+pub step_fewer : (law : DoneInTime) (c : ContainerValue) (asks : List Answer → Next) (s : TriesValue) (new : ContainerValue) (mid : TriesValue) (o : Option AttemptValue) (to : Progress) → ((a : AttemptValue) → IsSome (run_of c.boot.start.deployment asks (rows_at_begin c.boot a.ticket.call)))
+    → length s.tries < MAX_TRIES → IfSome o (λ a. IsUnderWay c.boot asks a) → s.attempt ≡ o → StepsAs c asks s o to new mid → StepsOn s to mid
+step_fewer law c asks s new mid None to some few way is steps =
     let here : tries_left s ≡ steps_of (length s.tries) None = ap (λ o. steps_of (length s.tries) o) is in
     let is_mid : tries_left mid ≡ steps_of (length s.tries) (Some (attempt_begun s.request s.worker (record { 0 = length c.boot.entries }))) = ap tries_left steps.1 in
     let less = begun_fewer (length s.tries) (attempt_begun s.request s.worker (record { 0 = length c.boot.entries })) few in
     subst (λ (p : Progress). StepsOn s p mid) (sym steps.0) (omega (arith, here, is_mid, less))
-step_fewer law c asks s mid (Some a) to some few way is steps = open_fewer law c asks s mid a to (some a) way is steps
+step_fewer law c asks s new mid (Some a) to some few way is steps = open_fewer law c asks s new mid a to (some a) way is steps

@@ -6,4 +6,5 @@ pub mod Fewer
 pub mod Freeing
 pub mod Given
 pub mod Pages
+pub mod Sparing
 pub mod Tried

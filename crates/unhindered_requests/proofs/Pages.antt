@@ -67,7 +67,7 @@ use Rattle.unhindered_requests.specs.Tries.{IsFree}
 use Rattle.unhindered_requests.specs.Unhindered.{IsPage, IsUnhindered, IsUnhinderedBy, MayBeFound, MayBeStored, Serve, TellsPage, WasStored}
 use Rattle.unhindered_requests.proofs.Asked.{finds_on, has_stored, may_find, may_store, never_refused, stored_answers, stored_on, stores_on}
 use Rattle.unhindered_requests.proofs.Given.{serving_open}
-use Rattle.unhindered_requests.proofs.Tried.{EndsAsPage, RefusedInOrder, RevokedBy, StepsWell, StoppedBy, commits_well, steps_well}
+use Rattle.unhindered_requests.proofs.Tried.{EndsAsPage, RefusedInOrder, StepsWell, StopsAlone, commits_well, steps_well}
 
 -- In the container.
 
@@ -82,16 +82,17 @@ page_left {P} serves facts lease events e v (place, again, is) =
     subst (λ (closed : Closed). IsUnhindered serves (left_so closed w)) (sym (ap (closed_with ready) is)) (shown serves place again (ready again) w)
 
 -- what a step came to goes on, or ends as a page
-goes_well : (law : RefusedInOrder) (old new : ContainerValue) (asks : List Answer → Next) (s mid after : TriesValue) (to : Progress) (end : Option Ended)
-    → IfSome s.attempt (λ a. IsFree asks old s a) → (Rose old.faults new.faults → ⊥) → StepsWell asks s to mid → GoesOn old mid to end new after → EndsAsPage end
-goes_well law old new asks s mid after progress.Went end free keeps well goes = subst EndsAsPage (sym goes.0) tt
-goes_well law old new asks s mid after (progress.Done done) end free keeps well goes =
-    let a : AttemptValue = well.1 in
-    let is_open : mid.attempt ≡ Some a = ap (λ (t : TriesValue). t.attempt) well.0 ∙ well.2 in
-    let here : IsFree asks old s a = subst (λ (o : Option AttemptValue). IfSome o (λ a. IsFree asks old s a)) well.2 free in
-    commits_well law old new asks mid after a done end (subst (λ (t : TriesValue). IsFree asks old t a) (sym well.0) here) well.3 keeps
-    (subst (λ (o : Option AttemptValue). CommitsAs old mid o done end new after) is_open goes)
-goes_well law old new asks s mid after (progress.Ended e) end free keeps well goes = absurd well
+goes_well : (law : RefusedInOrder) (old between new : ContainerValue) (asks : List Answer → Next) (s mid after : TriesValue) (to : Progress) (end : Option Ended)
+    → IfSome s.attempt (λ a. IsFree asks old s a) → (Rose old.faults new.faults → ⊥) → StepsWell old asks s to between mid → GoesOn between mid to end new after → EndsAsPage end
+goes_well law old between new asks s mid after progress.Went end free keeps well goes = subst EndsAsPage (sym goes.0) tt
+goes_well law old between new asks s mid after (progress.Done done) end free keeps well goes =
+    let a : AttemptValue = well.2 in
+    let is_open : mid.attempt ≡ Some a = ap (λ (t : TriesValue). t.attempt) well.1 ∙ well.3 in
+    let here : IsFree asks old s a = subst (λ (o : Option AttemptValue). IfSome o (λ a. IsFree asks old s a)) well.3 free in
+    commits_well law old new asks mid after a done end (subst (λ (t : TriesValue). IsFree asks old t a) (sym well.1) here) well.4 keeps
+    (subst (λ (c : ContainerValue). CommitsAs c mid (Some a) done end new after) well.0
+    (subst (λ (o : Option AttemptValue). CommitsAs between mid o done end new after) is_open goes))
+goes_well law old between new asks s mid after (progress.Ended e) end free keeps well goes = absurd well
 
 left_well : {P : Type 0} (serves : BrickNo → Bool) (facts : VisitFacts) (lease : Option SessionLease) (events : List Event) (end : Option Ended) (tries : TriesValue) (program : P) (v : Visit P)
     → EndsAsPage end → IsUnhindered serves (after_closing_if (option_map (closing_of facts lease events) end) (record v { work = Serving tries program }))
@@ -99,15 +100,15 @@ left_well serves facts lease events None tries program v well = tt
 left_well serves facts lease events (Some e) tries program v well = page_left serves facts lease events e (record v { work = Serving tries program }) well
 
 -- a step in the container that nothing hinders
-pub inside_unhindered : {P : Type 0} (refused : RefusedInOrder) (revoked : RevokedBy) (stopped : StoppedBy) (asks : P → List Answer → Next) (serves : BrickNo → Bool) (old new : Visit P) (container after : ContainerValue)
+pub inside_unhindered : {P : Type 0} (refused : RefusedInOrder) (stops : StopsAlone) (asks : P → List Answer → Next) (serves : BrickNo → Bool) (old new : Visit P) (container after : ContainerValue)
     → VisitsInside asks old container new after → OnServing old.work (λ tries program. IfSome tries.attempt (λ a. IsFree (asks program) container tries a))
     → (Rose container.faults after.faults → ⊥) → IsUnhindered serves new
-inside_unhindered {P} refused revoked stopped asks serves old new container after visits free keeps = by_work old.work visits.serves free
+inside_unhindered {P} refused stops asks serves old new container after visits free keeps = by_work old.work visits.serves free
   where
     served : (tries : TriesValue) (program : P) → ServesBy asks container old.facts old.lease tries program visits.closing after visits.work → IfSome tries.attempt (λ a. IsFree (asks program) container tries a) → IsUnhindered serves new
     served tries program s free_here =
-        let steps = steps_well revoked stopped container (asks program) tries s.serves.mid tries.attempt s.serves.to refl free_here s.serves.steps in
-        let well = goes_well refused container after (asks program) tries s.serves.mid s.after s.serves.to s.serves.end free_here keeps steps s.serves.goes_on in
+        let steps = steps_well stops container (asks program) tries s.serves.between s.serves.mid tries.attempt s.serves.to refl free_here s.serves.steps in
+        let well = goes_well refused container s.serves.between after (asks program) tries s.serves.mid s.after s.serves.to s.serves.end free_here keeps steps s.serves.goes_on in
         let closing : visits.closing ≡ option_map (closing_of old.facts old.lease (events_of after)) s.serves.end = s.serves.closing_is in
         subst (IsUnhindered serves) (sym visits.new_is)
         (subst (λ (c : Option Closing). IsUnhindered serves (after_closing_if c (record old { work = visits.work }))) (sym closing)

@@ -1,7 +1,8 @@
 //! The laws. Each is the contract of a function that does nothing: a caller that needs the law calls the function.
 
-ghost use Rattle.std.specs.Prelude.{◌≡◌, ◌≤◌, ◌<◌, ◌+◌, ℕ, Bool, true, All, List, length, Option, None, Some, IfSome};
+ghost use Rattle.std.specs.Prelude.{◌≡◌, ◌≤◌, ◌<◌, ◌+◌, ℕ, Bool, true, All, List, [], length, Option, None, Some, IfSome};
 ghost use Rattle.std.specs.List.{count_by};
+ghost use Rattle.boot_core.specs.Boot.{BootValue};
 ghost use Rattle.boot_core.specs.Refusals.{HasRoomFor};
 ghost use Rattle.call_attempts.specs.Attempt.{AttemptValue, wanted};
 ghost use Rattle.call_ticket.specs.declared.next.Answer.{Answer};
@@ -72,12 +73,13 @@ ghost use Rattle.request_visit.specs.declared.visit.Visit.{Visit};
 ghost use Rattle.request_visit.specs.declared.visit.Work.TheVariants.{Reading, Opening, Serving, Left};
 ghost use Rattle.unhindered_requests.specs.Bricks.{BricksServe, HoldersServe, bricks_in};
 ghost use Rattle.unhindered_requests.specs.StepsLeft.{steps_left};
-ghost use Rattle.unhindered_requests.specs.Tries.{IsFree};
+ghost use Rattle.unhindered_requests.specs.Tries.{IsFree, NoFault, Works};
 ghost use Rattle.unhindered_requests.specs.Unhindered.{IsPage, IsUnhindered, Serve};
 
 use boot_core::commits_are_refused_in_order;
-use call_attempts::{attempts_come_to_their_end, reboots_alone_stop};
+use call_attempts::{attempts_come_to_their_end, reboots_and_faults_alone_stop};
 use call_ticket::Program;
+use component_pool::active_plans_are_found;
 use outside::{Link, Random, Serials};
 use request_decisions::decisions_are_one;
 use session_way::ways_have_answers;
@@ -100,8 +102,8 @@ pub fn ordered_requests_are_admitted<R: Random, S: Serials>()
 ///
 /// - at a call of the link, where it gives no brick that serves a cause against it (`Serve`, by `serve` and
 ///   `serve_else`);
-/// - at a step in the container, where that is free (`IsFree`, by `free`: no reboot, conflict or full journal stands in
-///   its way) and the keeper did not fail, so that its count of faults did not rise;
+/// - at a step in the container, where that is free (`IsFree`, by `free`: no reboot, failing component, conflict or
+///   full journal stands in its way) and the keeper did not fail, so that its count of faults did not rise;
 /// - where passes are taken, if of the bricks that they are for as many serve as are to store a value: so as many
 ///   windows are open;
 /// - and at each other step. Its item is then a page.
@@ -134,6 +136,7 @@ pub fn unhindered_requests_end_as_pages<P: Program, L: Link>()
         → ((shown : Conflict) → conflict_of c.boot.entries a.ticket.call ≡ Some shown → length tries.tries + 1 < 3)
         → ((x : ComponentNo) (method : ℕ) → wanted asks a ≡ next.Enter x method
         → down_of c.boot.entries (group_of c.boot.start.deployment x.0) ≡ None)
+        → ((x : ComponentNo) (method : ℕ) → wanted asks a ≡ next.Enter x method → Works c.boot x)
         → ((done : DoneText) → wanted asks a ≡ next.Done done
         → HasRoomFor c.boot.start.limits c.boot.entries a.ticket.call (action_of tries done))
         → IsFree asks c tries a }
@@ -151,8 +154,17 @@ pub fn unhindered_requests_end_as_pages<P: Program, L: Link>()
         → IsUnhindered serves v → IsPage i.outcome }
 {
     commits_are_refused_in_order();
-    reboots_alone_stop();
+    reboots_and_faults_alone_stop();
     ways_have_answers();
+}
+
+/// A component works, however often it was entered, where each of its plans was cured by a reboot of its group, or is
+/// one that leaks. So each component of a boot without plans works.
+pub fn components_fail_by_plans_alone()
+    ensures spared { (boot : BootValue) (x : ComponentNo) → NoFault boot x → Works boot x }
+    ensures unplanned { (boot : BootValue) (x : ComponentNo) → boot.start.plans ≡ [] → Works boot x }
+{
+    active_plans_are_found();
 }
 
 /// A request comes to its end, whether anything hinders it or not: each of its steps leaves fewer (`steps_left`), and

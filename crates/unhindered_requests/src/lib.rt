@@ -10,6 +10,7 @@
 //! each brick of its cookie was silent, strayed,  `Serve`, and `read`: no brick of the cookie serves
 //! crashed, or was swept
 //! a group that it enters is down                 `MayStep`: `up`
+//! a component that it enters fails               `MayStep`: `works`
 //! a group that it entered was rebooted           `MayBeRevoked`: in its last try, or where it may not call again
 //! what it read or writes was written meanwhile   `MayConflict`: in its last try
 //! the journal is full                            `MayCommit`: `room`
@@ -21,6 +22,7 @@
 //! `unhindered_requests_end_as_pages` has a clause for each step of a request (`request_visit`): while that step's
 //! hindrance is away the request stays unhindered (`specs/Unhindered.antt`), and then its item is a page. Each clause
 //! has the premises of its own step, and no others; what others do meanwhile is left open.
+//! `components_fail_by_plans_alone` says when a component works: in a boot without plans each does.
 //! `bricks_serve_by_their_replies` says which calls of the link leave a brick as one that serves.
 //! `requests_come_to_their_end` says that a request has no more than 2,476 steps, hindered or not.
 //!
@@ -31,6 +33,6 @@
 mod laws;
 
 pub use laws::{
-    bricks_serve_by_their_replies, ordered_requests_are_admitted, requests_come_to_their_end,
-    unhindered_requests_end_as_pages,
+    bricks_serve_by_their_replies, components_fail_by_plans_alone, ordered_requests_are_admitted,
+    requests_come_to_their_end, unhindered_requests_end_as_pages,
 };

@@ -2,11 +2,11 @@
 use Rattle.std.proofs.Common.{◌≡◌, ℕ, ◌<◌, ◌%◌, Bool, true, false, List, [], ◌∷◌, ◌++◌, length, refl, sym, ap, ◌∙◌, subst, arith}
 use Rattle.std.specs.Prelude.{◌==◌, if◌then◌else◌}
 use Rattle.crash_base.specs.declared.numbers.ComponentNo.{ComponentNo}
+use Rattle.journal_model.specs.declared.entry.Entry.{Entry}
 use Rattle.deployment.specs.declared.parts.Parts.{Parts}
 use Rattle.deployment.specs.Parts.{component_no}
 use Rattle.call_ticket.specs.Access.{is_in_owner, is_inside}
 use Rattle.call_ticket.specs.Ticket.{TicketValue}
-use Rattle.boot_core.specs.Boot.{BootValue}
 use Rattle.boot_core.specs.Steps.{ticket_entered}
 use Rattle.workload.specs.Parts.{work_components, work_tables, work_parts}
 use Rattle.workload.specs.Turns.{own_table, entered_by}
@@ -36,10 +36,10 @@ known_component parts c key is which =
     let P : Parts → ComponentNo → Type 0 = λ p x. x.0 < length p.components in
     subst (λ p. P p c) (sym is) (subst (λ x. P work_parts x) (sym which) (known_either (key % 2 == 0)))
 
-pub entered_inside : (b : BootValue) (old new : TicketValue) (g : ℕ) (c : ComponentNo) (key : ℕ) → b.start.deployment ≡ work_parts → old.call.frames ≡ [] → c ≡ entered_by key → new ≡ ticket_entered b.entries g c old → is_in_owner b.start.deployment new.call (own_table b.start.deployment new.call) ≡ true
-entered_inside b old new g c key parts outside which is =
+pub entered_inside : (parts : Parts) (es : List Entry) (old new : TicketValue) (g : ℕ) (c : ComponentNo) (key : ℕ) → parts ≡ work_parts → old.call.frames ≡ [] → c ≡ entered_by key → new ≡ ticket_entered es g c old → is_in_owner parts new.call (own_table parts new.call) ≡ true
+entered_inside parts es old new g c key known outside which is =
     let frames : new.call.frames ≡ either (key % 2 == 0) ∷ [] = ap (λ (t : TicketValue). t.call.frames) is ∙ ap (λ f. f ++ c ∷ []) outside ∙ ap (λ x. x ∷ []) which in
-    subst (λ f. AreInside b.start.deployment f) (sym frames) (subst (λ p. AreInside p (either (key % 2 == 0) ∷ [])) (sym parts) (inside_either (key % 2 == 0)))
+    subst (λ f. AreInside parts f) (sym frames) (subst (λ p. AreInside p (either (key % 2 == 0) ∷ [])) (sym known) (inside_either (key % 2 == 0)))
 
 pub a_known : (parts : Parts) → parts ≡ work_parts → A < length parts.components
 a_known parts is = subst (λ (p : Parts). A < length p.components) (sym is) (known_either true)

@@ -2,6 +2,7 @@
 use Rattle.std.proofs.Common.{◌≡◌, ℕ, ◌+◌, ◌<◌, ◌≤◌, Bool, List, [], length, Option, refl, sym, ap, ◌∙◌, subst, arith}
 use Rattle.std.specs.Prelude.{All}
 use Rattle.std.proofs.lemmas.List.Elements.{All-replicate}
+use Rattle.crash_base.specs.declared.fault_plans.FaultPlan.{FaultPlan}
 use Rattle.deployment.specs.declared.parts.Parts.{Parts}
 use Rattle.journal_model.specs.declared.limits.JournalLimits.{JournalLimits}
 use Rattle.outside.specs.Keeper.{KeeperTold}
@@ -80,11 +81,12 @@ some_of_all number count opened now tally old new takes = record {
   counted = takes.counted;
 }
 
-opened_so : (parts : Parts) (limits : JournalLimits) (told : Option KeeperTold) (c : ContainerValue) → parts ≡ work_parts → limits ≡ work_limits → IsStarted parts limits told c → IsOpened work_parts work_limits told c.boot c.told
-opened_so parts limits told c is so started =
-    let P : Parts → Type 0 = λ p. IsOpened p limits told c.boot c.told in
-    let Q : JournalLimits → Type 0 = λ l. IsOpened work_parts l told c.boot c.told in
-    subst Q so (subst P is started.opened)
+opened_so : (parts : Parts) (plans : List FaultPlan) (limits : JournalLimits) (told : Option KeeperTold) (c : ContainerValue) → parts ≡ work_parts → plans ≡ [] → limits ≡ work_limits → IsStarted parts plans limits told c → IsOpened work_parts [] work_limits told c.boot c.told
+opened_so parts plans limits told c is none so started =
+    let P : Parts → Type 0 = λ p. IsOpened p plans limits told c.boot c.told in
+    let R : List FaultPlan → Type 0 = λ q. IsOpened work_parts q limits told c.boot c.told in
+    let Q : JournalLimits → Type 0 = λ l. IsOpened work_parts [] l told c.boot c.told in
+    subst Q so (subst R none (subst P is started.opened))
 
 held : (kept told : Option KeeperTold) (b c : BootValue) → kept ≡ told → b ≡ c → HoldsRows told b → HoldsRows kept c
 held kept told b c same is holds =
@@ -97,11 +99,11 @@ counted_on replies before old new after less is counted =
     let P : ℕ → Type 0 = λ n. AreCounted replies before n in
     subst P (sym is) (λ h. rose_then before old new less (counted h))
 
-pub works : (number count : ℕ) (text : List ℕ) (parts : Parts) (limits : JournalLimits) (told kept : Option KeeperTold) (first last : ContainerValue) (before after : ℕ) → parts ≡ work_parts → limits ≡ work_limits → IsStarted parts limits told first → SumsUp number count text first.boot last.boot first.faults last.faults → before ≤ first.faults → kept ≡ last.told → after ≡ last.faults → HoldsRows last.told last.boot → Works number count text told kept before after
-works number count text parts limits told kept first last before after is so started sums less same end rows = record {
+pub works : (number count : ℕ) (text : List ℕ) (parts : Parts) (plans : List FaultPlan) (limits : JournalLimits) (told kept : Option KeeperTold) (first last : ContainerValue) (before after : ℕ) → parts ≡ work_parts → plans ≡ [] → limits ≡ work_limits → IsStarted parts plans limits told first → SumsUp number count text first.boot last.boot first.faults last.faults → before ≤ first.faults → kept ≡ last.told → after ≡ last.faults → HoldsRows last.told last.boot → Works number count text told kept before after
+works number count text parts plans limits told kept first last before after is none so started sums less same end rows = record {
   opened = first.boot;
   first = first.told;
-  opens = opened_so parts limits told first is so started;
+  opens = opened_so parts plans limits told first is none so started;
   replies = sums.replies;
   turns = sums.turns;
   text_is = sums.text_is;
@@ -109,11 +111,11 @@ works number count text parts limits told kept first last before after is so sta
   counted = counted_on sums.replies before first.faults last.faults after less end sums.counted;
 }
 
-pub works_partly : (number count : ℕ) (parts : Parts) (limits : JournalLimits) (told kept : Option KeeperTold) (first last : ContainerValue) (before after : ℕ) → parts ≡ work_parts → limits ≡ work_limits → IsStarted parts limits told first → TakesSome number count first.boot last.boot first.faults last.faults → before ≤ first.faults → kept ≡ last.told → after ≡ last.faults → HoldsRows last.told last.boot → WorksPartly number count told kept before after
-works_partly number count parts limits told kept first last before after is so started takes less same end rows = record {
+pub works_partly : (number count : ℕ) (parts : Parts) (plans : List FaultPlan) (limits : JournalLimits) (told kept : Option KeeperTold) (first last : ContainerValue) (before after : ℕ) → parts ≡ work_parts → plans ≡ [] → limits ≡ work_limits → IsStarted parts plans limits told first → TakesSome number count first.boot last.boot first.faults last.faults → before ≤ first.faults → kept ≡ last.told → after ≡ last.faults → HoldsRows last.told last.boot → WorksPartly number count told kept before after
+works_partly number count parts plans limits told kept first last before after is none so started takes less same end rows = record {
   opened = first.boot;
   first = first.told;
-  opens = opened_so parts limits told first is so started;
+  opens = opened_so parts plans limits told first is none so started;
   replies = takes.replies;
   turns = takes.turns;
   rows = held kept last.told last.boot (worked number first.boot takes.replies).boot same takes.boot rows;

@@ -1,10 +1,12 @@
 -- What the workload writes at its end.
-use Rattle.std.specs.Prelude.{ℕ, ◌==◌, not, Bool, List, ◌++◌, length, codes}
+use Rattle.std.specs.Prelude.{ℕ, ◌==◌, not, Bool, true, false, List, ◌++◌, length, codes}
 use Rattle.std.specs.Fmt.{decimal}
 use Rattle.std.specs.List.{count_by}
 use Rattle.sha2.specs.Sha256.{sha256}
 use Rattle.crash_base.specs.declared.row_id.TheConstants.{SERVICE_TABLE}
 use Rattle.crash_base.specs.declared.rows.RowWrite.{RowWrite}
+use Rattle.journal_model.specs.declared.entry.Entry.{Entry}
+use Rattle.journal_model.specs.declared.entry.Entry.TheVariants.{Commit, Down, Up}
 use Rattle.journal_model.specs.Rows.{rows_after}
 use Rattle.boot_core.specs.Boot.{BootValue}
 use Rattle.line_steps.specs.Texts.{table_text}
@@ -58,3 +60,17 @@ summary_of tally b =
 -- the summary of the workload
 abbrev pub summary : Work → List ℕ
 summary w = summary_of w.tally w.boot
+
+-- whether an entry is a commit
+abbrev pub is_commit : Entry → Bool
+is_commit (Commit call) = true
+is_commit (Down s) = false
+is_commit (Up s) = false
+
+-- how many commits a journal has
+abbrev pub commit_count : List Entry → ℕ
+commit_count es = count_by is_commit es
+
+-- the line that says how many calls committed
+abbrev pub commits_line : ℕ → List ℕ
+commits_line n = codes "commits " ++ decimal n ++ codes "\n"

@@ -15,7 +15,7 @@ use Rattle.journal_model.specs.declared.entry.Entry.TheVariants.{Commit, Down, U
 use Rattle.journal_model.specs.Calls.{Call, entry_of}
 use Rattle.call_ticket.specs.Access.{is_in_owner}
 use Rattle.call_ticket.specs.Ticket.{TicketValue, ticket_begun, ticket_kept}
-use Rattle.boot_core.specs.Boot.{BootValue, with_entry}
+use Rattle.boot_core.specs.Boot.{BootValue, with_entered, with_entry}
 use Rattle.boot_core.specs.Refusals.{enter_refusal, read_refusal, list_refusal, put_refusal, commit_refusal, reboot_refusal}
 use Rattle.boot_core.specs.Steps.{ticket_entered, ticket_has_read, ticket_has_listed}
 use Rattle.boot_core.specs.declared.refusals.CallRefusal.{CallRefusal}
@@ -64,6 +64,8 @@ step_outcome calls.Steps = outcomes.Refused
 step_outcome calls.Reads = outcomes.Refused
 step_outcome calls.Writes = outcomes.Refused
 step_outcome (calls.Sentinel group down) = outcomes.Refused
+step_outcome (calls.Hung component fault) = outcomes.Refused
+step_outcome (calls.Raised component fault) = outcomes.Refused
 step_outcome calls.OutOfMemory = outcomes.Refused
 
 -- how a refused commit is counted
@@ -93,11 +95,17 @@ abbrev pub new_ticket : BootValue → ℕ → ℕ → TicketValue
 new_ticket b caller k =
     ticket_begun (request_of b k) (record { 0 = caller }) (record { 0 = length b.entries })
 
+-- a call enters a component, which counts, and goes on with this ticket; where that is refused, the call is dropped
+abbrev pub enter_ends : BootValue → ComponentNo → TicketValue → Option CallRefusal → TurnLeft
+enter_ends b c next None = goes_on (with_entered b c) next
+enter_ends b c next (Some refusal) = ends b (step_outcome refusal)
+
 -- a call has entered this component, unless that is refused
 abbrev pub enter_left : BootValue → TicketValue → ComponentNo → TurnLeft
 enter_left b ticket c =
-    let group : ℕ = group_of b.start.deployment c.0 in
-    step_left b (ticket_entered b.entries group c ticket) (enter_refusal b.entries ticket.call group)
+    enter_ends b c
+    (ticket_entered b.entries (group_of b.start.deployment c.0) c ticket)
+    (enter_refusal b ticket.call c)
 
 -- a caller that is not live begins a call, and enters A or C
 unfoldable pub begin_left : BootValue → ℕ → ℕ → ℕ → TurnLeft

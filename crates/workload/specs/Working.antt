@@ -1,5 +1,5 @@
 -- What the calls of the workload go on with, and what a run of it shows.
-use Rattle.std.specs.Prelude.{◌≡◌, ℕ, ◌≤◌, ◌⊎◌, not, Bool, true, false, List, length, Option, All}
+use Rattle.std.specs.Prelude.{◌≡◌, ℕ, ◌≤◌, ◌⊎◌, not, Bool, true, false, List, [], length, Option, All}
 use Rattle.std.specs.List.{list_any}
 use Rattle.outside.specs.Faults.{Rose}
 use Rattle.outside.specs.Keeper.{KeeperTold}
@@ -84,7 +84,7 @@ work_limits = record { entries = MAX_ENTRIES; bytes = MAX_JOURNAL_BYTES }
 pub record Works (number count : ℕ) (text : List ℕ) (old new : Option KeeperTold) (before after : ℕ) : Type 0 where
   pub opened : BootValue
   pub first : Option KeeperTold
-  pub opens : IsOpened work_parts work_limits old opened first
+  pub opens : IsOpened work_parts [] work_limits old opened first
   pub replies : List Bool
   pub turns : length replies ≡ count
   pub text_is : text ≡ summary (worked number opened replies)
@@ -96,7 +96,7 @@ pub record Works (number count : ℕ) (text : List ℕ) (old new : Option Keeper
 pub record WorksPartly (number count : ℕ) (old new : Option KeeperTold) (before after : ℕ) : Type 0 where
   pub opened : BootValue
   pub first : Option KeeperTold
-  pub opens : IsOpened work_parts work_limits old opened first
+  pub opens : IsOpened work_parts [] work_limits old opened first
   pub replies : List Bool
   pub turns : length replies ≤ count
   pub rows : HoldsRows new (worked number opened replies).boot

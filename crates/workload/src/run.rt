@@ -1,6 +1,6 @@
 //! A run of the workload.
 
-ghost use Rattle.std.specs.Prelude.{◌≡◌, ◌≤◌, IfOk, MatchResult, string_bytes};
+ghost use Rattle.std.specs.Prelude.{◌≡◌, ◌≤◌, [], IfOk, MatchResult, string_bytes};
 ghost use Rattle.workload.specs.Parts.{work_parts};
 ghost use Rattle.workload.specs.Summary.{summary_of};
 ghost use Rattle.workload.specs.Working.{TakesTurns, TakesSome, Works, FailsToWork, SumsUp, work_limits};
@@ -12,7 +12,7 @@ use crate::tally::Tally;
 use crate::turns::turn;
 use boot_core::{JournalLimits, MAX_ENTRIES, MAX_JOURNAL_BYTES, StartRefusal};
 use container_core::Container;
-use crash_base::OutOfMemory;
+use crash_base::{FaultList, OutOfMemory};
 use line_steps::Callers;
 use outside::Keeper;
 use std::alloc::Global;
@@ -34,6 +34,13 @@ fn work_limits() -> JournalLimits
         entries: MAX_ENTRIES,
         bytes: MAX_JOURNAL_BYTES,
     }
+}
+
+/// No component fails by a plan. It takes no memory.
+fn no_plans(alloc: Global) -> FaultList
+    ensures { result ≡ [] }
+{
+    FaultList::from_vec(Vec::new(alloc))
 }
 
 /// Takes the turns.
@@ -108,7 +115,7 @@ pub fn run_workload<K: Keeper + Drop>(
     let Ok(deployment) = work_deployment(alloc) else {
         return (keeper, Err(WorkloadFailure::OutOfMemory));
     };
-    match Container::start(alloc, deployment, keeper, work_limits()) {
+    match Container::start(alloc, deployment, keeper, no_plans(alloc), work_limits()) {
         Err(fail) => (fail.keeper, Err(WorkloadFailure::Unstarted(fail.refusal))),
         Ok(container) => {
             let mut container = container;

@@ -1,6 +1,7 @@
-//! What a caller does in a turn, but for what calls the container itself.
+//! What a caller does in a turn within its call.
 
-ghost use Rattle.std.specs.Prelude.{◌≡◌, ◌≢◌, ◌≤◌, ◌<◌, ◌^◌, [], Some, None, IfOk, IfSome, MatchResult};
+ghost use Rattle.std.specs.Prelude.{◌≡◌, ◌≢◌, ◌≤◌, ◌<◌, ◌^◌, [], Some, None, IfOk, IfSome, OnErr, MatchResult};
+ghost use Rattle.boot_core.specs.Boot.{HasGrown};
 ghost use Rattle.boot_core.specs.Fits.{FitsIn};
 ghost use Rattle.line_steps.specs.CallLines.{row_id};
 ghost use Rattle.workload.specs.Parts.{work_parts};
@@ -9,8 +10,10 @@ ghost use Rattle.workload.specs.Working.{left_at, GoesOn};
 
 use crate::deploying::{A, A_TABLE, C, C_TABLE};
 use crate::tally::Outcome;
-use boot_core::{Boot, CallRefusal, Ticket};
+use boot_core::{CallRefusal, Ticket};
+use container_core::Container;
 use crash_base::{ComponentNo, OutOfMemory, RowBytes, RowId, RowWrite};
+use outside::Keeper;
 use std::alloc::Global;
 
 /// What a turn leaves of the call of its caller, and how a call was answered that ended.
@@ -55,27 +58,34 @@ fn step_outcome(refusal: CallRefusal) -> Result<Outcome, OutOfMemory>
         CallRefusal::Reads => Ok(Outcome::Refused),
         CallRefusal::Writes => Ok(Outcome::Refused),
         CallRefusal::Sentinel { .. } => Ok(Outcome::Refused),
+        CallRefusal::Hung { .. } => Ok(Outcome::Refused),
+        CallRefusal::Raised { .. } => Ok(Outcome::Refused),
         CallRefusal::OutOfMemory => Err(OutOfMemory),
     }
 }
 
 /// A step of a call was refused: the call is dropped.
-pub(crate) fn refused(ticket: Ticket, refusal: CallRefusal) -> Result<Left, OutOfMemory>
-    ensures { MatchResult result
+fn refused<K: Keeper + Drop>(
+    container: &mut Container<K>,
+    ticket: Ticket,
+    refusal: CallRefusal,
+) -> Result<Left, OutOfMemory>
+    ensures answer { MatchResult result
         (λ left. (left.ticket ≡ None) × (left.outcome ≡ Some (step_outcome refusal))
         × (refusal ≢ CallRefusal.OutOfMemory))
         (λ _. refusal ≡ CallRefusal.OutOfMemory) }
+    ensures same { container.new ≡ container.old }
 {
-    drop(ticket);
+    container.abandon(ticket);
     let outcome = step_outcome(refusal)?;
     Ok(ended(Some(outcome)))
 }
 
 /// The table of the component that a call is in.
-fn own_table(boot: &Boot, ticket: &Ticket) -> u8
-    ensures { result ≡ own_table boot.now.start.deployment ticket.now.call }
+fn own_table<K: Keeper + Drop>(container: &Container<K>, ticket: &Ticket) -> u8
+    ensures { result ≡ own_table container.now.boot.start.deployment ticket.now.call }
 {
-    if boot.is_in_owner(ticket, A_TABLE) {
+    if container.as_boot().is_in_owner(ticket, A_TABLE) {
         A_TABLE
     } else {
         C_TABLE
@@ -83,75 +93,91 @@ fn own_table(boot: &Boot, ticket: &Ticket) -> u8
 }
 
 /// The row of a key in the table of the component that a call is in.
-fn own_row(boot: &Boot, ticket: &Ticket, key: u64) -> RowId
-    ensures { result ≡ row_id (own_table boot.now.start.deployment ticket.now.call) key }
+fn own_row<K: Keeper + Drop>(container: &Container<K>, ticket: &Ticket, key: u64) -> RowId
+    ensures { result ≡ row_id (own_table container.now.boot.start.deployment ticket.now.call) key }
 {
     RowId {
-        table: own_table(boot, ticket),
+        table: own_table(container, ticket),
         key,
     }
 }
 
 /// A call puts the number of the turn in the row of a key.
 #[tactic(auto, unfolding(crate::specs::Turns::put_left))]
-pub(crate) fn put_step(
+pub(crate) fn put_step<K: Keeper + Drop>(
     alloc: Global,
-    boot: &Boot,
+    container: &mut Container<K>,
     ticket: Ticket,
     k: u64,
     key: u64,
 ) -> Result<Left, OutOfMemory>
-    requires goes { GoesOn boot.now ticket }
+    requires goes { GoesOn container.old.boot ticket }
     requires turn { k < 2 ^ 32 }
-    ensures left { IfOk result (λ left.
-        left_at boot.now left.ticket left.outcome ≡ put_left boot.now ticket k key) }
-    ensures goes { IfOk result (λ left. IfSome left.ticket (GoesOn boot.now)) }
+    ensures left { IfOk result (λ left. left_at container.new.boot left.ticket left.outcome
+        ≡ put_left container.old.boot ticket k key) }
+    ensures goes { IfOk result (λ left. IfSome left.ticket (GoesOn container.new.boot)) }
+    ensures same { container.new ≡ container.old }
 {
     let mut ticket = ticket;
     let write = RowWrite {
-        id: own_row(boot, &ticket, key),
+        id: own_row(container, &ticket, key),
         bytes: RowBytes::copied(alloc, (k as u32).to_be_bytes().as_slice())?,
     };
-    match boot.put(&mut ticket, write) {
+    match container.put(&mut ticket, write) {
         Ok(()) => Ok(goes_on(ticket)),
-        Err(refusal) => refused(ticket, refusal),
+        Err(refusal) => {
+            let left = refused(container, ticket, refusal)?;
+            Ok(left)
+        }
     }
 }
 
 /// A call reads the row of a key.
 #[tactic(auto, unfolding(crate::specs::Turns::read_left))]
-pub(crate) fn read_step(
+pub(crate) fn read_step<K: Keeper + Drop>(
     alloc: Global,
-    boot: &Boot,
+    container: &mut Container<K>,
     ticket: Ticket,
     key: u64,
 ) -> Result<Left, OutOfMemory>
-    requires goes { GoesOn boot.now ticket }
-    ensures left { IfOk result (λ left.
-        left_at boot.now left.ticket left.outcome ≡ read_left boot.now ticket key) }
-    ensures goes { IfOk result (λ left. IfSome left.ticket (GoesOn boot.now)) }
+    requires goes { GoesOn container.old.boot ticket }
+    ensures left { IfOk result (λ left. left_at container.new.boot left.ticket left.outcome
+        ≡ read_left container.old.boot ticket key) }
+    ensures goes { IfOk result (λ left. IfSome left.ticket (GoesOn container.new.boot)) }
+    ensures same { container.new ≡ container.old }
 {
     let mut ticket = ticket;
-    let id = own_row(boot, &ticket, key);
-    match boot.read(alloc, &mut ticket, id) {
+    let id = own_row(container, &ticket, key);
+    match container.read(alloc, &mut ticket, id) {
         Ok(_) => Ok(goes_on(ticket)),
-        Err(refusal) => refused(ticket, refusal),
+        Err(refusal) => {
+            let left = refused(container, ticket, refusal)?;
+            Ok(left)
+        }
     }
 }
 
 /// A call lists its table.
 #[tactic(auto, unfolding(crate::specs::Turns::list_left))]
-pub(crate) fn list_step(alloc: Global, boot: &Boot, ticket: Ticket) -> Result<Left, OutOfMemory>
-    requires goes { GoesOn boot.now ticket }
-    ensures left { IfOk result (λ left.
-        left_at boot.now left.ticket left.outcome ≡ list_left boot.now ticket) }
-    ensures goes { IfOk result (λ left. IfSome left.ticket (GoesOn boot.now)) }
+pub(crate) fn list_step<K: Keeper + Drop>(
+    alloc: Global,
+    container: &mut Container<K>,
+    ticket: Ticket,
+) -> Result<Left, OutOfMemory>
+    requires goes { GoesOn container.old.boot ticket }
+    ensures left { IfOk result (λ left. left_at container.new.boot left.ticket left.outcome
+        ≡ list_left container.old.boot ticket) }
+    ensures goes { IfOk result (λ left. IfSome left.ticket (GoesOn container.new.boot)) }
+    ensures same { container.new ≡ container.old }
 {
     let mut ticket = ticket;
-    let table = own_table(boot, &ticket);
-    match boot.list(alloc, &mut ticket, table) {
+    let table = own_table(container, &ticket);
+    match container.list(alloc, &mut ticket, table) {
         Ok(_) => Ok(goes_on(ticket)),
-        Err(refusal) => refused(ticket, refusal),
+        Err(refusal) => {
+            let left = refused(container, ticket, refusal)?;
+            Ok(left)
+        }
     }
 }
 
@@ -167,17 +193,27 @@ fn entered_by(key: u64) -> ComponentNo
 }
 
 /// A call that has just begun enters the component of a key.
-pub(crate) fn enter_step(boot: &Boot, ticket: Ticket, key: u64) -> Result<Left, OutOfMemory>
-    requires parts { boot.now.start.deployment ≡ work_parts }
+pub(crate) fn enter_step<K: Keeper + Drop>(
+    container: &mut Container<K>,
+    ticket: Ticket,
+    key: u64,
+) -> Result<Left, OutOfMemory>
+    requires parts { container.old.boot.start.deployment ≡ work_parts }
     requires outside { ticket.call.frames ≡ [] }
-    requires fits { FitsIn boot.now ticket.call }
-    ensures left { IfOk result (λ left.
-        left_at boot.now left.ticket left.outcome ≡ enter_left boot.now ticket (entered_by key)) }
-    ensures goes { IfOk result (λ left. IfSome left.ticket (GoesOn boot.now)) }
+    requires fits { FitsIn container.old.boot ticket.call }
+    ensures left { IfOk result (λ left. left_at container.new.boot left.ticket left.outcome
+        ≡ enter_left container.old.boot ticket (entered_by key)) }
+    ensures goes { IfOk result (λ left. IfSome left.ticket (GoesOn container.new.boot)) }
+    ensures kept { OnErr result (container.new ≡ container.old) }
+    ensures count { container.new.faults ≡ container.old.faults }
+    ensures grown { HasGrown container.old.boot container.new.boot }
 {
     let mut ticket = ticket;
-    match boot.enter(&mut ticket, entered_by(key), 0) {
+    match container.enter(&mut ticket, entered_by(key), 0) {
         Ok(()) => Ok(goes_on(ticket)),
-        Err(refusal) => refused(ticket, refusal),
+        Err(refusal) => {
+            let left = refused(container, ticket, refusal)?;
+            Ok(left)
+        }
     }
 }

@@ -38,7 +38,8 @@ fn begin_step<K: Keeper + Drop>(
     ensures left { IfOk result (λ left. left_at container.new.boot left.ticket left.outcome
         ≡ begin_left container.old.boot caller k key) }
     ensures goes { IfOk result (λ left. IfSome left.ticket (GoesOn container.new.boot)) }
-    ensures same { container.new ≡ container.old }
+    ensures kept { OnErr result (container.new.boot ≡ container.old.boot) }
+    ensures count { container.new.faults ≡ container.old.faults }
     ensures grown { HasGrown container.old.boot container.new.boot }
 {
     let request = RequestNo {
@@ -46,7 +47,7 @@ fn begin_step<K: Keeper + Drop>(
         serial: (1 << 63) + k,
     };
     let ticket = container.begin(alloc, request, WorkerNo(caller as u32))?;
-    let left = enter_step(container.as_boot(), ticket, key)?;
+    let left = enter_step(container, ticket, key)?;
     Ok(left)
 }
 
@@ -99,13 +100,18 @@ fn scope_of(boot: &Boot, c: ComponentNo) -> Scope
 }
 
 /// A refused reboot drops the call of the caller.
-fn reboot_refused(ticket: Ticket, refusal: RebootRefusal) -> Result<Left, OutOfMemory>
-    ensures { MatchResult result
+fn reboot_refused<K: Keeper + Drop>(
+    container: &mut Container<K>,
+    ticket: Ticket,
+    refusal: RebootRefusal,
+) -> Result<Left, OutOfMemory>
+    ensures answer { MatchResult result
         (λ left. (left.ticket ≡ None) × (left.outcome ≡ Some Outcome.Refused)
         × (refusal ≢ RebootRefusal.OutOfMemory))
         (λ _. refusal ≡ RebootRefusal.OutOfMemory) }
+    ensures same { container.new ≡ container.old }
 {
-    drop(ticket);
+    container.abandon(ticket);
     match refusal {
         RebootRefusal::Busy { .. } => Ok(ended(Some(Outcome::Refused))),
         RebootRefusal::JournalFull(_) => Ok(ended(Some(Outcome::Refused))),
@@ -135,7 +141,7 @@ fn reboot_step<K: Keeper + Drop>(
             container.end_reboot(down);
             Ok(goes_on(ticket))
         }
-        Err(refusal) => reboot_refused(ticket, refusal),
+        Err(refusal) => reboot_refused(container, ticket, refusal),
     }
 }
 
@@ -159,7 +165,7 @@ fn reboot_by_key<K: Keeper + Drop>(
     } else if key < 8 {
         reboot_step(container, ticket, ComponentNo(C))
     } else {
-        drop(ticket);
+        container.abandon(ticket);
         Ok(ended(None))
     }
 }
@@ -185,15 +191,15 @@ fn live_step<K: Keeper + Drop>(
 {
     match choice.deed {
         Deed::Put => {
-            let put = put_step(alloc, container.as_boot(), ticket, k, choice.key)?;
+            let put = put_step(alloc, container, ticket, k, choice.key)?;
             Ok(put)
         }
         Deed::Read => {
-            let read = read_step(alloc, container.as_boot(), ticket, choice.key)?;
+            let read = read_step(alloc, container, ticket, choice.key)?;
             Ok(read)
         }
         Deed::List => {
-            let listed = list_step(alloc, container.as_boot(), ticket)?;
+            let listed = list_step(alloc, container, ticket)?;
             Ok(listed)
         }
         Deed::Commit => {

@@ -103,12 +103,13 @@ const FAILING: &str = "|1|1||6|keeper failed;||table
 
 /// Lines that start no boot: those of the head, and comments.
 const HEADS: &str = "component A|component A;component B;hard A B;soft B A;owns A 40;limit 1 1||\
-# a comment;;;|bricks 3 3 2;key 000102030405060708090a0b0c0d0e0f";
+# a comment;;;|bricks 3 3 2;key 000102030405060708090a0b0c0d0e0f|component A;fault A 0 raise group;fault A 9 hang app";
 
 /// Lines that are refused without a boot: of the head, and those that spell nothing.
 const UNREAD: &str =
     "owns A 40|component app|tables|table |begin c0|reopen c1|bricks 3 3 4|key 61|write k0 61|write k1 6|\
-write k65536 61|fetch 1|cookie c1|free 1 bogus|now|present|sweep 1 0 0|now 18446744073709551616";
+write k65536 61|fetch 1|cookie c1|free 1 bogus|now|present|sweep 1 0 0|now 18446744073709551616|\
+fault A 0 raise group|fault A 0 raise human";
 
 /// The same after a line that is read.
 const UNREAD_SECOND: &str = "|1|0||3|line 2;||component A;component A
@@ -228,6 +229,15 @@ begin c1;enter c1 A;put c1 40 7 63;commit c1;table
 |0|7|0 0 00000003;40 7 61;|0||c1 committed 0;boot 2;boot 3;c1 list 1 7=61;c1 committed 0;|\
 begin c1;enter c1 A;put c1 40 7 61;commit c1;reopen;reopen;begin c1;enter c1 A;list c1 40;commit c1";
 
+/// A component that fails hands the keeper nothing. The next boot is started as any other, and cures it.
+const FAILING_COMPONENT: &str = "|3|2|0 0 00000001;|0||c1 raised 0 fault 0;c1 committed 0;|\
+fault A 0 raise group;begin c1;enter c1 A;commit c1
+|0|3|0 0 00000001;41 1 62;|0||c1 hung 0 fault 0;c1 committed 0;41 1 62;|\
+fault A 0 hang app;begin c1;enter c1 C;put c1 41 1 62;exit c1;enter c1 A;commit c1;table
+|0|5|0 0 00000002;40 7 61;|0||c1 raised 0 fault 0;boot 2;c1 committed 0;|\
+fault A 0 raise process;begin c1;enter c1 A;reopen;begin c1;enter c1 A;put c1 40 7 61;commit c1
+|4|4|0 0 00000001;|6|keeper failed;|c1 hung 0 fault 0;|fault A 0 hang process;begin c1;enter c1 A;reopen;table";
+
 /// A keeper that fails at a start after the first: it holds the rows of the commits, and the last boot's number.
 const FAILING_LATER: &str = "|4|4|0 0 00000001;40 7 61;|6|keeper failed;|c1 committed 0;|\
 begin c1;enter c1 A;put c1 40 7 61;commit c1;reopen;table
@@ -248,5 +258,6 @@ fn a_next_boot_calls_the_keeper_twice(rt: HostRuntime) {
     expect_rows::<BackwardKeeper>(&rt, alloc, "drive", "", STORED);
     expect_driven(&rt, alloc, "", FIRST);
     expect_driven(&rt, alloc, PAIR, EARLIER_ROWS);
+    expect_driven(&rt, alloc, PAIR, FAILING_COMPONENT);
     expect_driven(&rt, alloc, PAIR, FAILING_LATER);
 }

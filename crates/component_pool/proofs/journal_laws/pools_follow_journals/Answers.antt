@@ -3,7 +3,8 @@ use Rattle.journal_model.specs.declared.entry.Entry.TheVariants.{Commit, Down, U
 use Rattle.component_pool.specs.Cures.{level_of}
 use Rattle.component_pool.specs.Journal.{reboots_in}
 use Rattle.component_pool.specs.Pool.{rebooted_at}
-use Rattle.component_pool.proofs.Journals.{reboots_in-down, reboots_in-commit, reboots_in-up, stands_alike, follows_generation, follows_may, stands_as_counted}
+use Rattle.component_pool.proofs.Journals.{reboots_in-down, reboots_in-commit, reboots_in-up, stands_alike, follows_generation, follows_may}
+use Rattle.component_pool.proofs.Counting.{stands_as_counted}
 use Rattle.component_pool.proofs.journal_laws.pools_follow_journals.Goals as goal
 
 pub returns-clause-down : goal.returns-clause-down

@@ -1,5 +1,11 @@
-use Rattle.component_pool.proofs.Giving.{GivenUpTo}
+use Rattle.std.proofs.Common.{◌≡◌, length, vec_capacity}
+use Rattle.component_pool.proofs.Giving.{GivesRest}
 use Rattle.component_pool.proofs.pool.give_all.Given as goal
 
-abbrev pub invariant-loop-number : goal.invariant-loop-number
-invariant-loop-number l = GivenUpTo l.components l.numbers l.initial.instances l.instances l.number-index
+abbrev pub invariant-loop-instance : goal.invariant-loop-instance
+invariant-loop-instance l =
+    GivesRest l.components l.initial.taken.items l.taken.items l.initial.instances l.instances
+    × (vec_capacity l.taken ≡ vec_capacity l.initial.taken)
+
+abbrev pub decreases-loop-instance : goal.decreases-loop-instance
+decreases-loop-instance l = length l.taken.items

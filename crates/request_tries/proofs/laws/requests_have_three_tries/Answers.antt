@@ -12,7 +12,7 @@ pub returns-clause-conflict : goal.returns-clause-conflict
 returns-clause-conflict c = few_conflict
 
 pub returns-clause-number : goal.returns-clause-number
-returns-clause-number c = λ old asks s after to steps goes bears. bears_number old asks s after s.attempt to refl steps goes bears
+returns-clause-number c = λ old new asks s after to steps goes bears. bears_number old new asks s after s.attempt to refl steps goes bears
 
 pub returns-clause-next : goal.returns-clause-next
 returns-clause-next c = λ old new s after done commits. rests_after old new s after s.attempt done commits

@@ -25,9 +25,9 @@ pub returns-clause-inside : goal.returns-clause-inside
 returns-clause-inside g c = λ old new container after visits grown may.
     inside_goes
     (record {
-      stopped = c.ends_begin_with_the_first_try.ensures.stopped;
+      stopped = λ d asks end. c.ends_begin_with_the_first_try.ensures.stopped d end asks;
       committed = c.ends_begin_with_the_first_try.ensures.committed;
-      stepped = c.ends_begin_with_the_first_try.ensures.stepped;
+      stepped = λ d asks end. c.ends_begin_with_the_first_try.ensures.stepped d end asks;
       tried = c.ends_begin_with_the_first_try.ensures.tried;
     })
     c.ends_stay_true.ensures.serving g.P.Program.accepts g.P.Program.asks old new container after visits grown may

@@ -1,8 +1,14 @@
-use Rattle.site_programs.proofs.Reaching.{conflict_reached, down_reached, once_bought, revoked_reached}
+use Rattle.site_programs.proofs.Reaching.{conflict_reached, down_reached, hung_reached, once_bought, raised_reached, revoked_reached}
 use Rattle.site_programs.proofs.reach.requests_touch_what_their_actions_reach.Goals as goal
 
 pub returns-clause-sentinel : goal.returns-clause-sentinel
 returns-clause-sentinel c = down_reached c.calls_enter_owners.ensures.group
+
+pub returns-clause-hung : goal.returns-clause-hung
+returns-clause-hung c = hung_reached c.calls_enter_owners.ensures.component
+
+pub returns-clause-raised : goal.returns-clause-raised
+returns-clause-raised c = raised_reached c.calls_enter_owners.ensures.component
 
 pub returns-clause-revoked : goal.returns-clause-revoked
 returns-clause-revoked c = revoked_reached c.calls_enter_owners.ensures.group c.calls_access_reached_tables.ensures.accesses

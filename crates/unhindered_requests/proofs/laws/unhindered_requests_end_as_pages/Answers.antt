@@ -17,7 +17,14 @@ returns-clause-opens g c = λ serves v tries program. tt
 
 pub returns-clause-inside : goal.returns-clause-inside
 returns-clause-inside g c = λ serves old new container after visits free keeps.
-    inside_unhindered c.commits_are_refused_in_order.ensures.first c.reboots_alone_stop.ensures.revoked c.reboots_alone_stop.ensures.sentinel g.P.Program.asks serves old new container after visits free keeps
+    inside_unhindered c.commits_are_refused_in_order.ensures.first
+    (record {
+      revoked = c.reboots_and_faults_alone_stop.ensures.revoked;
+      sentinel = c.reboots_and_faults_alone_stop.ensures.sentinel;
+      hung = c.reboots_and_faults_alone_stop.ensures.hung;
+      raised = c.reboots_and_faults_alone_stop.ensures.raised;
+    })
+    g.P.Program.asks serves old new container after visits free keeps
 
 pub returns-clause-windows : goal.returns-clause-windows
 returns-clause-windows g c = windows_unhindered
@@ -41,4 +48,4 @@ pub returns-clause-serve_else : goal.returns-clause-serve_else
 returns-clause-serve_else g c = λ serves order w passes. (tt, tt, tt, tt)
 
 pub returns-clause-free : goal.returns-clause-free
-returns-clause-free g c = λ asks container tries a stale conflict up room. free_so asks container tries a stale conflict up room
+returns-clause-free g c = λ asks container tries a stale conflict up works room. free_so asks container tries a stale conflict up works room

@@ -6,7 +6,7 @@ use Rattle.scenario_text.specs.declared.line.Line.TheVariants as lines
 use Rattle.session_steps.specs.Sessions.{session_line}
 use Rattle.scenario_engine.specs.Engine.{value_of}
 use Rattle.scenario_engine.specs.KeeperCalls.{seen}
-use Rattle.scenario_engine.specs.Running.{with_callers, with_sessions, boot_line}
+use Rattle.scenario_engine.specs.Running.{with_called, with_sessions, boot_line}
 use Rattle.scenario_engine.proofs.Stepping.{heading, in_run, passed, head_refused, placed, part_ended, head_ended, uncalled_ended, commit_ended}
 use Rattle.scenario_engine.proofs.engine.Engine.line_on.Goals as goal
 
@@ -41,7 +41,7 @@ returns-in-Call-clause-answer g c =
     let r = c.in-Run.running in
     let next = c.call_step.new.self in
     let line = lines.Call c.in-Call.caller c.in-Call.line in
-    let answer = within (with_callers r.running) (call_step r.running.boot r.running.callers c.in-Call.caller c.in-Call.line) in
+    let answer = within (with_called r.running) (call_step r.running.boot r.running.callers c.in-Call.caller c.in-Call.line) in
     let v : in_run r ≡ c.args.self.now = ap value (sym c.in-Run.is) ∙ c.self.view_is in
     let part = uncalled_ended c.call_step.result line r next answer refl refl c.call_step.ensures.answer c.call_step.ensures.refused c.call_step.ensures.kept in
     placed c.answered-in-Call.result (in_run next) c.args.self.now (in_run r) c.args.line line (part_ended c.call_step.result c.answered-in-Call.result (in_run next) (in_run r) line c.answered-in-Call.ensures part) v c.in-Call.is

@@ -11,6 +11,7 @@ use Rattle.scenario_engine.specs.Telling.{Opens, FailsToOpen, failure_of}
 use Rattle.scenario_engine.specs.declared.failure.LineFailure.{LineFailure}
 use Rattle.scenario_engine.proofs.Starting.{reopened_so, not_reopened_so}
 use Rattle.scenario_engine.proofs.running.Running.reopen.Goals as goal
+use Rattle.component_pool.specs.Plans.{left_by_process}
 
 pub returns-in-Ok-clause-opens : goal.returns-in-Ok-clause-opens
 returns-in-Ok-clause-opens g c =
@@ -22,7 +23,7 @@ returns-in-Ok-clause-opens g c =
     let k = c.in-Ok.container in
     let h = reopened_so old k c.args.self.running.boot c.args.self.keeper boot keeper c.in-Ok.ensures.started.opened c.in-Ok.ensures.count in
     let over = c.over.ensures.started h.0 h.1 c.in-Ok.ensures.started.since in
-    let P : KeeperSeen → Type 0 = λ n. Opens c.args.self.running.boot.start.deployment c.args.self.running.boot.start.limits (Opened h.0) c.args.self.keeper n in
+    let P : KeeperSeen → Type 0 = λ n. Opens c.args.self.running.boot.start.deployment (left_by_process c.args.self.running.boot.start.plans) c.args.self.running.boot.start.limits (Opened h.0) c.args.self.keeper n in
     let r : RunningState = c.args.self.running in
     let sessions : c.give_back-sessions.result ≡ sessions_given_back r.seats.seats r.sessions =
     c.give_back-sessions.ensures.sessions
@@ -43,8 +44,8 @@ returns-in-Err-clause-opens g c =
     let new : KeeperSeen = seen (g.K.Keeper.told f.keeper) (g.K.Keeper.faults f.keeper) in
     let after : KeeperSeen = seen (g.K.Keeper.told c.not_opened.result.keeper) (g.K.Keeper.faults c.not_opened.result.keeper) in
     let same : after ≡ new = ap (λ k. seen (g.K.Keeper.told k) (g.K.Keeper.faults k)) c.not_opened.ensures.keeper in
-    let P : LineFailure → Type 0 = λ e. FailsToOpen e boot.start.deployment boot.start.limits c.args.self.keeper after in
-    let Q : KeeperSeen → Type 0 = λ k. FailsToOpen (failure_of f.refusal) boot.start.deployment boot.start.limits c.args.self.keeper k in
+    let P : LineFailure → Type 0 = λ e. FailsToOpen e boot.start.deployment (left_by_process boot.start.plans) boot.start.limits c.args.self.keeper after in
+    let Q : KeeperSeen → Type 0 = λ k. FailsToOpen (failure_of f.refusal) boot.start.deployment (left_by_process boot.start.plans) boot.start.limits c.args.self.keeper k in
     let old = c.give_back-sessions.new.container in
     let is : old ≡ c.into_parts-container.result.container = c.give_back-sessions.ensures.same in
     let same_boot : old.boot ≡ boot = ap (λ (k : ContainerValue). k.boot) is ∙ c.into_parts-container.ensures.boot in
