@@ -31,11 +31,10 @@ use Rattle.shepherd.specs.declared.shepherd.ShepherdTurn.TheVariants as turns
 use Rattle.shepherd.specs.declared.shepherd.Stage.{Stage}
 use Rattle.shepherd.specs.declared.shepherd.Stage.TheVariants.{Resting, Serving, Refusing, Over}
 use Rattle.shepherd_steps.specs.Alone.{alone}
-use Rattle.shepherd_steps.specs.Events.{event_of}
 use Rattle.ssm_stub.specs.Runs.{Fits, after}
 use Rattle.ssm_stub.specs.Writes.{WriteState, write_machine, write_start}
 use Rattle.ssm_stub.specs.declared.event.Told.{Told}
-use Rattle.seat_steps.specs.Seats.{SeatGivens, SeatWorld, givens_in, making_by, seen_by}
+use Rattle.seat_steps.specs.Seats.{SeatGivens, SeatWorld, behind_event, making_by}
 use Rattle.seat_steps.specs.declared.seat.Seat.{Seat}
 
 -- A write has heard what came of its asks, one after another, since it began.
@@ -141,10 +140,6 @@ StageShows key (Over end) = Unit {0}
 -- under the key of the service.
 abbrev pub ShowsText : List ℕ → Shepherd ActionCall → Type 0
 ShowsText key s = turn s ≡ turns.Own → StageShows key s.stage
-
--- a connection behind the event of its step, before it goes on by itself
-abbrev pub behind_event : SeatGivens → Seat → SeatWorld → Shepherd ActionCall
-behind_event g seat w = (event_of (givens_in g w) (seen_by seat w)).world.connection
 
 -- The cookies that a step of a seat shows have texts: the connection goes on by itself twice at most.
 pub record ShowsTexts (g : SeatGivens) (seat : Seat) (w : SeatWorld) : Type 0 where

@@ -1,5 +1,5 @@
 -- One step of a seat, as a function: of the seat, of all that it may change, and of what it is given.
-use Rattle.std.specs.Prelude.{ℕ, ◌+◌, ◌%◌, ◌^◌, Bool, List, Option}
+use Rattle.std.specs.Prelude.{ℕ, ◌+◌, ◌%◌, ◌^◌, Bool, List, Option, None}
 use Rattle.auction_calls.specs.Texts.{call_bytes}
 use Rattle.auction_calls.specs.declared.action.ActionCall.{ActionCall}
 use Rattle.auction_site.specs.Actions.{steps_of}
@@ -7,13 +7,21 @@ use Rattle.boot_core.specs.Boot.{BootValue}
 use Rattle.container_core.specs.declared.history.Event.{Event}
 use Rattle.crash_base.specs.declared.numbers.Moment.{Moment}
 use Rattle.crash_base.specs.declared.numbers.WorkerNo.{WorkerNo}
+use Rattle.failure_scores.specs.declared.report.FailureReport.{FailureReport}
 use Rattle.lane_link.specs.Links.{lane_link_tally}
 use Rattle.lane_link.specs.declared.link.LaneLink.{LaneLink}
 use Rattle.outcome_items.specs.declared.item.Item.{Item}
 use Rattle.request_intake.specs.declared.intake.HomeBoot.{HomeBoot}
 use Rattle.session_lanes.specs.Lanes.{LanesState}
+use Rattle.shepherd.specs.Reports.{report_in}
+use Rattle.shepherd.specs.Shepherds.{turn}
+use Rattle.shepherd.specs.declared.shepherd.Shepherd.{Shepherd}
+use Rattle.shepherd.specs.declared.shepherd.ShepherdTurn.{ShepherdTurn}
+use Rattle.shepherd.specs.declared.shepherd.ShepherdTurn.TheVariants as turns
+use Rattle.shepherd.specs.declared.shepherd.Stage.{Stage}
 use Rattle.shepherd_steps.specs.Alone.{Making}
 use Rattle.shepherd_steps.specs.Deciding.{Readings, decided_by}
+use Rattle.shepherd_steps.specs.Events.{event_of}
 use Rattle.shepherd_steps.specs.Stepping.{Givens, Outcome, World, step}
 use Rattle.shepherd_steps.specs.Taking.{Numbers, Service}
 use Rattle.text_readings.specs.CookieTexts.{cookie_of_text}
@@ -103,12 +111,35 @@ world_behind w after = record {
   serial = w.serial + after.drawn.serials;
 }
 
--- What a step of a seat leaves: the seat, the world, the bytes that were put out, and the items that were taken.
+-- a connection behind the event of its step, before it goes on by itself
+abbrev pub behind_event : SeatGivens → Seat → SeatWorld → Shepherd ActionCall
+behind_event g seat w = (event_of (givens_in g w) (seen_by seat w)).world.connection
+
+-- what a connection reports by its stage right behind the event at a turn: nothing, but behind a step in the container
+abbrev pub report_at : ShepherdTurn → Stage ActionCall → Option FailureReport
+report_at turns.Bytes stage = None
+report_at turns.Request stage = None
+report_at turns.Outside stage = None
+report_at turns.Windows stage = None
+report_at turns.Inside stage = report_in stage
+report_at turns.Program stage = None
+report_at turns.Own stage = None
+report_at turns.Output stage = None
+report_at turns.Item stage = None
+report_at (turns.Ended end) stage = None
+
+-- The report of a step: of its request, if that failed. It is made right behind the event.
+abbrev pub seat_report : SeatGivens → Seat → SeatWorld → Option FailureReport
+seat_report g seat w = report_at (turn seat.connection) (behind_event g seat w).stage
+
+-- What a step of a seat leaves: the seat, the world, the bytes that were put out, the items that were taken, and the
+-- report of the request, if it failed.
 pub record SeatOutcome : Type 0 where
   pub seat : Seat
   pub world : SeatWorld
   pub bytes : List ℕ
   pub items : List Item
+  pub report : Option FailureReport
 
 -- what is left of a seat with this twin after what its connection now holds is told in the world
 abbrev pub with_twin : Twinned → SeatOutcome → SeatOutcome
@@ -117,22 +148,24 @@ with_twin t o = record {
   world = record { boot = o.world.boot; since = o.world.since; store = t.store; word = o.world.word; serial = o.world.serial };
   bytes = o.bytes;
   items = o.items;
+  report = o.report;
 }
 
 -- the same, by the stage of the connection
 abbrev pub synced : SeatOutcome → SeatOutcome
 synced o = with_twin (twinned (way_in o.seat.connection.stage) o.seat.twin o.world.store) o
 
--- what the step of its connection leaves of a seat, before its twin is looked after
-abbrev pub unsynced : Option ℕ → SeatWorld → Outcome ActionCall LaneLink → SeatOutcome
-unsynced twin w o = record {
+-- what the step of its connection leaves of a seat, with this report, before its twin is looked after
+abbrev pub unsynced : Option ℕ → SeatWorld → Option FailureReport → Outcome ActionCall LaneLink → SeatOutcome
+unsynced twin w report o = record {
   seat = record { connection = o.world.connection; twin = twin };
   world = world_behind w o.world;
   bytes = o.bytes;
   items = o.items;
+  report = report;
 }
 
 -- The step of a seat in a world: that of its connection, over the bricks by its twin; and then what the connection
 -- holds has a twin.
 unfoldable pub seat_step : SeatGivens → Seat → SeatWorld → SeatOutcome
-seat_step g seat w = synced (unsynced seat.twin w (step (givens_in g w) (seen_by seat w)))
+seat_step g seat w = synced (unsynced seat.twin w (seat_report g seat w) (step (givens_in g w) (seen_by seat w)))

@@ -31,7 +31,7 @@ use Rattle.shepherd_steps.specs.Stepping.{Calling, Calls, Givens}
 use Rattle.site_programs.specs.Errands.{IsMadeOf}
 use Rattle.site_programs.specs.declared.maker.SiteMaker.{SiteMaker}
 use Rattle.seat_steps.specs.Replies.{HearsSpelled, SeatHears}
-use Rattle.seat_steps.specs.Seats.{SeatGivens, SeatOutcome, SeatWorld, givens_in, seat_step}
+use Rattle.seat_steps.specs.Seats.{SeatGivens, SeatOutcome, SeatWorld, givens_in, report_at, seat_step}
 use Rattle.seat_steps.specs.Twinned.{Twinned, twinned, way_in}
 use Rattle.seat_steps.specs.declared.seat.NextDraws.{NextDraws}
 use Rattle.seat_steps.specs.declared.seat.Seat.{Seat}
@@ -154,12 +154,13 @@ pub record GoesAloneTwice (key : List ℕ) (worker : WorkerNo) (old new : Shephe
 abbrev pub draws_in : SeatWorld → NextDraws
 draws_in w = record { word = w.word; serial = w.serial }
 
--- The calls that a step of a seat made: that at the turn of its connection; then those by which the connection went on
--- by itself; and what it then holds has a twin.
+-- The calls that a step of a seat made: that at the turn of its connection; what the connection reported right behind
+-- it; then those by which the connection went on by itself; and what it then holds has a twin.
 pub record MakesCalls (g : SeatGivens) (seat : Seat) (old : ContainerValue) (w : SeatWorld) (new : ContainerValue) (o : SeatOutcome) : Type 0 where
   pub mid : Shepherd ActionCall
   pub link : LaneLink
   pub made : MakesEvent g seat.connection old (record { lanes = w.store; active = seat.twin }) (draws_in w) o.bytes mid new link (draws_in o.world)
+  pub reported : o.report ≡ report_at (turn seat.connection) mid.stage
   pub alone : GoesAloneTwice g.key g.worker mid o.seat.connection o.items
   pub twin : (let t : Twinned = record { twin = o.seat.twin; store = o.world.store } in t) ≡ twinned (way_in o.seat.connection.stage) seat.twin link.lanes
 

@@ -4,14 +4,15 @@
 //! let mut seat = Seat::new(alloc);
 //! seat.feed(bytes)?;
 //! let (lanes, stepped) = seat.step(alloc, &router, key, worker, now, &mut container, lanes, &mut next);
-//! let SeatStepped { bytes, items } = stepped?;           // what is put out, and the items that were taken
+//! let SeatStepped { bytes, items, report } = stepped?;   // what is put out, the items, and what failed
 //! let (lanes, item) = seat.give_up(&mut container, lanes);
 //! ```
 //!
 //! A step is one call at the turn of the connection, and what the connection then does by itself. It goes over the
 //! bricks of the scenario by their lanes, which are passed on by value: the windows are lent to the connection and put
 //! back, and the link is that of `lane_link`, on which the seat's twin is active. What the connection holds has a twin
-//! in the world of the bricks, which begins there as the connection's own read or write began.
+//! in the world of the bricks, which begins there as the connection's own read or write began. Right behind a step in
+//! the container the connection reports its request, if that failed, for the manager of whoever drives it.
 //!
 //! - `specs/Seats.antt` has the function, `seat_step`: of the seat, of all that a step may change (`SeatWorld`), and of
 //!   what it is given, which is the key, who serves, the moment, and whether the keeper keeps what it is handed.
@@ -38,6 +39,7 @@ mod answering;
 mod events;
 mod giving_up;
 mod laws;
+mod reporting;
 mod seat;
 mod step;
 mod twins;
