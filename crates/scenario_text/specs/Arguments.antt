@@ -1,6 +1,6 @@
 -- What the words after a first one say together.
-use Rattle.std.specs.Prelude.{ℕ, List, Option, option_and_then}
-use Rattle.std.specs.Option.{option_zip}
+use Rattle.std.specs.Prelude.{ℕ, List, Option, [], ◌∷◌, Some, None, option_and_then}
+use Rattle.std.specs.Option.{option_zip, option_map}
 use Rattle.crash_base.specs.declared.fault_plans.FaultKind.{FaultKind}
 use Rattle.scenario_text.specs.declared.head_line.CureLevel.{CureLevel}
 use Rattle.scenario_text.specs.declared.session_line.Freed.{Freed}
@@ -105,3 +105,16 @@ one_seat words = option_and_then seat_number (one_word words)
 abbrev pub seat_and_bytes : List (List ℕ) → Option (ℕ × List ℕ)
 seat_and_bytes words =
     option_and_then (λ w. option_zip (seat_number w.0) (hex_bytes w.1)) (two_words words)
+
+-- the names that the words are, where each of them is one
+abbrev pub names_of : List (List ℕ) → Option (List (List ℕ))
+names_of [] = Some []
+names_of (word ∷ words) =
+    option_and_then
+    (λ name. option_map (λ names. name ∷ names) (names_of words))
+    (name_of word)
+
+-- one name or more
+abbrev pub some_names : List (List ℕ) → Option (List (List ℕ))
+some_names [] = None
+some_names (word ∷ words) = names_of (word ∷ words)

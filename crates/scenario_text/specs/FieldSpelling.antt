@@ -24,6 +24,10 @@ IsNameByte b = IsWithin 48 57 b ⊎ (IsWithin 65 90 b ⊎ (IsWithin 97 122 b ⊎
 abbrev pub IsName : List ℕ → Type 0
 IsName name = IsWithin 1 MAX_NAME_BYTES (length name) × All IsNameByte name
 
+-- what the names of a report may be: one or more
+abbrev pub AreNames : List (List ℕ) → Type 0
+AreNames names = (1 ≤ length names) × All IsName names
+
 -- what a number may be that stands alone, as that of a table, entries or a moment
 abbrev pub IsNumber : ℕ → Type 0
 IsNumber n = n < 2 ^ 64

@@ -12,10 +12,10 @@ use Rattle.scenario_text.specs.declared.head_line.HeadLine.TheVariants.{Componen
 use Rattle.scenario_text.specs.declared.call_line.CallLine.{CallLine}
 use Rattle.scenario_text.specs.declared.call_line.CallLine.TheVariants.{Enter, Exit, Read, List as ListLine, Put}
 use Rattle.scenario_text.specs.declared.boot_line.BootLine.{BootLine}
-use Rattle.scenario_text.specs.declared.boot_line.BootLine.TheVariants.{Begin, Drop, Down, Up, Reboot, Table, Journal}
+use Rattle.scenario_text.specs.declared.boot_line.BootLine.TheVariants.{Begin, Drop, Down, Up, Reboot, Table, Journal, Report}
 use Rattle.scenario_text.specs.Fields.{decimal_number, caller_number, hex_bytes}
 use Rattle.scenario_text.specs.Words.{words_of, no_words, four_words}
-use Rattle.scenario_text.specs.Arguments.{one_name, one_caller, one_bytes, one_text, two_names, two_numbers, name_and_number, name_and_fault, caller_and_name, caller_and_number, caller_and_two_numbers, three_numbers}
+use Rattle.scenario_text.specs.Arguments.{one_name, one_caller, one_bytes, one_text, two_names, two_numbers, name_and_number, name_and_fault, caller_and_name, caller_and_number, caller_and_two_numbers, three_numbers, some_names}
 use Rattle.scenario_text.specs.SeatReading.{seat_line}
 use Rattle.scenario_text.specs.SessionReading.{session_line}
 
@@ -47,7 +47,8 @@ boot_line first words =
     if bytes_eq first (codes "up") then option_map (λ t. Up t) (one_text words) else (
     if bytes_eq first (codes "reboot") then option_map (λ t. Reboot t) (one_text words) else (
     if bytes_eq first (codes "table") then option_map (λ _. Table) (no_words words) else (
-    if bytes_eq first (codes "journal") then option_map (λ _. Journal) (no_words words) else None))))))
+    if bytes_eq first (codes "journal") then option_map (λ _. Journal) (no_words words) else (
+    if bytes_eq first (codes "report") then option_map (λ n. Report n) (some_names words) else None)))))))
 
 -- the line of the head that they spell
 abbrev pub head_line : List ℕ → List (List ℕ) → Option HeadLine

@@ -10,9 +10,9 @@ use Rattle.scenario_text.specs.declared.head_line.HeadLine.TheVariants.{Componen
 use Rattle.scenario_text.specs.declared.call_line.CallLine.{CallLine}
 use Rattle.scenario_text.specs.declared.call_line.CallLine.TheVariants.{Enter, Exit, Read, List as ListLine, Put}
 use Rattle.scenario_text.specs.declared.boot_line.BootLine.{BootLine}
-use Rattle.scenario_text.specs.declared.boot_line.BootLine.TheVariants.{Begin, Drop, Down, Up, Reboot, Table, Journal}
+use Rattle.scenario_text.specs.declared.boot_line.BootLine.TheVariants.{Begin, Drop, Down, Up, Reboot, Table, Journal, Report}
 use Rattle.scenario_text.specs.Texts.{hex_text}
-use Rattle.scenario_text.specs.FieldSpelling.{IsName, IsNumber, IsCaller, IsText, IsKind, AreBytes, caller_word, kind_word, level_word}
+use Rattle.scenario_text.specs.FieldSpelling.{IsName, IsNumber, IsCaller, IsText, IsKind, AreNames, AreBytes, caller_word, kind_word, level_word}
 use Rattle.scenario_text.specs.SeatSpelling.{IsSeatInRange, words_of_seat_line}
 use Rattle.scenario_text.specs.SessionSpelling.{IsSessionInRange, words_of_session_line}
 
@@ -45,6 +45,7 @@ IsBootInRange (Up word) = IsText word
 IsBootInRange (Reboot word) = IsText word
 IsBootInRange Table = Unit {0}
 IsBootInRange Journal = Unit {0}
+IsBootInRange (Report names) = AreNames names
 
 -- the numbers, names and bytes of a line are in their ranges
 abbrev pub IsInRange : Line → Type 0
@@ -90,6 +91,7 @@ words_of_boot_line (Up word) = codes "up" ∷ word ∷ []
 words_of_boot_line (Reboot word) = codes "reboot" ∷ word ∷ []
 words_of_boot_line Table = codes "table" ∷ []
 words_of_boot_line Journal = codes "journal" ∷ []
+words_of_boot_line (Report names) = codes "report" ∷ names
 
 -- the words of a line that is not passed over
 abbrev pub words_of_line : Line → List (List ℕ)

@@ -1,9 +1,10 @@
 //! What the words after a first one say together, or None where they do not say it.
 
 ghost use Rattle.std.specs.Prelude.{◌≡◌, IfOk};
-ghost use Rattle.scenario_text.specs.Arguments.{one_name, one_number, one_caller, one_key, one_bytes, one_text, two_names, two_numbers, name_and_number, name_and_fault, caller_and_name, caller_and_number, key_and_bytes, one_brick, brick_and_number, brick_and_freed, caller_and_two_numbers, three_numbers, one_seat, seat_and_bytes};
+ghost use Rattle.scenario_text.specs.Arguments.{one_name, one_number, one_caller, one_key, one_bytes, one_text, two_names, two_numbers, name_and_number, name_and_fault, caller_and_name, caller_and_number, key_and_bytes, one_brick, brick_and_number, brick_and_freed, caller_and_two_numbers, three_numbers, one_seat, seat_and_bytes, names_of, some_names};
 ghost use Rattle.scenario_text.specs.Words.{words_after};
 
+use crate::boot_line::NameList;
 use crate::fields::{
     brick_number, caller_number, decimal_number, freed_of, hex_bytes, key_number, kind_of,
     level_of, name_of, seat_number, text_of,
@@ -11,7 +12,7 @@ use crate::fields::{
 use crate::head_line::CureLevel;
 use crate::line::HexBytes;
 use crate::session_line::Freed;
-use crate::words::{four_words, one_word, three_words, two_words};
+use crate::words::{four_words, next_word, one_word, three_words, two_words};
 use crash_base::{ComponentName, FaultKind, OutOfMemory, WordText};
 use std::alloc::Global;
 
@@ -205,4 +206,30 @@ pub fn seat_and_bytes(alloc: Global, left: &[u8]) -> Result<Option<(u64, HexByte
     };
     let bytes = hex_bytes(alloc, hex)?;
     Ok(seat_number(seat).zip(bytes))
+}
+
+/// The names that the words are, where each of them is one.
+fn names_of(alloc: Global, left: &[u8]) -> Result<Option<NameList>, OutOfMemory>
+    ensures { IfOk result (λ names. names ≡ names_of (words_after left.now)) }
+{
+    let mut names = NameList::new(alloc);
+    let mut rest = left;
+    while let Some((word, after)) = next_word(rest) {
+        let Some(name) = name_of(alloc, word)? else {
+            return Ok(None);
+        };
+        names.push(name)?;
+        rest = after;
+    }
+    Ok(Some(names))
+}
+
+/// One name or more.
+pub fn some_names(alloc: Global, left: &[u8]) -> Result<Option<NameList>, OutOfMemory>
+    ensures { IfOk result (λ names. names ≡ some_names (words_after left.now)) }
+{
+    match next_word(left) {
+        None => Ok(None),
+        Some(_) => names_of(alloc, left),
+    }
 }

@@ -1,11 +1,17 @@
 //! Lines over the boot.
 
-use crash_base::WordText;
+use crash_base::{ComponentName, Items, WordText};
+
+/// The most components on the path of a request that is reported as failed.
+pub const MAX_PATH: usize = 16;
+
+/// Names of components.
+pub type NameList = Items<ComponentName>;
 
 /// A line over the boot, with what its words say, in their order. A caller `cN` is its number N.
 ///
 /// A `begin` and a `drop` are among these since they act on the boot's room for tickets: a call that begins takes its
-/// ticket from there, and one that is dropped gives it back.
+/// ticket from there, and one that is dropped gives it back. A `report` is, since what is told of it decides on reboots.
 #[derive(Drop)]
 pub enum BootLine {
     /// The caller that begins a call.
@@ -23,4 +29,7 @@ pub enum BootLine {
     Table,
     /// The journal is written.
     Journal,
+    /// The names of the components that a request went through which failed, one or more. A name that no component has
+    /// stands here too, and so do more names than `MAX_PATH`, until the request is reported.
+    Report(NameList),
 }

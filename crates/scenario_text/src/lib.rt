@@ -28,6 +28,7 @@
 //! reboot app
 //! table
 //! journal
+//! report desk ledger
 //! reopen
 //! now 1000
 //! write k1 00ff
@@ -67,8 +68,8 @@
 //! any word: some bytes of ASCII, none of them a space or a carriage return. So `present` has a text, and so have
 //! `down`, `up` and `reboot`, whose text the boot is asked for. A pass is freed as `answered` or as `silent`. A
 //! component that fails does `raise` or `hang`, and is cured by a reboot of its `group`, of the `app` or of the
-//! `process`. An empty line passes, and so does a comment: `#` and then ASCII without a carriage return. A line has at
-//! most 8,192 bytes (`MAX_LINE_BYTES`).
+//! `process`. A report has one name or more, as many as the line holds. An empty line passes, and so does a comment:
+//! `#` and then ASCII without a carriage return. A line has at most 8,192 bytes (`MAX_LINE_BYTES`).
 //!
 //! A line is sorted when it is read, by what it acts on: the head, the live call of a caller, the boot,
 //! the sessions, or the connections. So a new form has its place in one of `HeadLine`, `CallLine`, `BootLine`,
@@ -78,8 +79,8 @@
 //! exactly where the text is the words of that line, with its numbers, names, bytes and text in
 //! their ranges; so only a line that passes has more than one spelling. `lines_law` says the same of
 //! cutting. Reading visits each byte of a line a few times, and takes memory only for the names, the
-//! bytes and the texts that the line says, without spare room. `write_hex` writes bytes as a line
-//! spells them.
+//! bytes and the texts that the line says, without spare room but in the list of a report's names.
+//! `write_hex` writes bytes as a line spells them.
 #![tactic(auto)]
 
 mod answer;
@@ -101,7 +102,7 @@ mod texts;
 mod words;
 
 pub use answer::LineAnswer;
-pub use boot_line::BootLine;
+pub use boot_line::{BootLine, MAX_PATH, NameList};
 pub use call_line::CallLine;
 pub use cutting::ended_line;
 pub use fields::decimal_number;

@@ -7,7 +7,7 @@ ghost use Rattle.scenario_text.specs.Reading.{line_of, passes, is_comment_byte, 
 
 use crate::arguments::{
     caller_and_name, caller_and_number, caller_and_two_numbers, name_and_fault, name_and_number,
-    one_bytes, one_caller, one_name, one_text, three_numbers, two_names, two_numbers,
+    one_bytes, one_caller, one_name, one_text, some_names, three_numbers, two_names, two_numbers,
 };
 use crate::boot_line::BootLine;
 use crate::call_line::CallLine;
@@ -81,6 +81,8 @@ fn boot_line(alloc: Global, first: &[u8], left: &[u8]) -> Result<Option<BootLine
         Ok(no_words(left).map(|()| BootLine::Table))
     } else if first == b"journal".as_slice() {
         Ok(no_words(left).map(|()| BootLine::Journal))
+    } else if first == b"report".as_slice() {
+        Ok(some_names(alloc, left)?.map(BootLine::Report))
     } else {
         Ok(None)
     }

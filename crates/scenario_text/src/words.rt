@@ -22,7 +22,7 @@ pub fn first_word(text: &[u8]) -> (&[u8], &[u8])
 }
 
 /// The next word, and what is left after it.
-fn next_word(left: &[u8]) -> Option<(&[u8], &[u8])>
+pub fn next_word(left: &[u8]) -> Option<(&[u8], &[u8])>
     ensures some { IfSome result (λ next.
         words_after left.now ≡ next.0.now ∷ words_after next.1.now) }
     ensures none { IfNone result (words_after left.now ≡ []) }
