@@ -26,6 +26,10 @@
 //! `tries_again_keep_cookies`, `requests_add_one_event`, `again_is_already`, `no_pass_stays_out`,
 //! `heads_are_answered_as_gets_are` and `responses_are_one`.
 //!
+//! `report_of` is what the manager that decides on reboots is told of a request: of one that a component has failed the
+//! components that it went through, and of one that found the journal full that it did; of any other it is told
+//! nothing.
+//!
 //! The table of answers takes no memory. A page's text is copied once, into the response.
 #![tactic(auto)]
 
@@ -33,6 +37,7 @@ mod answering;
 mod item;
 mod laws;
 mod outcome;
+mod reporting;
 
 pub use answering::{entry_response, response_to};
 pub use item::{Holds, Item, ItemList};
@@ -42,3 +47,4 @@ pub use laws::{
     requests_add_one_event, responses_are_one, tries_again_keep_cookies,
 };
 pub use outcome::ItemOutcome;
+pub use reporting::report_of;

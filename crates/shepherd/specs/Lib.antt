@@ -1,6 +1,7 @@
 pub mod Accounting
 pub mod Answering
 pub mod Going
+pub mod Reports
 pub mod Serving
 pub mod Shepherds
 pub mod Standing

@@ -27,6 +27,9 @@
 //! own call, as the user of its session (`requests_are_served_as_they_came`); the laws of `served_items` carry this to
 //! its item.
 //!
+//! Right behind a step in the container `report` is what the manager that decides on reboots is told of the request
+//! (`failed_requests_are_reported`).
+//!
 //! `specs/Standing.antt` has what is so of a connection at any time, as `Standing`: over the bytes that were fed, the
 //! heads of the requests that were taken off them, the bytes that were put out, and the items that were taken. The law
 //! `connections_stand` says that each step keeps it, and `items_are_for_requests_in_order` what follows: however the
@@ -58,6 +61,7 @@ mod going;
 mod laws;
 mod leaving;
 mod opening;
+mod reporting;
 mod serving;
 mod shepherd;
 mod stepping;
@@ -75,6 +79,7 @@ pub use laws::{
     connections_stand, connections_stand_with_their_requests, items_are_for_requests_in_order,
 };
 pub use opening::ProgramMaker;
+pub use reporting::failed_requests_are_reported;
 pub use serving::requests_are_served_as_they_came;
 pub use shepherd::{AskedCall, EndKind, Shepherd, ShepherdTurn, Stage};
 pub use stopping::stopped_connections_account_for_what_they_left;
