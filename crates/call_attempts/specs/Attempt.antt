@@ -1,5 +1,6 @@
 -- An attempt: a call that follows a program, step by step.
-use Rattle.std.specs.Prelude.{◌≡◌, ◌↔◌, ℕ, ◌<◌, ◌&&◌, Bool, true, false, List, [], ◌∷◌, ◌++◌, length, take, Option, Some, None, All}
+use Rattle.std.specs.Prelude.{◌≡◌, ◌↔◌, ◌⊎◌, ℕ, ◌<◌, ◌&&◌, Bool, true, false, List, [], ◌∷◌, ◌++◌, length, take, Option, Some, None, All}
+use Rattle.std.specs.List.{flat_map, range_with_len}
 use Rattle.crash_base.specs.declared.numbers.ComponentNo.{ComponentNo}
 use Rattle.crash_base.specs.declared.numbers.GroupNo.{GroupNo}
 use Rattle.crash_base.specs.declared.numbers.Place.{Place}
@@ -25,6 +26,7 @@ use Rattle.call_ticket.specs.Ticket.{TicketValue, ticket_begun, ticket_kept, tic
 use Rattle.boot_core.specs.Boot.{BootValue, with_entered}
 use Rattle.boot_core.specs.Fits.{FitsIn}
 use Rattle.boot_core.specs.Steps.{ticket_entered, ticket_has_read, ticket_has_listed}
+use Rattle.container_core.specs.Container.{ContainerValue, with_boot}
 use Rattle.call_attempts.specs.Stops.{stop_of}
 use Rattle.call_attempts.specs.declared.stop.Stop.{Stop}
 use Rattle.call_attempts.specs.declared.steps.Made.{Made}
@@ -32,15 +34,17 @@ use Rattle.call_attempts.specs.declared.steps.Made.TheVariants as made
 use Rattle.call_attempts.specs.declared.attempt.Stepped.{Stepped}
 use Rattle.call_attempts.specs.declared.attempt.Stepped.TheVariants.{Went, Done, Stopped}
 
--- an attempt: its ticket, the answers that it had, and whether each step that it made may be made again
+-- an attempt: its ticket, the answers that it had, whether each step that it made may be made again, and the components
+-- that it entered, in order
 pub record AttemptValue : Type 0 where
   pub ticket : TicketValue
   pub answers : List Answer
   pub repeats : Bool
+  pub entered : List ComponentNo
 
 -- an attempt that begins with this ticket
 abbrev pub attempt_of : TicketValue → AttemptValue
-attempt_of ticket = record { ticket = ticket; answers = []; repeats = true }
+attempt_of ticket = record { ticket = ticket; answers = []; repeats = true; entered = [] }
 
 -- an attempt that has done nothing yet
 abbrev pub attempt_begun : RequestNo → WorkerNo → Place → AttemptValue
@@ -81,11 +85,27 @@ pub record EntersGroup (parts : Parts) (asks : List Answer → Next) (group : Gr
   pub asked : asks answers ≡ next.Enter component method
   pub group_is : group ≡ group_no (group_of parts component.0)
 
--- A program enters a component.
-pub record EntersComponent (asks : List Answer → Next) (component : ComponentNo) : Type 0 where
+-- the component that a step enters, if it enters one
+abbrev pub entered_in : Next → List ComponentNo
+entered_in (next.Enter c m) = c ∷ []
+entered_in (next.Read id) = []
+entered_in (next.List table) = []
+entered_in (next.Put w) = []
+entered_in next.Exit = []
+entered_in (next.Done d) = []
+
+-- the components that a program entered by the steps that were answered so, in order
+unfoldable pub entered_by : (List Answer → Next) → List Answer → List ComponentNo
+entered_by asks answers =
+    flat_map (λ before. entered_in (asks (take before answers))) (range_with_len 0 (length answers))
+
+-- A program asks to enter a component that fails, and this is its path: the components that it entered before, in order,
+-- and this one, last.
+pub record FailsOnItsWay (asks : List Answer → Next) (component : ComponentNo) (path : List ComponentNo) : Type 0 where
   pub answers : List Answer
   pub method : ℕ
   pub asked : asks answers ≡ next.Enter component method
+  pub path_is : path ≡ entered_by asks answers ++ component ∷ []
 
 -- A program accesses a table: it reads a row of it, lists it, or puts a row of it.
 pub record Accesses (asks : List Answer → Next) (table : ℕ) : Type 0 where
@@ -100,7 +120,8 @@ pub record HasEnteredOnce (parts : Parts) (asks : List Answer → Next) (answers
 
 -- An attempt of a program is under way in a boot: its ticket fits, and its call made just the steps that the program
 -- asked for, over the rows at its begin. Since then it entered groups of components of the program alone, read and put
--- rows of tables of the program alone, and `repeats` tells whether each of its steps may be made again.
+-- rows of tables of the program alone, `repeats` tells whether each of its steps may be made again, and `entered` which
+-- components they entered.
 pub record IsUnderWay (boot : BootValue) (asks : List Answer → Next) (a : AttemptValue) : Type 0 where
   pub fits : FitsIn boot a.ticket.call
   pub follows : Follows asks (rows_at_begin boot a.ticket.call) a.answers a.ticket.call
@@ -109,6 +130,7 @@ pub record IsUnderWay (boot : BootValue) (asks : List Answer → Next) (a : Atte
   pub marks : All (λ (m : Mark). Accesses asks (table_in m.read)) a.ticket.call.marks
   pub writes : All (λ (w : RowWrite). Accesses asks w.id.table) a.ticket.call.writes
   pub once : (a.repeats ≡ false) ↔ HasEnteredOnce boot.start.deployment asks a.answers
+  pub entered : a.entered ≡ entered_by asks a.answers
 
 -- the answer to a step over these rows; the end of a call has none
 abbrev pub answer_to : List RowWrite → Call → Next → Answer
@@ -135,6 +157,7 @@ stepped boot a x = record {
   ticket = ticket_after boot a.ticket x;
   answers = a.answers ++ answer_to (rows_at_begin boot a.ticket.call) a.ticket.call x ∷ [];
   repeats = a.repeats && may_repeat boot.start.deployment x;
+  entered = a.entered ++ entered_in x;
 }
 
 -- the step is none that ends the call
@@ -158,6 +181,10 @@ boot_after boot (next.List table) = boot
 boot_after boot (next.Put w) = boot
 boot_after boot next.Exit = boot
 boot_after boot (next.Done d) = boot
+
+-- A container is as it was, or as a step leaves it that was answered.
+abbrev pub HasAtMostMade : ContainerValue → Next → ContainerValue → Type 0
+HasAtMostMade old x new = (new ≡ old) ⊎ (new ≡ with_boot old (boot_after old.boot x))
 
 -- the boot after a step, by what that came to
 abbrev pub boot_left : BootValue → Next → Stepped → BootValue

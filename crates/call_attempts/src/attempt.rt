@@ -1,18 +1,19 @@
 //! An attempt: a call that follows a program.
 
-ghost use Rattle.std.specs.Prelude.{◌≡◌, ◌&&◌, IfOk, OnOk};
+ghost use Rattle.std.specs.Prelude.{◌≡◌, ◌&&◌, ◌++◌, IfOk, OnOk, OnErr};
+ghost use Rattle.std.specs.Option.{option_to_list};
 ghost use Rattle.call_ticket.specs.Following.{Follows, MayMake};
 ghost use Rattle.call_ticket.specs.Repeated.{may_repeat};
 ghost use Rattle.boot_core.specs.Fits.{FitsIn};
 ghost use Rattle.container_core.specs.Container.{HasGrownBy, IsButEntered, with_boot};
-ghost use Rattle.call_attempts.specs.Attempt.{HasStepped, IsUnderWay, boot_left, rows_at_begin, attempt_of, wanted};
+ghost use Rattle.call_attempts.specs.Attempt.{HasAtMostMade, HasStepped, IsUnderWay, boot_left, entered_in, rows_at_begin, attempt_of, wanted};
 
 use crate::steps::{Made, make};
 use crate::stop::Stop;
 use boot_core::{DoneText, Ticket};
 use call_ticket::{AnswerList, Next, Program, calls_follow};
 use container_core::{Container, histories_grow};
-use crash_base::OutOfMemory;
+use crash_base::{ComponentNo, OutOfMemory, PathList};
 use deployment::Deployment;
 use outside::Keeper;
 use std::alloc::Global;
@@ -29,13 +30,14 @@ pub enum Stepped {
     Stopped(Stop),
 }
 
-/// A call that follows a program: its ticket, the answers that it had so far, and whether each step that it made may be
-/// made again.
+/// A call that follows a program: its ticket, the answers that it had so far, whether each step that it made may be
+/// made again, and the components that it entered, in order.
 #[derive(Drop)]
 pub struct Attempt {
     ticket: Ticket,
     answers: AnswerList,
     repeats: bool,
+    entered: PathList,
 }
 
 impl Model for Attempt {
@@ -43,7 +45,12 @@ impl Model for Attempt {
 
     ghost Value = { AttemptValue };
 
-    ghost view = { λ a. record { ticket = a.ticket; answers = a.answers; repeats = a.repeats } };
+    ghost view = { λ a. record {
+      ticket = a.ticket;
+      answers = a.answers;
+      repeats = a.repeats;
+      entered = a.entered;
+    } };
 }
 
 /// The step that a program asks for after these answers, which the call may make.
@@ -83,6 +90,26 @@ fn repeats_after(repeats: bool, deployment: &Deployment, next: &Next) -> bool
     repeats && may_repeat(deployment, next)
 }
 
+/// The component that a step enters, if it enters one.
+fn component_in(next: &Next) -> Option<ComponentNo>
+    ensures { option_to_list result ≡ entered_in next.now }
+{
+    match next {
+        Next::Enter { component, .. } => Some(*component),
+        _ => None,
+    }
+}
+
+/// Adds the component that a step entered, if it entered one.
+fn add_entered(entered: &mut PathList, component: Option<ComponentNo>) -> Result<(), OutOfMemory>
+    ensures { OnOk result (entered.new ≡ entered.old ++ option_to_list component) }
+{
+    if let Some(component) = component {
+        entered.push(component)?;
+    }
+    Ok(())
+}
+
 impl Attempt {
     /// An attempt that begins with this ticket. It takes no memory.
     pub fn new(alloc: Global, ticket: Ticket) -> Attempt
@@ -92,6 +119,7 @@ impl Attempt {
             ticket,
             answers: AnswerList::new(alloc),
             repeats: true,
+            entered: PathList::new(alloc),
         }
     }
 
@@ -102,6 +130,13 @@ impl Attempt {
         self.ticket
     }
 
+    /// The ticket, to give the call up, and the components that it entered, in order. It takes no memory.
+    pub fn into_parts(self) -> (Ticket, PathList)
+        ensures { result ≡ (self.ticket, self.entered) }
+    {
+        (self.ticket, self.entered)
+    }
+
     /// Whether each step that it made may be made again: no method that it entered says otherwise.
     pub fn repeats(&self) -> bool
         ensures { result ≡ self.now.repeats }
@@ -110,10 +145,11 @@ impl Attempt {
     }
 
     /// Makes the step that the program asks for next, by one call of the container, or none where the program is done.
-    /// It takes what `Program::next` and the step take, and room for the answer.
+    /// It takes what `Program::next` and the step take, and room for the answer and for a component that is entered.
     ///
     /// # Errors
-    /// Out of memory. The attempt can then only be given up, by `into_ticket`.
+    /// Out of memory. The attempt can then only be given up, by `into_ticket`; and where the step was answered before
+    /// that, the container is as it leaves it.
     pub fn step<K: Keeper + Drop, P: Program>(
         &mut self,
         alloc: Global,
@@ -127,6 +163,8 @@ impl Attempt {
         ensures leaves { IfOk result (λ came. container.new
             ≡ with_boot container.old (boot_left container.old.boot (wanted (P.asks program.now) self.old) came)) }
         ensures but_entered { IsButEntered container.old container.new }
+        ensures at_most { OnErr result (HasAtMostMade container.old (wanted (P.asks program.now) self.old)
+            container.new) }
         ensures under_way { OnOk result (IsUnderWay container.new.boot (P.asks program.now) self.new) }
         ensures fits { FitsIn container.new.boot self.new.ticket.call }
         ensures grown { HasGrownBy container.old container.new }
@@ -134,10 +172,12 @@ impl Attempt {
         histories_grow();
         let next = ask(alloc, container, program, &self.ticket, &self.answers)?;
         let repeats = repeats_after(self.repeats, container.deployment(), &next);
+        let component = component_in(&next);
         match make(alloc, container, &mut self.ticket, next)? {
             Made::Answered(answer) => {
                 self.repeats = repeats;
                 self.answers.push(answer)?;
+                add_entered(&mut self.entered, component)?;
                 Ok(Stepped::Went)
             }
             Made::Done(done) => Ok(Stepped::Done(done)),

@@ -16,7 +16,7 @@
 //! or the program is done, or a reboot or a component that fails stops it (`reboots_and_faults_alone_stop`). No limit
 //! of a call can stop it, since a program keeps them: where nothing stops it, its program is done after at most 128
 //! answers (`attempts_come_to_their_end`). An attempt remembers each step that may not be made again
-//! (`single_calls_are_remembered`).
+//! (`single_calls_are_remembered`), and the components that it entered, in order: the path of one that fails.
 //!
 //! A step costs one call of the container. The answers are kept until the attempt ends, and the program sees all of
 //! them at each step.

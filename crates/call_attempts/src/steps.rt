@@ -1,6 +1,6 @@
 //! The steps of an attempt in a container.
 
-ghost use Rattle.std.specs.Prelude.{◌≡◌, IfOk};
+ghost use Rattle.std.specs.Prelude.{◌≡◌, IfOk, OnErr};
 ghost use Rattle.call_ticket.specs.Following.{MayMake};
 ghost use Rattle.call_ticket.specs.declared.next.Next.TheVariants as next;
 ghost use Rattle.boot_core.specs.Fits.{FitsIn};
@@ -41,6 +41,7 @@ fn enter<K: Keeper + Drop>(
     ensures leaves { IfOk result (λ r.
         container.new ≡ with_boot container.old (boot_made container.old.boot (next.Enter c method) r)) }
     ensures but_entered { IsButEntered container.old container.new }
+    ensures wanting { OnErr result (container.new ≡ container.old) }
     ensures grown { HasGrownBy container.old container.new }
 {
     match container.enter(ticket, c, method) {
@@ -145,6 +146,7 @@ pub(crate) fn make<K: Keeper + Drop>(
     ensures leaves { IfOk result (λ r.
         container.new ≡ with_boot container.old (boot_made container.old.boot next r)) }
     ensures but_entered { IsButEntered container.old container.new }
+    ensures wanting { OnErr result (container.new ≡ container.old) }
     ensures grown { HasGrownBy container.old container.new }
 {
     match next {

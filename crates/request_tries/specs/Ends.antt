@@ -28,7 +28,7 @@ use Rattle.container_core.specs.Container.{ContainerValue}
 use Rattle.container_core.specs.History.{entries_in}
 use Rattle.container_core.specs.declared.history.Event.{Event}
 use Rattle.container_core.specs.declared.history.Event.TheVariants.{Added, KeeperFailed as FailedMark}
-use Rattle.call_attempts.specs.Attempt.{EntersComponent, EntersGroup, EntersOnce}
+use Rattle.call_attempts.specs.Attempt.{EntersGroup, EntersOnce, FailsOnItsWay}
 use Rattle.request_tries.specs.Tries.{AreTries}
 use Rattle.request_tries.specs.declared.outcome.Ended.{Ended}
 use Rattle.request_tries.specs.declared.outcome.RequestOutcome.{RequestOutcome}
@@ -103,16 +103,17 @@ pub record HasUncuredPlan (start : Start) (es : List Entry) (component : Compone
 
 -- What became of a request, by the history at the end of its last step:
 -- its entry, as the last event, or the one that was there already; a group of one of its components is down; one of its
--- components fails; its tries; a journal without room; or, as the last event, the mark of the keeper that failed.
+-- components fails, on this path of the program; its tries; a journal without room; or, as the last event, the mark of
+-- the keeper that failed.
 abbrev pub OutcomeStands : Start → List Event → Errand → ℕ → RequestOutcome → Type 0
 OutcomeStands start seen errand from (Page place true) = commit_of (entries_in seen) errand.request ≡ Some place
 OutcomeStands start seen errand from (Page place false) = IsServed start seen errand from place.0
 OutcomeStands start seen errand from (Sentinel group down) =
     (down_of (entries_in seen) group.0 ≡ Some down) × EntersGroup start.deployment errand.asks group
-OutcomeStands start seen errand from (Hung component fault) =
-    HasUncuredPlan start (entries_in seen) component fault Hang × EntersComponent errand.asks component
-OutcomeStands start seen errand from (Raised component fault) =
-    HasUncuredPlan start (entries_in seen) component fault Raise × EntersComponent errand.asks component
+OutcomeStands start seen errand from (Hung component fault path) =
+    HasUncuredPlan start (entries_in seen) component fault Hang × FailsOnItsWay errand.asks component path
+OutcomeStands start seen errand from (Raised component fault path) =
+    HasUncuredPlan start (entries_in seen) component fault Raise × FailsOnItsWay errand.asks component path
 OutcomeStands start seen errand from (Revoked tries) =
     AreTries start.deployment errand.asks (entries_in seen) from tries
     × EndsSo WasRevoked tries × AreAll start.deployment errand.asks tries
@@ -145,8 +146,8 @@ abbrev pub copied_for : List Entry → RequestOutcome → Option DoneText
 copied_for es (Page place true) = done_at es place
 copied_for es (Page place false) = None
 copied_for es (Sentinel group down) = None
-copied_for es (Hung component fault) = None
-copied_for es (Raised component fault) = None
+copied_for es (Hung component fault path) = None
+copied_for es (Raised component fault path) = None
 copied_for es (Revoked tries) = None
 copied_for es (Conflict tries) = None
 copied_for es (JournalFull full) = None
@@ -156,8 +157,8 @@ copied_for es KeeperFailed = None
 abbrev pub page_of : RequestOutcome → Option Place
 page_of (Page place again) = Some place
 page_of (Sentinel group down) = None
-page_of (Hung component fault) = None
-page_of (Raised component fault) = None
+page_of (Hung component fault path) = None
+page_of (Raised component fault path) = None
 page_of (Revoked tries) = None
 page_of (Conflict tries) = None
 page_of (JournalFull full) = None
@@ -183,8 +184,8 @@ Adds request (Page place true) old new = new.since ≡ old.since
 Adds request (Page place false) old new =
     (e : CommitEntry) × (new.since ≡ old.since ++ Added (Commit e) ∷ []) × (place.0 ≡ length old.boot.entries)
 Adds request (Sentinel group down) old new = new.since ≡ old.since
-Adds request (Hung component fault) old new = new.since ≡ old.since
-Adds request (Raised component fault) old new = new.since ≡ old.since
+Adds request (Hung component fault path) old new = new.since ≡ old.since
+Adds request (Raised component fault path) old new = new.since ≡ old.since
 Adds request (Revoked tries) old new = new.since ≡ old.since
 Adds request (Conflict tries) old new = new.since ≡ old.since
 Adds request (JournalFull full) old new = new.since ≡ old.since

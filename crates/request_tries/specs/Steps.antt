@@ -1,5 +1,6 @@
 -- The steps of a request in a container.
 use Rattle.std.specs.Prelude.{◌≡◌, ◌⊎◌, ◌+◌, ◌<◌, ◌≤◌, Bool, true, false, List, [], ◌∷◌, ◌++◌, length, Option, Some, None, IfSome, IfErr, Result, Ok, Err}
+use Rattle.crash_base.specs.declared.numbers.ComponentNo.{ComponentNo}
 use Rattle.crash_base.specs.declared.numbers.Place.{Place}
 use Rattle.journal_model.specs.declared.entry.ActionEntry.{ActionEntry}
 use Rattle.journal_model.specs.declared.entry.DoneText.{DoneText}
@@ -16,7 +17,7 @@ use Rattle.boot_core.specs.declared.refusals.CommitRefusal.TheVariants as commit
 use Rattle.boot_core.specs.declared.refusals.Refused.{Refused}
 use Rattle.container_core.specs.Container.{ContainerValue, CommitLeaves, event_count, events_of, with_boot}
 use Rattle.container_core.specs.declared.history.Event.{Event}
-use Rattle.call_attempts.specs.Attempt.{AttemptValue, HasStepped, IsUnderWay, boot_left, stepped, wanted}
+use Rattle.call_attempts.specs.Attempt.{AttemptValue, HasAtMostMade, HasStepped, IsUnderWay, boot_left, stepped, wanted}
 use Rattle.call_attempts.specs.declared.attempt.Stepped.{Stepped}
 use Rattle.call_attempts.specs.declared.attempt.Stepped.TheVariants as coming
 use Rattle.call_attempts.specs.declared.stop.Stop.{Stop}
@@ -87,16 +88,17 @@ HearsCommit now es old at repeats (Ok place) end new =
     end ≡ Some (ended_at now (from_of old at) (Page place false) None)
 HearsCommit now es old at repeats (Err refused) end new = IsRefused now es old at refused.cause repeats end new
 
--- A try that began at a place was stopped: it met a group that is down, or a component that fails, and the request has
--- ended; or it was revoked.
-abbrev pub IsStopped : HistoryFront → TriesValue → Place → Bool → Stop → Option Ended → TriesValue → Type 0
-IsStopped now old at repeats (stops.Sentinel group down) end new =
+-- A try that began at a place, and entered these components, was stopped: it met a group that is down, or a component
+-- that fails, the last on its path, and the request has ended; or it was revoked.
+abbrev pub IsStopped : HistoryFront → TriesValue → Place → Bool → List ComponentNo → Stop → Option Ended → TriesValue → Type 0
+IsStopped now old at repeats entered (stops.Sentinel group down) end new =
     end ≡ Some (ended_at now (from_of old at) (Sentinel group down) None)
-IsStopped now old at repeats (stops.Hung component fault) end new =
-    end ≡ Some (ended_at now (from_of old at) (Hung component fault) None)
-IsStopped now old at repeats (stops.Raised component fault) end new =
-    end ≡ Some (ended_at now (from_of old at) (Raised component fault) None)
-IsStopped now old at repeats (stops.Revoked shown) end new = EndsTry now old at (cause.Revoked shown) repeats end new
+IsStopped now old at repeats entered (stops.Hung component fault) end new =
+    end ≡ Some (ended_at now (from_of old at) (Hung component fault (entered ++ component ∷ [])) None)
+IsStopped now old at repeats entered (stops.Raised component fault) end new =
+    end ≡ Some (ended_at now (from_of old at) (Raised component fault (entered ++ component ∷ [])) None)
+IsStopped now old at repeats entered (stops.Revoked shown) end new =
+    EndsTry now old at (cause.Revoked shown) repeats end new
 
 -- the action that a request commits with its answer
 abbrev pub action_of : TriesValue → DoneText → Option ActionEntry
@@ -135,6 +137,11 @@ LeavesBoot old asks None came new = new ≡ old
 LeavesBoot old asks (Some a) None new = new ≡ old
 LeavesBoot old asks (Some a) (Some came) new = new ≡ with_boot old (boot_left old.boot (wanted asks a) came)
 
+-- A container is as it was, or as the step leaves it that an open attempt asks for; where none is open, as it was.
+abbrev pub HasAtMostAdvanced : ContainerValue → (List Answer → Next) → Option AttemptValue → ContainerValue → Type 0
+HasAtMostAdvanced old asks None new = new ≡ old
+HasAtMostAdvanced old asks (Some a) new = HasAtMostMade old (wanted asks a) new
+
 -- the end that a step came to, if it came to one
 abbrev pub end_of : Progress → Option Ended
 end_of progress.Went = None
@@ -160,7 +167,7 @@ ComesTo c asks s a coming.Went to after =
 ComesTo c asks s a (coming.Done done) to after = (to ≡ progress.Done done) × (after ≡ s)
 ComesTo c asks s a (coming.Stopped stop) to after =
     (end : Option Ended) × (to ≡ progress_of end)
-    × IsStopped (front_at c) (closed s) a.ticket.call.at a.repeats stop end after
+    × IsStopped (front_at c) (closed s) a.ticket.call.at a.repeats a.entered stop end after
 
 -- The one step that a request makes in a container: an attempt begins where none is open; and else the open one makes
 -- the step that its program asks for, which may count an entering. So the step is fixed but for memory.

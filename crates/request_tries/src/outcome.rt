@@ -1,7 +1,7 @@
 //! What becomes of a request in a container.
 
 use container_core::{DoneText, FullAt, ReadMark, Stale};
-use crash_base::{ComponentNo, GroupNo, Items, Place};
+use crash_base::{ComponentNo, GroupNo, Items, PathList, Place};
 
 /// The most tries of a request.
 pub const MAX_TRIES: usize = 3;
@@ -32,13 +32,29 @@ pub type TryList = Items<Try>;
 #[derive(Drop)]
 pub enum RequestOutcome {
     /// It is committed, by the entry at this place of the journal: by an earlier call of it where `again` is true.
-    Page { place: Place, again: bool },
+    Page {
+        place: Place,
+        again: bool,
+    },
     /// The group of a component that it enters is down, by the Down at this place.
-    Sentinel { group: GroupNo, down: Place },
-    /// A component that it enters does not come back, by the fault plan of this number.
-    Hung { component: ComponentNo, fault: u16 },
-    /// A component that it enters fails, by the fault plan of this number.
-    Raised { component: ComponentNo, fault: u16 },
+    Sentinel {
+        group: GroupNo,
+        down: Place,
+    },
+    /// A component that it enters does not come back, by the fault plan of this number. Its path: the components that
+    /// the try entered, and the one that failed, last.
+    Hung {
+        component: ComponentNo,
+        fault: u16,
+        path: PathList,
+    },
+    /// A component that it enters fails, by the fault plan of this number. Its path: the components that the try
+    /// entered, and the one that failed, last.
+    Raised {
+        component: ComponentNo,
+        fault: u16,
+        path: PathList,
+    },
     /// Its last try was revoked.
     Revoked(TryList),
     /// Its last try, the third, was in conflict.

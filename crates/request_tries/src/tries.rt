@@ -1,13 +1,13 @@
 //! One request in a container: its tries that ended, and the attempt that is open.
 
-ghost use Rattle.std.specs.Prelude.{◌≡◌, ◌≢◌, ◌≤◌, List, None, Some, IfOk, IfSome, IsErr, OnOk, OnErr};
+ghost use Rattle.std.specs.Prelude.{◌≡◌, ◌≢◌, ◌≤◌, List, [], ◌∷◌, ◌++◌, None, Some, IfOk, IfSome, IsErr, OnOk, OnErr};
 ghost use Rattle.boot_core.specs.Fits.{FitsIn};
 ghost use Rattle.call_ticket.specs.declared.next.Next.TheVariants as next;
 ghost use Rattle.container_core.specs.Container.{HasGrownBy, IsButEntered, events_of};
 ghost use Rattle.container_core.specs.History.{entries_in};
 ghost use Rattle.call_attempts.specs.Attempt.{IsUnderWay, attempt_of};
 ghost use Rattle.request_tries.specs.Serving.{IsServing, closed, has_begun, unbegun, wanted_by};
-ghost use Rattle.request_tries.specs.Steps.{AddsNothing, Advances, AnswersOwn, Brings, CommitsAs, EndsTry, HearsCommit, IfDone, IsRefused, IsStopped, KeepsHistory, KeepsNothing, LeavesBoot, CauseAddsNothing, StepsAs, end_of, ended_at, from_of, front_at, outcome_by, progress_of};
+ghost use Rattle.request_tries.specs.Steps.{AddsNothing, Advances, AnswersOwn, Brings, CommitsAs, EndsTry, HasAtMostAdvanced, HearsCommit, IfDone, IsRefused, IsStopped, KeepsHistory, KeepsNothing, LeavesBoot, CauseAddsNothing, StepsAs, end_of, ended_at, from_of, front_at, outcome_by, progress_of};
 
 use crate::answers::copied_done_at;
 use crate::outcome::{
@@ -18,7 +18,7 @@ use call_ticket::{Program, calls_follow};
 use container_core::{
     ActionEntry, CommitRefusal, Container, DoneText, Journal, Refused, Ticket, histories_grow,
 };
-use crash_base::{ActionText, OutOfMemory, Place, RequestNo, WorkerNo};
+use crash_base::{ActionText, ComponentNo, OutOfMemory, PathList, Place, RequestNo, WorkerNo};
 use outside::Keeper;
 use std::alloc::Global;
 use std::marker::Model;
@@ -91,6 +91,15 @@ fn ended_at(
         held: now.held,
         done,
     }
+}
+
+/// The path of a try that failed: the components that it entered, and the one that failed.
+fn path_to(entered: PathList, component: ComponentNo) -> Result<PathList, OutOfMemory>
+    ensures { IfOk result (λ path. path ≡ entered ++ component ∷ []) }
+{
+    let mut path = entered;
+    path.push(component)?;
+    Ok(path)
 }
 
 impl RequestTries {
@@ -281,17 +290,18 @@ impl RequestTries {
         }
     }
 
-    /// Hears what stopped a try that began at this place.
+    /// Hears what stopped a try that began at this place, and entered these components.
     fn hear_stop(
         &mut self,
         alloc: Global,
         now: HistoryFront,
         at: Place,
         repeats: bool,
+        entered: PathList,
         stop: Stop,
     ) -> Result<Option<Ended>, OutOfMemory>
         requires { self.old.attempt ≡ None }
-        ensures stopped { IfOk result (λ e. IsStopped now self.old at repeats stop e self.new) }
+        ensures stopped { IfOk result (λ e. IsStopped now self.old at repeats entered stop e self.new) }
         ensures closed { self.new.attempt ≡ None }
     {
         match stop {
@@ -302,12 +312,22 @@ impl RequestTries {
             }
             Stop::Hung { component, fault } => {
                 let from = self.from_of(at);
-                let outcome = RequestOutcome::Hung { component, fault };
+                let path = path_to(entered, component)?;
+                let outcome = RequestOutcome::Hung {
+                    component,
+                    fault,
+                    path,
+                };
                 Ok(Some(ended_at(now, from, outcome, None)))
             }
             Stop::Raised { component, fault } => {
                 let from = self.from_of(at);
-                let outcome = RequestOutcome::Raised { component, fault };
+                let path = path_to(entered, component)?;
+                let outcome = RequestOutcome::Raised {
+                    component,
+                    fault,
+                    path,
+                };
                 Ok(Some(ended_at(now, from, outcome, None)))
             }
             Stop::Revoked(stale) => {
@@ -325,7 +345,7 @@ impl RequestTries {
     ) -> Result<Option<Ended>, OutOfMemory>
         requires { self.old.attempt ≢ None }
         ensures stops { IfOk result (λ e. IfSome self.old.attempt (λ a. IsStopped (front_at container.old)
-            (closed self.old) a.ticket.call.at a.repeats stop e self.new)) }
+            (closed self.old) a.ticket.call.at a.repeats a.entered stop e self.new)) }
         ensures closed { self.new.attempt ≡ None }
         ensures same { container.new ≡ container.old }
     {
@@ -333,11 +353,11 @@ impl RequestTries {
             unreachable!()
         };
         let repeats = attempt.repeats();
-        let ticket = attempt.into_ticket();
+        let (ticket, entered) = attempt.into_parts();
         let at = ticket.at();
         container.abandon(ticket);
         let now = front_at(container);
-        self.hear_stop(alloc, now, at, repeats, stop)
+        self.hear_stop(alloc, now, at, repeats, entered, stop)
     }
 
     /// Makes the commit of the open attempt, which is done and answers this. The text of the action is copied before,
@@ -387,6 +407,8 @@ impl RequestTries {
         ensures leaves { IfOk result (λ came.
             LeavesBoot container.old (P.asks program.now) self.old.attempt came container.new) }
         ensures but_entered { IsButEntered container.old container.new }
+        ensures at_most { OnErr result (HasAtMostAdvanced container.old (P.asks program.now) self.old.attempt
+            container.new) }
         ensures grown { HasGrownBy container.old container.new }
     {
         match &mut self.attempt {
@@ -404,7 +426,8 @@ impl RequestTries {
     /// history, and leaves the container as it was but for how often its components were entered.
     ///
     /// # Errors
-    /// Out of memory: the request can only be given up, by `abandon`.
+    /// Out of memory: the request can only be given up, by `abandon`. The container is then as it was, or as the step
+    /// leaves it that was asked for.
     pub fn step<K: Keeper + Drop, P: Program>(
         &mut self,
         alloc: Global,
@@ -420,6 +443,8 @@ impl RequestTries {
         ensures done { IfOk result (λ to. IfDone to (λ done. (self.new ≡ self.old)
             × (wanted_by (P.asks program.now) self.new ≡ Some (next.Done done)) × (container.new ≡ container.old))) }
         ensures but_entered { IsButEntered container.old container.new }
+        ensures at_most { OnErr result (HasAtMostAdvanced container.old (P.asks program.now) self.old.attempt
+            container.new) }
         ensures held { IfSome self.new.attempt (λ a. FitsIn container.new.boot a.ticket.call) }
         ensures ended { IfOk result (λ to. end_of to ≢ None → self.new.attempt ≡ None) }
         ensures grown { HasGrownBy container.old container.new }
