@@ -24,9 +24,10 @@ use Rattle.shepherd.specs.declared.shepherd.ShepherdTurn.{ShepherdTurn}
 use Rattle.shepherd.specs.declared.shepherd.ShepherdTurn.TheVariants as turns
 use Rattle.shepherd.specs.declared.shepherd.Stage.{Stage}
 use Rattle.shepherd.specs.declared.shepherd.Stage.TheVariants.{Resting, Serving, Refusing, Over}
+use Rattle.shepherd_steps.specs.Events.{event_of}
 use Rattle.shepherd_steps.specs.Inside.{Inside, came_by, commit_inside, commits_by, handed, handed_at, handed_by, handed_in, handed_of, inside, inside_by, inside_of, stride, stride_by, untold, with_keeper}
 use Rattle.shepherd_steps.specs.Stepping.{World, alone_after, at_stage, event_at, step, step_inside, steps_in}
-use Rattle.seat_steps.specs.Seats.{SeatGivens, SeatWorld, givens_in, making_by, seat_step, seen_by, synced, unsynced}
+use Rattle.seat_steps.specs.Seats.{SeatGivens, SeatWorld, givens_in, making_by, report_at, seat_step, seen_by, synced, unsynced}
 use Rattle.seat_steps.specs.Stepped.{seat_writes, writes_at, writes_of}
 use Rattle.seat_steps.specs.declared.seat.Seat.{Seat}
 
@@ -83,6 +84,7 @@ module _ (keeps other : Bool) where
   -- So it is of the step of a seat.
   pub unasked-step : (g : SeatGivens) (seat : Seat) (w : SeatWorld) → seat_writes seat.connection w.boot ≡ []
       → seat_step (record g { keeps = keeps }) seat w ≡ seat_step (record g { keeps = other }) seat w
-  unfolding seat_step step seat_writes
+  unfolding seat_step step event_of seat_writes
   unasked-step g seat w none =
-      ap (λ (event : World ActionCall LaneLink × List ℕ). synced (unsynced seat.twin w (alone_after (making_by g) event))) (unasked-event g seat w (turn seat.connection) none)
+      ap (λ (event : World ActionCall LaneLink × List ℕ). synced (unsynced seat.twin w (report_at (turn seat.connection) event.0.connection.stage) (alone_after (making_by g) event)))
+      (unasked-event g seat w (turn seat.connection) none)

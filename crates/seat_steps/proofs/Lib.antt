@@ -1,3 +1,4 @@
+mod BehindEvents
 pub mod Begins
 mod GoneAlone
 mod EventCalls
