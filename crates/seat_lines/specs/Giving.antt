@@ -36,6 +36,6 @@ abbrev pub left_by : Option Seat → List Item
 left_by None = []
 left_by (Some seat) = items_if (item_left seat.connection.stage)
 
--- The connections are gone; the random words go on.
+-- The connections are gone; the random words go on, and the manager stays.
 abbrev pub without_seats : SeatsState → SeatsState
 without_seats s = record s { seats = [] }

@@ -7,6 +7,7 @@ use Rattle.crash_base.specs.declared.rows.RowWrite.{RowWrite}
 use Rattle.outside.specs.Faults.{Rose}
 use Rattle.outside.specs.Keeper.{KeeperTold, TellsRefusal}
 use Rattle.outside.specs.declared.keeper.KeeperFault.TheVariants as faults
+use Rattle.recovery_manager.specs.Kept.{ManagerValue}
 use Rattle.request_tries.specs.Steps.{KeepsEvents}
 use Rattle.scenario_text.specs.Answer.{Answer, Refused, Done}
 use Rattle.scenario_text.specs.declared.seat_line.SeatLine.{SeatLine}
@@ -71,8 +72,8 @@ TellsHanded (h ∷ more) old new =
     (between : Option KeeperTold) × TellsReply h.writes h.keeps old between × TellsHanded more between new
 
 -- a place for a connection, over a container and what is lent to it
-abbrev pub place_from : Option Seat → ContainerValue → Lending → ℕ → Place
-place_from seat container lending word = record {
+abbrev pub place_from : Option Seat → ContainerValue → Lending → ℕ → ManagerValue → Place
+place_from seat container lending word manager = record {
   seat = seat;
   world = record {
     boot = container.boot;
@@ -81,6 +82,7 @@ place_from seat container lending word = record {
     word = word;
     serial = lending.serial;
   };
+  manager = manager;
 }
 
 -- The count of faults of the keeper did not fall while it was handed these, one after the other, and rose at each that
@@ -120,11 +122,11 @@ abbrev pub IsAsStepLeaves : Answer SiteState → ContainerValue → Type 0
 IsAsStepLeaves answer new =
     (site : SiteState) × (text : List ℕ) × (answer ≡ Done site text) × (new.boot ≡ site.boot) × (new.since ≡ site.since)
 
--- A connection came to this in its place, where the keeper replied so. What it heard is spelled by its bytes, and its
--- step, if it had one to make, was made by its calls.
-pub record HasMovedIn (key : List ℕ) (now : Moment) (n : ℕ) (seat : Option Seat) (old : ContainerValue) (w : SeatWorld) (answer : Answer Place) (new : ContainerValue) : Type 0 where
+-- A connection came to this in its place, with this manager, where the keeper replied so. What it heard is spelled by
+-- its bytes, and its step, if it had one to make, was made by its calls.
+pub record HasMovedIn (key : List ℕ) (now : Moment) (n : ℕ) (seat : Option Seat) (old : ContainerValue) (w : SeatWorld) (m : ManagerValue) (answer : Answer Place) (new : ContainerValue) : Type 0 where
   pub keeps : Bool
-  pub answers : answer ≡ place_step (record { key = key; worker = worker_of n; now = now; keeps = keeps }) n seat w
+  pub answers : answer ≡ place_step (record { key = key; worker = worker_of n; now = now; keeps = keeps }) n seat w m
   pub handed : AreHanded (handed_first (writes_by seat old.boot) keeps []) old new
   pub heard : PlaceHearsSpelled seat w.store
   pub made : (there : Seat) → seat ≡ Some there → moves (turn there.connection) ≡ true
@@ -137,12 +139,12 @@ step_in container sessions seats n keeps =
 
 -- Memory ran out in the step of a connection in its place: before anything was added; or behind what it does in the
 -- container, and then the keeper replied so to all that the step hands to it, and what it heard is spelled.
-pub record BreaksIn (key : List ℕ) (now : Moment) (n : ℕ) (seat : Option Seat) (old : ContainerValue) (w : SeatWorld) (new : ContainerValue) : Type 0 where
+pub record BreaksIn (key : List ℕ) (now : Moment) (n : ℕ) (seat : Option Seat) (old : ContainerValue) (w : SeatWorld) (m : ManagerValue) (new : ContainerValue) : Type 0 where
   pub keeps : Bool
   pub handed : AreSomeHanded (handed_first (writes_by seat old.boot) keeps []) old new
   pub added : HasAddedNothing handed.made old new
       ⊎ ((handed.more ≡ []) × (new.told ≡ handed.between)
-      × IsAsPlaceLeaves (place_step (record { key = key; worker = worker_of n; now = now; keeps = keeps }) n seat w) new
+      × IsAsPlaceLeaves (place_step (record { key = key; worker = worker_of n; now = now; keeps = keeps }) n seat w m) new
       × PlaceHearsSpelled seat w.store)
 
 -- The step of a connection came to this answer in a container, and left the keeper so, where it replied so. What it

@@ -1,5 +1,8 @@
--- What lines about connections yield: the bytes that connections put out, and the items of requests.
-use Rattle.std.specs.Prelude.{ℕ, Bool, true, false, if◌then◌else◌, List, [], ◌∷◌, ◌++◌, Option, Some, None}
+-- What lines about connections yield: the bytes that connections put out, the items of requests, and the reports of
+-- those that failed.
+use Rattle.std.specs.Prelude.{ℕ, Bool, true, false, if◌then◌else◌, List, [], ◌∷◌, ◌++◌, map, Option, Some, None}
+use Rattle.std.specs.List.{flat_map}
+use Rattle.failure_scores.specs.declared.report.FailureReport.{FailureReport}
 use Rattle.outcome_items.specs.declared.item.Item.{Item}
 use Rattle.scenario_text.specs.Answer.{Refused, Done}
 use Rattle.scenario_text.specs.declared.seat_line.SeatLine.{SeatLine}
@@ -34,6 +37,24 @@ outs_at turn o = if puts_out turn then o.bytes ∷ [] else []
 -- the items that it yielded
 abbrev pub items_at : ShepherdTurn → SeatOutcome → List Item
 items_at turn o = if moves turn then o.items else []
+
+-- a report, if there is one
+abbrev pub reports_if : Option FailureReport → List FailureReport
+reports_if None = []
+reports_if (Some report) = report ∷ []
+
+-- the reports that it made: at most one
+abbrev pub reports_at : ShepherdTurn → SeatOutcome → List FailureReport
+reports_at turn o = if moves turn then reports_if o.report else []
+
+-- What a step says: bytes that it puts out, or a report.
+pub data Said : Type 0 where
+  PutOut : (bytes : List ℕ) → Said
+  Reported : (report : FailureReport) → Said
+
+-- what a step at a turn said which left this, in order
+abbrev pub said_at : ShepherdTurn → SeatOutcome → List Said
+said_at turn o = map PutOut (outs_at turn o) ++ map Reported (reports_at turn o)
 
 -- what the step of a connection in a world yields, if it is there
 abbrev pub place_yields : {A : Type 0} → (ShepherdTurn → SeatOutcome → List A) → SeatGivens → Option Seat → SeatWorld → List A
@@ -80,3 +101,27 @@ line_items s line replies = line_yields items_at s line replies
 -- What its connection puts out by it, in order, each response for itself.
 abbrev pub line_outs : SiteState → SeatLine → List Bool → List (List ℕ)
 line_outs s line replies = line_yields outs_at s line replies
+
+-- The reports that it makes, in order.
+abbrev pub line_reports : SiteState → SeatLine → List Bool → List FailureReport
+line_reports s line replies = line_yields reports_at s line replies
+
+-- All that it says, in order.
+abbrev pub line_says : SiteState → SeatLine → List Bool → List Said
+line_says s line replies = line_yields said_at s line replies
+
+-- the bytes among what was said, in order
+abbrev pub out_in : Said → List (List ℕ)
+out_in (PutOut bytes) = bytes ∷ []
+out_in (Reported report) = []
+
+abbrev pub outs_in : List Said → List (List ℕ)
+outs_in said = flat_map out_in said
+
+-- the reports among it, in order
+abbrev pub report_in : Said → List FailureReport
+report_in (PutOut bytes) = []
+report_in (Reported report) = report ∷ []
+
+abbrev pub reports_in : List Said → List FailureReport
+reports_in said = flat_map report_in said

@@ -1,6 +1,7 @@
 pub mod Changing
 pub mod Giving
 pub mod Handing
+pub mod Hearing
 pub mod Items
 pub mod Lines
 pub mod Making

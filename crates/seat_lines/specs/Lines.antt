@@ -1,6 +1,7 @@
 -- What a line about one connection does, but for a run.
 use Rattle.std.specs.Prelude.{ℕ, ◌+◌, nat_lt, Bool, true, false, List, [], ◌++◌, Option, Some, None, is_some, string_bytes}
 use Rattle.crash_base.specs.declared.numbers.WorkerNo.{WorkerNo}
+use Rattle.recovery_manager.specs.Kept.{ManagerValue}
 use Rattle.scenario_text.specs.Answer.{Answer, Refused, Done, or_refused, refused_if, within}
 use Rattle.scenario_text.specs.declared.seat_line.TheConstants.{MAX_SEAT}
 use Rattle.scenario_text.specs.declared.answer.LineAnswer.{LineAnswer}
@@ -13,6 +14,7 @@ use Rattle.shepherd.specs.Shepherds.{fresh, turn}
 use Rattle.shepherd.specs.declared.shepherd.EndKind.{EndKind}
 use Rattle.shepherd.specs.declared.shepherd.ShepherdTurn.{ShepherdTurn}
 use Rattle.shepherd.specs.declared.shepherd.ShepherdTurn.TheVariants as turns
+use Rattle.seat_lines.specs.Hearing.{decided_text, manager_after}
 use Rattle.seat_lines.specs.Site.{SiteState, padded, seat_at, with_seat, with_seats}
 use Rattle.seat_lines.specs.Texts.{gone_text, out_text}
 use Rattle.seat_lines.specs.declared.seats.TheConstants.{FIRST_WORKER}
@@ -80,10 +82,12 @@ world_of s store = record {
   serial = s.sessions.serial;
 }
 
--- A place for a connection, which is there or not, with the world that its steps change.
+-- A place for a connection, which is there or not, with the world that its steps change and the manager that hears what
+-- they report.
 pub record Place : Type 0 where
   pub seat : Option Seat
   pub world : SeatWorld
+  pub manager : ManagerValue
 
 -- what a connection writes by a step at a turn, which put out these bytes: they are told where a response leaves
 abbrev pub step_text : ShepherdTurn → ℕ → List ℕ → List ℕ
@@ -131,34 +135,37 @@ end_of turns.Item = None
 end_of (turns.Ended end) = Some end
 
 -- what a connection comes to that makes no step: one that has ended so goes, if it has; else it does nothing
-abbrev pub still_by : Option EndKind → ℕ → Seat → SeatWorld → Answer Place
-still_by None n seat w = Done (record { seat = Some seat; world = w }) []
-still_by (Some end) n seat w = Done (record { seat = None; world = w }) (gone_text n end)
+abbrev pub still_by : Option EndKind → ℕ → Seat → SeatWorld → ManagerValue → Answer Place
+still_by None n seat w m = Done (record { seat = Some seat; world = w; manager = m }) []
+still_by (Some end) n seat w m = Done (record { seat = None; world = w; manager = m }) (gone_text n end)
 
 -- the same in its place: refused where it is not there
-abbrev pub still_step : ℕ → Option Seat → SeatWorld → Answer Place
-still_step n seat w = or_refused seat (λ there. still_by (end_of (turn there.connection)) n there w)
+abbrev pub still_step : ℕ → Option Seat → SeatWorld → ManagerValue → Answer Place
+still_step n seat w m = or_refused seat (λ there. still_by (end_of (turn there.connection)) n there w m)
 
--- what the step of a connection comes to that was made at a turn
-abbrev pub moved : ShepherdTurn → ℕ → SeatOutcome → Answer Place
-moved turn n o = Done (record { seat = Some o.seat; world = o.world }) (step_text turn n o.bytes)
+-- what the step of a connection comes to that was made at a turn: the manager hears what it reported, and the decision
+-- is written behind what the connection writes
+abbrev pub moved : ShepherdTurn → ℕ → SeatOutcome → ManagerValue → Answer Place
+moved turn n o m =
+    Done (record { seat = Some o.seat; world = o.world; manager = manager_after m o.report })
+    (step_text turn n o.bytes ++ decided_text m o.report)
 
 -- what a connection comes to at a turn: one that waits for bytes does nothing, and one that has ended goes
-abbrev pub steps_at : ShepherdTurn → SeatGivens → ℕ → Seat → SeatWorld → Answer Place
-steps_at turns.Bytes g n seat w = Done (record { seat = Some seat; world = w }) []
-steps_at turns.Request g n seat w = moved turns.Request n (seat_step g seat w)
-steps_at turns.Outside g n seat w = moved turns.Outside n (seat_step g seat w)
-steps_at turns.Windows g n seat w = moved turns.Windows n (seat_step g seat w)
-steps_at turns.Inside g n seat w = moved turns.Inside n (seat_step g seat w)
-steps_at turns.Program g n seat w = moved turns.Program n (seat_step g seat w)
-steps_at turns.Own g n seat w = moved turns.Own n (seat_step g seat w)
-steps_at turns.Output g n seat w = moved turns.Output n (seat_step g seat w)
-steps_at turns.Item g n seat w = moved turns.Item n (seat_step g seat w)
-steps_at (turns.Ended end) g n seat w = Done (record { seat = None; world = w }) (gone_text n end)
+abbrev pub steps_at : ShepherdTurn → SeatGivens → ℕ → Seat → SeatWorld → ManagerValue → Answer Place
+steps_at turns.Bytes g n seat w m = Done (record { seat = Some seat; world = w; manager = m }) []
+steps_at turns.Request g n seat w m = moved turns.Request n (seat_step g seat w) m
+steps_at turns.Outside g n seat w m = moved turns.Outside n (seat_step g seat w) m
+steps_at turns.Windows g n seat w m = moved turns.Windows n (seat_step g seat w) m
+steps_at turns.Inside g n seat w m = moved turns.Inside n (seat_step g seat w) m
+steps_at turns.Program g n seat w m = moved turns.Program n (seat_step g seat w) m
+steps_at turns.Own g n seat w m = moved turns.Own n (seat_step g seat w) m
+steps_at turns.Output g n seat w m = moved turns.Output n (seat_step g seat w) m
+steps_at turns.Item g n seat w m = moved turns.Item n (seat_step g seat w) m
+steps_at (turns.Ended end) g n seat w m = Done (record { seat = None; world = w; manager = m }) (gone_text n end)
 
--- A connection makes one step in a world. Refused where it is not there.
-unfoldable pub place_step : SeatGivens → ℕ → Option Seat → SeatWorld → Answer Place
-place_step g n seat w = or_refused seat (λ there. steps_at (turn there.connection) g n there w)
+-- A connection makes one step in a world, and the manager hears what it reports. Refused where it is not there.
+unfoldable pub place_step : SeatGivens → ℕ → Option Seat → SeatWorld → ManagerValue → Answer Place
+place_step g n seat w m = or_refused seat (λ there. steps_at (turn there.connection) g n there w m)
 
 -- the site with this place for a connection
 abbrev pub with_place : SiteState → ℕ → Place → SiteState
@@ -166,13 +173,13 @@ with_place s n place = with_seat (record {
   boot = place.world.boot;
   since = place.world.since;
   sessions = put_back (lent_out s.sessions) (Some place.world.store) place.world.serial;
-  seats = record (s.seats) { word = place.world.word };
+  seats = record (s.seats) { word = place.world.word; manager = place.manager };
 }) n place.seat
 
 -- a connection makes one step over these bricks of the site
 abbrev pub step_over : SiteState → ℕ → Bool → LanesState → Answer SiteState
 step_over s n keeps store =
-    within (with_place s n) (place_step (givens_of s n keeps) n (seat_at s.seats.seats n) (world_of s store))
+    within (with_place s n) (place_step (givens_of s n keeps) n (seat_at s.seats.seats n) (world_of s store) s.seats.manager)
 
 -- A connection makes one step, where the keeper keeps what it is handed or not. Refused where it is not there, where no
 -- connection has its number, and where the site has no bricks.

@@ -1,7 +1,9 @@
 -- The steps that connections make by their lines, and what is told of each by the code that makes it.
+use Rattle.std.specs.List.{flat_map}
 use Rattle.std.specs.Prelude.{◌≡◌, ℕ, ◌<◌, ◌^◌, All, Bool, true, false, if◌then◌else◌, List, [], ◌∷◌, Option, Some}
 use Rattle.container_core.specs.Container.{ContainerValue, HasGrownBy}
 use Rattle.container_core.specs.History.{entries_in}
+use Rattle.failure_scores.specs.declared.report.FailureReport.{FailureReport}
 use Rattle.outside.specs.declared.clock.TheConstants.{MOMENTS_END}
 use Rattle.scenario_text.specs.Answer.{Refused, Done}
 use Rattle.scenario_text.specs.declared.seat_line.SeatLine.{SeatLine}
@@ -15,6 +17,7 @@ use Rattle.send_windows.specs.Windows.{KeepLimits}
 use Rattle.session_lanes.specs.Lanes.{LanesState}
 use Rattle.session_steps.specs.Kept.{HasSoundStore}
 use Rattle.shepherd.specs.Shepherds.{turn}
+use Rattle.seat_lines.specs.Items.{reports_at, step_yields}
 use Rattle.seat_lines.specs.Lines.{givens_of, is_beyond, moves, step_line, world_of}
 use Rattle.seat_lines.specs.Runs.{rests}
 use Rattle.seat_lines.specs.Site.{SiteState, seat_at}
@@ -51,6 +54,11 @@ line_makes s (lines.Bytes n bytes) replies = []
 line_makes s (lines.End n) replies = []
 line_makes s (lines.Step n) replies = step_makes s n replies
 line_makes s (lines.Run n) replies = run_makes s n replies
+
+-- the reports that these steps made, in order
+abbrev pub reports_made : List StepMade → List FailureReport
+reports_made steps =
+    flat_map (λ (step : StepMade). step_yields reports_at step.site step.number step.keeps) steps
 
 -- What a connection would hear over these bricks is spelled by its bytes, if it is there.
 abbrev pub PlaceHearsSpelled : Option Seat → LanesState → Type 0

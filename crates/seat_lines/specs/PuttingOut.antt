@@ -1,8 +1,8 @@
 -- What a connection has put out, and how it stands for its items.
 use Rattle.std.specs.Prelude.{◌≡◌, ◌≢◌, ℕ, if◌then◌else◌, List, [], ◌∷◌, ◌++◌, length, Option, Some, None}
-use Rattle.std.specs.List.{flat_map}
 use Rattle.auction_calls.specs.declared.action.ActionCall.{ActionCall}
 use Rattle.outcome_items.specs.declared.item.Item.{Item}
+use Rattle.recovery_manager.specs.Kept.{ManagerValue}
 use Rattle.seat_steps.specs.declared.seat.Seat.{Seat}
 use Rattle.shepherd.specs.Standing.{has_left}
 use Rattle.shepherd.specs.declared.shepherd.EndKind.{EndKind}
@@ -10,6 +10,8 @@ use Rattle.shepherd.specs.declared.shepherd.EndKind.TheVariants as ends
 use Rattle.shepherd.specs.declared.shepherd.Stage.{Stage}
 use Rattle.shepherd.specs.declared.shepherd.Stage.TheVariants.{Resting, Serving, Refusing, Over}
 use Rattle.site_responses.specs.Responses.{last_response}
+use Rattle.seat_lines.specs.Hearing.{decided_text, manager_after}
+use Rattle.seat_lines.specs.Items.{PutOut, Reported, Said, outs_in}
 use Rattle.seat_lines.specs.Texts.{gone_text, out_text}
 
 -- what a connection puts out at last that ends so: the response to what is refused
@@ -43,12 +45,19 @@ pub record HasPutOut (n : ℕ) (outs : List (List ℕ)) (items : List Item) (sea
   pub each : length responses ≡ length items
   pub behind : IsSentBy n seat sent rest
 
--- A line wrote what its connection put out by it, and how it ended, if it went; and the connection has put out so
--- much more.
-pub record PutsOutMore (n : ℕ) (outs : List (List ℕ)) (items : List Item) (more : List (List ℕ)) (taken : List Item) (seat : Option Seat) (text : List ℕ) : Type 0 where
+-- what is written of what a connection says: the bytes that it puts out, and what the manager decides on its reports
+abbrev pub said_text : ℕ → ManagerValue → List Said → List ℕ
+said_text n m [] = []
+said_text n m (PutOut bytes ∷ more) = out_text n bytes ++ said_text n m more
+said_text n m (Reported report ∷ more) =
+    decided_text m (Some report) ++ said_text n (manager_after m (Some report)) more
+
+-- A line wrote what its connection said by it, with this manager before it, and how the connection ended, if it went;
+-- and the connection has put out so much more.
+pub record PutsOutMore (n : ℕ) (outs : List (List ℕ)) (items : List Item) (manager : ManagerValue) (more : List Said) (taken : List Item) (seat : Option Seat) (text : List ℕ) : Type 0 where
   pub rest : List ℕ
-  pub text_is : text ≡ flat_map (out_text n) more ++ rest
-  pub put_out : HasPutOut n (outs ++ more) (items ++ taken) seat rest
+  pub text_is : text ≡ said_text n manager more ++ rest
+  pub put_out : HasPutOut n (outs ++ outs_in more) (items ++ taken) seat rest
 
 -- What was put out is as many responses as there are items, and at last what a connection puts out that ends so.
 pub record HasAccounted (outs : List (List ℕ)) (items : List Item) : Type 0 where

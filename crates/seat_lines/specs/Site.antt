@@ -3,15 +3,19 @@ use Rattle.std.specs.Prelude.{ℕ, ◌+◌, ◌-◌, All, List, [], ◌++◌, le
 use Rattle.boot_core.specs.Boot.{BootValue}
 use Rattle.container_core.specs.Container.{ContainerValue}
 use Rattle.container_core.specs.declared.history.Event.{Event}
+use Rattle.deployment.specs.declared.parts.Parts.{Parts}
+use Rattle.recovery_manager.specs.Kept.{ManagerValue}
+use Rattle.recovery_manager.specs.Telling.{new_manager}
 use Rattle.seat_steps.specs.Going.{GoesOnAtSeat}
 use Rattle.seat_steps.specs.declared.seat.Seat.{Seat}
 use Rattle.session_steps.specs.Sessions.{SessionsState}
 
--- The connections of a scenario, each at its number if it is there, and the random word that is drawn next. Those past
--- the end are not there.
+-- The connections of a scenario, each at its number if it is there, the random word that is drawn next, and the manager
+-- that hears of their requests that failed. Those past the end are not there.
 pub record SeatsState : Type 0 where
   pub seats : List (Option Seat)
   pub word : ℕ
+  pub manager : ManagerValue
 
 -- All that a line about connections may change: the boot and the events since its start, the sessions, and the
 -- connections.
@@ -21,9 +25,9 @@ pub record SiteState : Type 0 where
   pub sessions : SessionsState
   pub seats : SeatsState
 
--- before the first line: no connection, and the first random word is 1
-abbrev pub no_seats : SeatsState
-no_seats = record { seats = []; word = 1 }
+-- before the first line: no connection, the first random word is 1, and the manager of these parts was told of nothing
+abbrev pub no_seats : Parts → SeatsState
+no_seats parts = record { seats = []; word = 1; manager = new_manager parts }
 
 -- the site of a scenario, with its container
 abbrev pub site_in : ContainerValue → SessionsState → SeatsState → SiteState

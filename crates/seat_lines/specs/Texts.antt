@@ -1,6 +1,10 @@
 -- What lines about connections write.
 use Rattle.std.specs.Prelude.{ℕ, List, [], ◌++◌, codes}
 use Rattle.std.specs.Fmt.{decimal}
+use Rattle.crash_base.specs.declared.numbers.Level.{Level}
+use Rattle.crash_base.specs.declared.numbers.Level.TheVariants as levels
+use Rattle.recovery_manager.specs.declared.decision.Decision.{Decision}
+use Rattle.recovery_manager.specs.declared.decision.Decision.TheVariants as decided
 use Rattle.scenario_text.specs.Texts.{hex_text}
 use Rattle.shepherd.specs.declared.shepherd.EndKind.{EndKind}
 use Rattle.shepherd.specs.declared.shepherd.EndKind.TheVariants as ends
@@ -32,3 +36,15 @@ gone_text n ends.Closed = closed_text n
 gone_text n ends.Cut = ended_text n (codes "cut")
 gone_text n (ends.Refused why) = ended_text n (untaken_word why)
 gone_text n ends.OutOfMemory = []
+
+-- what is written of a decision to reboot
+abbrev pub reboot_text : Level → List ℕ
+reboot_text (levels.Group g) = codes "decide group " ++ decimal g.0 ++ codes "\n"
+reboot_text levels.App = codes "decide app\n"
+reboot_text levels.Process = codes "decide process\n"
+reboot_text levels.Human = codes "decide human\n"
+
+-- what is written of a decision
+abbrev pub decide_text : Decision → List ℕ
+decide_text decided.None = codes "decide none\n"
+decide_text (decided.Reboot level) = reboot_text level

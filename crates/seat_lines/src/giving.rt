@@ -33,7 +33,7 @@ fn give_back<K: Keeper + Drop>(
 
 impl Seats {
     /// The connections give back what they hold of the bricks of sessions, in the order of their numbers, and are gone.
-    /// The random words go on. It takes no memory.
+    /// The random words go on, and the manager stays. It takes no memory.
     pub fn give_back<K: Keeper + Drop>(
         &mut self,
         alloc: Global,

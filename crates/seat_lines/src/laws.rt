@@ -1,8 +1,14 @@
 //! Laws of the definitions of lines about connections. Their functions do nothing.
 
-ghost use Rattle.std.specs.Prelude.{◌≡◌, ◌≢◌, ◌⊎◌, ◌+◌, ◌<◌, ◌≤◌, ◌++◌, ◌∷◌, ℕ, All, Bool, true, false, List, [], Option, Some, None, IfSome};
+ghost use Rattle.std.specs.Prelude.{◌≡◌, ◌≢◌, ◌⊎◌, ◌+◌, ◌<◌, ◌≤◌, ◌++◌, ◌∷◌, ℕ, All, Bool, true, false, Contains, List, [], length, Option, Some, None, IfSome};
 ghost use Rattle.std.specs.List.{flat_map};
+ghost use Rattle.crash_base.specs.declared.numbers.ComponentNo.{ComponentNo};
+ghost use Rattle.crash_base.specs.declared.numbers.Moment.{Moment};
+ghost use Rattle.deployment.specs.Parts.{named};
+ghost use Rattle.deployment.specs.declared.parts.Parts.{Parts};
+ghost use Rattle.failure_scores.specs.declared.report.FailureReport.TheVariants.{Path};
 ghost use Rattle.outcome_items.specs.declared.item.Item.{Item};
+ghost use Rattle.recovery_manager.specs.Telling.{handed_on, new_manager, told};
 ghost use Rattle.scenario_text.specs.Answer.{Answer, Done, Refused};
 ghost use Rattle.scenario_text.specs.declared.seat_line.SeatLine.{SeatLine};
 ghost use Rattle.scenario_text.specs.declared.seat_line.SeatLine.TheVariants as lines;
@@ -17,13 +23,14 @@ ghost use Rattle.shepherd.specs.declared.shepherd.ShepherdTurn.{ShepherdTurn};
 ghost use Rattle.shepherd.specs.declared.shepherd.ShepherdTurn.TheVariants as turns;
 ghost use Rattle.seat_lines.specs.Changing.{ChangesSeatsAlone, IsLeftBySeat, SeatBecomes, makes_steps, number_in};
 ghost use Rattle.seat_lines.specs.Giving.{items_at_giving_up, items_if, left_by, without_seats};
-ghost use Rattle.seat_lines.specs.Items.{line_items, line_outs};
+ghost use Rattle.seat_lines.specs.Hearing.{manager_by, path_of, report_line};
+ghost use Rattle.seat_lines.specs.Items.{line_items, line_outs, line_reports, line_says, outs_in, reports_in};
 ghost use Rattle.seat_lines.specs.Lines.{givens_of, moves, step_line, step_text, world_of};
-ghost use Rattle.seat_lines.specs.Making.{StepMade, line_makes};
+ghost use Rattle.seat_lines.specs.Making.{StepMade, line_makes, reports_made};
 ghost use Rattle.seat_lines.specs.Runs.{can_run, rests, seat_line, steps_from};
 ghost use Rattle.seat_lines.specs.Site.{SeatsState, SiteState, no_seats, seat_at, with_seat};
 ghost use Rattle.seat_lines.specs.PuttingOut.{HasAccounted, HasPutOut, PutsOutMore};
-ghost use Rattle.seat_lines.specs.Texts.{gone_text, out_text};
+ghost use Rattle.seat_lines.specs.Texts.{decide_text, gone_text, out_text};
 ghost use Rattle.seat_lines.specs.declared.seats.TheConstants.{FIRST_WORD, FIRST_WORKER};
 
 /// Where a line comes to an answer by some replies of the keeper, more replies behind them change nothing: so of two
@@ -34,11 +41,11 @@ pub fn lines_come_to_one_answer()
 {}
 
 /// A step of a connection is that of its seat, over the site as it is: what it leaves of the seat and of the site, and
-/// what is drawn next. It writes what is put out at the turn of output, and nothing at another one. One that waits for
-/// bytes does nothing, and one that has ended goes; and it is refused where the connection is not there, where none has
-/// its number, and where there are no bricks. Its worker is 65,536 and its number, and its moment and its key
-/// are those of the sessions. The first random word of a scenario is 1, and those that follow go on over its
-/// boots.
+/// what is drawn next. It writes what is put out at the turn of output, and nothing at another one; and where it reports
+/// that its request failed, the manager hears it, and its decision is written. One that waits for bytes does nothing, and
+/// one that has ended goes; and it is refused where the connection is not there, where none has its number, and where
+/// there are no bricks. Its worker is 65,536 and its number, and its moment and its key are those of the sessions. The
+/// first random word of a scenario is 1, and those that follow go on over its boots, as the manager does.
 pub fn steps_are_those_of_seats()
     ensures step { (s t : SiteState) (n : ℕ) (keeps : Bool) (text : List ℕ) (seat : Seat) (st : LanesState)
         → seat_at s.seats.seats n ≡ Some seat → s.sessions.store ≡ Some st → moves (turn seat.connection) ≡ true
@@ -71,8 +78,8 @@ pub fn steps_are_those_of_seats()
     } }
     ensures output { (n : ℕ) (bytes : List ℕ) → step_text turns.Output n bytes ≡ out_text n bytes }
     ensures silent { (t : ShepherdTurn) (n : ℕ) (bytes : List ℕ) → t ≢ turns.Output → step_text t n bytes ≡ [] }
-    ensures first { no_seats ≡ record { seats = []; word = 1 } }
-    ensures boots { (s : SeatsState) → without_seats s ≡ record { seats = []; word = s.word } }
+    ensures first { (parts : Parts) → no_seats parts ≡ record { seats = []; word = 1; manager = new_manager parts } }
+    ensures boots { (s : SeatsState) → without_seats s ≡ record { seats = []; word = s.word; manager = s.manager } }
     ensures numbers { (FIRST_WORKER ≡ 65536) × (FIRST_WORD ≡ 1) }
 {}
 
@@ -151,18 +158,43 @@ pub fn lines_are_taken()
         → seat_line s (lines.Run n) replies ≢ Some Refused }
 {}
 
-/// What a line writes is what its connection puts out by it, in order, and how it ended, if it goes. Over all lines a
-/// connection puts out as many responses as it gives items, each before its item; behind them stands at most the
-/// response of the request that is open, which has left, or at last the one to what is refused. Where it is given up,
-/// each response that has left has its item.
+/// What a line writes is what its connection puts out by it and what the manager decides on its reports, in order, and
+/// how it ended, if it goes. Over all lines a connection puts out as many responses as it gives items, each before its
+/// item; behind them stands at most the response of the request that is open, which has left, or at last the one to what
+/// is refused. Where it is given up, each response that has left has its item.
 pub fn responses_are_put_out_in_order()
     ensures begins { (n : ℕ) → HasPutOut n [] [] (Some (record { connection = fresh; twin = None })) [] }
     ensures line { (s t : SiteState) (line : SeatLine) (replies : List Bool) (text : List ℕ) (outs : List (List ℕ)) (items : List Item) (seat : Seat)
         → seat_line s line replies ≡ Some (Done t text) → seat_at s.seats.seats (number_in line) ≡ Some seat
         → HasPutOut (number_in line) outs items (Some seat) []
-        → PutsOutMore (number_in line) outs items (line_outs s line replies) (line_items s line replies)
+        → PutsOutMore (number_in line) outs items s.seats.manager (line_says s line replies) (line_items s line replies)
         (seat_at t.seats.seats (number_in line)) text }
+    ensures outs { (s : SiteState) (line : SeatLine) (replies : List Bool)
+        → outs_in (line_says s line replies) ≡ line_outs s line replies }
     ensures gone { (n : ℕ) (outs : List (List ℕ)) (items : List Item) (seat : Seat) (st : LanesState) → HasPutOut n outs items (Some seat) []
         → HasAccounted outs (items ++ items_if (seat_gone seat st).item) }
     ensures given_up { (seats : List (Option Seat)) (st : LanesState) → items_at_giving_up seats st ≡ flat_map left_by seats }
+{}
+
+/// The manager hears the reports that the steps of connections make, in order, and what the lines `report` say; no line
+/// changes it otherwise. A line `report` says a report where each of its names is a component's, and where they are no
+/// more than 16; else it is refused. Its decision is written, and nothing else changes.
+pub fn managers_hear_of_failures()
+    ensures line { (s t : SiteState) (line : SeatLine) (replies : List Bool) (text : List ℕ)
+        → seat_line s line replies ≡ Some (Done t text)
+        → t.seats.manager ≡ manager_by s.seats.manager (line_reports s line replies) }
+    ensures steps { (s t : SiteState) (line : SeatLine) (replies : List Bool) (text : List ℕ)
+        → seat_line s line replies ≡ Some (Done t text)
+        → line_reports s line replies ≡ reports_made (line_makes s line replies) }
+    ensures said { (s : SiteState) (line : SeatLine) (replies : List Bool)
+        → reports_in (line_says s line replies) ≡ line_reports s line replies }
+    ensures reported { (parts : Parts) (s : SeatsState) (names : List (List ℕ)) (now : Moment) (path : List ComponentNo)
+        → length names ≤ 16 → path_of parts names ≡ Some path
+        → (let report = Path (record { path = path; moment = now }) in
+        let t = told s.manager (handed_on s.manager report) in
+        report_line parts s names now ≡ Done (record s { manager = t.manager }) (decide_text t.decision)) }
+    ensures unknown { (parts : Parts) (s : SeatsState) (names : List (List ℕ)) (now : Moment) (name : List ℕ)
+        → Contains names name → named parts.components name ≡ None → report_line parts s names now ≡ Refused }
+    ensures long { (parts : Parts) (s : SeatsState) (names : List (List ℕ)) (now : Moment) → 16 < length names
+        → report_line parts s names now ≡ Refused }
 {}

@@ -10,7 +10,9 @@ ghost use Rattle.seat_lines.specs.Site.{AllGoOn, IsGoingIn, SiteState, no_seats,
 
 use auction_actions::ActionProgram;
 use crash_base::OutOfMemory;
+use deployment::Deployment;
 use lane_link::LaneLink;
+use recovery_manager::Manager;
 use scenario_text::{HexBytes, LineAnswer};
 use seat_steps::{Seat, SiteMaker};
 use shepherd::connections_go_on;
@@ -24,11 +26,13 @@ pub const FIRST_WORKER: u32 = 65_536;
 /// The random word that is drawn first.
 pub const FIRST_WORD: u64 = 1;
 
-/// The connections of a scenario, by their numbers, and the random word that is drawn next.
+/// The connections of a scenario, by their numbers, the random word that is drawn next, and the manager that hears of
+/// their requests that failed.
 #[derive(Drop)]
 pub struct Seats {
     pub(crate) seats: Vec<Option<Seat>>,
     pub(crate) word: u64,
+    pub(crate) manager: Manager,
 }
 
 impl Model for Seats {
@@ -36,7 +40,7 @@ impl Model for Seats {
 
     ghost Value = { SeatsState };
 
-    ghost view = { λ s. record { seats = s.seats.items; word = s.word } };
+    ghost view = { λ s. record { seats = s.seats.items; word = s.word; manager = s.manager } };
 }
 
 /// Makes a place for each number up to this one.
@@ -95,15 +99,17 @@ fn end(seat: &mut Option<Seat>) -> LineAnswer
 }
 
 impl Seats {
-    /// No connection. It takes no memory.
-    pub fn new(alloc: Global) -> Seats
-        ensures state { result ≡ no_seats }
-        ensures goes { (container : ContainerValue) → AllGoOn container result }
+    /// No connection, and a manager of this deployment that was told of nothing. It takes memory for the manager.
+    pub fn new(alloc: Global, deployment: &Deployment) -> Result<Seats, OutOfMemory>
+        ensures state { IfOk result (λ seats. seats ≡ no_seats deployment.now) }
+        ensures goes { IfOk result (λ seats. (container : ContainerValue) → AllGoOn container seats) }
     {
-        Seats {
+        let manager = Manager::new(alloc, deployment)?;
+        Ok(Seats {
             seats: Vec::new(alloc),
             word: FIRST_WORD,
-        }
+            manager,
+        })
     }
 
     /// Whether a connection is there.

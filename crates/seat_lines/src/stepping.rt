@@ -1,9 +1,10 @@
 //! One step of a connection.
 
-ghost use Rattle.std.specs.Prelude.{◌≡◌, ◌≤◌, ◌<◌, ◌^◌, true, false, IfOk, IfSome, OnErr, OnOk, Some};
+ghost use Rattle.std.specs.Prelude.{◌≡◌, ◌≤◌, ◌<◌, ◌^◌, ◌++◌, true, false, IfOk, IfSome, OnErr, OnOk, Some, string_bytes};
 ghost use Rattle.auction_rows.specs.Parts.{site_parts};
 ghost use Rattle.container_core.specs.Container.{ContainerValue, HasGrownBy};
 ghost use Rattle.container_core.specs.History.{entries_in};
+ghost use Rattle.recovery_manager.specs.Kept.{ManagerValue};
 ghost use Rattle.scenario_text.specs.Answer.{Done, KeepsRefused, answer_of};
 ghost use Rattle.scenario_text.specs.declared.seat_line.TheConstants.{MAX_SEAT};
 ghost use Rattle.seat_steps.specs.Going.{GoesOnAtSeat};
@@ -12,9 +13,11 @@ ghost use Rattle.shepherd.specs.Shepherds.{turn};
 ghost use Rattle.session_steps.specs.Kept.{HasSoundStore};
 ghost use Rattle.session_steps.specs.Lent.{put_back};
 ghost use Rattle.seat_lines.specs.Handing.{BreaksIn, BreaksStep, HasMadeStep, HasMovedIn, place_from};
+ghost use Rattle.seat_lines.specs.Hearing.{decided_text, manager_after};
 ghost use Rattle.seat_lines.specs.Lines.{Place, end_of, moves, step_text, still_step};
 ghost use Rattle.seat_lines.specs.Site.{AllGoOn, IsGoingIn, site_in};
 
+use crate::hearing::hear;
 use crate::lending::Lending;
 use crate::seats::{FIRST_WORKER, Seats, put};
 use crate::texts::{gone_text, out_text};
@@ -22,6 +25,7 @@ use auction_actions::ActionProgram;
 use container_core::Container;
 use crash_base::{OutOfMemory, WorkerNo};
 use outside::Keeper;
+use recovery_manager::Manager;
 use scenario_text::LineAnswer;
 use seat_steps::{NextDraws, Seat, SeatStepped, bricks_stay_sound};
 use session_steps::LentSessions;
@@ -35,26 +39,47 @@ fn step_text(
     alloc: Global,
     number: u64,
     turn: ShepherdTurn,
-    stepped: &SeatStepped,
-) -> Result<LineAnswer, OutOfMemory>
-    ensures { IfOk result (λ a. (place : Place)
-        → answer_of a place ≡ Done place (step_text turn number stepped.now.bytes)) }
+    bytes: &[u8],
+) -> Result<String, OutOfMemory>
+    ensures { IfOk result (λ text. string_bytes text ≡ step_text turn number bytes.now) }
 {
     match turn {
-        ShepherdTurn::Output => {
-            let text = out_text(alloc, number, stepped.bytes.as_slice())?;
-            Ok(LineAnswer::Wrote(text))
-        }
-        ShepherdTurn::Bytes => Ok(LineAnswer::Done),
-        ShepherdTurn::Request => Ok(LineAnswer::Done),
-        ShepherdTurn::Outside => Ok(LineAnswer::Done),
-        ShepherdTurn::Windows => Ok(LineAnswer::Done),
-        ShepherdTurn::Inside => Ok(LineAnswer::Done),
-        ShepherdTurn::Program => Ok(LineAnswer::Done),
-        ShepherdTurn::Own => Ok(LineAnswer::Done),
-        ShepherdTurn::Item => Ok(LineAnswer::Done),
-        ShepherdTurn::Ended(_) => Ok(LineAnswer::Done),
+        ShepherdTurn::Output => out_text(alloc, number, bytes),
+        ShepherdTurn::Bytes => Ok(String::new(alloc)),
+        ShepherdTurn::Request => Ok(String::new(alloc)),
+        ShepherdTurn::Outside => Ok(String::new(alloc)),
+        ShepherdTurn::Windows => Ok(String::new(alloc)),
+        ShepherdTurn::Inside => Ok(String::new(alloc)),
+        ShepherdTurn::Program => Ok(String::new(alloc)),
+        ShepherdTurn::Own => Ok(String::new(alloc)),
+        ShepherdTurn::Item => Ok(String::new(alloc)),
+        ShepherdTurn::Ended(_) => Ok(String::new(alloc)),
     }
+}
+
+/// The manager hears what a step reports that a connection of this number made at this turn, and what the connection
+/// writes, and the decision behind it.
+fn tell_step(
+    alloc: Global,
+    number: u64,
+    turn: ShepherdTurn,
+    stepped: SeatStepped,
+    manager: &mut Manager,
+) -> Result<LineAnswer, OutOfMemory>
+    ensures text { IfOk result (λ a. (place : Place) → answer_of a place
+        ≡ Done place (step_text turn number stepped.bytes ++ decided_text manager.old stepped.report)) }
+    ensures after { IfOk result (λ _. manager.new ≡ manager_after manager.old stepped.report) }
+{
+    let SeatStepped {
+        bytes,
+        items,
+        report,
+    } = stepped;
+    drop(items);
+    let mut text = step_text(alloc, number, turn, bytes.as_slice())?;
+    let decided = hear(alloc, manager, report)?;
+    text.push_str(&decided)?;
+    Ok(LineAnswer::Wrote(text))
 }
 
 /// The entries of a boot are those of the events since its start. It does nothing.
@@ -79,6 +104,7 @@ fn make_step<K: Keeper + Drop>(
     number: u64,
     seat: &mut Seat,
     word: &mut u64,
+    manager: &mut Manager,
     container: &mut Container<K>,
     lent: &LentSessions,
     lending: Lending,
@@ -89,12 +115,13 @@ fn make_step<K: Keeper + Drop>(
     requires moves { moves (turn seat.old.connection) ≡ true }
     requires sound { HasSoundStore (Some lending.lanes) }
     ensures step { IfOk result.1 (λ a. HasMovedIn lent.now.key lent.now.moment number (Some seat.old) container.old
-        (place_from (Some seat.old) container.old lending word.old).world
-        (answer_of a (place_from (Some seat.new) container.new result.0 word.new)) container.new) }
-    ensures refused { IfOk result.1 (λ a. KeepsRefused a (place_from (Some seat.old) container.old lending word.old)
-        (place_from (Some seat.new) container.new result.0 word.new)) }
+        (place_from (Some seat.old) container.old lending word.old manager.old).world manager.old
+        (answer_of a (place_from (Some seat.new) container.new result.0 word.new manager.new)) container.new) }
+    ensures refused { IfOk result.1 (λ a.
+        KeepsRefused a (place_from (Some seat.old) container.old lending word.old manager.old)
+        (place_from (Some seat.new) container.new result.0 word.new manager.new)) }
     ensures breaks { OnErr result.1 (BreaksIn lent.now.key lent.now.moment number (Some seat.old) container.old
-        (place_from (Some seat.old) container.old lending word.old).world container.new) }
+        (place_from (Some seat.old) container.old lending word.old manager.old).world manager.old container.new) }
     ensures sound { OnOk result.1 (HasSoundStore (Some result.0.lanes)) }
     ensures goes { GoesOnAtSeat container.new seat.new.connection }
     ensures grown { HasGrownBy container.old container.new }
@@ -129,7 +156,7 @@ fn make_step<K: Keeper + Drop>(
         serial: next.serial,
     };
     match stepped {
-        Ok(stepped) => match step_text(alloc, number, turn, &stepped) {
+        Ok(stepped) => match tell_step(alloc, number, turn, stepped, manager) {
             Ok(answer) => (lending, Ok(answer)),
             Err(OutOfMemory) => (lending, Err(OutOfMemory)),
         },
@@ -180,8 +207,9 @@ fn stay_or_go(
     place: &mut Option<Seat>,
 ) -> Result<LineAnswer, OutOfMemory>
     requires moves { IfSome place.old (λ seat. moves (turn seat.connection) ≡ false) }
-    ensures answer { IfOk result (λ a. (world : SeatWorld) → (let there : Place = record { seat = place.new; world = world }
-        in answer_of a there) ≡ still_step number place.old world) }
+    ensures answer { IfOk result (λ a. (world : SeatWorld) (manager : ManagerValue)
+        → (let there : Place = record { seat = place.new; world = world; manager = manager } in answer_of a there)
+        ≡ still_step number place.old world manager) }
     ensures refused { IfOk result (λ a. KeepsRefused a place.old place.new) }
     ensures goes { (container : ContainerValue) → IsGoingIn container place.old → IsGoingIn container place.new }
 {
@@ -205,6 +233,7 @@ fn step_seat<K: Keeper + Drop>(
     number: u64,
     place: &mut Option<Seat>,
     word: &mut u64,
+    manager: &mut Manager,
     container: &mut Container<K>,
     lent: &LentSessions,
     lending: Lending,
@@ -214,12 +243,12 @@ fn step_seat<K: Keeper + Drop>(
     requires goes { IsGoingIn container.old place.old }
     requires sound { HasSoundStore (Some lending.lanes) }
     ensures step { IfOk result.1 (λ a. HasMovedIn lent.now.key lent.now.moment number place.old container.old
-        (place_from place.old container.old lending word.old).world
-        (answer_of a (place_from place.new container.new result.0 word.new)) container.new) }
-    ensures refused { IfOk result.1 (λ a. KeepsRefused a (place_from place.old container.old lending word.old)
-        (place_from place.new container.new result.0 word.new)) }
+        (place_from place.old container.old lending word.old manager.old).world manager.old
+        (answer_of a (place_from place.new container.new result.0 word.new manager.new)) container.new) }
+    ensures refused { IfOk result.1 (λ a. KeepsRefused a (place_from place.old container.old lending word.old manager.old)
+        (place_from place.new container.new result.0 word.new manager.new)) }
     ensures breaks { OnErr result.1 (BreaksIn lent.now.key lent.now.moment number place.old container.old
-        (place_from place.old container.old lending word.old).world container.new) }
+        (place_from place.old container.old lending word.old manager.old).world manager.old container.new) }
     ensures sound { OnOk result.1 (HasSoundStore (Some result.0.lanes)) }
     ensures goes { IsGoingIn container.new place.new }
     ensures grown { HasGrownBy container.old container.new }
@@ -229,7 +258,9 @@ fn step_seat<K: Keeper + Drop>(
         None => (lending, Ok(LineAnswer::Refused)),
         Some(seat) => {
             if moves(seat.turn()) {
-                return make_step(alloc, router, number, seat, word, container, lent, lending);
+                return make_step(
+                    alloc, router, number, seat, word, manager, container, lent, lending,
+                );
             }
             let answer = stay_or_go(alloc, number, place);
             (lending, answer)
@@ -276,6 +307,7 @@ impl Seats {
             number,
             place,
             &mut self.word,
+            &mut self.manager,
             container,
             lent,
             lending,

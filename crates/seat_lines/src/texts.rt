@@ -1,9 +1,10 @@
 //! What lines about connections write.
 
 ghost use Rattle.std.specs.Prelude.{◌≡◌, IfOk, string_bytes};
-ghost use Rattle.seat_lines.specs.Texts.{closed_text, ended_text, gone_text, out_text, untaken_word};
+ghost use Rattle.seat_lines.specs.Texts.{closed_text, decide_text, ended_text, gone_text, out_text, reboot_text, untaken_word};
 
-use crash_base::OutOfMemory;
+use crash_base::{Level, OutOfMemory};
+use recovery_manager::Decision;
 use scenario_text::write_hex;
 use shepherd::EndKind;
 use site_responses::Untaken;
@@ -63,5 +64,33 @@ pub(crate) fn gone_text(alloc: Global, number: u64, end: EndKind) -> Result<Stri
         EndKind::Cut => ended_text(alloc, number, "cut"),
         EndKind::Refused(why) => ended_text(alloc, number, untaken_word(why)),
         EndKind::OutOfMemory => Err(OutOfMemory),
+    }
+}
+
+/// What is written of a decision to reboot.
+fn reboot_text(alloc: Global, level: Level) -> Result<String, OutOfMemory>
+    ensures { IfOk result (λ text. string_bytes text ≡ reboot_text level) }
+{
+    let mut text = String::new(alloc);
+    match level {
+        Level::Group(group) => write!(text, "decide group {}\n", group.0)?,
+        Level::App => text.push_str("decide app\n")?,
+        Level::Process => text.push_str("decide process\n")?,
+        Level::Human => text.push_str("decide human\n")?,
+    }
+    Ok(text)
+}
+
+/// What is written of a decision.
+pub(crate) fn decide_text(alloc: Global, decision: Decision) -> Result<String, OutOfMemory>
+    ensures { IfOk result (λ text. string_bytes text ≡ decide_text decision) }
+{
+    match decision {
+        Decision::None => {
+            let mut text = String::new(alloc);
+            text.push_str("decide none\n")?;
+            Ok(text)
+        }
+        Decision::Reboot(level) => reboot_text(alloc, level),
     }
 }
