@@ -153,11 +153,11 @@ try-fits now boot s program at why repeats serves = by (nat_lt (length s.tries +
   by true = record { action = serves.action; own = serves.own; attempt = tt }
   by false = tt
 
-stop-fits : (now : HistoryFront) (boot : BootValue) (s : TriesValue) (program : ActionCall) (at : Place) (repeats : Bool) (stop : Stop) → ServesInBoot boot s program → CourseFits boot program (after_stop now s at repeats stop)
-stop-fits now boot s program at repeats (stops.Sentinel group down) serves = tt
-stop-fits now boot s program at repeats (stops.Hung component fault) serves = tt
-stop-fits now boot s program at repeats (stops.Raised component fault) serves = tt
-stop-fits now boot s program at repeats (stops.Revoked shown) serves = try-fits now boot s program at (cause.Revoked shown) repeats serves
+stop-fits : (now : HistoryFront) (boot : BootValue) (s : TriesValue) (program : ActionCall) (at : Place) (repeats : Bool) (entered : List ComponentNo) (stop : Stop) → ServesInBoot boot s program → CourseFits boot program (after_stop now s at repeats entered stop)
+stop-fits now boot s program at repeats entered (stops.Sentinel group down) serves = tt
+stop-fits now boot s program at repeats entered (stops.Hung component fault) serves = tt
+stop-fits now boot s program at repeats entered (stops.Raised component fault) serves = tt
+stop-fits now boot s program at repeats entered (stops.Revoked shown) serves = try-fits now boot s program at (cause.Revoked shown) repeats serves
 
 refusal-fits : (now : HistoryFront) (boot : BootValue) (es : List Entry) (s : TriesValue) (program : ActionCall) (at : Place) (repeats : Bool) (refusal : CommitRefusal) → ServesInBoot boot s program
     → CourseFits boot program (after_refusal now es s at repeats refusal)
@@ -213,7 +213,7 @@ stride-fits follow keeps c tries program site serves = by tries.attempt serves.a
     stopped : (stop : Stop) → StrideFits c.boot program (stride_by asks keeps c tries a (coming.Stopped stop))
     stopped stop = record {
       commits = inl (inl refl);
-      course = stop-fits (front_at c) c.boot (closed tries) program a.ticket.call.at a.repeats stop (closed-fits c.boot tries program serves);
+      course = stop-fits (front_at c) c.boot (closed tries) program a.ticket.call.at a.repeats a.entered stop (closed-fits c.boot tries program serves);
     }
 
     on : (x : Next) → wanted asks a ≡ x → Continues x → Continues (wanted asks a)

@@ -154,8 +154,8 @@ inside-nonce asks keeps v c n = by v.work refl where
   left tries program holds answered (ended.Page place again) is e =
       readied tries program holds place again answered (value_to_write (set_in answered) v.facts.now v.lease) is e
   left tries program holds answered (ended.Sentinel group down) is e = inr e
-  left tries program holds answered (ended.Hung component fault) is e = inr e
-  left tries program holds answered (ended.Raised component fault) is e = inr e
+  left tries program holds answered (ended.Hung component fault path) is e = inr e
+  left tries program holds answered (ended.Raised component fault path) is e = inr e
   left tries program holds answered (ended.Revoked made) is e = inr e
   left tries program holds answered (ended.Conflict made) is e = inr e
   left tries program holds answered (ended.JournalFull full) is e = inr e

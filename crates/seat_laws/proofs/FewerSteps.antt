@@ -21,6 +21,7 @@ use Rattle.call_ticket.specs.declared.next.Next.TheVariants as next
 use Rattle.container_core.specs.Container.{ContainerValue, events_of}
 use Rattle.container_core.specs.declared.history.Event.{Event}
 use Rattle.crash_base.specs.declared.numbers.BrickNo.{BrickNo}
+use Rattle.crash_base.specs.declared.numbers.ComponentNo.{ComponentNo}
 use Rattle.crash_base.specs.declared.numbers.Place.{Place}
 use Rattle.crash_base.specs.declared.numbers.RequestNo.{RequestNo}
 use Rattle.crash_base.specs.declared.rows.RowWrite.{RowWrite}
@@ -270,11 +271,11 @@ try-leaves now s a at why repeats = by (nat_lt (length s.tries + 1) MAX_TRIES &&
   by true = tried_fewer s (with_try (closed s) (try_ended now at why)) (try_ended now at why) a refl
   by false = tt
 
-stop-leaves : (now : HistoryFront) (s : TriesValue) (a : AttemptValue) (at : Place) (repeats : Bool) (stop : Stop) → CourseLeaves (steps_of (length s.tries) (Some a)) (after_stop now (closed s) at repeats stop)
-stop-leaves now s a at repeats (stops.Sentinel group down) = tt
-stop-leaves now s a at repeats (stops.Hung component fault) = tt
-stop-leaves now s a at repeats (stops.Raised component fault) = tt
-stop-leaves now s a at repeats (stops.Revoked shown) = try-leaves now s a at (cause.Revoked shown) repeats
+stop-leaves : (now : HistoryFront) (s : TriesValue) (a : AttemptValue) (at : Place) (repeats : Bool) (entered : List ComponentNo) (stop : Stop) → CourseLeaves (steps_of (length s.tries) (Some a)) (after_stop now (closed s) at repeats entered stop)
+stop-leaves now s a at repeats entered (stops.Sentinel group down) = tt
+stop-leaves now s a at repeats entered (stops.Hung component fault) = tt
+stop-leaves now s a at repeats entered (stops.Raised component fault) = tt
+stop-leaves now s a at repeats entered (stops.Revoked shown) = try-leaves now s a at (cause.Revoked shown) repeats
 
 refusal-leaves : (now : HistoryFront) (es : List Entry) (s : TriesValue) (a : AttemptValue) (at : Place) (repeats : Bool) (refusal : CommitRefusal) → (refusal ≡ commits.OutOfMemory → ⊥)
     → CourseLeaves (steps_of (length s.tries) (Some a)) (after_refusal now es (closed s) at repeats refusal)
@@ -316,7 +317,7 @@ module _ (law : DoneInTime) (asks : List Answer → Next) (keeps : Bool) (c : Co
   open-leaves : (a : AttemptValue) → IsUnderWay c.boot asks a → (x : Next) → asked_by asks a ≡ x → (o : Option Stop) → CourseLeaves (steps_of (length s.tries) (Some a)) (stride_by asks keeps c s a (came_by x o)).course
   open-leaves a way x is o = at x is o where
     stopped : (stop : Stop) → CourseLeaves (steps_of (length s.tries) (Some a)) (stride_by asks keeps c s a (coming.Stopped stop)).course
-    stopped stop = stop-leaves (front_at c) s a a.ticket.call.at a.repeats stop
+    stopped stop = stop-leaves (front_at c) s a a.ticket.call.at a.repeats a.entered stop
 
     at : (x : Next) → asked_by asks a ≡ x → (o : Option Stop) → CourseLeaves (steps_of (length s.tries) (Some a)) (stride_by asks keeps c s a (came_by x o)).course
     at (next.Enter component method) is None = went-leaves a way (next.Enter component method) is tt

@@ -209,8 +209,8 @@ module _ (v : Visit ActionCall) (o : ReadOutcome) (hears : read_behind v.work v.
     left : (x : RequestOutcome) → H (left_so (closed_with follows x) (record v { holds = holds_of end }))
     left (Page place again) = shown place again (follows again)
     left (Sentinel group down) = is
-    left (Hung component fault) = is
-    left (Raised component fault) = is
+    left (Hung component fault path) = is
+    left (Raised component fault path) = is
     left (Revoked tries) = is
     left (Conflict tries) = is
     left (JournalFull full) = is

@@ -172,8 +172,8 @@ inside-orders asks keeps v c orders = by v.work refl where
   left tries program holds answered (ended.Page place again) is =
       readied tries program holds place again answered (value_to_write (set_in answered) v.facts.now v.lease) is
   left tries program holds answered (ended.Sentinel group down) is = λ order e. absurd (none tries program is order e)
-  left tries program holds answered (ended.Hung component fault) is = λ order e. absurd (none tries program is order e)
-  left tries program holds answered (ended.Raised component fault) is = λ order e. absurd (none tries program is order e)
+  left tries program holds answered (ended.Hung component fault path) is = λ order e. absurd (none tries program is order e)
+  left tries program holds answered (ended.Raised component fault path) is = λ order e. absurd (none tries program is order e)
   left tries program holds answered (ended.Revoked made) is = λ order e. absurd (none tries program is order e)
   left tries program holds answered (ended.Conflict made) is = λ order e. absurd (none tries program is order e)
   left tries program holds answered (ended.JournalFull full) is = λ order e. absurd (none tries program is order e)

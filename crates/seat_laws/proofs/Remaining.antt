@@ -16,6 +16,7 @@ use Rattle.call_ticket.specs.declared.next.Next.{Next}
 use Rattle.call_ticket.specs.declared.next.Next.TheVariants as next
 use Rattle.container_core.specs.Container.{ContainerValue}
 use Rattle.container_core.specs.declared.history.Event.{Event}
+use Rattle.crash_base.specs.declared.numbers.ComponentNo.{ComponentNo}
 use Rattle.crash_base.specs.declared.numbers.Place.{Place}
 use Rattle.http_wire.specs.Taking.{settles, taken_of}
 use Rattle.http_wire.specs.declared.taken.Head.{Head}
@@ -493,11 +494,11 @@ try-tries now s program at why repeats = by (nat_lt (length s.tries + 1) MAX_TRI
       omega (arith, few, more)
   by false is = tt
 
-stop-tries : (now : HistoryFront) (s : TriesValue) (program : ActionCall) (at : Place) (repeats : Bool) (stop : Stop) → CourseTries program (after_stop now s at repeats stop)
-stop-tries now s program at repeats (stops.Sentinel group down) = tt
-stop-tries now s program at repeats (stops.Hung component fault) = tt
-stop-tries now s program at repeats (stops.Raised component fault) = tt
-stop-tries now s program at repeats (stops.Revoked shown) = try-tries now s program at (cause.Revoked shown) repeats
+stop-tries : (now : HistoryFront) (s : TriesValue) (program : ActionCall) (at : Place) (repeats : Bool) (entered : List ComponentNo) (stop : Stop) → CourseTries program (after_stop now s at repeats entered stop)
+stop-tries now s program at repeats entered (stops.Sentinel group down) = tt
+stop-tries now s program at repeats entered (stops.Hung component fault) = tt
+stop-tries now s program at repeats entered (stops.Raised component fault) = tt
+stop-tries now s program at repeats entered (stops.Revoked shown) = try-tries now s program at (cause.Revoked shown) repeats
 
 refusal-tries : (now : HistoryFront) (es : List Entry) (s : TriesValue) (program : ActionCall) (at : Place) (repeats : Bool) (refusal : CommitRefusal) → Tries s program
     → CourseTries program (after_refusal now es s at repeats refusal)
@@ -520,8 +521,8 @@ stride-tries keeps c tries program few = by tries.attempt where
   asks : List Answer → Next
   asks = program_steps program
 
-  stopped : (a : AttemptValue) (stop : Stop) → CourseTries program (after_stop (front_at c) (closed tries) a.ticket.call.at a.repeats stop)
-  stopped a stop = stop-tries (front_at c) (closed tries) program a.ticket.call.at a.repeats stop
+  stopped : (a : AttemptValue) (stop : Stop) → CourseTries program (after_stop (front_at c) (closed tries) a.ticket.call.at a.repeats a.entered stop)
+  stopped a stop = stop-tries (front_at c) (closed tries) program a.ticket.call.at a.repeats a.entered stop
 
   at : (a : AttemptValue) (x : Next) (o : Option Stop) → CourseTries program (stride_by asks keeps c tries a (came_by x o)).course
   at a (next.Enter component method) None = few

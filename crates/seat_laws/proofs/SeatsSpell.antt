@@ -14,6 +14,7 @@ use Rattle.call_ticket.specs.declared.next.Next.{Next}
 use Rattle.call_ticket.specs.declared.next.Next.TheVariants as next
 use Rattle.container_core.specs.Container.{ContainerValue}
 use Rattle.container_core.specs.declared.history.Event.{Event}
+use Rattle.crash_base.specs.declared.numbers.ComponentNo.{ComponentNo}
 use Rattle.crash_base.specs.declared.numbers.Place.{Place}
 use Rattle.journal_model.specs.declared.entry.DoneText.{DoneText}
 use Rattle.journal_model.specs.declared.entry.Entry.{Entry}
@@ -60,11 +61,11 @@ try-spells now s program at why repeats spells = by (nat_lt (length s.tries + 1)
   by true = spells
   by false = tt
 
-stop-spells : (now : HistoryFront) (s : TriesValue) (program : ActionCall) (at : Place) (repeats : Bool) (stop : Stop) → TextSpells s program → CourseSpells program (after_stop now s at repeats stop)
-stop-spells now s program at repeats (stops.Sentinel group down) spells = tt
-stop-spells now s program at repeats (stops.Hung component fault) spells = tt
-stop-spells now s program at repeats (stops.Raised component fault) spells = tt
-stop-spells now s program at repeats (stops.Revoked shown) spells = try-spells now s program at (cause.Revoked shown) repeats spells
+stop-spells : (now : HistoryFront) (s : TriesValue) (program : ActionCall) (at : Place) (repeats : Bool) (entered : List ComponentNo) (stop : Stop) → TextSpells s program → CourseSpells program (after_stop now s at repeats entered stop)
+stop-spells now s program at repeats entered (stops.Sentinel group down) spells = tt
+stop-spells now s program at repeats entered (stops.Hung component fault) spells = tt
+stop-spells now s program at repeats entered (stops.Raised component fault) spells = tt
+stop-spells now s program at repeats entered (stops.Revoked shown) spells = try-spells now s program at (cause.Revoked shown) repeats spells
 
 refusal-spells : (now : HistoryFront) (es : List Entry) (s : TriesValue) (program : ActionCall) (at : Place) (repeats : Bool) (refusal : CommitRefusal) → TextSpells s program
     → CourseSpells program (after_refusal now es s at repeats refusal)
@@ -88,8 +89,8 @@ stride-spells keeps c tries program spells = by tries.attempt where
   asks : List Answer → Next
   asks = steps_of program
 
-  stopped : (a : AttemptValue) (stop : Stop) → CourseSpells program (after_stop (front_at c) (closed tries) a.ticket.call.at a.repeats stop)
-  stopped a stop = stop-spells (front_at c) (closed tries) program a.ticket.call.at a.repeats stop spells
+  stopped : (a : AttemptValue) (stop : Stop) → CourseSpells program (after_stop (front_at c) (closed tries) a.ticket.call.at a.repeats a.entered stop)
+  stopped a stop = stop-spells (front_at c) (closed tries) program a.ticket.call.at a.repeats a.entered stop spells
 
   at : (a : AttemptValue) (x : Next) (o : Option Stop) → CourseSpells program (stride_by asks keeps c tries a (came_by x o)).course
   at a (next.Enter component method) None = spells

@@ -191,8 +191,8 @@ module _ (P : Item → Type 0) where
       left : (x : RequestOutcome) → B (left_so (closed_with follows x) (record v { holds = holds_of end }))
       left (Page place again) = shown place again (follows again)
       left (Sentinel group down) = tt
-      left (Hung component fault) = tt
-      left (Raised component fault) = tt
+      left (Hung component fault path) = tt
+      left (Raised component fault path) = tt
       left (Revoked tries) = tt
       left (Conflict tries) = tt
       left (JournalFull full) = tt

@@ -17,6 +17,7 @@ use Rattle.container_core.specs.Container.{ContainerValue, events_of}
 use Rattle.container_core.specs.History.{entries_in}
 use Rattle.container_core.specs.declared.history.Event.{Event}
 use Rattle.container_core.specs.declared.history.Event.TheVariants.{Added, KeeperFailed as FailedMark, Started}
+use Rattle.crash_base.specs.declared.numbers.ComponentNo.{ComponentNo}
 use Rattle.crash_base.specs.declared.numbers.Place.{Place}
 use Rattle.journal_model.specs.Calls.{entry_of}
 use Rattle.journal_model.specs.declared.entry.DoneText.{DoneText}
@@ -77,8 +78,8 @@ left-says : (key : List ℕ) (es : List Entry) (out : List ℕ) (v : Visit Actio
 left-says key es out v lease (Page place again) none =
     ready-says key es out v place again (ready_of v.facts lease (done_at es place)) (value_to_write (set_in (done_at es place)) v.facts.now lease) refl none
 left-says key es out v lease (Sentinel group down) none = (none, λ p. p)
-left-says key es out v lease (Hung component fault) none = (none, λ p. p)
-left-says key es out v lease (Raised component fault) none = (none, λ p. p)
+left-says key es out v lease (Hung component fault path) none = (none, λ p. p)
+left-says key es out v lease (Raised component fault path) none = (none, λ p. p)
 left-says key es out v lease (Revoked tries) none = (none, λ p. p)
 left-says key es out v lease (Conflict tries) none = (none, λ p. p)
 left-says key es out v lease (JournalFull full) none = (none, λ p. p)
@@ -91,8 +92,8 @@ left-marks marks v ready (Page place again) none rests = by (ready again) where
   by (Respond bytes) = record { rests = rests.rests; marks_are = rests.marks_are ∙ sym (ap marks_of_write none) }
   by (Write order shown) = (none, rests.marks_are)
 left-marks marks v ready (Sentinel group down) none rests = (none, rests)
-left-marks marks v ready (Hung component fault) none rests = (none, rests)
-left-marks marks v ready (Raised component fault) none rests = (none, rests)
+left-marks marks v ready (Hung component fault path) none rests = (none, rests)
+left-marks marks v ready (Raised component fault path) none rests = (none, rests)
 left-marks marks v ready (Revoked tries) none rests = (none, rests)
 left-marks marks v ready (Conflict tries) none rests = (none, rests)
 left-marks marks v ready (JournalFull full) none rests = (none, rests)
@@ -132,11 +133,11 @@ try-held now s at why repeats = by (nat_lt (length s.tries + 1) MAX_TRIES && rep
   by true = tt
   by false = refl
 
-stop-held : (now : HistoryFront) (s : TriesValue) (at : Place) (repeats : Bool) (stop : Stop) → HeldAt now.held (after_stop now s at repeats stop)
-stop-held now s at repeats (stops.Sentinel group down) = refl
-stop-held now s at repeats (stops.Hung component fault) = refl
-stop-held now s at repeats (stops.Raised component fault) = refl
-stop-held now s at repeats (stops.Revoked shown) = try-held now s at (cause.Revoked shown) repeats
+stop-held : (now : HistoryFront) (s : TriesValue) (at : Place) (repeats : Bool) (entered : List ComponentNo) (stop : Stop) → HeldAt now.held (after_stop now s at repeats entered stop)
+stop-held now s at repeats entered (stops.Sentinel group down) = refl
+stop-held now s at repeats entered (stops.Hung component fault) = refl
+stop-held now s at repeats entered (stops.Raised component fault) = refl
+stop-held now s at repeats entered (stops.Revoked shown) = try-held now s at (cause.Revoked shown) repeats
 
 refusal-held : (now : HistoryFront) (es : List Entry) (s : TriesValue) (at : Place) (repeats : Bool) (why : CommitRefusal) → HeldAt now.held (after_refusal now es s at repeats why)
 refusal-held now es s at repeats (commits.Revoked shown) = try-held now s at (cause.Revoked shown) repeats
@@ -188,7 +189,7 @@ stride-strides program keeps c s (Some a) = by (came_by (wanted (steps_of progra
   by coming.Went = record { held = tt; more = []; start = (boot_grows c.boot (wanted (steps_of program) a)).start; since = sym (append-nil c.since) }
   by (coming.Done done) = entry-strides c s a done (with_keeper (refusal_of c s a done) a.ticket.call.writes keeps)
   by (coming.Stopped stop) =
-      still-strides c (after_stop (front_at c) (closed s) a.ticket.call.at a.repeats stop) (stop-held (front_at c) (closed s) a.ticket.call.at a.repeats stop)
+      still-strides c (after_stop (front_at c) (closed s) a.ticket.call.at a.repeats a.entered stop) (stop-held (front_at c) (closed s) a.ticket.call.at a.repeats a.entered stop)
 
 -- What a step in the container comes to is what the request says, as the history then shows.
 course-goes : (key : List ℕ) (c : ContainerValue) (v : Visit ActionCall) (tries : TriesValue) (program : ActionCall) (course : Course) → v.work ≡ ServingBy tries program → HeldAt (length (events_of c)) course
