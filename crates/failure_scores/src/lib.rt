@@ -31,5 +31,5 @@ mod scores;
 mod top;
 
 pub use laws::{forgotten_reports_score_nothing, one_component_is_top, scores_are_counts};
-pub use report::{PathReport, SCORED_MILLISECONDS, is_within};
+pub use report::{FailureReport, PathReport, SCORED_MILLISECONDS, is_within, report_of};
 pub use scores::Scores;

@@ -18,6 +18,15 @@ pub struct PathReport {
     pub moment: Moment,
 }
 
+/// What a manager is told of a request that failed.
+#[derive(Drop)]
+pub enum FailureReport {
+    /// The components that it went through, and when it failed.
+    Path(PathReport),
+    /// That it found the journal full, and when.
+    JournalFull(Moment),
+}
+
 /// Whether no more than these milliseconds passed from a moment until now. None passed where now is earlier.
 pub fn is_within(milliseconds: u64, moment: Moment, now: Moment) -> bool
     ensures { result ≡ is_within milliseconds moment now }
@@ -63,12 +72,8 @@ pub(crate) fn score_of(reports: &[PathReport], component: ComponentNo, now: Mome
     count_for(reports, component, now) as u64
 }
 
-/// A report of a path, which is copied.
-pub(crate) fn report_of(
-    alloc: Global,
-    path: &PathList,
-    moment: Moment,
-) -> Result<PathReport, OutOfMemory>
+/// A report of a path, which is copied. It visits each component.
+pub fn report_of(alloc: Global, path: &PathList, moment: Moment) -> Result<PathReport, OutOfMemory>
     ensures path { IfOk result (λ report. report.path ≡ path.now) }
     ensures moment { IfOk result (λ report. report.moment ≡ moment) }
 {

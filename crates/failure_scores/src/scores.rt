@@ -54,6 +54,17 @@ impl Scores {
         ensures err { OnErr result (self.new ≡ self.old) }
     {
         let report = report_of(alloc, path, moment)?;
+        self.add_report(report)
+    }
+
+    /// Adds a report at the end. It takes memory where there is no room left.
+    ///
+    /// # Errors
+    /// `OutOfMemory`, after which nothing changed.
+    pub fn add_report(&mut self, report: PathReport) -> Result<(), OutOfMemory>
+        ensures ok { OnOk result (self.new ≡ self.old ++ report ∷ []) }
+        ensures err { OnErr result (self.new ≡ self.old) }
+    {
         self.reports.push(report)?;
         Ok(())
     }

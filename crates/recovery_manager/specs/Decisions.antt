@@ -1,5 +1,5 @@
 -- What is decided on a report, over any lists of reports and acts.
-use Rattle.std.specs.Prelude.{◌&&◌, nat_le, Bool, List, length, map, find, Option, Some, None}
+use Rattle.std.specs.Prelude.{ℕ, ◌&&◌, nat_le, Bool, List, length, map, find, Option, Some, None}
 use Rattle.std.specs.List.{list_all, range_with_len}
 use Rattle.crash_base.specs.declared.numbers.ComponentNo.{ComponentNo}
 use Rattle.crash_base.specs.declared.numbers.GroupNo.{GroupNo}
@@ -15,19 +15,19 @@ use Rattle.recovery_manager.specs.declared.decision.Decision.{Decision}
 use Rattle.recovery_manager.specs.declared.decision.Decision.TheVariants as decided
 use Rattle.recovery_manager.specs.Levels.{next_level}
 
--- the components of a deployment, in order of number
-abbrev pub components_of : Parts → List ComponentNo
-components_of parts = map component_no (range_with_len 0 (length parts.components))
+-- the components of a deployment of so many, in order of number
+abbrev pub components_of : ℕ → List ComponentNo
+components_of count = map component_no (range_with_len 0 count)
 
--- Whether a component is to blame: three reports or more count for it, and for no component more.
-abbrev pub is_to_blame : Parts → List PathReport → Moment → ComponentNo → Bool
-is_to_blame parts reports now c =
+-- Whether one of so many components is to blame: three reports or more count for it, and for no component more.
+abbrev pub is_to_blame : ℕ → List PathReport → Moment → ComponentNo → Bool
+is_to_blame count reports now c =
     nat_le REPORTS_TO_REBOOT (score reports c now)
-    && list_all (λ (d : ComponentNo). nat_le (score reports d now) (score reports c now)) (components_of parts)
+    && list_all (λ (d : ComponentNo). nat_le (score reports d now) (score reports c now)) (components_of count)
 
--- the component to blame: of several the one with the least number
-abbrev pub blamed : Parts → List PathReport → Moment → Option ComponentNo
-blamed parts reports now = find (is_to_blame parts reports now) (components_of parts)
+-- the component to blame among so many: of several the one with the least number
+abbrev pub blamed : ℕ → List PathReport → Moment → Option ComponentNo
+blamed count reports now = find (is_to_blame count reports now) (components_of count)
 
 -- the group of a component
 abbrev pub own_group : Parts → ComponentNo → GroupNo
@@ -40,4 +40,5 @@ decision_for parts acts now (Some c) = decided.Reboot (next_level acts (own_grou
 
 -- The decision: nothing where no component is to blame, and else a reboot of its group, or a wider one.
 abbrev pub decision_of : Parts → List PathReport → List Act → Moment → Decision
-decision_of parts reports acts now = decision_for parts acts now (blamed parts reports now)
+decision_of parts reports acts now =
+    decision_for parts acts now (blamed (length parts.components) reports now)

@@ -1,10 +1,13 @@
 -- What a manager was told and what it decided, from the first event on.
-use Rattle.std.specs.Prelude.{Bool, true, false, if◌then◌else◌, List, [], ◌∷◌, ◌++◌}
+use Rattle.std.specs.Prelude.{nat_lt, Bool, true, false, if◌then◌else◌, List, [], ◌∷◌, ◌++◌}
 use Rattle.std.specs.List.{list_any, flat_map, fold}
 use Rattle.crash_base.specs.declared.numbers.Level.TheVariants.{Process}
 use Rattle.crash_base.specs.declared.numbers.Moment.{Moment}
 use Rattle.deployment.specs.declared.parts.Parts.{Parts}
+use Rattle.failure_scores.specs.declared.report.FailureReport.{FailureReport}
+use Rattle.failure_scores.specs.declared.report.FailureReport.TheVariants.{Path, JournalFull}
 use Rattle.failure_scores.specs.declared.report.PathReport.{PathReport}
+use Rattle.failure_scores.specs.Scores.{report_of}
 use Rattle.recovery_manager.specs.declared.acts.Act.{Act}
 use Rattle.recovery_manager.specs.declared.decision.Decision.{Decision}
 use Rattle.recovery_manager.specs.declared.decision.Decision.TheVariants.{None, Reboot}
@@ -68,3 +71,31 @@ last_moment events = fold (λ (before : Moment) (event : ManagerEvent). moment_o
 abbrev pub decision_after : Parts → List ManagerEvent → PathReport → Decision
 decision_after parts events report =
     decision_of parts (pending events ++ report ∷ []) (acts_of events) report.moment
+
+-- the later of two moments
+abbrev pub later : Moment → Moment → Moment
+later a b = if nat_lt a.0 b.0 then b else a
+
+-- a report at no earlier a moment than this one
+unfoldable pub no_earlier : Moment → FailureReport → FailureReport
+no_earlier moment (Path report) = Path (report_of report.path (later moment report.moment))
+no_earlier moment (JournalFull at) = JournalFull (later moment at)
+
+-- the event that a report is after these events
+unfoldable pub event_on : Parts → List ManagerEvent → FailureReport → ManagerEvent
+event_on parts events (Path report) = Reported report (decision_after parts events report)
+event_on parts events (JournalFull moment) = JournalFilled moment
+
+-- what was decided on
+abbrev pub decided_in : ManagerEvent → Decision
+decided_in (Reported report decision) = decision
+decided_in (JournalFilled moment) = Reboot Process
+
+-- these events, and a report at no earlier a moment than the last of them
+abbrev pub events_and : Parts → List ManagerEvent → FailureReport → List ManagerEvent
+events_and parts events report =
+    events ++ event_on parts events (no_earlier (last_moment events) report) ∷ []
+
+-- the events that reports come to, told one after the other
+abbrev pub events_after : Parts → List FailureReport → List ManagerEvent
+events_after parts reports = fold (events_and parts) [] reports

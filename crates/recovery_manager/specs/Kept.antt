@@ -1,6 +1,7 @@
 -- What a manager keeps of all that it was told.
-use Rattle.std.specs.Prelude.{◌≡◌, ℕ, ◌<◌, ◌≤◌, nat_lt, List, length, map, filter, Option, Some, None}
+use Rattle.std.specs.Prelude.{◌≡◌, ℕ, ◌<◌, nat_lt, List, length, map, filter, slice_get, Option, Some, None, All}
 use Rattle.std.specs.List.{range_with_len}
+use Rattle.std.specs.Option.{option_and_then}
 use Rattle.crash_base.specs.declared.numbers.ComponentNo.{ComponentNo}
 use Rattle.crash_base.specs.declared.numbers.GroupNo.{GroupNo}
 use Rattle.crash_base.specs.declared.numbers.Moment.{Moment}
@@ -8,10 +9,10 @@ use Rattle.deployment.specs.declared.parts.Parts.{Parts}
 use Rattle.deployment.specs.Groups.{group_no, group_of}
 use Rattle.failure_scores.specs.declared.report.PathReport.{PathReport}
 use Rattle.failure_scores.specs.Scores as scores
-use Rattle.failure_scores.specs.Scores.{score}
 use Rattle.recovery_manager.specs.declared.acts.Act.{Act}
 use Rattle.recovery_manager.specs.declared.decision.Decision.{Decision}
 use Rattle.recovery_manager.specs.declared.decision.Decision.TheVariants as decided
+use Rattle.recovery_manager.specs.Decisions.{blamed}
 use Rattle.recovery_manager.specs.Events.{ManagerEvent, acts_of, pending, last_moment}
 use Rattle.recovery_manager.specs.Levels.{is_recent, next_level}
 
@@ -43,12 +44,17 @@ pub record StandsFor (manager : ManagerValue) (parts : Parts) (events : List Man
   pub acts : manager.acts ≡ filter (is_recent (last_moment events)) (acts_of events)
   pub latest : manager.latest ≡ last_moment events
 
--- By the kept reports each component scores now what it does by all, and a number that is no component's scores 0.
-pub record AreScores (parts : Parts) (reports : List PathReport) (now : Moment) (kept : List PathReport) : Type 0 where
-  pub components : (c : ComponentNo) → c.0 < length parts.components → score kept c now ≡ score reports c now
-  pub others : (c : ComponentNo) → length parts.components ≤ c.0 → score kept c now ≡ 0
+-- on the paths of these reports are numbers below a count alone
+abbrev pub AreKnown : ℕ → List PathReport → Type 0
+AreKnown count reports = All (λ (r : PathReport). All (λ (c : ComponentNo). c.0 < count) r.path) reports
 
 -- the decision for a group that is to be rebooted, if there is one
 abbrev pub decision_at : List Act → Moment → Option GroupNo → Decision
 decision_at acts now None = decided.None
 decision_at acts now (Some group) = decided.Reboot (next_level acts group now)
+
+-- The decision by what is kept: the group of each component, reports and acts.
+abbrev pub kept_decision : List GroupNo → List PathReport → List Act → Moment → Decision
+kept_decision groups reports acts now =
+    decision_at acts now
+    (option_and_then (λ (c : ComponentNo). slice_get groups c.0) (blamed (length groups) reports now))

@@ -1,11 +1,8 @@
 //! Decisions.
 
-ghost use Rattle.std.specs.Prelude.{◌≡◌, ◌++◌, List, OnOk, OnErr, slice_get};
-ghost use Rattle.deployment.specs.declared.parts.Parts.{Parts};
-ghost use Rattle.failure_scores.specs.declared.report.PathReport.{PathReport};
-ghost use Rattle.recovery_manager.specs.Decisions.{decision_of};
+ghost use Rattle.std.specs.Prelude.{◌≡◌, ◌++◌, length, OnOk, OnErr, slice_get};
 ghost use Rattle.recovery_manager.specs.Events.{unconsumed, acts_by};
-ghost use Rattle.recovery_manager.specs.Kept.{groups_of, AreScores, decision_at};
+ghost use Rattle.recovery_manager.specs.Kept.{AreKnown, decision_at, kept_decision};
 
 use crate::acts::{Act, next_level};
 use crash_base::{ComponentNo, GroupNo, Level, Moment, OutOfMemory};
@@ -42,8 +39,8 @@ fn reboot_for(groups: &[GroupNo], acts: &[Act], component: ComponentNo, now: Mom
 
 /// What is to be done by these scores and acts.
 pub(crate) fn decide(scores: &Scores, groups: &[GroupNo], acts: &[Act], now: Moment) -> Decision
-    ensures { (parts : Parts) (reports : List PathReport) → groups.now ≡ groups_of parts →
-        AreScores parts reports now scores.now → result ≡ decision_of parts reports acts.now now }
+    requires { AreKnown (length groups.now) scores.now }
+    ensures { result ≡ kept_decision groups.now scores.now acts.now now }
 {
     match scores.top(now) {
         None => Decision::None,

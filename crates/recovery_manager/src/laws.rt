@@ -15,8 +15,11 @@ ghost use Rattle.recovery_manager.specs.declared.acts.Act.{Act};
 ghost use Rattle.recovery_manager.specs.declared.decision.TheConstants.{REPORTS_TO_REBOOT};
 ghost use Rattle.recovery_manager.specs.declared.decision.Decision.TheVariants.{None, Reboot};
 ghost use Rattle.recovery_manager.specs.Decisions.{decision_of, own_group};
-ghost use Rattle.recovery_manager.specs.Events.{ManagerEvent, Reported, JournalFilled, acts_of, pending};
+ghost use Rattle.failure_scores.specs.declared.report.FailureReport.{FailureReport};
+ghost use Rattle.recovery_manager.specs.Events.{ManagerEvent, Reported, JournalFilled, acts_of, pending, last_moment, no_earlier, event_on, decided_in, events_and, events_after};
+ghost use Rattle.recovery_manager.specs.Kept.{ManagerValue, StandsFor};
 ghost use Rattle.recovery_manager.specs.Levels.{next_level, one_wider, width, counts_for};
+ghost use Rattle.recovery_manager.specs.Telling.{new_manager, told, handed_on};
 
 /// Nothing is decided on exactly where fewer than three reports count for each component of the deployment. Else the
 /// reboot is for the component of the greatest score, and of several such for the one with the least number.
@@ -71,4 +74,26 @@ pub fn decisions_consume_reports()
     ensures full_act { (events : List ManagerEvent) (moment : Moment)
         → acts_of (events ++ JournalFilled moment ∷ [])
         ≡ acts_of events ++ (record { moment = moment; level = Process }) ∷ [] }
+{}
+
+/// What a manager keeps decides on the next report as all events so far do, and as all reports do that were handed on
+/// one after the other.
+pub fn managers_decide_by_all_reports()
+    ensures decision { (m : ManagerValue) (parts : Parts) (events : List ManagerEvent) (report : FailureReport)
+        → StandsFor m parts events
+        → (told m (handed_on m report)).decision
+        ≡ decided_in (event_on parts events (no_earlier (last_moment events) report)) }
+    ensures after { (m : ManagerValue) (parts : Parts) (events : List ManagerEvent) (report : FailureReport)
+        → StandsFor m parts events
+        → StandsFor (told m (handed_on m report)).manager parts (events_and parts events report) }
+    ensures more { (parts : Parts) (reports : List FailureReport) (report : FailureReport)
+        → events_after parts (reports ++ report ∷ []) ≡ events_and parts (events_after parts reports) report }
+    ensures reports { (m : ManagerValue) (parts : Parts) (reports : List FailureReport) (report : FailureReport)
+        → StandsFor m parts (events_after parts reports)
+        → StandsFor (told m (handed_on m report)).manager parts (events_after parts (reports ++ report ∷ [])) }
+{}
+
+/// A new manager was told of nothing.
+pub fn new_managers_were_told_nothing()
+    ensures { (parts : Parts) → StandsFor (new_manager parts) parts [] }
 {}

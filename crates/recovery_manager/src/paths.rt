@@ -19,18 +19,10 @@ pub(crate) fn groups_of(alloc: Global, deployment: &Deployment) -> Result<Vec<Gr
 }
 
 /// The numbers on a path that are below `count`, in order.
-pub(crate) fn known_path(
-    alloc: Global,
-    path: &[ComponentNo],
-    count: usize,
-) -> Result<PathList, OutOfMemory>
-    ensures { IfOk result (λ known. known ≡ known_path count path.now) }
+pub(crate) fn known_path(path: PathList, count: usize) -> PathList
+    ensures { result ≡ known_path count path }
 {
-    let mut known = PathList::new(alloc);
-    for component in path {
-        if (component.0 as usize) < count {
-            known.push(*component)?;
-        }
-    }
-    Ok(known)
+    let mut components = path.into_vec();
+    components.retain(|component| (component.0 as usize) < count);
+    PathList::from_vec(components)
 }
