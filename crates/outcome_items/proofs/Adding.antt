@@ -26,8 +26,8 @@ one_mark (Some request) = omega arith
 one_end : (es : List Entry) (request : Option RequestNo) (end : RequestOutcome) → length (events_of_end es request end) ≤ 1
 one_end es request (Page place again) = one_entry es place again
 one_end es request (Sentinel group down) = omega arith
-one_end es request (Hung component fault) = omega arith
-one_end es request (Raised component fault) = omega arith
+one_end es request (Hung component fault path) = omega arith
+one_end es request (Raised component fault path) = omega arith
 one_end es request (Revoked tries) = omega arith
 one_end es request (Conflict tries) = omega arith
 one_end es request (JournalFull full) = omega arith
@@ -52,8 +52,8 @@ same_flag a b e = cc
 again_end : (es : List Entry) (request : Option RequestNo) (end : RequestOutcome) → again_in_end end ≡ Some true → events_of_end es request end ≡ []
 again_end es request (Page place again) e = again_entry es place again (same_flag again true e)
 again_end es request (Sentinel group down) e = refl
-again_end es request (Hung component fault) e = refl
-again_end es request (Raised component fault) e = refl
+again_end es request (Hung component fault path) e = refl
+again_end es request (Raised component fault path) e = refl
 again_end es request (Revoked tries) e = refl
 again_end es request (Conflict tries) e = refl
 again_end es request (JournalFull full) e = refl
@@ -79,8 +79,8 @@ mark_entry (Some request) entry e = cc
 own_end : (es : List Entry) (request : Option RequestNo) (end : RequestOutcome) (entry : Entry) → events_of_end es request end ≡ Added entry ∷ [] → again_in_end end ≡ Some false
 own_end es request (Page place again) entry e = own_entry es place again (Added entry) e
 own_end es request (Sentinel group down) entry e = absurd (cc)
-own_end es request (Hung component fault) entry e = absurd (cc)
-own_end es request (Raised component fault) entry e = absurd (cc)
+own_end es request (Hung component fault path) entry e = absurd (cc)
+own_end es request (Raised component fault path) entry e = absurd (cc)
 own_end es request (Revoked tries) entry e = absurd (cc)
 own_end es request (Conflict tries) entry e = absurd (cc)
 own_end es request (JournalFull full) entry e = absurd (cc)
@@ -115,8 +115,8 @@ HasFailed asked end request = (end ≡ KeeperFailed) × (asked ≡ Some request)
 end_marks : (es : List Entry) (asked : Option RequestNo) (end : RequestOutcome) (request : RequestNo) → events_of_end es asked end ≡ FailedMark request ∷ [] → HasFailed asked end request
 end_marks es asked (Page place again) request e = absurd (entry_marks es place again request e)
 end_marks es asked (Sentinel group down) request e = absurd (cc)
-end_marks es asked (Hung component fault) request e = absurd (cc)
-end_marks es asked (Raised component fault) request e = absurd (cc)
+end_marks es asked (Hung component fault path) request e = absurd (cc)
+end_marks es asked (Raised component fault path) request e = absurd (cc)
 end_marks es asked (Revoked tries) request e = absurd (cc)
 end_marks es asked (Conflict tries) request e = absurd (cc)
 end_marks es asked (JournalFull full) request e = absurd (cc)

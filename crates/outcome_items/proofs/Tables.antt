@@ -32,8 +32,8 @@ page_fails None cookie e = tt
 end_fails : (what : Option DoneText) (cookie : Option (List ℕ)) (end : RequestOutcome) → (said (answer_of_end what cookie end)).status ≡ 500 → IsFaultEnd end ⊎ (IsPageEnd end × IfSome what (λ d. d.status ≡ 500))
 end_fails what cookie (Page place again) e = inr (tt, page_fails what cookie e)
 end_fails what cookie (Sentinel group down) e = absurd (omega arith)
-end_fails what cookie (Hung component fault) e = inl tt
-end_fails what cookie (Raised component fault) e = inl tt
+end_fails what cookie (Hung component fault path) e = inl tt
+end_fails what cookie (Raised component fault path) e = inl tt
 end_fails what cookie (Revoked tries) e = absurd (omega arith)
 end_fails what cookie (Conflict tries) e = absurd (omega arith)
 end_fails what cookie (JournalFull full) e = absurd (omega arith)
@@ -65,8 +65,8 @@ page_sets None None text = (λ e. absurd (cc), λ e. let same = e.1 in absurd (c
 end_sets : (what : Option DoneText) (cookie : Option (List ℕ)) (end : RequestOutcome) (text : List ℕ) → ((said (answer_of_end what cookie end)).cookie ≡ field.Set text) ↔ (IsPageEnd end × (cookie ≡ Some text))
 end_sets what cookie (Page place again) text = page_sets what cookie text
 end_sets what cookie (Sentinel group down) text = (λ e. absurd (cc), λ e. absurd e.0)
-end_sets what cookie (Hung component fault) text = (λ e. absurd (cc), λ e. absurd e.0)
-end_sets what cookie (Raised component fault) text = (λ e. absurd (cc), λ e. absurd e.0)
+end_sets what cookie (Hung component fault path) text = (λ e. absurd (cc), λ e. absurd e.0)
+end_sets what cookie (Raised component fault path) text = (λ e. absurd (cc), λ e. absurd e.0)
 end_sets what cookie (Revoked tries) text = (λ e. absurd (cc), λ e. absurd e.0)
 end_sets what cookie (Conflict tries) text = (λ e. absurd (cc), λ e. absurd e.0)
 end_sets what cookie (JournalFull full) text = (λ e. absurd (cc), λ e. absurd e.0)
@@ -90,8 +90,8 @@ page_clears None None e = cc
 end_clears : (what : Option DoneText) (cookie : Option (List ℕ)) (end : RequestOutcome) → (said (answer_of_end what cookie end)).cookie ≡ field.Clear → ⊥
 end_clears what cookie (Page place again) e = page_clears what cookie e
 end_clears what cookie (Sentinel group down) e = cc
-end_clears what cookie (Hung component fault) e = cc
-end_clears what cookie (Raised component fault) e = cc
+end_clears what cookie (Hung component fault path) e = cc
+end_clears what cookie (Raised component fault path) e = cc
 end_clears what cookie (Revoked tries) e = cc
 end_clears what cookie (Conflict tries) e = cc
 end_clears what cookie (JournalFull full) e = cc
@@ -124,8 +124,8 @@ page_retries None cookie e = cc
 end_keeps : (what : Option DoneText) (cookie : Option (List ℕ)) (end : RequestOutcome) → (said (answer_of_end what cookie end)).retry ≡ true → KeepsAt what cookie (Ended end)
 end_keeps what cookie (Page place again) e = absurd (page_retries what cookie e)
 end_keeps what cookie (Sentinel group down) e = (refl, refl)
-end_keeps what cookie (Hung component fault) e = absurd (cc)
-end_keeps what cookie (Raised component fault) e = absurd (cc)
+end_keeps what cookie (Hung component fault path) e = absurd (cc)
+end_keeps what cookie (Raised component fault path) e = absurd (cc)
 end_keeps what cookie (Revoked tries) e = (refl, refl)
 end_keeps what cookie (Conflict tries) e = (refl, refl)
 end_keeps what cookie (JournalFull full) e = (refl, refl)
@@ -147,8 +147,8 @@ IsNotRetried outcome = ((why : Refusal) × (outcome ≡ Refused why)) ⊎ (HasNo
 end_else : (what : Option DoneText) (cookie : Option (List ℕ)) (end : RequestOutcome) → (said (answer_of_end what cookie end)).retry ≡ false → IsFaultEnd end ⊎ IsPageEnd end
 end_else what cookie (Page place again) e = inr tt
 end_else what cookie (Sentinel group down) e = absurd (cc)
-end_else what cookie (Hung component fault) e = inl tt
-end_else what cookie (Raised component fault) e = inl tt
+end_else what cookie (Hung component fault path) e = inl tt
+end_else what cookie (Raised component fault path) e = inl tt
 end_else what cookie (Revoked tries) e = absurd (cc)
 end_else what cookie (Conflict tries) e = absurd (cc)
 end_else what cookie (JournalFull full) e = absurd (cc)

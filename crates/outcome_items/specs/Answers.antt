@@ -37,8 +37,8 @@ answer_of_page None cookie = answer.Page 500 failed_page cookie
 abbrev pub answer_of_end : Option DoneText → Option (List ℕ) → RequestOutcome → SiteAnswer
 answer_of_end what cookie (Page place again) = answer_of_page what cookie
 answer_of_end what cookie (Sentinel group down) = answer.TryAgain
-answer_of_end what cookie (Hung component fault) = answer.Failed
-answer_of_end what cookie (Raised component fault) = answer.Failed
+answer_of_end what cookie (Hung component fault path) = answer.Failed
+answer_of_end what cookie (Raised component fault path) = answer.Failed
 answer_of_end what cookie (Revoked tries) = answer.TryAgain
 answer_of_end what cookie (Conflict tries) = answer.TryAgain
 answer_of_end what cookie (JournalFull full) = answer.TryAgain
@@ -59,8 +59,8 @@ answer_of what cookie (Missed place again causes) = answer.TryAgain
 abbrev pub IsPageEnd : RequestOutcome → Type 0
 IsPageEnd (Page place again) = Unit {0}
 IsPageEnd (Sentinel group down) = ⊥
-IsPageEnd (Hung component fault) = ⊥
-IsPageEnd (Raised component fault) = ⊥
+IsPageEnd (Hung component fault path) = ⊥
+IsPageEnd (Raised component fault path) = ⊥
 IsPageEnd (Revoked tries) = ⊥
 IsPageEnd (Conflict tries) = ⊥
 IsPageEnd (JournalFull full) = ⊥
@@ -80,8 +80,8 @@ IsPage (Missed place again causes) = ⊥
 abbrev pub IsFaultEnd : RequestOutcome → Type 0
 IsFaultEnd (Page place again) = ⊥
 IsFaultEnd (Sentinel group down) = ⊥
-IsFaultEnd (Hung component fault) = Unit {0}
-IsFaultEnd (Raised component fault) = Unit {0}
+IsFaultEnd (Hung component fault path) = Unit {0}
+IsFaultEnd (Raised component fault path) = Unit {0}
 IsFaultEnd (Revoked tries) = ⊥
 IsFaultEnd (Conflict tries) = ⊥
 IsFaultEnd (JournalFull full) = ⊥
@@ -111,8 +111,8 @@ HasNoSession (Missed place again causes) = ⊥
 abbrev pub shown_by_end : List Entry → RequestOutcome → Option DoneText
 shown_by_end es (Page place again) = done_at es place
 shown_by_end es (Sentinel group down) = None
-shown_by_end es (Hung component fault) = None
-shown_by_end es (Raised component fault) = None
+shown_by_end es (Hung component fault path) = None
+shown_by_end es (Raised component fault path) = None
 shown_by_end es (Revoked tries) = None
 shown_by_end es (Conflict tries) = None
 shown_by_end es (JournalFull full) = None

@@ -1,5 +1,5 @@
 -- What the manager that decides on reboots is told of a request, by what became of it.
-use Rattle.std.specs.Prelude.{[], ◌∷◌, List, Option, Some, None}
+use Rattle.std.specs.Prelude.{List, Option, Some, None}
 use Rattle.crash_base.specs.declared.numbers.ComponentNo.{ComponentNo}
 use Rattle.crash_base.specs.declared.numbers.Moment.{Moment}
 use Rattle.failure_scores.specs.declared.report.FailureReport.{FailureReport}
@@ -17,8 +17,8 @@ path_report moment path = reports.Path (record { path = path; moment = moment })
 abbrev pub report_of_end : Moment → RequestOutcome → Option FailureReport
 report_of_end moment (Page place again) = None
 report_of_end moment (Sentinel group down) = None
-report_of_end moment (Hung component fault) = Some (path_report moment (component ∷ []))
-report_of_end moment (Raised component fault) = Some (path_report moment (component ∷ []))
+report_of_end moment (Hung component fault path) = Some (path_report moment path)
+report_of_end moment (Raised component fault path) = Some (path_report moment path)
 report_of_end moment (Revoked tries) = None
 report_of_end moment (Conflict tries) = None
 report_of_end moment (JournalFull full) = Some (reports.JournalFull moment)

@@ -36,8 +36,8 @@ mark_of (Some request) = FailedMark request ∷ []
 abbrev pub events_of_end : List Entry → Option RequestNo → RequestOutcome → List Event
 events_of_end es request (Page place again) = entry_added es place again
 events_of_end es request (Sentinel group down) = []
-events_of_end es request (Hung component fault) = []
-events_of_end es request (Raised component fault) = []
+events_of_end es request (Hung component fault path) = []
+events_of_end es request (Raised component fault path) = []
 events_of_end es request (Revoked tries) = []
 events_of_end es request (Conflict tries) = []
 events_of_end es request (JournalFull full) = []
@@ -111,8 +111,8 @@ is_spent mark.Spent = true
 abbrev pub again_in_end : RequestOutcome → Option Bool
 again_in_end (Page place again) = Some again
 again_in_end (Sentinel group down) = None
-again_in_end (Hung component fault) = None
-again_in_end (Raised component fault) = None
+again_in_end (Hung component fault path) = None
+again_in_end (Raised component fault path) = None
 again_in_end (Revoked tries) = None
 again_in_end (Conflict tries) = None
 again_in_end (JournalFull full) = None

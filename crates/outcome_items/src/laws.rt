@@ -38,9 +38,9 @@ pub fn failures_are_of_faults_and_pages()
         → (said (answer_of what cookie outcome)).status ≡ 500
         → IsFault outcome ⊎ (IsPage outcome × IfSome what (λ d. d.status ≡ 500)) }
     ensures hung { (what : Option DoneText) (cookie : Option (List ℕ)) (component : ComponentNo) (fault : ℕ)
-        → answer_of what cookie (item.Ended (Hung component fault)) ≡ answer.Failed }
+        (path : List ComponentNo) → answer_of what cookie (item.Ended (Hung component fault path)) ≡ answer.Failed }
     ensures raised { (what : Option DoneText) (cookie : Option (List ℕ)) (component : ComponentNo) (fault : ℕ)
-        → answer_of what cookie (item.Ended (Raised component fault)) ≡ answer.Failed }
+        (path : List ComponentNo) → answer_of what cookie (item.Ended (Raised component fault path)) ≡ answer.Failed }
 {}
 
 /// Each refusal has its own status, and a session that is gone its own heading: 404 where nothing is at the path, 405

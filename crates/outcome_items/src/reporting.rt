@@ -30,12 +30,12 @@ fn report_of_end(
     ensures { IfOk result (λ report. report ≡ report_of_end moment end.now) }
 {
     match end {
-        RequestOutcome::Hung { component, .. } => {
-            let report = path_report(alloc, moment, &[*component])?;
+        RequestOutcome::Hung { path, .. } => {
+            let report = path_report(alloc, moment, path.as_slice())?;
             Ok(Some(report))
         }
-        RequestOutcome::Raised { component, .. } => {
-            let report = path_report(alloc, moment, &[*component])?;
+        RequestOutcome::Raised { path, .. } => {
+            let report = path_report(alloc, moment, path.as_slice())?;
             Ok(Some(report))
         }
         RequestOutcome::JournalFull(_) => Ok(Some(FailureReport::JournalFull(moment))),

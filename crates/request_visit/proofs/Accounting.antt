@@ -104,8 +104,8 @@ grows old new errand from held (Page place false) is adds stands =
     let there = same_entry new.boot.start (Started new.boot.start ∷ old.since) (events_of new) errand from held place adds.0 events at stands in
     record { added = Added (Commit adds.0) ∷ []; grown = adds.1; tells = sym (ap added_if there) }
 grows old new errand from held (Sentinel group down) is adds stands = nothing old new errand held (Sentinel group down) adds refl
-grows old new errand from held (Hung component fault) is adds stands = nothing old new errand held (Hung component fault) adds refl
-grows old new errand from held (Raised component fault) is adds stands = nothing old new errand held (Raised component fault) adds refl
+grows old new errand from held (Hung component fault path) is adds stands = nothing old new errand held (Hung component fault path) adds refl
+grows old new errand from held (Raised component fault path) is adds stands = nothing old new errand held (Raised component fault path) adds refl
 grows old new errand from held (Revoked tries) is adds stands = nothing old new errand held (Revoked tries) adds refl
 grows old new errand from held (Conflict tries) is adds stands = nothing old new errand held (Conflict tries) adds refl
 grows old new errand from held (JournalFull full) is adds stands = nothing old new errand held (JournalFull full) adds refl
@@ -120,8 +120,8 @@ left_accounts asks start history errand v ready (Page place again) holds own end
   by_ready (Respond bytes) = ends
   by_ready (Write order shown) = ends
 left_accounts asks start history errand v ready (Sentinel group down) holds own ends = ends
-left_accounts asks start history errand v ready (Hung component fault) holds own ends = ends
-left_accounts asks start history errand v ready (Raised component fault) holds own ends = ends
+left_accounts asks start history errand v ready (Hung component fault path) holds own ends = ends
+left_accounts asks start history errand v ready (Raised component fault path) holds own ends = ends
 left_accounts asks start history errand v ready (Revoked tries) holds own ends = ends
 left_accounts asks start history errand v ready (Conflict tries) holds own ends = ends
 left_accounts asks start history errand v ready (JournalFull full) holds own ends = ends

@@ -321,8 +321,8 @@ left_counts {P} begin v ready (Page place again) s = by (ready again) where
   by (Respond bytes) = record { held = s.held; told = no_less _ begin v.counts s.held }
   by (Write order shown) = record { held = no_less _ begin v.counts s.held; told = no_less _ begin v.counts s.held }
 left_counts begin v ready (Sentinel group down) s = record { held = s.held; told = no_less _ begin v.counts s.held }
-left_counts begin v ready (Hung component fault) s = record { held = s.held; told = no_less _ begin v.counts s.held }
-left_counts begin v ready (Raised component fault) s = record { held = s.held; told = no_less _ begin v.counts s.held }
+left_counts begin v ready (Hung component fault path) s = record { held = s.held; told = no_less _ begin v.counts s.held }
+left_counts begin v ready (Raised component fault path) s = record { held = s.held; told = no_less _ begin v.counts s.held }
 left_counts begin v ready (Revoked tries) s = record { held = s.held; told = no_less _ begin v.counts s.held }
 left_counts begin v ready (Conflict tries) s = record { held = s.held; told = no_less _ begin v.counts s.held }
 left_counts begin v ready (JournalFull full) s = record { held = s.held; told = no_less _ begin v.counts s.held }

@@ -95,8 +95,8 @@ left_says : {P : Type 0} (key : List ℕ) (es : List Entry) (out : List ℕ) (v 
 left_says key es out v lease (Page place again) none =
     ready_says key es out v place again (ready_of v.facts lease (done_at es place)) (value_to_write (set_in (done_at es place)) v.facts.now lease) refl none
 left_says key es out v lease (Sentinel group down) none = (none, λ p. p)
-left_says key es out v lease (Hung component fault) none = (none, λ p. p)
-left_says key es out v lease (Raised component fault) none = (none, λ p. p)
+left_says key es out v lease (Hung component fault path) none = (none, λ p. p)
+left_says key es out v lease (Raised component fault path) none = (none, λ p. p)
 left_says key es out v lease (Revoked tries) none = (none, λ p. p)
 left_says key es out v lease (Conflict tries) none = (none, λ p. p)
 left_says key es out v lease (JournalFull full) none = (none, λ p. p)
@@ -154,8 +154,8 @@ end_answers : (es : List Entry) (end : RequestOutcome) → (IsPage (item.Ended e
     → answer_of None None (item.Ended end) ≡ answer_of (shown_by_entry es (item.Ended end)) None (item.Ended end)
 end_answers es (Page place again) unshown = absurd (unshown tt)
 end_answers es (Sentinel group down) unshown = refl
-end_answers es (Hung component fault) unshown = refl
-end_answers es (Raised component fault) unshown = refl
+end_answers es (Hung component fault path) unshown = refl
+end_answers es (Raised component fault path) unshown = refl
 end_answers es (Revoked tries) unshown = refl
 end_answers es (Conflict tries) unshown = refl
 end_answers es (JournalFull full) unshown = refl

@@ -421,8 +421,8 @@ module _ {L : Type 0} (makes : L → LinkEvent → L → Type 0) (begin : Option
       page (Respond bytes) r = record { within = within; so = ready_of_page (entries_in (take e.held events)) (record v { work = work; holds = holds_of e }) place again (Respond bytes) r known none rests }
       page (Write order shown) r = record { within = within; so = ready_of_page (entries_in (take e.held events)) (record v { work = work; holds = holds_of e }) place again (Write order shown) r known none rests }
     by_end (Sentinel group down) is = record { within = within; so = ((known, none), rests) }
-    by_end (Hung component fault) is = record { within = within; so = ((known, none), rests) }
-    by_end (Raised component fault) is = record { within = within; so = ((known, none), rests) }
+    by_end (Hung component fault path) is = record { within = within; so = ((known, none), rests) }
+    by_end (Raised component fault path) is = record { within = within; so = ((known, none), rests) }
     by_end (Revoked tries) is = record { within = within; so = ((known, none), rests) }
     by_end (Conflict tries) is = record { within = within; so = ((known, none), rests) }
     by_end (JournalFull full) is = record { within = within; so = ((known, none), rests) }
@@ -657,8 +657,8 @@ module _ {L : Type 0} (makes : L → LinkEvent → L → Type 0) (begin : Option
   of_end : (es : List Entry) (facts : VisitFacts) (lease : Option SessionLease) (c : Cookie) (cookie : Option Cookie) (end : RequestOutcome) → cookie ≡ Some c → EndTold makes es facts lease cookie end → IsCookieOf facts c
   of_end es facts lease c cookie (Page place again) some k = of_order facts lease (done_at es place) c (subst (λ (x : Option Cookie). CookieTold makes facts lease (done_at es place) x) some k)
   of_end es facts lease c cookie (Sentinel group down) some k = no_cookie facts c cookie some k
-  of_end es facts lease c cookie (Hung component fault) some k = no_cookie facts c cookie some k
-  of_end es facts lease c cookie (Raised component fault) some k = no_cookie facts c cookie some k
+  of_end es facts lease c cookie (Hung component fault path) some k = no_cookie facts c cookie some k
+  of_end es facts lease c cookie (Raised component fault path) some k = no_cookie facts c cookie some k
   of_end es facts lease c cookie (Revoked tries) some k = no_cookie facts c cookie some k
   of_end es facts lease c cookie (Conflict tries) some k = no_cookie facts c cookie some k
   of_end es facts lease c cookie (JournalFull full) some k = no_cookie facts c cookie some k

@@ -31,8 +31,8 @@ holds_of e = record { from = e.from; front = e.front; held = e.held }
 abbrev pub closed_with : (Bool → Ready) → RequestOutcome → Closed
 closed_with ready (Page place again) = closed.Page place again (ready again)
 closed_with ready (Sentinel group down) = closed.Other (item.Ended (Sentinel group down))
-closed_with ready (Hung component fault) = closed.Other (item.Ended (Hung component fault))
-closed_with ready (Raised component fault) = closed.Other (item.Ended (Raised component fault))
+closed_with ready (Hung component fault path) = closed.Other (item.Ended (Hung component fault path))
+closed_with ready (Raised component fault path) = closed.Other (item.Ended (Raised component fault path))
 closed_with ready (Revoked tries) = closed.Other (item.Ended (Revoked tries))
 closed_with ready (Conflict tries) = closed.Other (item.Ended (Conflict tries))
 closed_with ready (JournalFull full) = closed.Other (item.Ended (JournalFull full))

@@ -164,8 +164,8 @@ CookieTold makes facts lease what (Some cookie) = HasCome makes facts lease what
 abbrev pub EndTold : {L : Type 0} → (L → LinkEvent → L → Type 0) → List Entry → VisitFacts → Option SessionLease → Option Cookie → RequestOutcome → Type 0
 EndTold makes es facts lease cookie (Page place again) = CookieTold makes facts lease (done_at es place) cookie
 EndTold makes es facts lease cookie (Sentinel group down) = cookie ≡ None
-EndTold makes es facts lease cookie (Hung component fault) = cookie ≡ None
-EndTold makes es facts lease cookie (Raised component fault) = cookie ≡ None
+EndTold makes es facts lease cookie (Hung component fault path) = cookie ≡ None
+EndTold makes es facts lease cookie (Raised component fault path) = cookie ≡ None
 EndTold makes es facts lease cookie (Revoked tries) = cookie ≡ None
 EndTold makes es facts lease cookie (Conflict tries) = cookie ≡ None
 EndTold makes es facts lease cookie (JournalFull full) = cookie ≡ None

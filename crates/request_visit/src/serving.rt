@@ -110,12 +110,30 @@ fn closing_after(
         RequestOutcome::Sentinel { group, down } => {
             other(RequestOutcome::Sentinel { group, down }, ready)
         }
-        RequestOutcome::Hung { component, fault } => {
-            other(RequestOutcome::Hung { component, fault }, ready)
-        }
-        RequestOutcome::Raised { component, fault } => {
-            other(RequestOutcome::Raised { component, fault }, ready)
-        }
+        RequestOutcome::Hung {
+            component,
+            fault,
+            path,
+        } => other(
+            RequestOutcome::Hung {
+                component,
+                fault,
+                path,
+            },
+            ready,
+        ),
+        RequestOutcome::Raised {
+            component,
+            fault,
+            path,
+        } => other(
+            RequestOutcome::Raised {
+                component,
+                fault,
+                path,
+            },
+            ready,
+        ),
         RequestOutcome::Revoked(tries) => other(RequestOutcome::Revoked(tries), ready),
         RequestOutcome::Conflict(tries) => other(RequestOutcome::Conflict(tries), ready),
         RequestOutcome::JournalFull(full) => other(RequestOutcome::JournalFull(full), ready),

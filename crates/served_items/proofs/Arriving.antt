@@ -209,8 +209,8 @@ module _ {P L : Type 0} (asks : P → List Answer → Next) (calls : L → LinkE
       let same : earlier ≡ again = cc in
       (place, ap committed_at so, subst (λ (b : Bool). EndsWith start history h.errand h.facts i.holds (Page place b) (trace_in history i)) same ends, was_admitted t.intake.arrival (λ a. IsErrandOf asks makes i.value h.errand a) on)
   by_end again (Sentinel group down) so is ends on = absurd (cc)
-  by_end again (Hung component fault) so is ends on = absurd (cc)
-  by_end again (Raised component fault) so is ends on = absurd (cc)
+  by_end again (Hung component fault path) so is ends on = absurd (cc)
+  by_end again (Raised component fault path) so is ends on = absurd (cc)
   by_end again (Revoked tries) so is ends on = absurd (cc)
   by_end again (Conflict tries) so is ends on = absurd (cc)
   by_end again (JournalFull full) so is ends on = absurd (cc)

@@ -105,8 +105,8 @@ module _ (arrival : Arrival) (So : Option SessionLease → Admission → Type 0)
     by (Respond bytes) = h
     by (Write order page) = h
   shown mid ready (Sentinel group down) h = h
-  shown mid ready (Hung component fault) h = h
-  shown mid ready (Raised component fault) h = h
+  shown mid ready (Hung component fault path) h = h
+  shown mid ready (Raised component fault path) h = h
   shown mid ready (Revoked tries) h = h
   shown mid ready (Conflict tries) h = h
   shown mid ready (JournalFull full) h = h
@@ -118,8 +118,8 @@ module _ (arrival : Arrival) (So : Option SessionLease → Admission → Type 0)
     by (Respond bytes) = refl
     by (Write order page) = refl
   known mid ready (Sentinel group down) = refl
-  known mid ready (Hung component fault) = refl
-  known mid ready (Raised component fault) = refl
+  known mid ready (Hung component fault path) = refl
+  known mid ready (Raised component fault path) = refl
   known mid ready (Revoked tries) = refl
   known mid ready (Conflict tries) = refl
   known mid ready (JournalFull full) = refl

@@ -80,8 +80,8 @@ module _ (start : Start) (history : List Event) (errand : Errand) (facts : Visit
   paged_end : (place : Place) (end : RequestOutcome) → committed_at (item.Ended end) ≡ Some place → EndsWith start history errand facts holds end own → Paged place
   paged_end place (Page other again) is h = paged_so place other again is h
   paged_end place (Sentinel group down) is h = absurd (cc)
-  paged_end place (Hung component fault) is h = absurd (cc)
-  paged_end place (Raised component fault) is h = absurd (cc)
+  paged_end place (Hung component fault path) is h = absurd (cc)
+  paged_end place (Raised component fault path) is h = absurd (cc)
   paged_end place (Revoked tries) is h = absurd (cc)
   paged_end place (Conflict tries) is h = absurd (cc)
   paged_end place (JournalFull full) is h = absurd (cc)

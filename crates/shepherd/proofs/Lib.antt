@@ -6,6 +6,7 @@ mod Ending
 mod Growing
 mod Keeping
 mod Replying
+mod Reporting
 mod Requests
 mod Responding
 mod Stopped

@@ -65,8 +65,8 @@ one_event : (es : List Entry) (request : Option RequestNo) (end : RequestOutcome
 one_event es request (Page place true) = omega arith
 one_event es request (Page place false) = one_entry (slice_get es place.0)
 one_event es request (Sentinel group down) = omega arith
-one_event es request (Hung component fault) = omega arith
-one_event es request (Raised component fault) = omega arith
+one_event es request (Hung component fault path) = omega arith
+one_event es request (Raised component fault path) = omega arith
 one_event es request (Revoked tries) = omega arith
 one_event es request (Conflict tries) = omega arith
 one_event es request (JournalFull full) = omega arith

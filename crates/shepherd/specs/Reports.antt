@@ -1,5 +1,5 @@
 -- What a connection reports, right behind a step in the container, to the manager that decides on reboots.
-use Rattle.std.specs.Prelude.{◌≡◌, ◌⊎◌, ℕ, [], ◌∷◌, List, Option, Some, None}
+use Rattle.std.specs.Prelude.{◌≡◌, ◌⊎◌, ℕ, List, Option, Some, None}
 use Rattle.boot_core.specs.declared.boot.Start.{Start}
 use Rattle.container_core.specs.declared.history.Event.{Event}
 use Rattle.crash_base.specs.declared.numbers.ComponentNo.{ComponentNo}
@@ -40,8 +40,7 @@ pub record HasFailed {P : Type 0} (path : List ComponentNo) (moment : Moment) (v
   pub component : ComponentNo
   pub fault : ℕ
   pub moment_is : v.facts.now ≡ moment
-  pub path_is : path ≡ component ∷ []
-  pub became : (v.work ≡ Decided (item.Ended (Hung component fault))) ⊎ (v.work ≡ Decided (item.Ended (Raised component fault)))
+  pub became : (v.work ≡ Decided (item.Ended (Hung component fault path))) ⊎ (v.work ≡ Decided (item.Ended (Raised component fault path)))
 
 -- A request with this moment found the journal full.
 pub record FoundFull {P : Type 0} (moment : Moment) (v : Visit P) : Type 0 where

@@ -72,9 +72,9 @@ abbrev pub after_stop : HistoryFront → TriesValue → Place → Bool → Stop 
 after_stop now s at repeats (stops.Sentinel group down) =
     Ends (ended_at now (from_of s at) (outcome.Sentinel group down) None)
 after_stop now s at repeats (stops.Hung component fault) =
-    Ends (ended_at now (from_of s at) (outcome.Hung component fault) None)
+    Ends (ended_at now (from_of s at) (outcome.Hung component fault path) None)
 after_stop now s at repeats (stops.Raised component fault) =
-    Ends (ended_at now (from_of s at) (outcome.Raised component fault) None)
+    Ends (ended_at now (from_of s at) (outcome.Raised component fault path) None)
 after_stop now s at repeats (stops.Revoked shown) = after_try now s at (cause.Revoked shown) repeats
 
 -- what a refusal makes of a request that would commit; without memory it is served still

@@ -73,8 +73,8 @@ ended_meant rule old new errand call e asks stands counted = go
         same_front (entries_in old.since) (entries_in served.before) (Commit adds.0) (Commit served.entry) (sym grown ∙ here) in
         served_meant rule new.boot.start (events_of new) errand call e.from.0 place.0 asks served (subst (λ (es : List Entry). AreMeant new.boot.start.base es) front are)
     go (Sentinel group down) is adds are = subst P (sym adds) are
-    go (Hung component fault) is adds are = subst P (sym adds) are
-    go (Raised component fault) is adds are = subst P (sym adds) are
+    go (Hung component fault path) is adds are = subst P (sym adds) are
+    go (Raised component fault path) is adds are = subst P (sym adds) are
     go (Revoked tries) is adds are = subst P (sym adds) are
     go (Conflict tries) is adds are = subst P (sym adds) are
     go (JournalFull full) is adds are = subst P (sym adds) are

@@ -76,15 +76,15 @@ component_reached rule start errand call component asks enters =
     (steps.method, rule call steps.answers component steps.method steps.asked)
 
 pub hung_reached : ComponentRule → (start : Start) (events : List Event) (errand : Errand) (call : ActionCall) (e : Ended) (component : ComponentNo) (fault : ℕ) → AsksSite start errand call
-    → EndStands start events errand e → e.outcome ≡ outcomes.Hung component fault → (method : ℕ) × MayEnter call.action component method
+    → EndStands start events errand e → e.outcome ≡ outcomes.Hung component fault path → (method : ℕ) × MayEnter call.action component method
 hung_reached rule start events errand call e component fault asks stands is =
-    let shows = outcome_of_end start events errand e (outcomes.Hung component fault) stands is in
+    let shows = outcome_of_end start events errand e (outcomes.Hung component fault path) stands is in
     component_reached rule start errand call component asks shows.1
 
 pub raised_reached : ComponentRule → (start : Start) (events : List Event) (errand : Errand) (call : ActionCall) (e : Ended) (component : ComponentNo) (fault : ℕ) → AsksSite start errand call
-    → EndStands start events errand e → e.outcome ≡ outcomes.Raised component fault → (method : ℕ) × MayEnter call.action component method
+    → EndStands start events errand e → e.outcome ≡ outcomes.Raised component fault path → (method : ℕ) × MayEnter call.action component method
 raised_reached rule start events errand call e component fault asks stands is =
-    let shows = outcome_of_end start events errand e (outcomes.Raised component fault) stands is in
+    let shows = outcome_of_end start events errand e (outcomes.Raised component fault path) stands is in
     component_reached rule start errand call component asks shows.1
 
 pub revoked_reached : GroupRule → TableRule → (start : Start) (events : List Event) (errand : Errand) (call : ActionCall) (e : Ended) (tries : List Try) → AsksSite start errand call

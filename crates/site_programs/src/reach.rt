@@ -31,10 +31,10 @@ pub fn requests_touch_what_their_actions_reach()
         → e.outcome ≡ Sentinel group down → MayEnterGroup call.action group }
     ensures hung { (start : Start) (events : List Event) (errand : Errand) (call : ActionCall) (e : Ended)
         (component : ComponentNo) (fault : ℕ) → AsksSite start errand call → EndStands start events errand e
-        → e.outcome ≡ Hung component fault → (method : ℕ) × MayEnter call.action component method }
+        → e.outcome ≡ Hung component fault path → (method : ℕ) × MayEnter call.action component method }
     ensures raised { (start : Start) (events : List Event) (errand : Errand) (call : ActionCall) (e : Ended)
         (component : ComponentNo) (fault : ℕ) → AsksSite start errand call → EndStands start events errand e
-        → e.outcome ≡ Raised component fault → (method : ℕ) × MayEnter call.action component method }
+        → e.outcome ≡ Raised component fault path → (method : ℕ) × MayEnter call.action component method }
     ensures revoked { (start : Start) (events : List Event) (errand : Errand) (call : ActionCall) (e : Ended)
         (tries : List Try) → AsksSite start errand call → EndStands start events errand e → e.outcome ≡ Revoked tries
         → All (TryIsReached call.action) tries }

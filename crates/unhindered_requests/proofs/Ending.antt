@@ -83,8 +83,8 @@ shown_fewer place again (Write order page) v = omega arith
 pub closed_fewer : {P : Type 0} (ready : Bool → Ready) (o : RequestOutcome) (v : Visit P) → steps_left (left_so (closed_with ready o) v) ≤ page_steps + calls_left v.way
 closed_fewer ready (Page place again) v = shown_fewer place again (ready again) v
 closed_fewer ready (Sentinel group down) v = omega arith
-closed_fewer ready (Hung component fault) v = omega arith
-closed_fewer ready (Raised component fault) v = omega arith
+closed_fewer ready (Hung component fault path) v = omega arith
+closed_fewer ready (Raised component fault path) v = omega arith
 closed_fewer ready (Revoked tries) v = omega arith
 closed_fewer ready (Conflict tries) v = omega arith
 closed_fewer ready (JournalFull full) v = omega arith
