@@ -12,6 +12,7 @@ use Rattle.call_attempts.specs.declared.stop.Stop.TheVariants as stops
 use Rattle.call_ticket.specs.declared.next.Answer.{Answer}
 use Rattle.call_ticket.specs.declared.next.Next.{Next}
 use Rattle.container_core.specs.Container.{ContainerValue}
+use Rattle.crash_base.specs.declared.numbers.ComponentNo.{ComponentNo}
 use Rattle.crash_base.specs.declared.numbers.Place.{Place}
 use Rattle.journal_model.specs.declared.entry.DoneText.{DoneText}
 use Rattle.journal_model.specs.declared.entry.Entry.{Entry}
@@ -70,12 +71,12 @@ commit_front old new s after None done e c = absurd c
 commit_front old new s after (Some a) done e c =
     ap (λ (p : Place). p.0) (heard_front (front_at new) new.boot.entries (closed s) after a.ticket.call.at a.repeats c.answer e c.hears)
 
-stop_front : (now : HistoryFront) (s after : TriesValue) (at : Place) (repeats : Bool) (stop : Stop) (e : Ended)
-    → IsStopped now s at repeats stop (Some e) after → e.front ≡ now.front
-stop_front now s after at repeats (stops.Sentinel group down) e h = ap (λ (x : Ended). x.front) (some_is h)
-stop_front now s after at repeats (stops.Hung component fault) e h = ap (λ (x : Ended). x.front) (some_is h)
-stop_front now s after at repeats (stops.Raised component fault) e h = ap (λ (x : Ended). x.front) (some_is h)
-stop_front now s after at repeats (stops.Revoked shown) e h = try_front now s after at (cause.Revoked shown) repeats e h
+stop_front : (now : HistoryFront) (s after : TriesValue) (at : Place) (repeats : Bool) (entered : List ComponentNo) (stop : Stop) (e : Ended)
+    → IsStopped now s at repeats entered stop (Some e) after → e.front ≡ now.front
+stop_front now s after at repeats entered (stops.Sentinel group down) e h = ap (λ (x : Ended). x.front) (some_is h)
+stop_front now s after at repeats entered (stops.Hung component fault) e h = ap (λ (x : Ended). x.front) (some_is h)
+stop_front now s after at repeats entered (stops.Raised component fault) e h = ap (λ (x : Ended). x.front) (some_is h)
+stop_front now s after at repeats entered (stops.Revoked shown) e h = try_front now s after at (cause.Revoked shown) repeats e h
 
 -- the end that a step came to
 told_end : (end : Option Ended) (e : Ended) → progress.Ended e ≡ progress_of end → end ≡ Some e
@@ -89,8 +90,8 @@ step_front c new asks s after (Some a) e steps = ap (λ (p : Place). p.0) (go st
   go coming.Went h = let never = h.0 in absurd (cc)
   go (coming.Done d) h = let never = h.0 in absurd (cc)
   go (coming.Stopped stop) h =
-      stop_front (front_at c) (closed s) after a.ticket.call.at a.repeats stop e
-      (subst (λ (o : Option Ended). IsStopped (front_at c) (closed s) a.ticket.call.at a.repeats stop o after) (told_end h.0 e h.1) h.2)
+      stop_front (front_at c) (closed s) after a.ticket.call.at a.repeats a.entered stop e
+      (subst (λ (o : Option Ended). IsStopped (front_at c) (closed s) a.ticket.call.at a.repeats a.entered stop o after) (told_end h.0 e h.1) h.2)
 
 -- A request that has ended tells how far the journal has come.
 pub ended_front : (old between new : ContainerValue) (asks : List Answer → Next) (s mid after : TriesValue) (to : Progress) (e : Ended)

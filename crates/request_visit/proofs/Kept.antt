@@ -1,6 +1,7 @@
 -- What a request asks for stays while it goes on.
 use Rattle.std.specs.Prelude.{Result, Ok, Err}
 use Rattle.std.proofs.Common.{◌≡◌, Bool, List, Option, Some, None, refl, sym, ap, ◌∙◌}
+use Rattle.crash_base.specs.declared.numbers.ComponentNo.{ComponentNo}
 use Rattle.crash_base.specs.declared.numbers.Place.{Place}
 use Rattle.boot_core.specs.declared.refusals.CommitRefusal.{CommitRefusal}
 use Rattle.boot_core.specs.declared.refusals.CommitRefusal.TheVariants as commits
@@ -36,12 +37,12 @@ by_try : (now : HistoryFront) (s after : TriesValue) (at : Place) (why : TryCaus
 by_try now s after at why repeats None none ends = from_same s after _ ends.2 (refl, refl)
 by_try now s after at why repeats (Some e) none ends = absurd (cc)
 
-by_stop : (now : HistoryFront) (s after : TriesValue) (at : Place) (repeats : Bool) (stop : Stop) (end : Option Ended)
-    → end ≡ None → IsStopped now (closed s) at repeats stop end after → AreKept s after
-by_stop now s after at repeats (stops.Sentinel group down) end none stopped = absurd (cc)
-by_stop now s after at repeats (stops.Hung component fault) end none stopped = absurd (cc)
-by_stop now s after at repeats (stops.Raised component fault) end none stopped = absurd (cc)
-by_stop now s after at repeats (stops.Revoked shown) end none stopped = by_try now s after at _ repeats end none stopped
+by_stop : (now : HistoryFront) (s after : TriesValue) (at : Place) (repeats : Bool) (entered : List ComponentNo) (stop : Stop) (end : Option Ended)
+    → end ≡ None → IsStopped now (closed s) at repeats entered stop end after → AreKept s after
+by_stop now s after at repeats entered (stops.Sentinel group down) end none stopped = absurd (cc)
+by_stop now s after at repeats entered (stops.Hung component fault) end none stopped = absurd (cc)
+by_stop now s after at repeats entered (stops.Raised component fault) end none stopped = absurd (cc)
+by_stop now s after at repeats entered (stops.Revoked shown) end none stopped = by_try now s after at _ repeats end none stopped
 
 -- a step that did not end the request, as an end
 no_end : (end : Option Ended) (to : Progress) → to ≡ progress_of end → end_of to ≡ None → end ≡ None
@@ -53,7 +54,7 @@ by_coming : (c : ContainerValue) (asks : List Answer → Next) (s after : TriesV
 by_coming c asks s after a coming.Went to comes none = from_same s after _ comes.1 (refl, refl)
 by_coming c asks s after a (coming.Done done) to comes none = from_same s after s comes.1 (refl, refl)
 by_coming c asks s after a (coming.Stopped stop) to comes none =
-    by_stop _ s after a.ticket.call.at a.repeats stop comes.0 (no_end comes.0 to comes.1 none) comes.2
+    by_stop _ s after a.ticket.call.at a.repeats a.entered stop comes.0 (no_end comes.0 to comes.1 none) comes.2
 
 by_step : (c new : ContainerValue) (asks : List Answer → Next) (s after : TriesValue) (a : Option AttemptValue) (to : Progress)
     → StepsAs c asks s a to new after → end_of to ≡ None → AreKept s after

@@ -89,12 +89,12 @@ tried now s at why repeats (Some end) after h =
     (Ends (ended_at now (from_of s at) (outcome_by why (s.tries ++ try_ended now at why ∷ [])) None))
     (may_not (length s.tries + 1) repeats h.0))
 
-stopped : (now : HistoryFront) (s : TriesValue) (at : Place) (repeats : Bool) (stop : Stop) (end : Option Ended) (after : TriesValue)
-    → IsStopped now s at repeats stop end after → came_to end after ≡ after_stop now s at repeats stop
-stopped now s at repeats (stops.Sentinel group down) end after h = ends-so end after _ h
-stopped now s at repeats (stops.Hung component fault) end after h = ends-so end after _ h
-stopped now s at repeats (stops.Raised component fault) end after h = ends-so end after _ h
-stopped now s at repeats (stops.Revoked shown) end after h = tried now s at (cause.Revoked shown) repeats end after h
+stopped : (now : HistoryFront) (s : TriesValue) (at : Place) (repeats : Bool) (entered : List ComponentNo) (stop : Stop) (end : Option Ended) (after : TriesValue)
+    → IsStopped now s at repeats entered stop end after → came_to end after ≡ after_stop now s at repeats entered stop
+stopped now s at repeats entered (stops.Sentinel group down) end after h = ends-so end after _ h
+stopped now s at repeats entered (stops.Hung component fault) end after h = ends-so end after _ h
+stopped now s at repeats entered (stops.Raised component fault) end after h = ends-so end after _ h
+stopped now s at repeats entered (stops.Revoked shown) end after h = tried now s at (cause.Revoked shown) repeats end after h
 
 refused : (now : HistoryFront) (es : List Entry) (s : TriesValue) (at : Place) (refusal : CommitRefusal) (repeats : Bool) (end : Option Ended) (after : TriesValue)
     → IsRefused now es s at refusal repeats end after → came_to end after ≡ after_refusal now es s at repeats refusal
@@ -284,7 +284,7 @@ attempt-comes asks old s a (coming.Done done) to between mid end new after under
     tries-commit old s a done end new after (was-done old s a done to between mid end new after under comes.0 comes.1 left goes)
 attempt-comes asks old s a (coming.Stopped stop) to between mid end new after under comes left goes =
     let gone = gave-up between mid to comes.0 end new after comes.1 goes in
-    still-comes old new _ end after (gone.0 ∙ left) (gone.1 ∙ stopped (front_at old) (closed s) a.ticket.call.at a.repeats stop comes.0 mid comes.2)
+    still-comes old new _ end after (gone.0 ∙ left) (gone.1 ∙ stopped (front_at old) (closed s) a.ticket.call.at a.repeats a.entered stop comes.0 mid comes.2)
 
 pub strides : (asks : List Answer → Next) (old : ContainerValue) (s : TriesValue) (at : Option AttemptValue) (to : Progress) (between : ContainerValue) (mid : TriesValue) (end : Option Ended) (new : ContainerValue) (after : TriesValue)
     → s.attempt ≡ at → StepsAs old asks s at to between mid → GoesOn between mid to end new after

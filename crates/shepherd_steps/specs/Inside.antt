@@ -15,6 +15,7 @@ use Rattle.call_ticket.specs.declared.next.Next.TheVariants as next
 use Rattle.container_core.specs.Container.{ContainerValue, events_of, with_boot, with_entry_event}
 use Rattle.container_core.specs.declared.history.Event.{Event}
 use Rattle.container_core.specs.declared.history.Event.TheVariants.{Added, KeeperFailed, Started, Stopped}
+use Rattle.crash_base.specs.declared.numbers.ComponentNo.{ComponentNo}
 use Rattle.crash_base.specs.declared.numbers.Place.{Place}
 use Rattle.crash_base.specs.declared.numbers.RequestNo.{RequestNo}
 use Rattle.crash_base.specs.declared.rows.RowWrite.{RowWrite}
@@ -67,15 +68,15 @@ after_try now s at why repeats =
     then Goes (with_try s (try_ended now at why))
     else Ends (ended_at now (from_of s at) (outcome_by why (s.tries ++ try_ended now at why ∷ [])) None)
 
--- what becomes of a request whose try was stopped
-abbrev pub after_stop : HistoryFront → TriesValue → Place → Bool → Stop → Course
-after_stop now s at repeats (stops.Sentinel group down) =
+-- what becomes of a request whose try entered these components, and was stopped
+abbrev pub after_stop : HistoryFront → TriesValue → Place → Bool → List ComponentNo → Stop → Course
+after_stop now s at repeats entered (stops.Sentinel group down) =
     Ends (ended_at now (from_of s at) (outcome.Sentinel group down) None)
-after_stop now s at repeats (stops.Hung component fault) =
-    Ends (ended_at now (from_of s at) (outcome.Hung component fault path) None)
-after_stop now s at repeats (stops.Raised component fault) =
-    Ends (ended_at now (from_of s at) (outcome.Raised component fault path) None)
-after_stop now s at repeats (stops.Revoked shown) = after_try now s at (cause.Revoked shown) repeats
+after_stop now s at repeats entered (stops.Hung component fault) =
+    Ends (ended_at now (from_of s at) (outcome.Hung component fault (entered ++ component ∷ [])) None)
+after_stop now s at repeats entered (stops.Raised component fault) =
+    Ends (ended_at now (from_of s at) (outcome.Raised component fault (entered ++ component ∷ [])) None)
+after_stop now s at repeats entered (stops.Revoked shown) = after_try now s at (cause.Revoked shown) repeats
 
 -- what a refusal makes of a request that would commit; without memory it is served still
 abbrev pub after_refusal : HistoryFront → List Entry → TriesValue → Place → Bool → CommitRefusal → Course
@@ -158,7 +159,7 @@ stride_by asks keeps c s a coming.Went =
     }
 stride_by asks keeps c s a (coming.Done done) = commit_inside keeps c s a done
 stride_by asks keeps c s a (coming.Stopped stop) =
-    still c (after_stop (front_at c) (closed s) a.ticket.call.at a.repeats stop)
+    still c (after_stop (front_at c) (closed s) a.ticket.call.at a.repeats a.entered stop)
 
 -- the step of a request: a try begins where none is open, and else the open one makes the step that is asked for
 abbrev pub stride : (List Answer → Next) → Bool → ContainerValue → TriesValue → Option AttemptValue → Stride

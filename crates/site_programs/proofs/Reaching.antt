@@ -1,6 +1,8 @@
 -- What requests of the site are touched by is within the reach of their actions.
-use Rattle.std.proofs.Common.{◌≡◌, ◌↔◌, ℕ, true, List, [], ◌∷◌, take, All, subst}
-use Rattle.std.proofs.lemmas.List.Elements.{All-cons, All-nil}
+use Rattle.std.proofs.Common.{◌≡◌, ◌↔◌, ◌⊎◌, inl, inr, ℕ, true, List, [], ◌∷◌, length, take, All, refl, sym, subst}
+use Rattle.std.proofs.lemmas.List.Concat.{flat_map-cons}
+use Rattle.std.proofs.lemmas.List.Elements.{All-append, All-cons, All-nil}
+use Rattle.std.specs.List.{flat_map, range_with_len}
 use Rattle.crash_base.specs.declared.numbers.ComponentNo.{ComponentNo}
 use Rattle.crash_base.specs.declared.numbers.GroupNo.{GroupNo}
 use Rattle.crash_base.specs.declared.numbers.Place.{Place}
@@ -9,7 +11,7 @@ use Rattle.journal_model.specs.declared.entry.Entry.{Entry}
 use Rattle.call_ticket.specs.declared.next.Answer.{Answer}
 use Rattle.call_ticket.specs.declared.next.Next.{Next}
 use Rattle.call_ticket.specs.declared.next.Next.TheVariants as next
-use Rattle.call_attempts.specs.Attempt.{Accesses, EntersComponent, EntersGroup, EntersOnce, table_in}
+use Rattle.call_attempts.specs.Attempt.{Accesses, EntersGroup, EntersOnce, FailsOnItsWay, entered_by, entered_in, table_in}
 use Rattle.auction_calls.specs.declared.action.Action.TheVariants.{Buy}
 use Rattle.auction_calls.specs.declared.action.ActionCall.{ActionCall}
 use Rattle.auction_rows.specs.Parts.{site_parts}
@@ -27,7 +29,7 @@ use Rattle.request_tries.specs.declared.outcome.Try.{Try}
 use Rattle.request_tries.specs.declared.outcome.TryCause.{TryCause}
 use Rattle.request_tries.specs.declared.outcome.TryCause.TheVariants as cause
 use Rattle.site_programs.specs.Errands.{AsksSite}
-use Rattle.site_programs.specs.Touched.{IsReached, TryIsReached}
+use Rattle.site_programs.specs.Touched.{IsReached, MayGoThrough, TryIsReached}
 use Rattle.site_programs.proofs.Showing.{outcome_of_end}
 
 -- each group that a call enters, and each table that it accesses, is within the reach of its action
@@ -68,24 +70,63 @@ abbrev pub ComponentRule : Type 0
 ComponentRule = (call : ActionCall) (answers : List Answer) (component : ComponentNo) (method : ℕ) → steps_of call answers ≡ next.Enter component method
     → MayEnter call.action component method
 
--- a component that an errand enters, its call may enter
-component_reached : ComponentRule → (start : Start) (errand : Errand) (call : ActionCall) (component : ComponentNo) → AsksSite start errand call
-    → EntersComponent errand.asks component → (method : ℕ) × MayEnter call.action component method
-component_reached rule start errand call component asks enters =
-    let steps : EntersComponent (steps_of call) component = subst (λ (steps : List Answer → Next). EntersComponent steps component) asks.steps_are enters in
+-- the component that fails an errand is one that its call may enter
+component_reached : ComponentRule → (start : Start) (errand : Errand) (call : ActionCall) (component : ComponentNo) (path : List ComponentNo) → AsksSite start errand call
+    → FailsOnItsWay errand.asks component path → (method : ℕ) × MayEnter call.action component method
+component_reached rule start errand call component path asks fails =
+    let steps : FailsOnItsWay (steps_of call) component path = subst (λ (steps : List Answer → Next). FailsOnItsWay steps component path) asks.steps_are fails in
     (steps.method, rule call steps.answers component steps.method steps.asked)
 
-pub hung_reached : ComponentRule → (start : Start) (events : List Event) (errand : Errand) (call : ActionCall) (e : Ended) (component : ComponentNo) (fault : ℕ) → AsksSite start errand call
-    → EndStands start events errand e → e.outcome ≡ outcomes.Hung component fault path → (method : ℕ) × MayEnter call.action component method
-hung_reached rule start events errand call e component fault asks stands is =
-    let shows = outcome_of_end start events errand e (outcomes.Hung component fault path) stands is in
-    component_reached rule start errand call component asks shows.1
+-- so are those that it entered before
+step_reached : ComponentRule → (call : ActionCall) (answers : List Answer) (step : Next) → steps_of call answers ≡ step → All (MayGoThrough call.action) (entered_in step)
+step_reached rule call answers (next.Enter c m) is = All-cons (MayGoThrough call.action) c [] (m, rule call answers c m is) (All-nil (MayGoThrough call.action))
+step_reached rule call answers (next.Read id) is = All-nil (MayGoThrough call.action)
+step_reached rule call answers (next.List table) is = All-nil (MayGoThrough call.action)
+step_reached rule call answers (next.Put w) is = All-nil (MayGoThrough call.action)
+step_reached rule call answers next.Exit is = All-nil (MayGoThrough call.action)
+step_reached rule call answers (next.Done d) is = All-nil (MayGoThrough call.action)
 
-pub raised_reached : ComponentRule → (start : Start) (events : List Event) (errand : Errand) (call : ActionCall) (e : Ended) (component : ComponentNo) (fault : ℕ) → AsksSite start errand call
+steps_reached : ComponentRule → (call : ActionCall) (answers : List Answer) (places : List ℕ)
+    → All (MayGoThrough call.action) (flat_map (λ before. entered_in (steps_of call (take before answers))) places)
+steps_reached rule call answers [] = All-nil (MayGoThrough call.action)
+steps_reached rule call answers (n ∷ ns) =
+    subst (λ (cs : List ComponentNo). All (MayGoThrough call.action) cs) (sym (flat_map-cons (λ before. entered_in (steps_of call (take before answers))) n ns))
+    (All-append (MayGoThrough call.action) (entered_in (steps_of call (take n answers))) (flat_map (λ before. entered_in (steps_of call (take before answers))) ns)
+    (step_reached rule call (take n answers) (steps_of call (take n answers)) refl) (steps_reached rule call answers ns))
+
+entered_reached : ComponentRule → (call : ActionCall) (answers : List Answer) → All (MayGoThrough call.action) (entered_by (steps_of call) answers)
+unfolding entered_by
+entered_reached rule call answers = steps_reached rule call answers (range_with_len 0 (length answers))
+
+-- The path of an errand that a component fails has such components alone.
+path_reached : ComponentRule → (start : Start) (errand : Errand) (call : ActionCall) (component : ComponentNo) (path : List ComponentNo) → AsksSite start errand call
+    → FailsOnItsWay errand.asks component path → All (MayGoThrough call.action) path
+path_reached rule start errand call component path asks fails =
+    let steps : FailsOnItsWay (steps_of call) component path = subst (λ (steps : List Answer → Next). FailsOnItsWay steps component path) asks.steps_are fails in
+    subst (λ (cs : List ComponentNo). All (MayGoThrough call.action) cs) (sym steps.path_is)
+    (All-append (MayGoThrough call.action) (entered_by (steps_of call) steps.answers) (component ∷ []) (entered_reached rule call steps.answers)
+    (All-cons (MayGoThrough call.action) component [] (component_reached rule start errand call component path asks fails) (All-nil (MayGoThrough call.action))))
+
+pub hung_reached : ComponentRule → (start : Start) (events : List Event) (errand : Errand) (call : ActionCall) (e : Ended) (component : ComponentNo) (fault : ℕ) (path : List ComponentNo) → AsksSite start errand call
+    → EndStands start events errand e → e.outcome ≡ outcomes.Hung component fault path → (method : ℕ) × MayEnter call.action component method
+hung_reached rule start events errand call e component fault path asks stands is =
+    let shows = outcome_of_end start events errand e (outcomes.Hung component fault path) stands is in
+    component_reached rule start errand call component path asks shows.1
+
+pub raised_reached : ComponentRule → (start : Start) (events : List Event) (errand : Errand) (call : ActionCall) (e : Ended) (component : ComponentNo) (fault : ℕ) (path : List ComponentNo) → AsksSite start errand call
     → EndStands start events errand e → e.outcome ≡ outcomes.Raised component fault path → (method : ℕ) × MayEnter call.action component method
-raised_reached rule start events errand call e component fault asks stands is =
+raised_reached rule start events errand call e component fault path asks stands is =
     let shows = outcome_of_end start events errand e (outcomes.Raised component fault path) stands is in
-    component_reached rule start errand call component asks shows.1
+    component_reached rule start errand call component path asks shows.1
+
+pub failed_reached : ComponentRule → (start : Start) (events : List Event) (errand : Errand) (call : ActionCall) (e : Ended) (component : ComponentNo) (fault : ℕ) (path : List ComponentNo) → AsksSite start errand call
+    → EndStands start events errand e → (e.outcome ≡ outcomes.Hung component fault path) ⊎ (e.outcome ≡ outcomes.Raised component fault path) → All (MayGoThrough call.action) path
+failed_reached rule start events errand call e component fault path asks stands (inl is) =
+    let shows = outcome_of_end start events errand e (outcomes.Hung component fault path) stands is in
+    path_reached rule start errand call component path asks shows.1
+failed_reached rule start events errand call e component fault path asks stands (inr is) =
+    let shows = outcome_of_end start events errand e (outcomes.Raised component fault path) stands is in
+    path_reached rule start errand call component path asks shows.1
 
 pub revoked_reached : GroupRule → TableRule → (start : Start) (events : List Event) (errand : Errand) (call : ActionCall) (e : Ended) (tries : List Try) → AsksSite start errand call
     → EndStands start events errand e → e.outcome ≡ outcomes.Revoked tries → All (TryIsReached call.action) tries

@@ -108,7 +108,7 @@ open_fewer law c asks s new mid a to some way is steps = go steps.0 steps.1 step
     here : tries_left s ≡ steps_of (length s.tries) (Some a)
     here = ap (λ o. steps_of (length s.tries) o) is
 
-    by_stop : (stop : Stop) (end : Option Ended) → IsStopped (front_at c) (closed s) a.ticket.call.at a.repeats stop end mid → StepsOn s (progress_of end) mid
+    by_stop : (stop : Stop) (end : Option Ended) → IsStopped (front_at c) (closed s) a.ticket.call.at a.repeats a.entered stop end mid → StepsOn s (progress_of end) mid
     by_stop stop (Some e) h = tt
     by_stop (stops.Sentinel group down) None h = absurd (cc)
     by_stop (stops.Hung component fault) None h = absurd (cc)

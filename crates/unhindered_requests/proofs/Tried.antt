@@ -144,7 +144,7 @@ steps_by : (law : StopsAlone) (c : ContainerValue) (asks : List Answer → Next)
     → s.attempt ≡ Some a → IsFree asks c s a → StepsAs c asks s (Some a) to new mid → StepsWell c asks s to new mid
 steps_by law c asks s new mid a to open_now free steps = go steps.0 steps.1 steps.2 steps.3 steps.4
   where
-    by_stop : Continues (wanted asks a) → (stop : Stop) (end : Option Ended) → stop_of c.boot a.ticket.call (wanted asks a) ≡ Some stop → IsStopped (front_at c) (closed s) a.ticket.call.at a.repeats stop end mid → end ≡ None
+    by_stop : Continues (wanted asks a) → (stop : Stop) (end : Option Ended) → stop_of c.boot a.ticket.call (wanted asks a) ≡ Some stop → IsStopped (front_at c) (closed s) a.ticket.call.at a.repeats a.entered stop end mid → end ≡ None
     by_stop goes (stops.Sentinel group down) end why h =
         let there = ((law.sentinel c.boot a.ticket.call (wanted asks a) group down).0 why).1 in
         let up = (free.step goes).up there.0 there.1 there.2 in

@@ -1,4 +1,4 @@
-use Rattle.site_programs.proofs.Reaching.{conflict_reached, down_reached, hung_reached, once_bought, raised_reached, revoked_reached}
+use Rattle.site_programs.proofs.Reaching.{conflict_reached, down_reached, failed_reached, hung_reached, once_bought, raised_reached, revoked_reached}
 use Rattle.site_programs.proofs.reach.requests_touch_what_their_actions_reach.Goals as goal
 
 pub returns-clause-sentinel : goal.returns-clause-sentinel
@@ -9,6 +9,9 @@ returns-clause-hung c = hung_reached c.calls_enter_owners.ensures.component
 
 pub returns-clause-raised : goal.returns-clause-raised
 returns-clause-raised c = raised_reached c.calls_enter_owners.ensures.component
+
+pub returns-clause-path : goal.returns-clause-path
+returns-clause-path c = failed_reached c.calls_enter_owners.ensures.component
 
 pub returns-clause-revoked : goal.returns-clause-revoked
 returns-clause-revoked c = revoked_reached c.calls_enter_owners.ensures.group c.calls_access_reached_tables.ensures.accesses
