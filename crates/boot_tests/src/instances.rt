@@ -1,13 +1,16 @@
-//! How many instances serve the calls of a container, however often these enter and leave.
+//! How many instances serve the calls of a container, however often these enter and leave, and of a boot, however these
+//! end.
 
 ghost use Rattle.boot_core.specs.Fits.{FitsIn};
 
-use crate::boot_fixtures::{plan_list, request};
+use crate::boot_fixtures::{LIMITS, plan_list, request};
+use crate::boot_steps::{add_commit, begin as begin_in, commit, do_steps};
 use crate::container_steps::{enter, exit};
 use crate::containers::begin;
 use crate::faults::reboot;
 use crate::parts::deployment_of;
-use crate::words::expect_so;
+use crate::words::{add_number, expect_words};
+use boot_core::{Boot, Start};
 use container_core::{Container, JournalLimits, Ticket};
 use crash_base::{ComponentNo, GroupNo, RowList, Scope};
 use outside::{Keeper, SureKeeper};
@@ -127,4 +130,62 @@ fn instances_serve_one_call_after_another(rt: HostRuntime) {
         make_pair(&rt, rt.alloc(), &mut container, number);
     }
     drop(container);
+}
+
+/// A boot of the components a and b, of which a needs b.
+fn boot(rt: &impl Abort, alloc: Global) -> Boot {
+    let start = Start {
+        boot: 1,
+        base: RowList::new(alloc),
+        deployment: deployment_of(rt, alloc, "+a +b 0-1"),
+        plans: plan_list(rt, alloc, &[]),
+        limits: LIMITS,
+    };
+    Boot::start(alloc, start).expect(rt, "a boot")
+}
+
+/// Begins a call that is left inside of two components, and adds how many instances there are.
+fn stay_inside(
+    rt: &impl Abort,
+    alloc: Global,
+    words: &mut String,
+    boot: &mut Boot,
+    serial: u64,
+) -> Ticket
+    ensures { FitsIn boot.new result.call }
+{
+    let mut ticket = begin_in(rt, alloc, boot, serial, 4);
+    do_steps(rt, alloc, words, boot, &mut ticket, "e0 e1");
+    add_number(rt, words, boot.pool().instances() as u64);
+    ticket
+}
+
+/// Commits a call inside of two components, and adds what that answers.
+fn commit_inside(rt: &impl Abort, alloc: Global, words: &mut String, boot: &mut Boot, serial: u64) {
+    let ticket = stay_inside(rt, alloc, words, boot, serial);
+    commit(rt, alloc, words, boot, ticket);
+}
+
+/// Refuses the commit of a call inside of two components, and adds what that answers.
+fn refuse_inside(rt: &impl Abort, alloc: Global, words: &mut String, boot: &mut Boot, serial: u64) {
+    let ticket = stay_inside(rt, alloc, words, boot, serial);
+    let refused = boot.refuse(ticket, &None);
+    add_commit(rt, words, Err(refused));
+}
+
+/// A call finds the instances idle that served the frames of the one before: one that has committed, one whose commit
+/// was refused, and one that was refused without trying.
+#[test]
+fn calls_that_end_give_their_instances_back(rt: HostRuntime) {
+    let alloc = rt.alloc();
+    let mut words = String::new(alloc);
+    let mut boot = boot(&rt, alloc);
+    commit_inside(&rt, alloc, &mut words, &mut boot, 70);
+    commit_inside(&rt, alloc, &mut words, &mut boot, 70);
+    refuse_inside(&rt, alloc, &mut words, &mut boot, 70);
+    refuse_inside(&rt, alloc, &mut words, &mut boot, 71);
+    commit_inside(&rt, alloc, &mut words, &mut boot, 71);
+    drop(boot);
+    let want = "2 0 2 already 0 2 already 0 2 out_of_memory 2 1";
+    expect_words(&rt, &words, want, "inside of two components");
 }

@@ -16,6 +16,9 @@ const ROW: RowId = RowId { table: 3, key: 7 };
 /// The component that calls enter.
 const CLERK: ComponentNo = ComponentNo(5);
 
+/// A component that is alone in its group.
+const PORTER: ComponentNo = ComponentNo(3);
+
 /// A pool whose instance 0 is of the clerk, and is taken.
 fn new_pool(rt: &impl Abort, alloc: Global) -> Pool {
     let deployment = deployment_of(rt, alloc, "*6 2-5");
@@ -24,16 +27,21 @@ fn new_pool(rt: &impl Abort, alloc: Global) -> Pool {
     pool
 }
 
-/// Enters the clerk, whose group, 2, was rebooted four times.
-fn enter(rt: &impl Abort, pool: &mut Pool, ticket: &mut Ticket) {
+/// Enters a component of this group, which is new to the call and was rebooted four times.
+fn enter(rt: &impl Abort, pool: &mut Pool, ticket: &mut Ticket, c: ComponentNo, group: GroupNo) {
     assert!(rt; ticket.depth() < MAX_FRAMES && ticket.steps() < MAX_STEPS);
-    assert!(rt; !ticket.is_touched(GroupNo(2)));
+    assert!(rt; !ticket.is_touched(group));
     let touch = Touch {
-        group: GroupNo(2),
+        group,
         generation: 4,
         front: Place(9),
     };
-    ticket.push_frame(CLERK, take(rt, pool, CLERK), Some(touch));
+    ticket.push_frame(c, take(rt, pool, c), Some(touch));
+}
+
+/// Enters the clerk, whose group is 2.
+fn enter_clerk(rt: &impl Abort, pool: &mut Pool, ticket: &mut Ticket) {
+    enter(rt, pool, ticket, CLERK, GroupNo(2));
 }
 
 /// Reads two bytes of a row.
@@ -99,7 +107,7 @@ fn add_parts(rt: &impl Abort, words: &mut String, parts: &TicketParts) {
 
 /// Enters, reads and puts.
 fn make_steps(rt: &impl Abort, alloc: Global, pool: &mut Pool, ticket: &mut Ticket) {
-    enter(rt, pool, ticket);
+    enter_clerk(rt, pool, ticket);
     read(rt, alloc, ticket);
     put(rt, alloc, ticket);
 }
@@ -131,6 +139,14 @@ fn add_closed(
     ticket.close_frames(pool);
     add_ticket(rt, words, ticket);
     add_number(rt, words, take(rt, pool, CLERK).number());
+}
+
+/// Leaves two components, and adds which instance each leave answers: that of the frame which was opened last.
+fn add_two_frames(rt: &impl Abort, words: &mut String, pool: &mut Pool, ticket: &mut Ticket) {
+    enter_clerk(rt, pool, ticket);
+    enter(rt, pool, ticket, PORTER, GroupNo(3));
+    add_number(rt, words, leave(rt, ticket).number());
+    add_number(rt, words, leave(rt, ticket).number());
 }
 
 /// Adds what a ticket holds that is used again.
@@ -174,4 +190,14 @@ fn a_ticket_holds_its_call_and_is_used_again(rt: HostRuntime) {
     drop(ticket);
     let again = "3 2#4 ab 3.7=xyz 70 4@9 0 0 0 71 5@10 0 0 0";
     expect_words(&rt, &words, again, "a ticket");
+}
+
+#[test]
+fn frames_are_left_with_their_own_instances(rt: HostRuntime) {
+    let mut pool = new_pool(&rt, rt.alloc());
+    let mut words = String::new(rt.alloc());
+    let mut ticket = new_ticket(&rt, rt.alloc());
+    add_two_frames(&rt, &mut words, &mut pool, &mut ticket);
+    drop(ticket);
+    expect_words(&rt, &words, "2 1", "two frames");
 }
