@@ -4,8 +4,8 @@
 //! The stock may be entered by method 0 again, and by method 1 only once. `reboot@2` reboots the stock after step 2 of
 //! the request, `down@1` takes it down after step 1, `write@5` has another request write the same row after step 5, and
 //! `ask@6` asks the program again. Where the program is done, its commit comes after what others do after that step. An
-//! end tells how many steps came before the last one, what became of the request, `from` and `front`, and the number of
-//! events; and of a page that was there already its status.
+//! end tells how many steps came before the last one, what became of the request, with the path of one that failed,
+//! `from` and `front`, and the number of events; and of a page that was there already its status.
 
 ghost use Rattle.std.specs.Prelude.{◌≡◌, List, None, Some};
 ghost use Rattle.call_ticket.specs.declared.next.Answer.{Answer};
@@ -20,12 +20,12 @@ use crate::Note;
 use crate::boot_fixtures::{LIMITS, add_table, name, plan_list, request};
 use crate::keepers::failing_keeper;
 use crate::words::{
-    add_dotted, add_named, add_number, add_pair, add_word, cut, expect_words, number,
+    add_dotted, add_marked, add_named, add_number, add_pair, add_word, cut, expect_words, number,
 };
 use container_core::{Container, DoneText, JournalLimits};
 use crash_base::{
-    ActionText, ComponentNo, FaultKind, FaultPlan, GroupNo, Level, RequestNo, RowList, Scope,
-    WorkerNo,
+    ActionText, ComponentNo, FaultKind, FaultPlan, GroupNo, Level, PathList, RequestNo, RowList,
+    Scope, WorkerNo,
 };
 use deployment::{ComponentPart, Deployment, MethodList, MethodPart, Parts};
 use outside::{Keeper, MapKeeper};
@@ -153,6 +153,21 @@ fn commit_beside<K: Keeper + Drop>(
     assert!(rt; end.is_some());
 }
 
+/// Adds the component that failed and the number of its plan, and the components on the way to it.
+fn add_failed(
+    rt: &impl Abort,
+    words: &mut String,
+    word: &str,
+    component: ComponentNo,
+    fault: u16,
+    path: &PathList,
+) {
+    add_dotted(rt, words, word, u64::from(component.0), u64::from(fault));
+    for entered in path.as_slice() {
+        add_marked(rt, words, ">", u64::from(entered.0));
+    }
+}
+
 fn add_outcome(rt: &impl Abort, words: &mut String, outcome: &RequestOutcome) {
     match outcome {
         RequestOutcome::Page { place, again } => {
@@ -161,18 +176,16 @@ fn add_outcome(rt: &impl Abort, words: &mut String, outcome: &RequestOutcome) {
         RequestOutcome::Sentinel { group, down } => {
             add_pair(rt, words, u64::from(group.0), "down", down.0)
         }
-        RequestOutcome::Hung { component, fault } => {
-            add_dotted(rt, words, "hung", u64::from(component.0), u64::from(*fault))
-        }
-        RequestOutcome::Raised { component, fault } => {
-            add_dotted(
-                rt,
-                words,
-                "raised",
-                u64::from(component.0),
-                u64::from(*fault),
-            )
-        }
+        RequestOutcome::Hung {
+            component,
+            fault,
+            path,
+        } => add_failed(rt, words, "hung", *component, *fault, path),
+        RequestOutcome::Raised {
+            component,
+            fault,
+            path,
+        } => add_failed(rt, words, "raised", *component, *fault, path),
         RequestOutcome::Revoked(tries) => add_named(rt, words, "revoked", tries.len() as u64),
         RequestOutcome::Conflict(tries) => add_named(rt, words, "conflict", tries.len() as u64),
         RequestOutcome::JournalFull(full) => add_pair(rt, words, full.entries, "/", full.bytes),
@@ -456,7 +469,7 @@ fn requests_are_tried_again(rt: HostRuntime) {
 }
 
 /// The stock fails until its group is rebooted. That it is down is told before that.
-const FAILS: &str = "ask@0 > 1 raised1.0 0-0 1
+const FAILS: &str = "ask@0 > 1 raised1.0>1 0-0 1
 reboot@1 > 5 page2 0-3 4
 down@1 > 1 1down0 0-1 2
 ";
@@ -464,8 +477,8 @@ down@1 > 1 1down0 0-1 2
 /// The stock fails from its second entering on, whoever makes it, until the application is rebooted.
 const FAILS_LATER: &str = "ask@0 > 5 page0 0-1 2
 reboot@1 > 5 page2 0-3 4
-reboot@2 > 4 hung1.0 0-2 3
-write@1 > 1 hung1.0 0-1 2
+reboot@2 > 4 hung1.0>1 0-2 3
+write@1 > 1 hung1.0>1 0-1 2
 ";
 
 #[test]

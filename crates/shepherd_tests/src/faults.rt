@@ -71,14 +71,14 @@ fn a_request_fails_until_a_reboot(rt: HostRuntime) {
         alloc,
         &mut play,
         FAILED,
-        "raised 0 0 | 1:0 0-0 1 0/0 at 0",
+        "raised 0 0 by 0 | 1:0 0-0 1 0/0 at 0",
     );
     expect_answer(
         &rt,
         alloc,
         &mut play,
         FAILED,
-        "raised 0 0 | 1:2 0-0 1 0/0 at 0",
+        "raised 0 0 by 0 | 1:2 0-0 1 0/0 at 0",
     );
     play_line(&rt, alloc, &mut play, "reboot 0");
     expect_answer(&rt, alloc, &mut play, HOME, "page 2 | 1:4 2-3 4 0/0 at 0");
@@ -90,24 +90,24 @@ fn a_request_fails_until_a_reboot(rt: HostRuntime) {
 const CURES: &str = "\
 0 1 raise group
 ann get / > 200 Auctions, page 0 | 1:0 0-1 2 0/0 at 0
-ann get / > 500 Failed, raised 0 0 | 1:2 1-1 2 0/0 at 0
+ann get / > 500 Failed, raised 0 0 by 0 | 1:2 1-1 2 0/0 at 0
 reboot 3
-ann get / > 500 Failed, raised 0 0 | 1:4 3-3 4 0/0 at 0
+ann get / > 500 Failed, raised 0 0 by 0 | 1:4 3-3 4 0/0 at 0
 down 0
 ann get / > 503 Try again, sentinel 0 3 | 1:6 4-4 5 0/0 at 0
 up 3
 ann get / > 200 Auctions, page 5 | 1:8 5-6 7 0/0 at 0
 
 0 0 hang app
-ann get / > 500 Failed, hung 0 0 | 1:0 0-0 1 0/0 at 0
+ann get / > 500 Failed, hung 0 0 by 0 | 1:0 0-0 1 0/0 at 0
 reboot 0
-ann get / > 500 Failed, hung 0 0 | 1:2 2-2 3 0/0 at 0
+ann get / > 500 Failed, hung 0 0 by 0 | 1:2 2-2 3 0/0 at 0
 reboot app
 ann get / > 200 Auctions, page 4 | 1:4 4-5 6 0/0 at 0
 
 0 0 raise process
 reboot app
-ann get / > 500 Failed, raised 0 0 | 1:0 2-2 3 0/0 at 0
+ann get / > 500 Failed, raised 0 0 by 0 | 1:0 2-2 3 0/0 at 0
 
 0 0 leak process
 ann get / > 200 Auctions, page 0 | 1:0 0-1 2 0/0 at 0";
@@ -115,10 +115,10 @@ ann get / > 200 Auctions, page 0 | 1:0 0-1 2 0/0 at 0";
 /// Bids fails, and a request that does not enter it is answered. A bid that failed is made by the same form, once the
 /// group is rebooted.
 const BIDS: &str = "\
-ben post /bid item=1&amount=500 > 500 Failed, raised 5 0 | 1:28 12-12 13 0/28 at 0 value 00000000000000020000000000000000
+ben post /bid item=1&amount=500 > 500 Failed, raised 5 0 by 0 5 | 1:28 12-12 13 0/28 at 0 value 00000000000000020000000000000000
 cat get / > 200 Auctions, page 12 | 1:37 12-13 14 0/29 at 0 value 00000000000000030000000000000000
 reboot 0
-ben post /bid item=1&amount=500 > 500 Failed, raised 5 0 | 1:28 15-15 16 0/30 at 0 value 00000000000000020000000000000000
+ben post /bid item=1&amount=500 > 500 Failed, raised 5 0 by 0 5 | 1:28 15-15 16 0/30 at 0 value 00000000000000020000000000000000
 reboot 3
 ben post /bid item=1&amount=500 > 200 Bid 1 on item 1, page 17 | 1:28 17-18 19 0/31 at 0 value 00000000000000020000000000000000";
 

@@ -30,10 +30,10 @@ const OUTCOMES: &str = "\
 1000 0 0 || shop; sweep 1 1860001; crash 2 || ben post /bid item=1&amount=500 ||  || 403 Forbidden || Set-Cookie: crash=; Path=/; Max-Age=0; HttpOnly || Session lost || lost 1:swept/1860001 2:crashed/2 | 1:28 11-11 0 0/29 at 0
 1000 0 0 || down 0 || ann get / ||  || 503 Service Unavailable || Retry-After: 2 || Try again || sentinel 0 0 | 1:0 1-1 2 0/0 at 0
 1000 0 0 || shop; down 3 || ben post /bid item=1&amount=500 ||  || 503 Service Unavailable || Retry-After: 2 || Try again || sentinel 3 12 | 1:28 13-13 14 0/28 at 0 value 00000000000000020000000000000000
-1000 0 0 0 0 raise group ||  || ann get / ||  || 500 Internal Server Error ||  || Failed || raised 0 0 | 1:0 0-0 1 0/0 at 0
-1000 0 0 0 0 hang group ||  || ann get / ||  || 500 Internal Server Error ||  || Failed || hung 0 0 | 1:0 0-0 1 0/0 at 0
-1000 0 0 5 0 raise group || shop || ben post /bid item=1&amount=500 ||  || 500 Internal Server Error ||  || Failed || raised 5 0 | 1:28 12-12 13 0/28 at 0 value 00000000000000020000000000000000
-1000 0 0 0 13 hang app || shop || ben post /bid item=1&amount=500 || 5 reboot 0 || 500 Internal Server Error ||  || Failed || hung 0 0 | 1:28 12-14 15 0/28 at 0 value 00000000000000020000000000000000
+1000 0 0 0 0 raise group ||  || ann get / ||  || 500 Internal Server Error ||  || Failed || raised 0 0 by 0 | 1:0 0-0 1 0/0 at 0
+1000 0 0 0 0 hang group ||  || ann get / ||  || 500 Internal Server Error ||  || Failed || hung 0 0 by 0 | 1:0 0-0 1 0/0 at 0
+1000 0 0 5 0 raise group || shop || ben post /bid item=1&amount=500 ||  || 500 Internal Server Error ||  || Failed || raised 5 0 by 0 5 | 1:28 12-12 13 0/28 at 0 value 00000000000000020000000000000000
+1000 0 0 0 13 hang app || shop || ben post /bid item=1&amount=500 || 5 reboot 0 || 500 Internal Server Error ||  || Failed || hung 0 0 by 0 | 1:28 12-14 15 0/28 at 0 value 00000000000000020000000000000000
 1000 0 0 || shop; cat get /form/buy || cat post /buy item=1 || 7 reboot 3 || 503 Service Unavailable || Retry-After: 2 || Try again || revoked / 13 group 3 had 0 now 1 15 | 1:36 13-15 16 0/29 at 0 value 00000000000000030000000000000000
 1000 0 0 || shop || ben post /bid item=1&amount=500 || 5 reboot 0; 3 reboot 0; 3 reboot 0 || 503 Service Unavailable || Retry-After: 2 || Try again || revoked / 12 group 0 had 0 now 1 14 / 14 group 0 had 1 now 2 16 / 16 group 0 had 2 now 3 18 | 1:28 12-18 19 0/28 at 0 value 00000000000000020000000000000000
 1000 0 0 || shop || ben post /bid item=1&amount=900 || 5 cat post /bid item=1&amount=200; 12 cat get /form/bid; 0 cat post /bid item=1&amount=300; 13 cat get /form/bid; 0 cat post /bid item=1&amount=400 || 503 Service Unavailable || Retry-After: 2 || Try again || conflict / 12 row 4 1 newest 13 13 / 13 row 4 1 newest 15 15 / 15 row 4 1 newest 17 17 | 1:28 12-17 18 0/28 at 0 value 00000000000000020000000000000000

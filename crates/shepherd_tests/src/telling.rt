@@ -2,7 +2,7 @@
 
 use crate::words::add_hex;
 use container_core::ReadMark;
-use crash_base::Place;
+use crash_base::{ComponentNo, PathList, Place};
 use outcome_items::{Item, ItemOutcome};
 use request_decisions::Refusal;
 use request_tries::{RequestOutcome, Try, TryCause};
@@ -72,18 +72,37 @@ fn add_tries(rt: &impl Abort, words: &mut String, word: &str, tries: &[Try]) {
     }
 }
 
+/// Adds the component that failed and the number of its plan, and the components on the way to it.
+fn add_failed(
+    rt: &impl Abort,
+    words: &mut String,
+    word: &str,
+    component: ComponentNo,
+    fault: u16,
+    path: &PathList,
+) {
+    write!(words, "{word} {} {fault} by", component.0).expect(rt, "an end");
+    for entered in path.as_slice() {
+        write!(words, " {}", entered.0).expect(rt, "a path");
+    }
+}
+
 fn add_end(rt: &impl Abort, words: &mut String, end: &RequestOutcome) {
     match end {
         RequestOutcome::Page { place, again } => add_page(rt, words, *place, *again),
         RequestOutcome::Sentinel { group, down } => {
             write!(words, "sentinel {} {}", group.0, down.0).expect(rt, "an end");
         }
-        RequestOutcome::Hung { component, fault } => {
-            write!(words, "hung {} {fault}", component.0).expect(rt, "an end");
-        }
-        RequestOutcome::Raised { component, fault } => {
-            write!(words, "raised {} {fault}", component.0).expect(rt, "an end");
-        }
+        RequestOutcome::Hung {
+            component,
+            fault,
+            path,
+        } => add_failed(rt, words, "hung", *component, *fault, path),
+        RequestOutcome::Raised {
+            component,
+            fault,
+            path,
+        } => add_failed(rt, words, "raised", *component, *fault, path),
         RequestOutcome::Revoked(tries) => add_tries(rt, words, "revoked", tries.as_slice()),
         RequestOutcome::Conflict(tries) => add_tries(rt, words, "conflict", tries.as_slice()),
         RequestOutcome::JournalFull(full) => {
