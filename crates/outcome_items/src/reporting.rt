@@ -4,21 +4,17 @@ ghost use Rattle.std.specs.Prelude.{◌≡◌, IfOk};
 ghost use Rattle.outcome_items.specs.Reports.{path_report, report_of, report_of_end};
 
 use crate::outcome::ItemOutcome;
-use crash_base::{ComponentNo, Moment, OutOfMemory, PathList};
-use failure_scores::{FailureReport, PathReport};
+use crash_base::{Moment, OutOfMemory, PathList};
+use failure_scores::FailureReport;
 use request_tries::RequestOutcome;
 use std::alloc::Global;
 
 /// The report of a request that a component has failed, which went through these. They are copied.
-fn path_report(
-    alloc: Global,
-    moment: Moment,
-    path: &[ComponentNo],
-) -> Result<FailureReport, OutOfMemory>
+fn path_report(alloc: Global, moment: Moment, path: &PathList) -> Result<FailureReport, OutOfMemory>
     ensures { IfOk result (λ report. report ≡ path_report moment path.now) }
 {
-    let path = PathList::from_vec(Vec::from_slice(alloc, path)?);
-    Ok(FailureReport::Path(PathReport { path, moment }))
+    let report = failure_scores::report_of(alloc, path, moment)?;
+    Ok(FailureReport::Path(report))
 }
 
 /// What is reported of a request that came to this end in the container.
@@ -31,11 +27,11 @@ fn report_of_end(
 {
     match end {
         RequestOutcome::Hung { path, .. } => {
-            let report = path_report(alloc, moment, path.as_slice())?;
+            let report = path_report(alloc, moment, path)?;
             Ok(Some(report))
         }
         RequestOutcome::Raised { path, .. } => {
-            let report = path_report(alloc, moment, path.as_slice())?;
+            let report = path_report(alloc, moment, path)?;
             Ok(Some(report))
         }
         RequestOutcome::JournalFull(_) => Ok(Some(FailureReport::JournalFull(moment))),
