@@ -1,8 +1,9 @@
 -- Attempts that are under way.
-use Rattle.std.proofs.Common.{◌≡◌, ◌⊎◌, ◌↔◌, ℕ, ◌&&◌, Bool, true, false, cond, List, [], ◌∷◌, ◌++◌, length, take, All, Option, Some, None, inl, inr, refl, sym, ap, ◌∙◌, subst, arith, length-append}
+use Rattle.std.proofs.Common.{◌≡◌, ◌⊎◌, ◌↔◌, ℕ, ◌&&◌, Bool, true, false, cond, List, [], ◌∷◌, ◌++◌, length, take, All, Option, None, inl, inr, refl, sym, ap, ◌∙◌, subst, arith, length-append}
 use Rattle.std.proofs.lemmas.Bool.{cases_lt}
 use Rattle.std.proofs.lemmas.List.{append-nil, take-append-le, take_at}
 use Rattle.std.proofs.lemmas.List.Elements.{All-nil, All-push}
+use Rattle.crash_base.specs.declared.numbers.ComponentNo.{ComponentNo}
 use Rattle.crash_base.specs.declared.numbers.RequestNo.{RequestNo}
 use Rattle.crash_base.specs.declared.numbers.WorkerNo.{WorkerNo}
 use Rattle.crash_base.specs.declared.row_id.RowId.{RowId}
@@ -10,7 +11,6 @@ use Rattle.crash_base.specs.declared.rows.RowWrite.{RowWrite}
 use Rattle.crash_base.specs.Rows.{row_in}
 use Rattle.deployment.specs.declared.parts.Parts.{Parts}
 use Rattle.deployment.specs.Groups.{group_of}
-use Rattle.journal_model.specs.declared.entry.DoneText.{DoneText}
 use Rattle.journal_model.specs.declared.entry.Entry.{Entry}
 use Rattle.journal_model.specs.declared.entry.Mark.{Mark}
 use Rattle.journal_model.specs.declared.entry.ReadMark.{ReadMark}
@@ -29,11 +29,11 @@ use Rattle.boot_core.specs.Boot.{BootValue, HasGrown, with_entered}
 use Rattle.boot_core.specs.declared.boot.Start.{Start}
 use Rattle.boot_core.specs.Fits.{FitsIn}
 use Rattle.boot_core.proofs.Fitting.{begins_fitting, fits_grown}
-use Rattle.call_attempts.specs.Attempt.{Accesses, AttemptValue, Continues, EntersGroup, HasEnteredOnce, HasMade, HasStepped, IsUnderWay, answer_to, attempt_begun, boot_after, rows_at_begin, stepped, table_in, table_of, ticket_after, wanted}
+use Rattle.call_attempts.specs.Attempt.{Accesses, AttemptValue, Continues, EntersGroup, HasEnteredOnce, HasMade, HasStepped, IsUnderWay, answer_to, attempt_begun, boot_after, entered_by, entered_in, rows_at_begin, stepped, table_in, table_of, ticket_after, wanted}
 use Rattle.call_attempts.specs.Stops.{stop_of}
-use Rattle.call_attempts.specs.declared.attempt.Stepped.TheVariants.{Went, Done, Stopped}
+use Rattle.call_attempts.specs.declared.attempt.Stepped.TheVariants.{Went}
 use Rattle.call_attempts.specs.declared.steps.Made.TheVariants as make
-use Rattle.call_attempts.specs.declared.stop.Stop.{Stop}
+use Rattle.call_attempts.proofs.Paths.{entered_more, entered_none}
 
 -- what holds of each touch, and of the new one, holds of each after an enter
 all_touched : (P : Touch → Type 0) (es : List Entry) (g : ℕ) (touched : List Touch) → All P touched → P (new_touch es g)
@@ -142,6 +142,9 @@ goes_on boot asks a x way e on fits = record {
   writes = writes x e;
   once = subst (λ (y : Next). (a.repeats && may_repeat boot.start.deployment y ≡ false) ↔ HasEnteredOnce boot.start.deployment asks (a.answers ++ given ∷ [])) e
       (once_more boot.start.deployment asks a.answers given a.repeats way.once);
+  entered = ap (λ (path : List ComponentNo). path ++ entered_in x) way.entered
+      ∙ ap (λ (y : Next). entered_by asks a.answers ++ entered_in y) (sym e)
+      ∙ sym (entered_more asks a.answers given);
 }
   where
     rows : List RowWrite
@@ -198,6 +201,7 @@ begins boot asks request worker = record {
   marks = All-nil (λ (m : Mark). Accesses asks (table_in m.read));
   writes = All-nil (λ (w : RowWrite). Accesses asks w.id.table);
   once = (λ e. absurd (cc), λ h. let none = h.answered in absurd (omega (arith, none)));
+  entered = entered_none asks;
 }
 
 -- An attempt that is under way stays so, whatever else enters the journal.
@@ -211,6 +215,7 @@ stays old new asks a grown way =
       marks = way.marks;
       writes = way.writes;
       once = way.once;
+      entered = way.entered;
     } in
     let P : List Entry → Type 0 = λ es. IsUnderWay (record { start = old.start; entries = es; entered = new.entered }) asks a in
     let Q : Start → Type 0 = λ start. IsUnderWay (record { start = start; entries = new.entries; entered = new.entered }) asks a in
@@ -236,41 +241,31 @@ fits_before boot next.Exit call fits = fits
 fits_before boot (next.Done d) call fits = fits
 
 -- the value of an attempt, by its fields
-abbrev pub fields : TicketValue → List Answer → Bool → AttemptValue
-fields ticket answers repeats = record { ticket = ticket; answers = answers; repeats = repeats }
+abbrev pub fields : TicketValue → List Answer → Bool → List ComponentNo → AttemptValue
+fields ticket answers repeats entered =
+    record { ticket = ticket; answers = answers; repeats = repeats; entered = entered }
 
 -- A step that was answered.
-pub answered : (boot : BootValue) (asks : List Answer → Next) (old : AttemptValue) (t0 : TicketValue) (a0 : List Answer) (r0 : Bool) → fields t0 a0 r0 ≡ old
-    → (x : Next) (a : Answer) (ticket : TicketValue) (answers : List Answer) (repeats : Bool) → IsUnderWay boot asks old → x ≡ asks a0
-    → HasMade boot t0 x (make.Answered a) ticket → FitsIn (boot_after boot x) ticket.call → answers ≡ a0 ++ a ∷ [] → repeats ≡ r0 && may_repeat boot.start.deployment x
-    → HasStepped boot asks old Went (fields ticket answers repeats) × IsUnderWay (boot_after boot x) asks (fields ticket answers repeats)
-answered boot asks old t0 a0 r0 view x a ticket answers repeats way is made_so fits more flag =
-    subst (λ (o : AttemptValue). HasStepped boot asks o Went (fields ticket answers repeats) × IsUnderWay (boot_after boot x) asks (fields ticket answers repeats)) view
-    (stepping, stays boot (boot_after boot x) asks (fields ticket answers repeats) (boot_grows boot x) going)
+pub answered : (boot : BootValue) (asks : List Answer → Next) (old : AttemptValue) (t0 : TicketValue) (a0 : List Answer) (r0 : Bool) (e0 : List ComponentNo) → fields t0 a0 r0 e0 ≡ old
+    → (x : Next) (a : Answer) (ticket : TicketValue) (answers : List Answer) (repeats : Bool) (entered : List ComponentNo) → IsUnderWay boot asks old → x ≡ asks a0
+    → HasMade boot t0 x (make.Answered a) ticket → FitsIn (boot_after boot x) ticket.call → answers ≡ a0 ++ a ∷ [] → repeats ≡ r0 && may_repeat boot.start.deployment x → entered ≡ e0 ++ entered_in x
+    → HasStepped boot asks old Went (fields ticket answers repeats entered) × IsUnderWay (boot_after boot x) asks (fields ticket answers repeats entered)
+answered boot asks old t0 a0 r0 e0 view x a ticket answers repeats entered way is made_so fits more flag path =
+    subst (λ (o : AttemptValue). HasStepped boot asks o Went after × IsUnderWay (boot_after boot x) asks after) view
+    (stepping, stays boot (boot_after boot x) asks after (boot_grows boot x) going)
   where
     was : AttemptValue
-    was = fields t0 a0 r0
+    was = fields t0 a0 r0 e0
 
-    same : fields ticket answers repeats ≡ stepped boot was x
-    same = rw (made_so.3, more, flag, made_so.2) refl
+    after : AttemptValue
+    after = fields ticket answers repeats entered
 
-    stepping : HasStepped boot asks was Went (fields ticket answers repeats)
-    stepping = subst (λ (y : Next). Continues y × (stop_of boot t0.call y ≡ None) × (fields ticket answers repeats ≡ stepped boot was y)) is (made_so.0, made_so.1, same)
+    same : after ≡ stepped boot was x
+    same = rw (made_so.3, more, flag, path, made_so.2) refl
 
-    going : IsUnderWay boot asks (fields ticket answers repeats)
+    stepping : HasStepped boot asks was Went after
+    stepping = subst (λ (y : Next). Continues y × (stop_of boot t0.call y ≡ None) × (after ≡ stepped boot was y)) is (made_so.0, made_so.1, same)
+
+    going : IsUnderWay boot asks after
     going = subst (λ (t : AttemptValue). IsUnderWay boot asks t) (sym same)
         (goes_on boot asks was x (subst (λ (o : AttemptValue). IsUnderWay boot asks o) (sym view) way) (sym is) made_so.0 (subst (λ (t : TicketValue). FitsIn boot t.call) made_so.3 (fits_before boot x ticket.call fits)))
-
--- A step that ends the call.
-pub done_so : (boot : BootValue) (asks : List Answer → Next) (old : AttemptValue) (t0 : TicketValue) (a0 : List Answer) (r0 : Bool) → fields t0 a0 r0 ≡ old
-    → (x : Next) (d : DoneText) (ticket : TicketValue) → x ≡ asks a0 → HasMade boot t0 x (make.Done d) ticket → HasStepped boot asks old (Done d) (fields ticket a0 r0)
-done_so boot asks old t0 a0 r0 view x d ticket is made_so =
-    subst (λ (o : AttemptValue). HasStepped boot asks o (Done d) (fields ticket a0 r0)) view (sym is ∙ made_so.0, ap (λ (t : TicketValue). fields t a0 r0) made_so.1)
-
--- A step that something stops.
-pub stopped_so : (boot : BootValue) (asks : List Answer → Next) (old : AttemptValue) (t0 : TicketValue) (a0 : List Answer) (r0 : Bool) → fields t0 a0 r0 ≡ old
-    → (x : Next) (stop : Stop) (ticket : TicketValue) → x ≡ asks a0 → HasMade boot t0 x (make.Stopped stop) ticket → HasStepped boot asks old (Stopped stop) (fields ticket a0 r0)
-stopped_so boot asks old t0 a0 r0 view x stop ticket is made_so =
-    subst (λ (o : AttemptValue). HasStepped boot asks o (Stopped stop) (fields ticket a0 r0)) view
-    (subst (λ (y : Next). Continues y × (stop_of boot t0.call y ≡ Some stop) × (fields ticket a0 r0 ≡ fields t0 a0 r0)) is
-    (made_so.0, made_so.1, ap (λ (t : TicketValue). fields t a0 r0) made_so.2))

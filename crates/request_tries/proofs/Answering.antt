@@ -3,6 +3,7 @@ use Rattle.std.specs.Prelude.{IfErr, IfOk, IfSome, OnErr, Result, Ok, Err}
 use Rattle.std.proofs.Common.{◌≡◌, ℕ, Bool, inl, inr, List, Option, Some, sym, ap, ◌∙◌, subst}
 use Rattle.std.proofs.lemmas.Result.{IfOk-weaker}
 use Rattle.crash_base.specs.declared.memory.OutOfMemory.{OutOfMemory}
+use Rattle.crash_base.specs.declared.numbers.ComponentNo.{ComponentNo}
 use Rattle.crash_base.specs.declared.numbers.Place.{Place}
 use Rattle.crash_base.specs.declared.rows.RowWrite.{RowWrite}
 use Rattle.journal_model.specs.declared.entry.ActionEntry.{ActionEntry}
@@ -101,14 +102,15 @@ may_keep_nothing call action (Err refused) old new (Err e) nothing left =
     keeps_nothing call.writes refused.cause old new nothing left.1
 
 -- A request hears that its open attempt was stopped.
-pub may_stop : (old : ContainerValue) (s mid after : TriesValue) (a : AttemptValue) (ticket : TicketValue) (at : Place) (repeats : Bool) (now : HistoryFront) (stop : Stop) (result : Result (Option Ended) OutOfMemory)
-    → s.attempt ≡ Some a → ticket ≡ a.ticket → at ≡ ticket.call.at → repeats ≡ a.repeats → mid ≡ closed s → now ≡ front_at old
-    → IfOk result (λ end. IsStopped now mid at repeats stop end after) → IfOk result (λ end. IfSome s.attempt (λ b. IsStopped (front_at old) (closed s) b.ticket.call.at b.repeats stop end after))
-may_stop old s mid after a ticket at repeats now stop result was is_ticket is_at is_repeats is_mid is_now stopped =
+pub may_stop : (old : ContainerValue) (s mid after : TriesValue) (a : AttemptValue) (ticket : TicketValue) (at : Place) (repeats : Bool) (entered : List ComponentNo) (now : HistoryFront) (stop : Stop) (result : Result (Option Ended) OutOfMemory)
+    → s.attempt ≡ Some a → ticket ≡ a.ticket → at ≡ ticket.call.at → repeats ≡ a.repeats → entered ≡ a.entered → mid ≡ closed s → now ≡ front_at old
+    → IfOk result (λ end. IsStopped now mid at repeats entered stop end after) → IfOk result (λ end. IfSome s.attempt (λ b. IsStopped (front_at old) (closed s) b.ticket.call.at b.repeats b.entered stop end after))
+may_stop old s mid after a ticket at repeats entered now stop result was is_ticket is_at is_repeats is_entered is_mid is_now stopped =
     let began : at ≡ a.ticket.call.at = is_at ∙ ap (λ (t : TicketValue). t.call.at) is_ticket in
-    let there : IfOk result (λ end. IsStopped (front_at old) (closed s) a.ticket.call.at a.repeats stop end after) =
-    subst (λ (n : HistoryFront). IfOk result (λ end. IsStopped n (closed s) a.ticket.call.at a.repeats stop end after)) is_now
-    (subst (λ (m : TriesValue). IfOk result (λ end. IsStopped now m a.ticket.call.at a.repeats stop end after)) is_mid
-    (subst (λ (p : Place). IfOk result (λ end. IsStopped now mid p a.repeats stop end after)) began
-    (subst (λ (f : Bool). IfOk result (λ end. IsStopped now mid at f stop end after)) is_repeats stopped))) in
-    subst (λ (o : Option AttemptValue). IfOk result (λ end. IfSome o (λ b. IsStopped (front_at old) (closed s) b.ticket.call.at b.repeats stop end after))) (sym was) there
+    let there : IfOk result (λ end. IsStopped (front_at old) (closed s) a.ticket.call.at a.repeats a.entered stop end after) =
+    subst (λ (n : HistoryFront). IfOk result (λ end. IsStopped n (closed s) a.ticket.call.at a.repeats a.entered stop end after)) is_now
+    (subst (λ (m : TriesValue). IfOk result (λ end. IsStopped now m a.ticket.call.at a.repeats a.entered stop end after)) is_mid
+    (subst (λ (p : Place). IfOk result (λ end. IsStopped now mid p a.repeats a.entered stop end after)) began
+    (subst (λ (f : Bool). IfOk result (λ end. IsStopped now mid at f a.entered stop end after)) is_repeats
+    (subst (λ (cs : List ComponentNo). IfOk result (λ end. IsStopped now mid at repeats cs stop end after)) is_entered stopped)))) in
+    subst (λ (o : Option AttemptValue). IfOk result (λ end. IfSome o (λ b. IsStopped (front_at old) (closed s) b.ticket.call.at b.repeats b.entered stop end after))) (sym was) there

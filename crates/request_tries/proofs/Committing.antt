@@ -221,20 +221,20 @@ end_brings c asks s after a o done end seen serving opened shows answers adds ot
 -- The stop of an attempt brings its end, and adds nothing.
 pub stopped : (c : ContainerValue) (asks : List Answer → Next) (s after : TriesValue) (a : AttemptValue) (stop : Stop) (end : Option Ended)
     → entries_in c.since ≡ c.boot.entries → IsServing c.boot asks s → IsOpen c.boot asks s a → stop_of_attempt c.boot asks a ≡ Some stop
-    → IsStopped (front_at c) (closed s) a.ticket.call.at a.repeats stop end after → Brings c c asks s after end
+    → IsStopped (front_at c) (closed s) a.ticket.call.at a.repeats a.entered stop end after → Brings c c asks s after end
 stopped c asks s after a (stops.Sentinel group down) end seen serving opened is ends =
     let shows = sentinel_shows c.boot asks a group down is in
     let o : RequestOutcome = Sentinel group down in
     let now : OutcomeStands c.boot.start (events_of c) (errand_of s asks) (first_begin s.tries a.ticket.call.at.0) o = (subst (λ (es : List Entry). down_of es group.0 ≡ Some down) (sym seen) shows.0, shows.1) in
     end_brings c asks s after a o None end seen serving opened now refl refl (λ never. absurd (cc)) ends
 stopped c asks s after a (stops.Hung component fault) end seen serving opened is ends =
-    let shows = fault_shows c.boot asks a component fault Hang ((hung_is c.boot a.ticket.call (wanted asks a) component fault).0 is).1 in
-    let o : RequestOutcome = Hung component fault in
+    let shows = fault_shows c.boot asks a component fault Hang opened.way ((hung_is c.boot a.ticket.call (wanted asks a) component fault).0 is).1 in
+    let o : RequestOutcome = Hung component fault (a.entered ++ component ∷ []) in
     let now : OutcomeStands c.boot.start (events_of c) (errand_of s asks) (first_begin s.tries a.ticket.call.at.0) o = (subst (λ (es : List Entry). HasUncuredPlan c.boot.start es component fault Hang) (sym seen) shows.0, shows.1) in
     end_brings c asks s after a o None end seen serving opened now refl refl (λ never. absurd (cc)) ends
 stopped c asks s after a (stops.Raised component fault) end seen serving opened is ends =
-    let shows = fault_shows c.boot asks a component fault Raise ((raised_is c.boot a.ticket.call (wanted asks a) component fault).0 is).1 in
-    let o : RequestOutcome = Raised component fault in
+    let shows = fault_shows c.boot asks a component fault Raise opened.way ((raised_is c.boot a.ticket.call (wanted asks a) component fault).0 is).1 in
+    let o : RequestOutcome = Raised component fault (a.entered ++ component ∷ []) in
     let now : OutcomeStands c.boot.start (events_of c) (errand_of s asks) (first_begin s.tries a.ticket.call.at.0) o = (subst (λ (es : List Entry). HasUncuredPlan c.boot.start es component fault Raise) (sym seen) shows.0, shows.1) in
     end_brings c asks s after a o None end seen serving opened now refl refl (λ never. absurd (cc)) ends
 stopped c asks s after a (stops.Revoked shown) end seen serving opened is ends =

@@ -1,6 +1,7 @@
 -- That a request ends early only by a single call, and tells where its first try began.
 use Rattle.std.specs.Prelude.{Result, Ok, Err, option_map, unwrap_or}
 use Rattle.std.proofs.Common.{◌≡◌, ℕ, ◌<◌, Bool, true, false, List, [], ◌∷◌, ◌++◌, length, take, Option, Some, None, inl, inr, refl, sym, ap, ◌∙◌, subst, arith, length-append}
+use Rattle.crash_base.specs.declared.numbers.ComponentNo.{ComponentNo}
 use Rattle.crash_base.specs.declared.numbers.Place.{Place}
 use Rattle.journal_model.specs.declared.entry.DoneText.{DoneText}
 use Rattle.journal_model.specs.declared.entry.Entry.{Entry}
@@ -55,12 +56,12 @@ early_try now s after at (cause.Revoked shown) repeats e tries ends is few =
     elim ends.0 [ inl le ↦ absurd (omega (arith, le, few, many, length-append s.tries (t ∷ []))) | inr no_more ↦ no_more ]
 early_try now s after at (cause.Conflict mark newest) repeats e tries ends is few = let told = ap (λ (x : Ended). x.outcome) ends.1 in absurd (cc)
 
-early_stop : (now : HistoryFront) (s after : TriesValue) (at : Place) (repeats : Bool) (stop : Stop) (e : Ended) (tries : List Try) → IsStopped now s at repeats stop (Some e) after → e.outcome ≡ outcomes.Revoked tries → length tries < 3
+early_stop : (now : HistoryFront) (s after : TriesValue) (at : Place) (repeats : Bool) (entered : List ComponentNo) (stop : Stop) (e : Ended) (tries : List Try) → IsStopped now s at repeats entered stop (Some e) after → e.outcome ≡ outcomes.Revoked tries → length tries < 3
     → repeats ≡ false
-early_stop now s after at repeats (stops.Sentinel group down) e tries h is few = let told = ap (λ (x : Ended). x.outcome) (some_is h) in absurd (cc)
-early_stop now s after at repeats (stops.Hung component fault) e tries h is few = let told = ap (λ (x : Ended). x.outcome) (some_is h) in absurd (cc)
-early_stop now s after at repeats (stops.Raised component fault) e tries h is few = let told = ap (λ (x : Ended). x.outcome) (some_is h) in absurd (cc)
-early_stop now s after at repeats (stops.Revoked shown) e tries h is few = early_try now s after at (cause.Revoked shown) repeats e tries h is few
+early_stop now s after at repeats entered (stops.Sentinel group down) e tries h is few = let told = ap (λ (x : Ended). x.outcome) (some_is h) in absurd (cc)
+early_stop now s after at repeats entered (stops.Hung component fault) e tries h is few = let told = ap (λ (x : Ended). x.outcome) (some_is h) in absurd (cc)
+early_stop now s after at repeats entered (stops.Raised component fault) e tries h is few = let told = ap (λ (x : Ended). x.outcome) (some_is h) in absurd (cc)
+early_stop now s after at repeats entered (stops.Revoked shown) e tries h is few = early_try now s after at (cause.Revoked shown) repeats e tries h is few
 
 early_commit : (now : HistoryFront) (es : List Entry) (s after : TriesValue) (at : Place) (repeats : Bool) (answer : Result Place Refused) (e : Ended) (tries : List Try) → HearsCommit now es s at repeats answer (Some e) after
     → e.outcome ≡ outcomes.Revoked tries → length tries < 3 → repeats ≡ false
@@ -87,7 +88,7 @@ early_step c new asks s after a e tries way steps is few = way.once.0 (go steps.
     go coming.Went h = let never = h.0 in absurd (cc)
     go (coming.Done d) h = let never = h.0 in absurd (cc)
     go (coming.Stopped stop) h =
-        early_stop (front_at c) (closed s) after a.ticket.call.at a.repeats stop e tries (subst (λ (o : Option Ended). IsStopped (front_at c) (closed s) a.ticket.call.at a.repeats stop o after) (told_end h.0 e h.1) h.2) is few
+        early_stop (front_at c) (closed s) after a.ticket.call.at a.repeats a.entered stop e tries (subst (λ (o : Option Ended). IsStopped (front_at c) (closed s) a.ticket.call.at a.repeats a.entered stop o after) (told_end h.0 e h.1) h.2) is few
 
 pub early_refused : (old new : ContainerValue) (asks : List Answer → Next) (s after : TriesValue) (a : AttemptValue) (done : DoneText) (e : Ended) (tries : List Try) → IsUnderWay old.boot asks a → CommitsAs old s (Some a) done (Some e) new after
     → e.outcome ≡ outcomes.Revoked tries → length tries < 3 → HasEnteredOnce old.boot.start.deployment asks a.answers
@@ -132,17 +133,17 @@ later_commit now es s after at repeats (Err refused) later hears = go refused.ca
     go commits.OutOfMemory h = absurd h
 
 -- and of a stop
-from_stop : (now : HistoryFront) (s after : TriesValue) (at : Place) (repeats : Bool) (stop : Stop) (e : Ended) → IsStopped now s at repeats stop (Some e) after → e.from.0 ≡ first_begin s.tries at.0
-from_stop now s after at repeats (stops.Sentinel group down) e h = ap (λ (x : Ended). x.from.0) (some_is h)
-from_stop now s after at repeats (stops.Hung component fault) e h = ap (λ (x : Ended). x.from.0) (some_is h)
-from_stop now s after at repeats (stops.Raised component fault) e h = ap (λ (x : Ended). x.from.0) (some_is h)
-from_stop now s after at repeats (stops.Revoked shown) e h = from_try now s after at (cause.Revoked shown) repeats e h
+from_stop : (now : HistoryFront) (s after : TriesValue) (at : Place) (repeats : Bool) (entered : List ComponentNo) (stop : Stop) (e : Ended) → IsStopped now s at repeats entered stop (Some e) after → e.from.0 ≡ first_begin s.tries at.0
+from_stop now s after at repeats entered (stops.Sentinel group down) e h = ap (λ (x : Ended). x.from.0) (some_is h)
+from_stop now s after at repeats entered (stops.Hung component fault) e h = ap (λ (x : Ended). x.from.0) (some_is h)
+from_stop now s after at repeats entered (stops.Raised component fault) e h = ap (λ (x : Ended). x.from.0) (some_is h)
+from_stop now s after at repeats entered (stops.Revoked shown) e h = from_try now s after at (cause.Revoked shown) repeats e h
 
-later_stop : (now : HistoryFront) (s after : TriesValue) (at : Place) (repeats : Bool) (stop : Stop) (later : ℕ) → IsStopped now s at repeats stop None after → begun_at after later ≡ first_begin s.tries at.0
-later_stop now s after at repeats (stops.Sentinel group down) later h = absurd (cc)
-later_stop now s after at repeats (stops.Hung component fault) later h = absurd (cc)
-later_stop now s after at repeats (stops.Raised component fault) later h = absurd (cc)
-later_stop now s after at repeats (stops.Revoked shown) later h = later_try now s after at (cause.Revoked shown) repeats later h
+later_stop : (now : HistoryFront) (s after : TriesValue) (at : Place) (repeats : Bool) (entered : List ComponentNo) (stop : Stop) (later : ℕ) → IsStopped now s at repeats entered stop None after → begun_at after later ≡ first_begin s.tries at.0
+later_stop now s after at repeats entered (stops.Sentinel group down) later h = absurd (cc)
+later_stop now s after at repeats entered (stops.Hung component fault) later h = absurd (cc)
+later_stop now s after at repeats entered (stops.Raised component fault) later h = absurd (cc)
+later_stop now s after at repeats entered (stops.Revoked shown) later h = later_try now s after at (cause.Revoked shown) repeats later h
 
 -- where a request began whose attempt is open
 begun_is : (s : TriesValue) (a : AttemptValue) (later : ℕ) → s.attempt ≡ Some a → begun_at s later ≡ first_begin s.tries a.ticket.call.at.0
@@ -156,7 +157,7 @@ step_from c new asks s after (Some a) e later is steps = go steps.0 steps.3 ∙ 
     go coming.Went h = let never = h.0 in absurd (cc)
     go (coming.Done d) h = let never = h.0 in absurd (cc)
     go (coming.Stopped stop) h =
-        from_stop (front_at c) (closed s) after a.ticket.call.at a.repeats stop e (subst (λ (x : Option Ended). IsStopped (front_at c) (closed s) a.ticket.call.at a.repeats stop x after) (told_end h.0 e h.1) h.2)
+        from_stop (front_at c) (closed s) after a.ticket.call.at a.repeats a.entered stop e (subst (λ (x : Option Ended). IsStopped (front_at c) (closed s) a.ticket.call.at a.repeats a.entered stop x after) (told_end h.0 e h.1) h.2)
 
 pub committed_from : (old new : ContainerValue) (s after : TriesValue) (o : Option AttemptValue) (done : DoneText) (e : Ended) (later : ℕ) → s.attempt ≡ o → CommitsAs old s o done (Some e) new after → e.from.0 ≡ begun_at s later
 committed_from old new s after None done e later is c = absurd c
@@ -173,8 +174,8 @@ step_begun c new asks s after (Some a) to later is steps goes = go steps.0 steps
     go coming.Went h = ap (λ (x : TriesValue). begun_at x later) h.1 ∙ ap (λ (p : Place). first_begin s.tries p.0) (same_begin c.boot a.ticket (wanted asks a))
     go (coming.Done d) h = ap (λ (x : TriesValue). begun_at x later) h.1 ∙ begun_is s a later is
     go (coming.Stopped stop) h =
-        later_stop (front_at c) (closed s) after a.ticket.call.at a.repeats stop later
-        (subst (λ (x : Option Ended). IsStopped (front_at c) (closed s) a.ticket.call.at a.repeats stop x after) (sym (end_is h.0) ∙ sym (ap end_of h.1) ∙ goes) h.2)
+        later_stop (front_at c) (closed s) after a.ticket.call.at a.repeats a.entered stop later
+        (subst (λ (x : Option Ended). IsStopped (front_at c) (closed s) a.ticket.call.at a.repeats a.entered stop x after) (sym (end_is h.0) ∙ sym (ap end_of h.1) ∙ goes) h.2)
 
 pub commit_begun : (old new : ContainerValue) (s after : TriesValue) (o : Option AttemptValue) (done : DoneText) (later now : ℕ) → s.attempt ≡ o → CommitsAs old s o done None new after → begun_at after later ≡ begun_at s now
 commit_begun old new s after None done later now is c = absurd c

@@ -29,7 +29,7 @@ use Rattle.boot_core.specs.declared.boot.Start.{Start}
 use Rattle.container_core.specs.Container.{ContainerValue, events_of}
 use Rattle.container_core.specs.History.{entries_in}
 use Rattle.container_core.specs.declared.history.Event.{Event}
-use Rattle.call_attempts.specs.Attempt.{AttemptValue, EntersComponent, EntersGroup, EntersOnce, IsUnderWay, stop_of_attempt, wanted}
+use Rattle.call_attempts.specs.Attempt.{AttemptValue, EntersGroup, EntersOnce, FailsOnItsWay, IsUnderWay, stop_of_attempt, wanted}
 use Rattle.call_attempts.specs.declared.stop.Stop.TheVariants as stops
 use Rattle.call_attempts.proofs.Stopping.{MeetsFault, sentinel_is}
 use Rattle.request_tries.specs.Ends.{Errand, AreAll, HasUncuredPlan, OutcomeStands, EndStands, WasRevoked, WasInConflict, copied_for, done_at, done_of, page_of}
@@ -117,10 +117,10 @@ is_false : (b : Bool) → not b ≡ true → b ≡ false
 is_false true e = sym e
 is_false false e = refl
 
--- An attempt that met a component which fails asked to enter it, and it fails by a plan of the start.
-pub fault_shows : (boot : BootValue) (asks : List Answer → Next) (a : AttemptValue) (component : ComponentNo) (fault : ℕ) (kind : FaultKind) → MeetsFault boot (wanted asks a) component fault kind
-    → HasUncuredPlan boot.start boot.entries component fault kind × EntersComponent asks component
-fault_shows boot asks a component fault kind (method, asked, up, fails) =
+-- An attempt that met a component which fails asked to enter it on its way, and it fails by a plan of the start.
+pub fault_shows : (boot : BootValue) (asks : List Answer → Next) (a : AttemptValue) (component : ComponentNo) (fault : ℕ) (kind : FaultKind) → IsUnderWay boot asks a → MeetsFault boot (wanted asks a) component fault kind
+    → HasUncuredPlan boot.start boot.entries component fault kind × FailsOnItsWay asks component (a.entered ++ component ∷ [])
+fault_shows boot asks a component fault kind way (method, asked, up, fails) =
     let found = active_found boot.start.plans component.0 (counted (times boot.entered component.0)) (reboots_in boot.entries (group_of boot.start.deployment component.0)) fault kind fails in
     let active = and_parts _ _ found.1.active in
     let uncured = and_parts _ _ active.1 in (
@@ -131,7 +131,12 @@ fault_shows boot asks a component fault kind (method, asked, up, fails) =
         kind_is = found.2;
         uncured = is_false _ uncured.1;
       },
-      record { answers = a.answers; method = method; asked = asked },
+      record {
+        answers = a.answers;
+        method = method;
+        asked = asked;
+        path_is = ap (λ (cs : List ComponentNo). cs ++ component ∷ []) way.entered;
+      },
     )
 
 -- what a request brings to the end of a try

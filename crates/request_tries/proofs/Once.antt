@@ -5,6 +5,7 @@ use Rattle.std.proofs.lemmas.Bool.{cases_lt}
 use Rattle.std.proofs.lemmas.Grind.{flat_map-append}
 use Rattle.std.proofs.lemmas.List.{take-append-drop}
 use Rattle.crash_base.specs.Refusals.{first_of}
+use Rattle.crash_base.specs.declared.numbers.ComponentNo.{ComponentNo}
 use Rattle.crash_base.specs.declared.numbers.Place.{Place}
 use Rattle.crash_base.specs.declared.numbers.RequestNo.{RequestNo}
 use Rattle.crash_base.specs.declared.rows.RowWrite.{RowWrite}
@@ -141,11 +142,11 @@ after_commit now es s after at repeats (Err refused) r is hears = go refused.cau
     go commits.KeeperFailed h = absurd (cc)
     go commits.OutOfMemory h = absurd h
 
-after_stop : (now : HistoryFront) (s after : TriesValue) (at : Place) (repeats : Bool) (stop : Stop) (r : RequestNo) → s.request ≡ r → IsStopped now s at repeats stop None after → Rests r after
-after_stop now s after at repeats (stops.Sentinel group down) r is h = absurd (cc)
-after_stop now s after at repeats (stops.Hung component fault) r is h = absurd (cc)
-after_stop now s after at repeats (stops.Raised component fault) r is h = absurd (cc)
-after_stop now s after at repeats (stops.Revoked shown) r is h = after_try now s after at (cause.Revoked shown) repeats r is h
+after_stop : (now : HistoryFront) (s after : TriesValue) (at : Place) (repeats : Bool) (entered : List ComponentNo) (stop : Stop) (r : RequestNo) → s.request ≡ r → IsStopped now s at repeats entered stop None after → Rests r after
+after_stop now s after at repeats entered (stops.Sentinel group down) r is h = absurd (cc)
+after_stop now s after at repeats entered (stops.Hung component fault) r is h = absurd (cc)
+after_stop now s after at repeats entered (stops.Raised component fault) r is h = absurd (cc)
+after_stop now s after at repeats entered (stops.Revoked shown) r is h = after_try now s after at (cause.Revoked shown) repeats r is h
 
 -- the number after a step
 pub bears_number : (c new : ContainerValue) (asks : List Answer → Next) (s after : TriesValue) (o : Option AttemptValue) (to : Progress) → s.attempt ≡ o → StepsAs c asks s o to new after → end_of to ≡ None
@@ -162,7 +163,7 @@ bears_number c new asks s after (Some a) to is steps goes bears = go steps.0 ste
     go (coming.Stopped stop) h =
         let none : h.0 ≡ None = sym (end_is h.0) ∙ sym (ap end_of h.1) ∙ goes in
         let rests : Rests s.request after =
-        after_stop (front_at c) (closed s) after a.ticket.call.at a.repeats stop s.request refl (subst (λ (e : Option Ended). IsStopped (front_at c) (closed s) a.ticket.call.at a.repeats stop e after) none h.2) in
+        after_stop (front_at c) (closed s) after a.ticket.call.at a.repeats a.entered stop s.request refl (subst (λ (e : Option Ended). IsStopped (front_at c) (closed s) a.ticket.call.at a.repeats a.entered stop e after) none h.2) in
         (rests.0, subst (λ (x : Option AttemptValue). IfSome x (λ b. b.ticket.call.request ≡ s.request)) (sym rests.1) tt)
 
 -- and after a commit
@@ -191,7 +192,7 @@ step_ends c new asks s after a shown to way entered stale steps = go steps.0 ste
     stop : stop_of_attempt c.boot asks a ≡ Some (stops.Revoked shown)
     stop = (revoked_is c.boot a.ticket.call (wanted asks a) shown).1 stale
 
-    stopped : (x : Stop) (end : Option Ended) → stop_of_attempt c.boot asks a ≡ Some x → IsStopped (front_at c) (closed s) a.ticket.call.at a.repeats x end after → end ≢ None
+    stopped : (x : Stop) (end : Option Ended) → stop_of_attempt c.boot asks a ≡ Some x → IsStopped (front_at c) (closed s) a.ticket.call.at a.repeats a.entered x end after → end ≢ None
     stopped (stops.Sentinel group down) end is h none = let held = stop in absurd (cc)
     stopped (stops.Hung component fault) end is h none = let held = stop in absurd (cc)
     stopped (stops.Raised component fault) end is h none = let held = stop in absurd (cc)
