@@ -14,6 +14,7 @@ use Rattle.scenario_engine.specs.Connections.{HasBrowsers}
 use Rattle.scenario_engine.specs.Engine.{with_reply}
 use Rattle.scenario_engine.specs.Hearing.{AllHeardSpelled, AllMade}
 use Rattle.scenario_engine.specs.KeeperCalls.{KeeperSeen, TellsCalls, AreCounted, AreMade, AreSomeAsked}
+use Rattle.scenario_engine.specs.Reports.{HasDecided}
 use Rattle.scenario_engine.specs.Serving.{AllServed}
 use Rattle.scenario_engine.specs.Sessions.{HasSessions}
 use Rattle.scenario_engine.specs.Sound.{CommitsUnrebooted, RunsSerially, CommitsOwnRequests, CommitsAsMeant}
@@ -77,12 +78,13 @@ pub record TurnsStand (turns : List Turn) (old new : KeeperSeen) : Type 0 where
   pub spelled : AllHeardSpelled first turns
   pub browsers : (t u : KeeperTold) → old.told ≡ Some t → new.told ≡ Some u → HasBrowsers turns
 
--- What the turns of a scenario did stands, each step of them whole; and each connection of a browser served its
--- requests: each of its items stands. A turn that ended the scenario is the last of them, since it may have called the
--- keeper, too.
+-- What the turns of a scenario did stands, each step of them whole; each connection of a browser served its requests:
+-- each of its items stands; and on each report of a request that failed it was decided from scratch by all reports so
+-- far, over all boots. A turn that ended the scenario is the last of them, since it may have called the keeper, too.
 pub record ScenarioStands (turns : List Turn) (old new : KeeperSeen) : Type 0 where
   pub did : TurnsStand turns old new
   pub served : AllServed turns
+  pub decided : HasDecided turns
 
 -- A scenario was read and came to its end, and its transcript was written.
 pub record WritesTranscript (x : Exchange) : Type 0 where

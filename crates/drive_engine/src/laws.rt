@@ -11,8 +11,8 @@ ghost use Rattle.drive_engine.specs.Drive.{ScenarioStands, TurnsStand, WereAsked
 use descriptor_text::texts_have_an_answer;
 use scenario_engine::{
     boots_are_sound, commits_are_of_their_boot, connections_serve_their_requests,
-    journals_are_meant, keepers_tell, no_turns_break_the_order, no_turns_commit_after_a_reboot,
-    scenarios_have_browsers, scenarios_have_sessions,
+    decisions_are_by_all_reports, journals_are_meant, keepers_tell, no_turns_break_the_order,
+    no_turns_commit_after_a_reboot, scenarios_have_browsers, scenarios_have_sessions,
 };
 
 /// Whatever the turns, what they did stands where they were done: the keeper was called as they say, and what
@@ -31,14 +31,15 @@ pub(crate) fn turns_stand()
     scenarios_have_browsers();
 }
 
-/// Whatever the turns, what they did stands where they were done, each step of a connection by its calls; and each
-/// connection of a browser served its requests.
+/// Whatever the turns, what they did stands where they were done, each step of a connection by its calls; each
+/// connection of a browser served its requests; and it was decided by all reports so far.
 pub(crate) fn scenarios_stand()
     ensures { (turns : List Turn) (old new : KeeperSeen)
         → WereAskedWhole turns old new → ScenarioStands turns old new }
 {
     turns_stand();
     connections_serve_their_requests();
+    decisions_are_by_all_reports();
 }
 
 /// A text has lines, and calls for a status whatever the keeper replies to each of them, where its replies are as many

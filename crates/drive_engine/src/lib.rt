@@ -14,8 +14,9 @@
 //! Which status a text calls for is `CallsFor` of `specs/Command`; the laws `texts_call_for_a_status` and
 //! `texts_call_for_one_status` say that there is exactly one, whatever the keeper replies. However a scenario
 //! ends, what it did stands (`ScenarioStands` of `specs/Drive`): a keeper that tells holds the rows that its boots
-//! leave, over any keeper the count of faults rose where it failed at a call, and each fetch of a session answers
-//! what was written, or says why not. The keeper is handed back.
+//! leave, over any keeper the count of faults rose where it failed at a call, each fetch of a session answers what
+//! was written, or says why not, and on each report of a request that failed it was decided by all reports so far.
+//! The keeper is handed back.
 //!
 //! A scenario takes room for one piece and one line, however long it is. A line visits its bytes and those that it
 //! writes, and what its call of the boot visits; a begin also makes a place for each caller of a lesser number

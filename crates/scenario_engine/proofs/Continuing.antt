@@ -30,6 +30,7 @@ use Rattle.scenario_engine.proofs.SessionSerials.{GoesOn, session_goes}
 use Rattle.boot_core.specs.Boot.{BootValue}
 use Rattle.scenario_engine.proofs.Entered.{leaves_called}
 use Rattle.scenario_text.specs.declared.call_line.CallLine.{CallLine}
+use Rattle.scenario_engine.proofs.Reported.{leaves_report}
 
 -- A site goes on to another of the same boot: the key is the same, the moment is none before, and events were added.
 pub record Continues (s t : SiteState) : Type 0 where
@@ -153,3 +154,5 @@ beside_boot r (boots.Up name) = beside_up r name
 beside_boot r (boots.Reboot name) = beside_reboot r name
 beside_boot r boots.Table = beside_itself r
 beside_boot r boots.Journal = beside_itself r
+beside_boot r (boots.Report names) =
+    leaves_report (Beside r) r names (λ manager. adds r _ [] refl refl refl (sym (append-nil r.since)))

@@ -64,7 +64,7 @@ HoldsIn H R (Running r) = R r
 -- Each line keeps what holds of a head, and of a boot with its callers; and a boot that starts has it.
 pub record Keeps (H : Head → Type 0) (R : RunningState → Type 0) : Type 0 where
   pub heads : (head : Head) (line : Line) → H head → Leaves H (head_line head line)
-  pub opens : (head : Head) (replies : StartReplies) (start : Start) → H head → opening head.parts head.plans head.limits replies ≡ Opened start → R (started (set_up head.setup 0) no_seats head.site start)
+  pub opens : (head : Head) (replies : StartReplies) (start : Start) → H head → opening head.parts head.plans head.limits replies ≡ Opened start → R (started (set_up head.setup 0) (no_seats head.parts) head.site start)
   pub reopens : (r : RunningState) (replies : StartReplies) (start : Start) → R r → next_opening r replies ≡ Opened start → R (reopened_over r start)
   pub commits : (r : RunningState) (n : ℕ) (keeps : Bool) → R r → Leaves R (commit_step r n keeps)
   pub calls : (r : RunningState) (n : ℕ) (line : CallLine) → IsShortCall line → R r → Leaves R (within (with_called r) (call_step r.boot r.callers n line))

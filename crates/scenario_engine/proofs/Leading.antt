@@ -17,7 +17,7 @@ use Rattle.line_steps.specs.declared.callers.Caller.TheVariants.{Absent, Live}
 use Rattle.line_steps.specs.declared.head.Head.{Head}
 use Rattle.line_steps.specs.Callers.{caller_at, begin_step, call_step}
 use Rattle.line_steps.specs.Head.{declares, head_line, head_step, open_step, site_step, with_site, with_parts, with_setup, component_step, reference_step, owns_step, limit_step, with_plans, fault_step}
-use Rattle.scenario_text.proofs.Leaving.{Leaves, leaves-refused_if, leaves-or_refused}
+use Rattle.scenario_text.proofs.Leaving.{Leaves, leaves-refused_if, leaves-or_refused, leaves-weaker}
 use Rattle.scenario_text.specs.Answer.{Answer, Refused, Done, within}
 use Rattle.scenario_text.specs.Line.{is_event}
 use Rattle.scenario_text.specs.Reading.{line_of}
@@ -52,62 +52,71 @@ use Rattle.boot_core.specs.Boot.{BootValue}
 use Rattle.scenario_engine.proofs.Entered.{leaves_called}
 use Rattle.scenario_text.specs.declared.call_line.CallLine.{CallLine}
 use Rattle.crash_base.specs.declared.fault_plans.FaultPlan.{FaultPlan}
+use Rattle.scenario_engine.proofs.Reported.{leaves_report}
 
 -- lines that leave the sessions and the connections as they were, and the boot the one that was started
 
 abbrev pub SameSessions : RunningState → RunningState → Type 0
-SameSessions old new = (new.sessions ≡ old.sessions) × (new.boot.start ≡ old.boot.start) × (new.seats ≡ old.seats)
+SameSessions old new = (new.sessions ≡ old.sessions) × (new.boot.start ≡ old.boot.start) × (new.seats.seats ≡ old.seats.seats)
 
-same_called : (r : RunningState) (a : Answer (List Caller)) → Leaves (SameSessions r) (within (with_callers r) a)
+-- and the manager as well
+abbrev pub SameBeside : RunningState → RunningState → Type 0
+SameBeside old new = (new.sessions ≡ old.sessions) × (new.boot.start ≡ old.boot.start) × (new.seats ≡ old.seats)
+
+pub as_sessions : (r : RunningState) (a : Answer RunningState) → Leaves (SameBeside r) a → Leaves (SameSessions r) a
+as_sessions r a same =
+    leaves-weaker (SameBeside r) (SameSessions r) a (λ q its. (its.0, its.1, ap (λ (x : SeatsState). x.seats) its.2)) same
+
+pub same_called : (r : RunningState) (a : Answer (List Caller)) → Leaves (SameBeside r) (within (with_callers r) a)
 same_called r Refused = tt
 same_called r (Done callers text) = (refl, refl, refl)
 
-pub same_entered : (r : RunningState) (n : ℕ) (line : CallLine) → Leaves (SameSessions r) (within (with_called r) (call_step r.boot r.callers n line))
-same_entered r n line = leaves_called (SameSessions r) r n line (λ done is. (refl, ap (λ (b : BootValue). b.start) is, refl))
+pub same_entered : (r : RunningState) (n : ℕ) (line : CallLine) → Leaves (SameBeside r) (within (with_called r) (call_step r.boot r.callers n line))
+same_entered r n line = leaves_called (SameBeside r) r n line (λ done is. (refl, ap (λ (b : BootValue). b.start) is, refl))
 
-same_committed : (r : RunningState) (n : ℕ) (ticket : TicketValue) (refusal : Option CommitRefusal) → Leaves (SameSessions r) (commit_ends r n ticket refusal)
+same_committed : (r : RunningState) (n : ℕ) (ticket : TicketValue) (refusal : Option CommitRefusal) → Leaves (SameBeside r) (commit_ends r n ticket refusal)
 same_committed r n ticket None = (refl, refl, refl)
 same_committed r n ticket (Some refusal) = (refl, refl, refl)
 
-pub same_commit : (r : RunningState) (n : ℕ) (keeps : Bool) → Leaves (SameSessions r) (commit_step r n keeps)
+pub same_commit : (r : RunningState) (n : ℕ) (keeps : Bool) → Leaves (SameBeside r) (commit_step r n keeps)
 unfolding commit_step
 same_commit r n keeps = go (caller_at r.callers n)
   where
-    go : (caller : Caller) → Leaves (SameSessions r) (caller_commits r n keeps caller)
+    go : (caller : Caller) → Leaves (SameBeside r) (caller_commits r n keeps caller)
     go Absent = tt
     go (Live ticket) = same_committed r n ticket (with_keeper (boot_refusal r ticket) ticket.call.writes keeps)
 
-same_drop : (r : RunningState) (n : ℕ) → Leaves (SameSessions r) (drop_step r n)
+pub same_drop : (r : RunningState) (n : ℕ) → Leaves (SameBeside r) (drop_step r n)
 unfolding drop_step
 same_drop r n = go (caller_at r.callers n)
   where
-    go : (caller : Caller) → Leaves (SameSessions r) (caller_drops r n caller)
+    go : (caller : Caller) → Leaves (SameBeside r) (caller_drops r n caller)
     go Absent = tt
     go (Live ticket) = (refl, refl, refl)
 
-same_down : (r : RunningState) (name : List ℕ) → Leaves (SameSessions r) (down_step r name)
+pub same_down : (r : RunningState) (name : List ℕ) → Leaves (SameBeside r) (down_step r name)
 unfolding down_step
 same_down r name =
-    leaves-or_refused (SameSessions r) (scope_of r.boot.start.deployment name) (λ s. goes_down r s (reboot_refusal r.boot.start.limits r.boot.entries s)) (λ s found.
+    leaves-or_refused (SameBeside r) (scope_of r.boot.start.deployment name) (λ s. goes_down r s (reboot_refusal r.boot.start.limits r.boot.entries s)) (λ s found.
     go s (reboot_refusal r.boot.start.limits r.boot.entries s))
   where
-    go : (s : Scope) (refusal : Option RebootRefusal) → Leaves (SameSessions r) (goes_down r s refusal)
+    go : (s : Scope) (refusal : Option RebootRefusal) → Leaves (SameBeside r) (goes_down r s refusal)
     go s None = (refl, refl, refl)
     go s (Some refusal) = (refl, refl, refl)
 
-same_up : (r : RunningState) (name : List ℕ) → Leaves (SameSessions r) (up_step r name)
+pub same_up : (r : RunningState) (name : List ℕ) → Leaves (SameBeside r) (up_step r name)
 unfolding up_step
 same_up r name =
-    leaves-or_refused (SameSessions r) (scope_of r.boot.start.deployment name) _ (λ s known.
-    leaves-or_refused (SameSessions r) (undone_of r.boot.entries s) _ (λ place found. (refl, refl, refl)))
+    leaves-or_refused (SameBeside r) (scope_of r.boot.start.deployment name) _ (λ s known.
+    leaves-or_refused (SameBeside r) (undone_of r.boot.entries s) _ (λ place found. (refl, refl, refl)))
 
-same_reboot : (r : RunningState) (name : List ℕ) → Leaves (SameSessions r) (reboot_step r name)
+pub same_reboot : (r : RunningState) (name : List ℕ) → Leaves (SameBeside r) (reboot_step r name)
 unfolding reboot_step
 same_reboot r name =
-    leaves-or_refused (SameSessions r) (scope_of r.boot.start.deployment name) (λ s. reboots r s (reboot_refusal r.boot.start.limits r.boot.entries s)) (λ s found.
+    leaves-or_refused (SameBeside r) (scope_of r.boot.start.deployment name) (λ s. reboots r s (reboot_refusal r.boot.start.limits r.boot.entries s)) (λ s found.
     go s (reboot_refusal r.boot.start.limits r.boot.entries s))
   where
-    go : (s : Scope) (refusal : Option RebootRefusal) → Leaves (SameSessions r) (reboots r s refusal)
+    go : (s : Scope) (refusal : Option RebootRefusal) → Leaves (SameBeside r) (reboots r s refusal)
     go s None = (refl, refl, refl)
     go s (Some refusal) = (refl, refl, refl)
 
@@ -118,7 +127,7 @@ no_fall n = omega arith
 
 same_drew : DrawLaws → (r q : RunningState) → SameSessions r q → SiteHasDrawn (site_of r) → SiteHasDrawn (site_of q)
 same_drew laws r q (sessions, start, seats) has =
-    drew_later laws (site_of r) (site_of q) start (ap (λ (x : SeatsState). x.seats) seats) (ap (λ (x : SessionsState). x.boot) sessions)
+    drew_later laws (site_of r) (site_of q) start seats (ap (λ (x : SessionsState). x.boot) sessions)
     (subst (λ (x : SessionsState). r.sessions.serial ≤ x.serial) (sym sessions) (no_fall r.sessions.serial)) (subst (λ (x : SessionsState). x.serial ≤ 2 ^ 64 - 1) (sym sessions) has.small) has
 
 -- a boot that was just started, without connections
@@ -155,19 +164,20 @@ leads_reopen r replies (UnstartedBoot refusal) = refl
 
 pub same_boot : (r : RunningState) (line : BootLine) → Leaves (SameSessions r) (boot_line r line)
 unfolding table_step journal_step
-same_boot r (boots.Begin c) = same_called r (begin_step r.boot r.callers c)
-same_boot r (boots.Drop c) = same_drop r c
-same_boot r (boots.Down name) = same_down r name
-same_boot r (boots.Up name) = same_up r name
-same_boot r (boots.Reboot name) = same_reboot r name
+same_boot r (boots.Begin c) = as_sessions r (within (with_callers r) (begin_step r.boot r.callers c)) (same_called r (begin_step r.boot r.callers c))
+same_boot r (boots.Drop c) = as_sessions r (drop_step r c) (same_drop r c)
+same_boot r (boots.Down name) = as_sessions r (down_step r name) (same_down r name)
+same_boot r (boots.Up name) = as_sessions r (up_step r name) (same_up r name)
+same_boot r (boots.Reboot name) = as_sessions r (reboot_step r name) (same_reboot r name)
 same_boot r boots.Table = (refl, refl, refl)
 same_boot r boots.Journal = (refl, refl, refl)
+same_boot r (boots.Report names) = leaves_report (SameSessions r) r names (λ manager. (refl, refl, refl))
 
 leads_over : DrawLaws → (r : RunningState) → SiteHasDrawn (site_of r) → (line : Line) (replies : Replies) → LeadsOver r (turns_over r line replies) (line_over r line replies)
 leads_over laws r has lines.Pass replies = (r, refl, refl, has)
 leads_over laws r has (lines.Head line) replies = refl
-leads_over laws r has (lines.Call c line) replies = leads_same laws r has (turns_over r (lines.Call c line) replies) _ (λ t text. refl) (same_entered r c line)
-leads_over laws r has (lines.Commit c) replies = leads_same laws r has (turns_over r (lines.Commit c) replies) (commit_step r c (first_keeps replies.keeps)) (λ t text. refl) (same_commit r c (first_keeps replies.keeps))
+leads_over laws r has (lines.Call c line) replies = leads_same laws r has (turns_over r (lines.Call c line) replies) _ (λ t text. refl) (as_sessions r (within (with_called r) (call_step r.boot r.callers c line)) (same_entered r c line))
+leads_over laws r has (lines.Commit c) replies = leads_same laws r has (turns_over r (lines.Commit c) replies) (commit_step r c (first_keeps replies.keeps)) (λ t text. refl) (as_sessions r (commit_step r c (first_keeps replies.keeps)) (same_commit r c (first_keeps replies.keeps)))
 leads_over laws r has (lines.Boot line) replies = leads_same laws r has (turns_over r (lines.Boot line) replies) (boot_line r line) (λ t text. refl) (same_boot r line)
 leads_over laws r has lines.Reopen replies = leads_reopen r replies (next_opening r replies.again)
 leads_over laws r has (lines.Session line) replies = leads_session laws r has line replies (session_line r.sessions line) refl
@@ -293,24 +303,24 @@ leads_heading head (DoneTo t text) (next, is, keeps) = inl (next, is, refl, keep
 leads_heading head (UnstartedIn t refusal) is = inl (head, is, refl, λ has. has)
 leads_heading head (UnderWayIn t) is = inl (head, is, refl, λ has. has)
 
-pub first_drew : (head : Head) (start : Start) → SiteHasDrawn (site_of (started (set_up head.setup 0) no_seats head.site start))
-first_drew head start = started_drew (set_up head.setup 0) no_seats head.site start refl
+pub first_drew : (head : Head) (start : Start) → SiteHasDrawn (site_of (started (set_up head.setup 0) (no_seats head.parts) head.site start))
+first_drew head start = started_drew (set_up head.setup 0) (no_seats head.parts) head.site start refl
 
-leads_first : (head : Head) (start : Start) (made : State → List ℕ → List SessionTurn) (o : Outcome) → LeadsOver (started (set_up head.setup 0) no_seats head.site start) made o
+leads_first : (head : Head) (start : Start) (made : State → List ℕ → List SessionTurn) (o : Outcome) → LeadsOver (started (set_up head.setup 0) (no_seats head.parts) head.site start) made o
     → LeadsTo (Heading head) (Boots start.boot ∷ []) (λ t text. Boots start.boot ∷ made t text) o
 leads_first head start made (RefusedIn t) is =
-    inr (started (set_up head.setup 0) no_seats head.site start, is, (reopened (set_up head.setup 0) start.boot, refl, refl), first_drew head start)
+    inr (started (set_up head.setup 0) (no_seats head.parts) head.site start, is, (reopened (set_up head.setup 0) start.boot, refl, refl), first_drew head start)
 leads_first head start made (DoneTo t text) (q, is, lead, has) =
     inr (q, is, (reopened (set_up head.setup 0) start.boot, refl, lead), has)
 leads_first head start made (UnstartedIn t refusal) is =
-    inr (started (set_up head.setup 0) no_seats head.site start, is, (reopened (set_up head.setup 0) start.boot, refl, refl), first_drew head start)
+    inr (started (set_up head.setup 0) (no_seats head.parts) head.site start, is, (reopened (set_up head.setup 0) start.boot, refl, refl), first_drew head start)
 leads_first head start made (UnderWayIn t) (q, is, lead, has) =
     inr (q, is, (reopened (set_up head.setup 0) start.boot, refl, lead), has)
 
 leads_opened : DrawLaws → (head : Head) (how : Opening) (line : Line) (replies : Replies)
     → LeadsTo (Heading head) (first_start (Heading head) (opened_target head how)) (λ t text. first_start (Heading head) (opened_target head how) ++ turns_by (opened_target head how) line replies t text) (line_on (opened_target head how) line replies)
 leads_opened laws head (Opened start) line replies =
-    let r : RunningState = started (set_up head.setup 0) no_seats head.site start in
+    let r : RunningState = started (set_up head.setup 0) (no_seats head.parts) head.site start in
     leads_first head start (turns_over r line replies) (line_over r line replies) (leads_over laws r (first_drew head start) line replies)
 leads_opened laws head (UnstartedBoot refusal) line replies = stays (Heading head) tt
 

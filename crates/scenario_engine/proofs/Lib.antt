@@ -7,6 +7,9 @@ pub mod Deciding
 pub mod Giving
 pub mod Going
 pub mod Handing
+mod HeardAll
+mod HeardSteps
+mod HeardTurns
 pub mod Keeping
 mod Followed
 mod Leading
@@ -16,6 +19,8 @@ pub mod OfSite
 mod Onward
 mod Pausing
 pub mod Rebooting
+mod ReportLines
+mod Reported
 pub mod Requesting
 pub mod SeatChanges
 pub mod SeatRows

@@ -31,7 +31,8 @@ use Rattle.scenario_text.specs.declared.session_line.SessionLine.{SessionLine}
 use Rattle.scenario_text.proofs.Leaving.{Leaves, leaves-or_refused}
 use Rattle.seat_laws.specs.Fitting.{CommitsAtMost, SeatFits}
 use Rattle.seat_laws.specs.Spelling.{SeatSpells}
-use Rattle.seat_lines.specs.Giving.{sessions_given_back}
+use Rattle.seat_lines.specs.Giving.{sessions_given_back, without_seats}
+use Rattle.seat_lines.specs.Site.{SeatsState, no_seats}
 use Rattle.seat_steps.specs.Seats.{SeatGivens, SeatWorld, seat_step}
 use Rattle.seat_steps.specs.declared.seat.Seat.{Seat}
 use Rattle.session_steps.specs.Sessions.{SessionsState, session_line}
@@ -52,6 +53,7 @@ use Rattle.component_pool.specs.Plans.{left_by_process}
 use Rattle.line_steps.specs.CallLines.{CallDone}
 use Rattle.scenario_engine.proofs.Entered.{leaves_called, entered_once}
 use Rattle.line_steps.proofs.Fitting.{grown_entered}
+use Rattle.scenario_engine.proofs.Reported.{leaves_report}
 
 -- what is promised of journals that are meant: by the site of each entry, and of the steps of connections
 pub record MeantLaws : Type 0 where
@@ -192,15 +194,17 @@ module _ (laws : MeantLaws) (seats : SeatLaws) where
   meant_boot r (boots.Reboot name) run = meant_reboot r name run
   meant_boot r boots.Table run = run
   meant_boot r boots.Journal run = run
+  meant_boot r (boots.Report names) run =
+      leaves_report IsMeantRun r names (λ manager. record { meant = run.meant; time = run.time; seats = run.seats })
 
   meant_session : (r : RunningState) (line : SessionLine) (a : Answer SessionsState) → session_line r.sessions line ≡ a → IsMeantRun r → Leaves IsMeantRun (within (with_sessions r) a)
   meant_session r line Refused is run = tt
   meant_session r line (Done sessions text) is run = record { meant = run.meant; time = laws.lines r.sessions sessions line text run.time is; seats = run.seats }
 
   -- a boot that was just started over these parts has no entry yet, and no connection
-  meant_started : (sessions : SessionsState) (word : ℕ) (site : Bool) (start : Start) (parts : Parts) → InTime sessions.moment → (site ≡ true → parts ≡ site_parts) → start.deployment ≡ parts
-      → IsMeantRun (started sessions (record { seats = []; word = word }) site start)
-  meant_started sessions word site start parts time its over = record {
+  meant_started : (sessions : SessionsState) (old : SeatsState) (site : Bool) (start : Start) (parts : Parts) → InTime sessions.moment → (site ≡ true → parts ≡ site_parts) → start.deployment ≡ parts
+      → IsMeantRun (started sessions (without_seats old) site start)
+  meant_started sessions old site start parts time its over = record {
     meant = laws.empty start.base;
     time = time;
     seats = λ is. record { of_site = over ∙ its is; each = All-nil (IfHas IsMeantSite MeansIn InTime (new_boot start)) };
@@ -241,10 +245,10 @@ module _ (laws : MeantLaws) (seats : SeatLaws) where
     heads = of_head;
     opens = (λ head replies start h opened.
         let P : Opening → Type 0 = OpensOver head.parts in
-        meant_started (set_up head.setup 0) 1 head.site start head.parts first_time h (subst P opened (opens_over head.parts head.plans head.limits replies)));
+        meant_started (set_up head.setup 0) (no_seats head.parts) head.site start head.parts first_time h (subst P opened (opens_over head.parts head.plans head.limits replies)));
     reopens = (λ r replies start run opened.
         let P : Opening → Type 0 = OpensOver r.boot.start.deployment in
-        meant_started (sessions_given_back r.seats.seats r.sessions) r.seats.word r.site start r.boot.start.deployment run.time (λ is. (run.seats is).of_site)
+        meant_started (sessions_given_back r.seats.seats r.sessions) r.seats r.site start r.boot.start.deployment run.time (λ is. (run.seats is).of_site)
         (subst P opened (opens_over r.boot.start.deployment (left_by_process r.boot.start.plans) r.boot.start.limits replies)));
     commits = meant_commit;
     calls = (λ r n line short run. leaves_called IsMeantRun r n line (λ done is. meant_called r done is run));

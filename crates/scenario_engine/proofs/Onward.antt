@@ -302,7 +302,7 @@ module _ (draw : DrawLaws) (laws : StandLaws) (grows : GrowsLaw) (events : Event
 
   opened_turn : (head : Head) (how : Opening) (line : Line) (replies : Replies) → All IsKnown (makes_on (opened_target head how) line replies)
       → EachOn (TurnOnward (line_on (opened_target head how) line replies)) (makes_on (opened_target head how) line replies)
-  opened_turn head (Opened start) line replies known = over_turn (started (set_up head.setup 0) no_seats head.site start) (first_drew head start) line replies known
+  opened_turn head (Opened start) line replies known = over_turn (started (set_up head.setup 0) (no_seats head.parts) head.site start) (first_drew head start) line replies known
   opened_turn head (UnstartedBoot cause) line replies known = tt
 
   lines_turn : (s : State) → StateHasDrawn s → (line : Line) (replies : Replies) → All IsKnown (makes_on (target_of s (is_event line) replies.first) line replies)

@@ -39,7 +39,8 @@ use Rattle.line_steps.specs.Texts.{row_answer_text, list_answer_text}
 use Rattle.line_steps.proofs.Stepping.{is_outside}
 use Rattle.scenario_text.proofs.Leaving.{Leaves, leaves-refused_if, leaves-or_refused, leaves-within, leaves-weaker}
 use Rattle.seat_laws.specs.Fitting.{CommitsAtMost, SeatFits}
-use Rattle.seat_lines.specs.Giving.{sessions_given_back}
+use Rattle.seat_lines.specs.Giving.{sessions_given_back, without_seats}
+use Rattle.seat_lines.specs.Site.{SeatsState, no_seats}
 use Rattle.seat_steps.specs.Seats.{SeatGivens, SeatWorld, seat_step}
 use Rattle.seat_steps.specs.declared.seat.Seat.{Seat}
 use Rattle.scenario_text.specs.declared.seat_line.SeatLine.{SeatLine}
@@ -57,6 +58,7 @@ use Rattle.component_pool.specs.Plans.{left_by_process}
 use Rattle.scenario_engine.proofs.Entered.{entered_once}
 use Rattle.line_steps.proofs.Fitting.{grown_entered}
 use Rattle.line_steps.proofs.Called.{call_enters, HasEntered}
+use Rattle.scenario_engine.proofs.Reported.{leaves_report}
 
 -- the call of a ticket makes a request of this boot
 abbrev IsOwn : ℕ → TicketValue → Type 0
@@ -285,11 +287,13 @@ own_boot seats r (boots.Up name) run = own_up seats r name run
 own_boot seats r (boots.Reboot name) run = own_reboot seats r name run
 own_boot seats r boots.Table run = run
 own_boot seats r boots.Journal run = run
+own_boot seats r (boots.Report names) run =
+    leaves_report IsOwnRun r names (λ manager. record { entries = run.entries; callers = run.callers; seats = run.seats })
 
 -- a boot that was just started over these parts has no entry yet, no caller and no connection
-own_started : (sessions : SessionsState) (word : ℕ) (site : Bool) (start : Start) (parts : Parts) → (site ≡ true → parts ≡ site_parts) → start.deployment ≡ parts
-    → IsOwnRun (started sessions (record { seats = []; word = word }) site start)
-own_started sessions word site start parts its over = record {
+own_started : (sessions : SessionsState) (old : SeatsState) (site : Bool) (start : Start) (parts : Parts) → (site ≡ true → parts ≡ site_parts) → start.deployment ≡ parts
+    → IsOwnRun (started sessions (without_seats old) site start)
+own_started sessions old site start parts its over = record {
   entries = All-nil (OwnEntry start.boot);
   callers = All-nil (OwnCaller start.boot);
   seats = λ is. record { of_site = over ∙ its is; fits = All-nil (IfFits (new_boot start)) };
@@ -322,10 +326,10 @@ own_keeps seats = record {
   heads = of_head;
   opens = (λ head replies start h opened.
       let P : Opening → Type 0 = OpensOver head.parts in
-      own_started (set_up head.setup 0) 1 head.site start head.parts h (subst P opened (opens_over head.parts head.plans head.limits replies)));
+      own_started (set_up head.setup 0) (no_seats head.parts) head.site start head.parts h (subst P opened (opens_over head.parts head.plans head.limits replies)));
   reopens = (λ r replies start run opened.
       let P : Opening → Type 0 = OpensOver r.boot.start.deployment in
-      own_started (sessions_given_back r.seats.seats r.sessions) r.seats.word r.site start r.boot.start.deployment (λ is. (run.seats is).of_site)
+      own_started (sessions_given_back r.seats.seats r.sessions) r.seats r.site start r.boot.start.deployment (λ is. (run.seats is).of_site)
       (subst P opened (opens_over r.boot.start.deployment (left_by_process r.boot.start.plans) r.boot.start.limits replies)));
   commits = own_commit seats;
   calls = (λ r n line short run. own_call seats r n line run);

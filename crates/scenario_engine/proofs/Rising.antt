@@ -163,7 +163,7 @@ counts_in_head head (lines.Session line) = refl
 counts_in_head head (lines.Seat line) = refl
 
 -- a line that starts the first boot before it is done
-counts_first : (head : Head) (start : Start) (turns : State → List ℕ → List SessionTurn) (ends : List BootValue) (o : Outcome) → Counts (Running (started (set_up head.setup 0) no_seats head.site start)) ends [] turns o
+counts_first : (head : Head) (start : Start) (turns : State → List ℕ → List SessionTurn) (ends : List BootValue) (o : Outcome) → Counts (Running (started (set_up head.setup 0) (no_seats head.parts) head.site start)) ends [] turns o
     → Counts (Heading head) ends (Boots start.boot ∷ []) (λ t text. Boots start.boot ∷ turns t text) o
 counts_first head start turns ends (RefusedIn t) counts = counts
 counts_first head start turns ends (DoneTo t text) counts = counts
@@ -173,7 +173,7 @@ counts_first head start turns ends (UnderWayIn t) counts = counts
 counts_opened : (head : Head) (how : Opening) (line : Line) (replies : Replies)
     → Counts (Heading head) (ends_on (opened_target head how) line replies) (first_start (Heading head) (opened_target head how)) (λ t text. first_start (Heading head) (opened_target head how) ++ turns_by (opened_target head how) line replies t text) (line_on (opened_target head how) line replies)
 counts_opened head (Opened start) line replies =
-    let r : RunningState = started (set_up head.setup 0) no_seats head.site start in
+    let r : RunningState = started (set_up head.setup 0) (no_seats head.parts) head.site start in
     counts_first head start (turns_over r line replies) (ends_over r line replies) (line_over r line replies) (counts_over r line replies)
 counts_opened head (UnstartedBoot refusal) line replies = refl
 

@@ -26,10 +26,10 @@ use Rattle.scenario_text.specs.declared.boot_line.BootLine.TheVariants as boots
 use Rattle.scenario_text.specs.declared.seat_line.SeatLine.{SeatLine}
 use Rattle.scenario_text.specs.declared.seat_line.SeatLine.TheVariants as lines
 use Rattle.seat_laws.specs.StepsLeft.{IsCounted}
-use Rattle.seat_lines.specs.Giving.{sessions_given_back}
+use Rattle.seat_lines.specs.Giving.{sessions_given_back, without_seats}
 use Rattle.seat_lines.specs.Lines.{bytes_line, conn_line, end_line, is_beyond, step_line}
 use Rattle.seat_lines.specs.Runs.{can_run, rests, run_from, run_line, seat_line}
-use Rattle.seat_lines.specs.Site.{SiteState, seat_at}
+use Rattle.seat_lines.specs.Site.{SeatsState, SiteState, no_seats, seat_at}
 use Rattle.seat_steps.specs.declared.seat.Seat.{Seat}
 use Rattle.send_windows.specs.Windows.{KeepLimits}
 use Rattle.send_windows.specs.declared.fact.TheConstants.{MAX_BRICKS}
@@ -52,6 +52,7 @@ use Rattle.component_pool.specs.Plans.{left_by_process}
 use Rattle.line_steps.specs.CallLines.{CallDone}
 use Rattle.scenario_engine.proofs.Entered.{leaves_called}
 use Rattle.line_steps.proofs.Fitting.{grown_entered}
+use Rattle.scenario_engine.proofs.Reported.{leaves_report}
 
 -- the laws by which the steps of a run are counted wherever the boot has grown
 pub record CountedLaws : Type 0 where
@@ -220,11 +221,13 @@ module _ (laws : CountedLaws) where
   counted_boot r (boots.Reboot name) run = counted_reboot r name run
   counted_boot r boots.Table run = run
   counted_boot r boots.Journal run = run
+  counted_boot r (boots.Report names) run =
+      leaves_report CountedRun r names (λ manager is. (let its : SeatsCounted (site_of r) = run is in record { of_site = its.of_site; counted = its.counted }))
 
 -- a boot that was just started over these parts has no connection
-counted_started : (sessions : SessionsState) (word : ℕ) (site : Bool) (start : Start) (parts : Parts) → (site ≡ true → parts ≡ site_parts) → start.deployment ≡ parts
-    → CountedRun (started sessions (record { seats = []; word = word }) site start)
-counted_started sessions word site start parts its over = λ is. record {
+counted_started : (sessions : SessionsState) (old : SeatsState) (site : Bool) (start : Start) (parts : Parts) → (site ≡ true → parts ≡ site_parts) → start.deployment ≡ parts
+    → CountedRun (started sessions (without_seats old) site start)
+counted_started sessions old site start parts its over = λ is. record {
   of_site = over ∙ its is;
   counted = λ n. subst (λ (o : Option Seat). IfSome o (λ (x : Seat). IsCounted (new_boot start) x)) (sym (none n)) tt;
 } where
@@ -236,10 +239,10 @@ counted_keeps laws = record {
   heads = of_head;
   opens = (λ head replies start h opened.
       let P : Opening → Type 0 = OpensOver head.parts in
-      counted_started (set_up head.setup 0) 1 head.site start head.parts h (subst P opened (opens_over head.parts head.plans head.limits replies)));
+      counted_started (set_up head.setup 0) (no_seats head.parts) head.site start head.parts h (subst P opened (opens_over head.parts head.plans head.limits replies)));
   reopens = (λ r replies start run opened.
       let P : Opening → Type 0 = OpensOver r.boot.start.deployment in
-      counted_started (sessions_given_back r.seats.seats r.sessions) r.seats.word r.site start r.boot.start.deployment (λ is. (run is).of_site)
+      counted_started (sessions_given_back r.seats.seats r.sessions) r.seats r.site start r.boot.start.deployment (λ is. (run is).of_site)
       (subst P opened (opens_over r.boot.start.deployment (left_by_process r.boot.start.plans) r.boot.start.limits replies)));
   commits = λ r n keeps run. counted_commit laws r n keeps run;
   calls = (λ r n line short run. leaves_called CountedRun r n line (λ done is. counted_called laws r done is run));

@@ -40,6 +40,7 @@ use Rattle.shepherd.specs.declared.shepherd.Stage.TheVariants.{Resting, Serving,
 use Rattle.shepherd_steps.specs.Inside.{came_by, commit_inside, commits_by, handed, handed_at, handed_by, handed_in, handed_of, inside, inside_of, stride, stride_by, untold, with_keeper}
 use Rattle.shepherd_steps.specs.Stepping.{event_at, step}
 use Rattle.call_ticket.specs.declared.next.Next.TheVariants as next
+use Rattle.recovery_manager.specs.Kept.{ManagerValue}
 
 -- A step made this of a boot: it handed nothing to the keeper, or the keeper did not keep it, and the boot is as it
 -- was but for how often its components were entered; or the journal has one entry more, with just these writes.
@@ -115,17 +116,17 @@ none_at : (s : Shepherd ActionCall) (boot : BootValue) (t : ShepherdTurn) → tu
 unfolding seat_writes
 none_at s boot t is none = ap (λ (t : ShepherdTurn). writes_at t s.stage boot) is ∙ none
 
-changed_at : (g : SeatGivens) (n : ℕ) (seat : Seat) (w : SeatWorld) (t : ShepherdTurn) → turn seat.connection ≡ t → Leaves (λ (p : Place). Changes w.boot (seat_writes seat.connection w.boot) g.keeps p.world.boot) (steps_at t g n seat w)
-changed_at g n seat w turns.Bytes is = inl (refl, inl (none_at seat.connection w.boot turns.Bytes is refl))
-changed_at g n seat w turns.Request is = changed_seat g seat w
-changed_at g n seat w turns.Outside is = changed_seat g seat w
-changed_at g n seat w turns.Windows is = changed_seat g seat w
-changed_at g n seat w turns.Inside is = changed_seat g seat w
-changed_at g n seat w turns.Program is = changed_seat g seat w
-changed_at g n seat w turns.Own is = changed_seat g seat w
-changed_at g n seat w turns.Output is = changed_seat g seat w
-changed_at g n seat w turns.Item is = changed_seat g seat w
-changed_at g n seat w (turns.Ended end) is = inl (refl, inl (none_at seat.connection w.boot (turns.Ended end) is refl))
+changed_at : (g : SeatGivens) (n : ℕ) (seat : Seat) (w : SeatWorld) (m : ManagerValue) (t : ShepherdTurn) → turn seat.connection ≡ t → Leaves (λ (p : Place). Changes w.boot (seat_writes seat.connection w.boot) g.keeps p.world.boot) (steps_at t g n seat w m)
+changed_at g n seat w m turns.Bytes is = inl (refl, inl (none_at seat.connection w.boot turns.Bytes is refl))
+changed_at g n seat w m turns.Request is = changed_seat g seat w
+changed_at g n seat w m turns.Outside is = changed_seat g seat w
+changed_at g n seat w m turns.Windows is = changed_seat g seat w
+changed_at g n seat w m turns.Inside is = changed_seat g seat w
+changed_at g n seat w m turns.Program is = changed_seat g seat w
+changed_at g n seat w m turns.Own is = changed_seat g seat w
+changed_at g n seat w m turns.Output is = changed_seat g seat w
+changed_at g n seat w m turns.Item is = changed_seat g seat w
+changed_at g n seat w m (turns.Ended end) is = inl (refl, inl (none_at seat.connection w.boot (turns.Ended end) is refl))
 
 -- what holds of a site after the step of a connection
 pub record HasStep (s : SiteState) (n : ℕ) (keeps : Bool) (t : SiteState) : Type 0 where
@@ -140,13 +141,13 @@ pub changed_step : (s : SiteState) (n : ℕ) (keeps : Bool) → Leaves (HasStep 
 unfolding step_line place_step
 changed_step s n keeps = leaves-refused_if (HasStep s n keeps) (is_beyond n) (or_refused s.sessions.store (λ store. step_over s n keeps store)) (λ near. by s.sessions.store)
   where
-    there : (o : Option Seat) (st : LanesState) → Leaves (λ (p : Place). Changes s.boot (writes_by o s.boot) keeps p.world.boot) (or_refused o (λ seat. steps_at (turn seat.connection) (givens_of s n keeps) n seat (world_of s st)))
+    there : (o : Option Seat) (st : LanesState) → Leaves (λ (p : Place). Changes s.boot (writes_by o s.boot) keeps p.world.boot) (or_refused o (λ seat. steps_at (turn seat.connection) (givens_of s n keeps) n seat (world_of s st) s.seats.manager))
     there None st = tt
-    there (Some seat) st = changed_at (givens_of s n keeps) n seat (world_of s st) (turn seat.connection) refl
+    there (Some seat) st = changed_at (givens_of s n keeps) n seat (world_of s st) s.seats.manager (turn seat.connection) refl
 
     by : (o : Option LanesState) → Leaves (HasStep s n keeps) (or_refused o (λ store. step_over s n keeps store))
     by None = tt
-    by (Some st) = placed s n keeps (or_refused (seat_at s.seats.seats n) (λ seat. steps_at (turn seat.connection) (givens_of s n keeps) n seat (world_of s st))) (there (seat_at s.seats.seats n) st)
+    by (Some st) = placed s n keeps (or_refused (seat_at s.seats.seats n) (λ seat. steps_at (turn seat.connection) (givens_of s n keeps) n seat (world_of s st) s.seats.manager)) (there (seat_at s.seats.seats n) st)
 
 -- where a step hands nothing to the keeper, its reply changes nothing
 
@@ -158,25 +159,25 @@ replied_by g keeps = record g { keeps = keeps }
 abbrev pub ReplyLaw : Type 0
 ReplyLaw = (g : SeatGivens) (keeps other : Bool) (seat : Seat) (w : SeatWorld) → seat_writes seat.connection w.boot ≡ [] → seat_step (replied_by g keeps) seat w ≡ seat_step (replied_by g other) seat w
 
-unasked_at : (g : SeatGivens) (keeps other : Bool) (n : ℕ) (seat : Seat) (w : SeatWorld) (t : ShepherdTurn) → seat_step (replied_by g keeps) seat w ≡ seat_step (replied_by g other) seat w → steps_at t (replied_by g keeps) n seat w ≡ steps_at t (replied_by g other) n seat w
-unasked_at g keeps other n seat w turns.Bytes same = refl
-unasked_at g keeps other n seat w turns.Request same = ap (λ (o : SeatOutcome). moved turns.Request n o) same
-unasked_at g keeps other n seat w turns.Outside same = ap (λ (o : SeatOutcome). moved turns.Outside n o) same
-unasked_at g keeps other n seat w turns.Windows same = ap (λ (o : SeatOutcome). moved turns.Windows n o) same
-unasked_at g keeps other n seat w turns.Inside same = ap (λ (o : SeatOutcome). moved turns.Inside n o) same
-unasked_at g keeps other n seat w turns.Program same = ap (λ (o : SeatOutcome). moved turns.Program n o) same
-unasked_at g keeps other n seat w turns.Own same = ap (λ (o : SeatOutcome). moved turns.Own n o) same
-unasked_at g keeps other n seat w turns.Output same = ap (λ (o : SeatOutcome). moved turns.Output n o) same
-unasked_at g keeps other n seat w turns.Item same = ap (λ (o : SeatOutcome). moved turns.Item n o) same
-unasked_at g keeps other n seat w (turns.Ended end) same = refl
+unasked_at : (g : SeatGivens) (keeps other : Bool) (n : ℕ) (seat : Seat) (w : SeatWorld) (m : ManagerValue) (t : ShepherdTurn) → seat_step (replied_by g keeps) seat w ≡ seat_step (replied_by g other) seat w → steps_at t (replied_by g keeps) n seat w m ≡ steps_at t (replied_by g other) n seat w m
+unasked_at g keeps other n seat w m turns.Bytes same = refl
+unasked_at g keeps other n seat w m turns.Request same = ap (λ (o : SeatOutcome). moved turns.Request n o m) same
+unasked_at g keeps other n seat w m turns.Outside same = ap (λ (o : SeatOutcome). moved turns.Outside n o m) same
+unasked_at g keeps other n seat w m turns.Windows same = ap (λ (o : SeatOutcome). moved turns.Windows n o m) same
+unasked_at g keeps other n seat w m turns.Inside same = ap (λ (o : SeatOutcome). moved turns.Inside n o m) same
+unasked_at g keeps other n seat w m turns.Program same = ap (λ (o : SeatOutcome). moved turns.Program n o m) same
+unasked_at g keeps other n seat w m turns.Own same = ap (λ (o : SeatOutcome). moved turns.Own n o m) same
+unasked_at g keeps other n seat w m turns.Output same = ap (λ (o : SeatOutcome). moved turns.Output n o m) same
+unasked_at g keeps other n seat w m turns.Item same = ap (λ (o : SeatOutcome). moved turns.Item n o m) same
+unasked_at g keeps other n seat w m (turns.Ended end) same = refl
 
 pub unasked_step : ReplyLaw → (s : SiteState) (n : ℕ) (keeps other : Bool) → writes_by (seat_at s.seats.seats n) s.boot ≡ [] → step_line s n keeps ≡ step_line s n other
 unfolding step_line place_step
 unasked_step unasked s n keeps other none = ap (λ (a : Answer SiteState). refused_if (is_beyond n) a) (by s.sessions.store)
   where
-    there : (o : Option Seat) (st : LanesState) → writes_by o s.boot ≡ [] → or_refused o (λ seat. steps_at (turn seat.connection) (givens_of s n keeps) n seat (world_of s st)) ≡ or_refused o (λ seat. steps_at (turn seat.connection) (givens_of s n other) n seat (world_of s st))
+    there : (o : Option Seat) (st : LanesState) → writes_by o s.boot ≡ [] → or_refused o (λ seat. steps_at (turn seat.connection) (givens_of s n keeps) n seat (world_of s st) s.seats.manager) ≡ or_refused o (λ seat. steps_at (turn seat.connection) (givens_of s n other) n seat (world_of s st) s.seats.manager)
     there None st none = refl
-    there (Some seat) st none = unasked_at (givens_of s n keeps) keeps other n seat (world_of s st) (turn seat.connection) (unasked (givens_of s n keeps) keeps other seat (world_of s st) none)
+    there (Some seat) st none = unasked_at (givens_of s n keeps) keeps other n seat (world_of s st) s.seats.manager (turn seat.connection) (unasked (givens_of s n keeps) keeps other seat (world_of s st) none)
 
     by : (o : Option LanesState) → or_refused o (λ store. step_over s n keeps store) ≡ or_refused o (λ store. step_over s n other store)
     by None = refl

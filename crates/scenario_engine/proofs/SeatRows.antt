@@ -13,6 +13,7 @@ use Rattle.scenario_text.specs.declared.seat_line.SeatLine.TheVariants as lines
 use Rattle.scenario_text.proofs.Leaving.{Leaves, leaves-refused_if}
 use Rattle.seat_lines.specs.Handing.{Handed, handed_first, line_hands, run_hands, writes_by}
 use Rattle.seat_lines.specs.Lines.{bytes_line, bytes_step, conn_line, end_line, end_step, givens_of, is_beyond, open_line, place_step, step_line, step_over, steps_at, with_place, world_of}
+use Rattle.seat_lines.specs.Making.{run_makes}
 use Rattle.seat_lines.specs.Runs.{can_run, rests, run_from, run_line, seat_line}
 use Rattle.seat_lines.specs.Site.{SiteState, seat_at, with_seat}
 use Rattle.seat_steps.specs.Seats.{SeatGivens, SeatWorld}
@@ -28,6 +29,7 @@ use Rattle.scenario_engine.specs.State.{RunningState, State, Heading, Running, O
 use Rattle.scenario_engine.proofs.Keeping.{LeavesTo}
 use Rattle.scenario_engine.proofs.SeatChanges.{Changes, HasStep, changed_step}
 use Rattle.scenario_engine.proofs.TellingCalls.{Halves, halves, rows_told, rows_failed}
+use Rattle.recovery_manager.specs.Kept.{ManagerValue}
 
 -- the same start, and the rows that the keeper holds then
 pub record HasRows (old : BootValue) (u : KeeperTold) (new : BootValue) : Type 0 where
@@ -96,25 +98,25 @@ abbrev pub is_done : {A : Type 0} → Answer A → Bool
 is_done Refused = false
 is_done (Done a text) = true
 
-pub done_at : (s : SiteState) (n : ℕ) (g : SeatGivens) (seat : Seat) (w : SeatWorld) (t : ShepherdTurn) → is_done (within (with_place s n) (steps_at t g n seat w)) ≡ true
-done_at s n g seat w turns.Bytes = refl
-done_at s n g seat w turns.Request = refl
-done_at s n g seat w turns.Outside = refl
-done_at s n g seat w turns.Windows = refl
-done_at s n g seat w turns.Inside = refl
-done_at s n g seat w turns.Program = refl
-done_at s n g seat w turns.Own = refl
-done_at s n g seat w turns.Output = refl
-done_at s n g seat w turns.Item = refl
-done_at s n g seat w (turns.Ended end) = refl
+pub done_at : (s : SiteState) (n : ℕ) (g : SeatGivens) (seat : Seat) (w : SeatWorld) (m : ManagerValue) (t : ShepherdTurn) → is_done (within (with_place s n) (steps_at t g n seat w m)) ≡ true
+done_at s n g seat w m turns.Bytes = refl
+done_at s n g seat w m turns.Request = refl
+done_at s n g seat w m turns.Outside = refl
+done_at s n g seat w m turns.Windows = refl
+done_at s n g seat w m turns.Inside = refl
+done_at s n g seat w m turns.Program = refl
+done_at s n g seat w m turns.Own = refl
+done_at s n g seat w m turns.Output = refl
+done_at s n g seat w m turns.Item = refl
+done_at s n g seat w m (turns.Ended end) = refl
 
 pub step_done : (s : SiteState) (n : ℕ) (keeps : Bool) → is_beyond n ≡ false → is_some s.sessions.store ≡ true → is_some (seat_at s.seats.seats n) ≡ true → is_done (step_line s n keeps) ≡ true
 unfolding step_line place_step
 step_done s n keeps near bricks there = ap (λ (b : Bool). is_done (refused_if b (or_refused s.sessions.store (λ store. step_over s n keeps store)))) near ∙ by s.sessions.store bricks
   where
-    at : (o : Option Seat) (st : LanesState) → is_some o ≡ true → is_done (within (with_place s n) (or_refused o (λ seat. steps_at (turn seat.connection) (givens_of s n keeps) n seat (world_of s st)))) ≡ true
+    at : (o : Option Seat) (st : LanesState) → is_some o ≡ true → is_done (within (with_place s n) (or_refused o (λ seat. steps_at (turn seat.connection) (givens_of s n keeps) n seat (world_of s st) s.seats.manager))) ≡ true
     at None st is = absurd (cc)
-    at (Some seat) st is = done_at s n (givens_of s n keeps) seat (world_of s st) (turn seat.connection)
+    at (Some seat) st is = done_at s n (givens_of s n keeps) seat (world_of s st) s.seats.manager (turn seat.connection)
 
     by : (o : Option LanesState) → is_some o ≡ true → is_done (or_refused o (λ store. step_over s n keeps store)) ≡ true
     by None is = absurd (cc)
@@ -125,9 +127,9 @@ pub done_alike : (s : SiteState) (n : ℕ) (keeps other : Bool) → is_done (ste
 unfolding step_line place_step
 done_alike s n keeps other = far (is_beyond n)
   where
-    at : (o : Option Seat) (st : LanesState) → is_done (within (with_place s n) (or_refused o (λ seat. steps_at (turn seat.connection) (givens_of s n keeps) n seat (world_of s st)))) ≡ is_done (within (with_place s n) (or_refused o (λ seat. steps_at (turn seat.connection) (givens_of s n other) n seat (world_of s st))))
+    at : (o : Option Seat) (st : LanesState) → is_done (within (with_place s n) (or_refused o (λ seat. steps_at (turn seat.connection) (givens_of s n keeps) n seat (world_of s st) s.seats.manager))) ≡ is_done (within (with_place s n) (or_refused o (λ seat. steps_at (turn seat.connection) (givens_of s n other) n seat (world_of s st) s.seats.manager)))
     at None st = refl
-    at (Some seat) st = done_at s n (givens_of s n keeps) seat (world_of s st) (turn seat.connection) ∙ sym (done_at s n (givens_of s n other) seat (world_of s st) (turn seat.connection))
+    at (Some seat) st = done_at s n (givens_of s n keeps) seat (world_of s st) s.seats.manager (turn seat.connection) ∙ sym (done_at s n (givens_of s n other) seat (world_of s st) s.seats.manager (turn seat.connection))
 
     by : (o : Option LanesState) → is_done (or_refused o (λ store. step_over s n keeps store)) ≡ is_done (or_refused o (λ store. step_over s n other store))
     by None = refl
@@ -196,6 +198,17 @@ no_hands s n (keeps ∷ more) none = go (rests (seat_at s.seats.seats n)) refl (
   where
     go : (b : Bool) → rests (seat_at s.seats.seats n) ≡ b → (a : Answer SiteState) → (is_some (seat_at s.seats.seats n) ≡ true → is_done a ≡ false)
         → hands_on s n keeps more b a ≡ []
+    go true here a refused = refl
+    go false here Refused refused = refl
+    go false here (Done v out) refused = let not : true ≡ false = refused (there_where (seat_at s.seats.seats n) here) in absurd (cc)
+
+-- and makes no step
+pub no_makes : (s : SiteState) (n : ℕ) (replies : List Bool) → can_run s n ≡ false → run_makes s n replies ≡ []
+no_makes s n [] none = refl
+no_makes s n (keeps ∷ more) none = go (rests (seat_at s.seats.seats n)) refl (step_line s n keeps) (refused_without s n keeps none (is_beyond n) s.sessions.store refl refl)
+  where
+    go : (b : Bool) → rests (seat_at s.seats.seats n) ≡ b → (a : Answer SiteState) → (is_some (seat_at s.seats.seats n) ≡ true → is_done a ≡ false)
+        → cond b [] (elim a [ Refused ↦ [] | Done v out ↦ record { site = s; number = n; keeps = keeps } ∷ run_makes v n more ]) ≡ []
     go true here a refused = refl
     go false here Refused refused = refl
     go false here (Done v out) refused = let not : true ≡ false = refused (there_where (seat_at s.seats.seats n) here) in absurd (cc)

@@ -29,6 +29,7 @@ use Rattle.scenario_engine.specs.Seats.{in_boot, after_steps, by_replies, seat_o
 use Rattle.scenario_engine.specs.State.{RunningState, Running, Outcome, RefusedIn, site_of, with_site}
 use Rattle.scenario_engine.proofs.Keeping.{HoldsIn, LeavesTo}
 use Rattle.scenario_engine.proofs.SeatRows.{RunsTo, bricks_of, line_of_run, near_of, run_to}
+use Rattle.recovery_manager.specs.Kept.{ManagerValue}
 
 -- what is promised of the steps of connections, where they fit the boot
 pub record SeatLaws : Type 0 where
@@ -124,8 +125,8 @@ module _ (laws : SeatLaws) (P : BootValue → Type 0) (each : (g : SeatGivens) (
 
   -- one step
 
-  fits_moved : (t : ShepherdTurn) (g : SeatGivens) (n : ℕ) (seat : Seat) (w : SeatWorld) → SeatFits w.boot seat → P w.boot → Leaves (PlaceFits P w.boot) (moved t n (seat_step g seat w))
-  fits_moved t g n seat w fits p =
+  fits_moved : (t : ShepherdTurn) (g : SeatGivens) (n : ℕ) (seat : Seat) (w : SeatWorld) (m : ManagerValue) → SeatFits w.boot seat → P w.boot → Leaves (PlaceFits P w.boot) (moved t n (seat_step g seat w) m)
+  fits_moved t g n seat w m fits p =
       let new : SeatFits (seat_step g seat w).world.boot (seat_step g seat w).seat = laws.step g seat w fits in
       record {
         holds = each g seat w fits p;
@@ -134,17 +135,17 @@ module _ (laws : SeatLaws) (P : BootValue → Type 0) (each : (g : SeatGivens) (
         others = λ other its. laws.others g seat other w fits its;
       }
 
-  fits_at_turn : (t : ShepherdTurn) (g : SeatGivens) (n : ℕ) (seat : Seat) (w : SeatWorld) → SeatFits w.boot seat → P w.boot → Leaves (PlaceFits P w.boot) (steps_at t g n seat w)
-  fits_at_turn turns.Bytes g n seat w fits p = record { holds = p; of_site = fits.site; here = fits; others = λ other its. its }
-  fits_at_turn turns.Request g n seat w fits p = fits_moved turns.Request g n seat w fits p
-  fits_at_turn turns.Outside g n seat w fits p = fits_moved turns.Outside g n seat w fits p
-  fits_at_turn turns.Windows g n seat w fits p = fits_moved turns.Windows g n seat w fits p
-  fits_at_turn turns.Inside g n seat w fits p = fits_moved turns.Inside g n seat w fits p
-  fits_at_turn turns.Program g n seat w fits p = fits_moved turns.Program g n seat w fits p
-  fits_at_turn turns.Own g n seat w fits p = fits_moved turns.Own g n seat w fits p
-  fits_at_turn turns.Output g n seat w fits p = fits_moved turns.Output g n seat w fits p
-  fits_at_turn turns.Item g n seat w fits p = fits_moved turns.Item g n seat w fits p
-  fits_at_turn (turns.Ended end) g n seat w fits p = record { holds = p; of_site = fits.site; here = tt; others = λ other its. its }
+  fits_at_turn : (t : ShepherdTurn) (g : SeatGivens) (n : ℕ) (seat : Seat) (w : SeatWorld) (m : ManagerValue) → SeatFits w.boot seat → P w.boot → Leaves (PlaceFits P w.boot) (steps_at t g n seat w m)
+  fits_at_turn turns.Bytes g n seat w m fits p = record { holds = p; of_site = fits.site; here = fits; others = λ other its. its }
+  fits_at_turn turns.Request g n seat w m fits p = fits_moved turns.Request g n seat w m fits p
+  fits_at_turn turns.Outside g n seat w m fits p = fits_moved turns.Outside g n seat w m fits p
+  fits_at_turn turns.Windows g n seat w m fits p = fits_moved turns.Windows g n seat w m fits p
+  fits_at_turn turns.Inside g n seat w m fits p = fits_moved turns.Inside g n seat w m fits p
+  fits_at_turn turns.Program g n seat w m fits p = fits_moved turns.Program g n seat w m fits p
+  fits_at_turn turns.Own g n seat w m fits p = fits_moved turns.Own g n seat w m fits p
+  fits_at_turn turns.Output g n seat w m fits p = fits_moved turns.Output g n seat w m fits p
+  fits_at_turn turns.Item g n seat w m fits p = fits_moved turns.Item g n seat w m fits p
+  fits_at_turn (turns.Ended end) g n seat w m fits p = record { holds = p; of_site = fits.site; here = tt; others = λ other its. its }
 
   fits_placed : (s : SiteState) (n : ℕ) (a : Answer Place) → All (IfFits s.boot) s.seats.seats → Leaves (PlaceFits P s.boot) a → Leaves (HoldsAt P) (within (with_place s n) a)
   fits_placed s n Refused all h = tt
@@ -161,14 +162,14 @@ module _ (laws : SeatLaws) (P : BootValue → Type 0) (each : (g : SeatGivens) (
   unfolding step_line place_step
   fits_step s n keeps h = leaves-refused_if (HoldsAt P) (is_beyond n) (or_refused s.sessions.store (λ store. step_over s n keeps store)) (λ near. by s.sessions.store)
     where
-      there : (o : Option Seat) (st : LanesState) → IfFits s.boot o → Leaves (PlaceFits P s.boot) (or_refused o (λ seat. steps_at (turn seat.connection) (givens_of s n keeps) n seat (world_of s st)))
+      there : (o : Option Seat) (st : LanesState) → IfFits s.boot o → Leaves (PlaceFits P s.boot) (or_refused o (λ seat. steps_at (turn seat.connection) (givens_of s n keeps) n seat (world_of s st) s.seats.manager))
       there None st fits = tt
-      there (Some seat) st fits = fits_at_turn (turn seat.connection) (givens_of s n keeps) n seat (world_of s st) fits h.0
+      there (Some seat) st fits = fits_at_turn (turn seat.connection) (givens_of s n keeps) n seat (world_of s st) s.seats.manager fits h.0
 
       by : (o : Option LanesState) → Leaves (HoldsAt P) (or_refused o (λ store. step_over s n keeps store))
       by None = tt
       by (Some st) =
-          fits_placed s n (or_refused (seat_at s.seats.seats n) (λ seat. steps_at (turn seat.connection) (givens_of s n keeps) n seat (world_of s st))) h.1.fits
+          fits_placed s n (or_refused (seat_at s.seats.seats n) (λ seat. steps_at (turn seat.connection) (givens_of s n keeps) n seat (world_of s st) s.seats.manager)) h.1.fits
           (there (seat_at s.seats.seats n) st (fits_here s.boot s.seats.seats n h.1.fits))
 
   -- whole steps

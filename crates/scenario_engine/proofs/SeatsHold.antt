@@ -25,6 +25,7 @@ use Rattle.scenario_engine.specs.Seats.{in_boot, after_steps, by_replies, seat_o
 use Rattle.scenario_engine.specs.State.{RunningState, Running, Outcome, RefusedIn, site_of, with_site}
 use Rattle.scenario_engine.proofs.Keeping.{HoldsIn, LeavesTo}
 use Rattle.scenario_engine.proofs.SeatRows.{RunsTo, bricks_of, line_of_run, near_of, run_to}
+use Rattle.recovery_manager.specs.Kept.{ManagerValue}
 
 -- What is kept: P of the boot, Q of each connection in it, at moments of which T holds.
 module _ (P : BootValue → Type 0) (Q : BootValue → Seat → Type 0) (T : Moment → Type 0) where
@@ -42,8 +43,8 @@ module _ (P : BootValue → Type 0) (Q : BootValue → Seat → Type 0) (T : Mom
   pub record StepLaws : Type 0 where
     pub begins : (boot : BootValue) → P boot → Q boot new_seat
     pub still : (boot : BootValue) (seat new : Seat) → new.connection.stage ≡ seat.connection.stage → Q boot seat → Q boot new
-    pub boot : (g : SeatGivens) (seat : Seat) (w : SeatWorld) → T g.now → Q w.boot seat → P w.boot → P (seat_step g seat w).world.boot
-    pub step : (g : SeatGivens) (seat : Seat) (w : SeatWorld) → T g.now → Q w.boot seat → Q (seat_step g seat w).world.boot (seat_step g seat w).seat
+    pub boot : (g : SeatGivens) (seat : Seat) (w : SeatWorld) (m : ManagerValue) → T g.now → Q w.boot seat → P w.boot → P (seat_step g seat w).world.boot
+    pub step : (g : SeatGivens) (seat : Seat) (w : SeatWorld) (m : ManagerValue) → T g.now → Q w.boot seat → Q (seat_step g seat w).world.boot (seat_step g seat w).seat
     pub others : (g : SeatGivens) (seat other : Seat) (w : SeatWorld) → Q w.boot seat → Q w.boot other → Q (seat_step g seat w).world.boot other
 
   if_other : (old new : BootValue) → ((seat : Seat) → Q old seat → Q new seat) → (o : Option Seat) → IfHas old o → IfHas new o
@@ -104,24 +105,24 @@ module _ (P : BootValue → Type 0) (Q : BootValue → Seat → Type 0) (T : Mom
 
     -- one step
 
-    has_moved : (t : ShepherdTurn) (g : SeatGivens) (n : ℕ) (seat : Seat) (w : SeatWorld) → T g.now → Q w.boot seat → P w.boot → Leaves (PlaceHas w.boot) (moved t n (seat_step g seat w))
-    has_moved t g n seat w time has boot = record {
+    has_moved : (t : ShepherdTurn) (g : SeatGivens) (n : ℕ) (seat : Seat) (w : SeatWorld) (m : ManagerValue) → T g.now → Q w.boot seat → P w.boot → Leaves (PlaceHas w.boot) (moved t n (seat_step g seat w) m)
+    has_moved t g n seat w m time has boot = record {
       boot = laws.boot g seat w time has boot;
       here = laws.step g seat w time has;
       others = λ other its. laws.others g seat other w has its;
     }
 
-    has_at_turn : (t : ShepherdTurn) (g : SeatGivens) (n : ℕ) (seat : Seat) (w : SeatWorld) → T g.now → Q w.boot seat → P w.boot → Leaves (PlaceHas w.boot) (steps_at t g n seat w)
-    has_at_turn turns.Bytes g n seat w time has boot = record { boot = boot; here = has; others = λ other its. its }
-    has_at_turn turns.Request g n seat w time has boot = has_moved turns.Request g n seat w time has boot
-    has_at_turn turns.Outside g n seat w time has boot = has_moved turns.Outside g n seat w time has boot
-    has_at_turn turns.Windows g n seat w time has boot = has_moved turns.Windows g n seat w time has boot
-    has_at_turn turns.Inside g n seat w time has boot = has_moved turns.Inside g n seat w time has boot
-    has_at_turn turns.Program g n seat w time has boot = has_moved turns.Program g n seat w time has boot
-    has_at_turn turns.Own g n seat w time has boot = has_moved turns.Own g n seat w time has boot
-    has_at_turn turns.Output g n seat w time has boot = has_moved turns.Output g n seat w time has boot
-    has_at_turn turns.Item g n seat w time has boot = has_moved turns.Item g n seat w time has boot
-    has_at_turn (turns.Ended end) g n seat w time has boot = record { boot = boot; here = tt; others = λ other its. its }
+    has_at_turn : (t : ShepherdTurn) (g : SeatGivens) (n : ℕ) (seat : Seat) (w : SeatWorld) (m : ManagerValue) → T g.now → Q w.boot seat → P w.boot → Leaves (PlaceHas w.boot) (steps_at t g n seat w m)
+    has_at_turn turns.Bytes g n seat w m time has boot = record { boot = boot; here = has; others = λ other its. its }
+    has_at_turn turns.Request g n seat w m time has boot = has_moved turns.Request g n seat w m time has boot
+    has_at_turn turns.Outside g n seat w m time has boot = has_moved turns.Outside g n seat w m time has boot
+    has_at_turn turns.Windows g n seat w m time has boot = has_moved turns.Windows g n seat w m time has boot
+    has_at_turn turns.Inside g n seat w m time has boot = has_moved turns.Inside g n seat w m time has boot
+    has_at_turn turns.Program g n seat w m time has boot = has_moved turns.Program g n seat w m time has boot
+    has_at_turn turns.Own g n seat w m time has boot = has_moved turns.Own g n seat w m time has boot
+    has_at_turn turns.Output g n seat w m time has boot = has_moved turns.Output g n seat w m time has boot
+    has_at_turn turns.Item g n seat w m time has boot = has_moved turns.Item g n seat w m time has boot
+    has_at_turn (turns.Ended end) g n seat w m time has boot = record { boot = boot; here = tt; others = λ other its. its }
 
     has_placed : (s : SiteState) (n : ℕ) (a : Answer Place) → HoldsAt s → Leaves (PlaceHas s.boot) a → Leaves HoldsAt (within (with_place s n) a)
     has_placed s n Refused h left = tt
@@ -137,14 +138,14 @@ module _ (P : BootValue → Type 0) (Q : BootValue → Seat → Type 0) (T : Mom
     unfolding step_line place_step
     has_step s n keeps h = leaves-refused_if HoldsAt (is_beyond n) (or_refused s.sessions.store (λ store. step_over s n keeps store)) (λ near. by s.sessions.store)
       where
-        there : (o : Option Seat) (st : LanesState) → IfHas s.boot o → Leaves (PlaceHas s.boot) (or_refused o (λ seat. steps_at (turn seat.connection) (givens_of s n keeps) n seat (world_of s st)))
+        there : (o : Option Seat) (st : LanesState) → IfHas s.boot o → Leaves (PlaceHas s.boot) (or_refused o (λ seat. steps_at (turn seat.connection) (givens_of s n keeps) n seat (world_of s st) s.seats.manager))
         there None st has = tt
-        there (Some seat) st has = has_at_turn (turn seat.connection) (givens_of s n keeps) n seat (world_of s st) h.time has h.boot
+        there (Some seat) st has = has_at_turn (turn seat.connection) (givens_of s n keeps) n seat (world_of s st) s.seats.manager h.time has h.boot
 
         by : (o : Option LanesState) → Leaves HoldsAt (or_refused o (λ store. step_over s n keeps store))
         by None = tt
         by (Some st) =
-            has_placed s n (or_refused (seat_at s.seats.seats n) (λ seat. steps_at (turn seat.connection) (givens_of s n keeps) n seat (world_of s st))) h
+            has_placed s n (or_refused (seat_at s.seats.seats n) (λ seat. steps_at (turn seat.connection) (givens_of s n keeps) n seat (world_of s st) s.seats.manager)) h
             (there (seat_at s.seats.seats n) st (has_here s.boot s.seats.seats n h.seats))
 
     -- whole steps

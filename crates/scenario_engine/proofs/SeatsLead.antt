@@ -31,6 +31,8 @@ use Rattle.scenario_engine.specs.Sessions.{lent_in, seat_turns}
 use Rattle.scenario_engine.specs.State.{Outcome, RefusedIn, DoneTo, Running, RunningState, State, UnderWayIn, UnstartedIn, site_of, with_site}
 use Rattle.scenario_engine.proofs.Giving.{lent-append}
 use Rattle.scenario_engine.proofs.SeatRows.{RunsTo, bricks_of, is_done, line_of_run, near_of, run_to, step_done, there_where}
+use Rattle.seat_lines.specs.Hearing.{manager_after}
+use Rattle.recovery_manager.specs.Kept.{ManagerValue}
 
 -- what is promised of any step of a connection with what is lent to it
 pub record DrawLaws : Type 0 where
@@ -175,8 +177,8 @@ module _ (laws : DrawLaws) where
     G = givens_of s n keeps
 
     -- a place that is left with the world as it was
-    goes_still : (o : Option Seat) → IfDrew s.boot.start.boot s.sessions.serial o → Goes s [] (with_place s n (record { seat = o; world = W }))
-    goes_still o drew = record {
+    goes_still : (m : ManagerValue) (o : Option Seat) → IfDrew s.boot.start.boot s.sessions.serial o → Goes s [] (with_place s n (record { seat = o; world = W; manager = m }))
+    goes_still m o drew = record {
       lent = record {
         state_is = ap (λ (store : Option LanesState). put_back (lent_out s.sessions) store s.sessions.serial) (sym is ∙ none_lent s.sessions.store);
         serials = omega arith;
@@ -185,9 +187,9 @@ module _ (laws : DrawLaws) where
       has = record { boot = has.boot; small = has.small; drew = All-set (IfDrew s.boot.start.boot s.sessions.serial) s.seats.seats n o drew has.drew };
     }
 
-    goes_moved : (seat : Seat) → SeatHasDrawn s.boot.start.boot s.sessions.serial seat
-        → Goes s (lent_steps G seat W) (with_place s n (record { seat = Some (seat_step G seat W).seat; world = (seat_step G seat W).world }))
-    goes_moved seat drew =
+    goes_moved : (m : ManagerValue) (seat : Seat) → SeatHasDrawn s.boot.start.boot s.sessions.serial seat
+        → Goes s (lent_steps G seat W) (with_place s n (record { seat = Some (seat_step G seat W).seat; world = (seat_step G seat W).world; manager = m }))
+    goes_moved m seat drew =
         let next : ℕ = (seat_step G seat W).world.serial in
         let up : s.sessions.serial ≤ next = laws.serials G seat W in
         let same : (seat_step G seat W).world.boot.start.boot ≡ s.boot.start.boot = ap (λ (x : Start). x.boot) (laws.boot G seat W) in
@@ -203,25 +205,25 @@ module _ (laws : DrawLaws) where
           has = record {
             boot = has.boot ∙ sym same;
             small = laws.end G seat W has.small;
-            drew = subst (λ (boot : ℕ). All (IfDrew boot next) (with_place s n (record { seat = Some (seat_step G seat W).seat; world = (seat_step G seat W).world })).seats.seats) (sym same)
+            drew = subst (λ (boot : ℕ). All (IfDrew boot next) (with_place s n (record { seat = Some (seat_step G seat W).seat; world = (seat_step G seat W).world; manager = m })).seats.seats) (sym same)
                 (All-set (IfDrew s.boot.start.boot next) s.seats.seats n (Some (seat_step G seat W).seat) (laws.step G seat W drew) later);
           };
         }
 
-    goes_at : (t : ShepherdTurn) (seat : Seat) → SeatHasDrawn s.boot.start.boot s.sessions.serial seat → Leaves (Goes s (lends_at t (lent_steps G seat W))) (within (with_place s n) (steps_at t G n seat W))
-    goes_at turns.Bytes seat drew = goes_still (Some seat) drew
-    goes_at turns.Request seat drew = goes_moved seat drew
-    goes_at turns.Outside seat drew = goes_moved seat drew
-    goes_at turns.Windows seat drew = goes_moved seat drew
-    goes_at turns.Inside seat drew = goes_moved seat drew
-    goes_at turns.Program seat drew = goes_moved seat drew
-    goes_at turns.Own seat drew = goes_moved seat drew
-    goes_at turns.Output seat drew = goes_moved seat drew
-    goes_at turns.Item seat drew = goes_moved seat drew
-    goes_at (turns.Ended end) seat drew = goes_still None tt
+    goes_at : (t : ShepherdTurn) (seat : Seat) → SeatHasDrawn s.boot.start.boot s.sessions.serial seat → Leaves (Goes s (lends_at t (lent_steps G seat W))) (within (with_place s n) (steps_at t G n seat W s.seats.manager))
+    goes_at turns.Bytes seat drew = goes_still s.seats.manager (Some seat) drew
+    goes_at turns.Request seat drew = goes_moved (manager_after s.seats.manager (seat_step G seat W).report) seat drew
+    goes_at turns.Outside seat drew = goes_moved (manager_after s.seats.manager (seat_step G seat W).report) seat drew
+    goes_at turns.Windows seat drew = goes_moved (manager_after s.seats.manager (seat_step G seat W).report) seat drew
+    goes_at turns.Inside seat drew = goes_moved (manager_after s.seats.manager (seat_step G seat W).report) seat drew
+    goes_at turns.Program seat drew = goes_moved (manager_after s.seats.manager (seat_step G seat W).report) seat drew
+    goes_at turns.Own seat drew = goes_moved (manager_after s.seats.manager (seat_step G seat W).report) seat drew
+    goes_at turns.Output seat drew = goes_moved (manager_after s.seats.manager (seat_step G seat W).report) seat drew
+    goes_at turns.Item seat drew = goes_moved (manager_after s.seats.manager (seat_step G seat W).report) seat drew
+    goes_at (turns.Ended end) seat drew = goes_still s.seats.manager None tt
 
     goes_there : (o : Option Seat) → IfDrew s.boot.start.boot s.sessions.serial o
-        → Leaves (Goes s (lends_by s n keeps o (Some st))) (within (with_place s n) (or_refused o (λ seat. steps_at (turn seat.connection) G n seat W)))
+        → Leaves (Goes s (lends_by s n keeps o (Some st))) (within (with_place s n) (or_refused o (λ seat. steps_at (turn seat.connection) G n seat W s.seats.manager)))
     goes_there None drew = tt
     goes_there (Some seat) drew = goes_at (turn seat.connection) seat drew
 

@@ -37,6 +37,7 @@ use Rattle.scenario_engine.specs.Lending.{lends_by}
 use Rattle.seat_lines.specs.Making.{LineHearsSpelled, StepHearsSpelled, StepMade, line_makes, run_makes, step_makes}
 use Rattle.scenario_engine.specs.Seats.{after_steps}
 use Rattle.scenario_engine.proofs.SeatsLead.{DrawLaws, Goes, IfDrew, SiteHasDrawn, drew_here, goes_step}
+use Rattle.seat_lines.specs.Hearing.{manager_after}
 
 -- what is promised of seats, and of the bricks behind what is done with them
 pub record StandLaws : Type 0 where
@@ -238,7 +239,7 @@ pub under : (a b : ℕ) → a ≤ b → b < 2 ^ 64 - 1 → a < 2 ^ 64 - 1
 under a b up less = omega (arith, up, less)
 
 -- a step that is done has the number of a connection
-near_done : (s v : SiteState) (n : ℕ) (keeps : Bool) (out : List ℕ) → step_line s n keeps ≡ Done v out → is_beyond n ≡ false
+pub near_done : (s v : SiteState) (n : ℕ) (keeps : Bool) (out : List ℕ) → step_line s n keeps ≡ Done v out → is_beyond n ≡ false
 unfolding step_line
 near_done s v n keeps out done = by (is_beyond n) refl done
   where
@@ -357,7 +358,7 @@ module _ (L : LanesState → Type 0) (K : ℕ → Option ℕ → Type 0) (kept :
         let mine : K n (Some old) = subst (K n) was (whole.twins n seat there) in
         subst (λ (x : ℕ). K n (Some x)) (sym (laws.same G seat W old number was is)) mine
 
-    moved_whole : WholeIn (with_place s n (record { seat = Some O.seat; world = O.world }))
+    moved_whole : WholeIn (with_place s n (record { seat = Some O.seat; world = O.world; manager = manager_after s.seats.manager O.report }))
     moved_whole = (
       O.world.store,
       refl,
@@ -372,7 +373,7 @@ module _ (L : LanesState → Type 0) (K : ℕ → Option ℕ → Type 0) (kept :
       },
     )
 
-    stays_whole : WholeIn (with_place s n (record { seat = Some seat; world = W }))
+    stays_whole : WholeIn (with_place s n (record { seat = Some seat; world = W; manager = s.seats.manager }))
     stays_whole = (
       st,
       refl,
@@ -384,7 +385,7 @@ module _ (L : LanesState → Type 0) (K : ℕ → Option ℕ → Type 0) (kept :
       },
     )
 
-    goes_whole : WholeIn (with_place s n (record { seat = None; world = W }))
+    goes_whole : WholeIn (with_place s n (record { seat = None; world = W; manager = s.seats.manager }))
     goes_whole = (
       st,
       refl,
@@ -396,7 +397,7 @@ module _ (L : LanesState → Type 0) (K : ℕ → Option ℕ → Type 0) (kept :
       },
     )
 
-    at_turn : (t : ShepherdTurn) → Leaves WholeIn (within (with_place s n) (steps_at t G n seat W))
+    at_turn : (t : ShepherdTurn) → Leaves WholeIn (within (with_place s n) (steps_at t G n seat W s.seats.manager))
     at_turn turns.Bytes = stays_whole
     at_turn turns.Request = moved_whole
     at_turn turns.Outside = moved_whole
@@ -414,7 +415,7 @@ module _ (L : LanesState → Type 0) (K : ℕ → Option ℕ → Type 0) (kept :
       leaves-refused_if WholeIn (is_beyond n) (or_refused s.sessions.store (λ store. step_over s n keeps store)) (λ near.
       subst (λ (o : Option LanesState). Leaves WholeIn (or_refused o (λ store. step_over s n keeps store))) (sym is) (by near (seat_at s.seats.seats n) refl))
     where
-      by : is_beyond n ≡ false → (o : Option Seat) → seat_at s.seats.seats n ≡ o → Leaves WholeIn (within (with_place s n) (or_refused o (λ seat. steps_at (turn seat.connection) (givens_of s n keeps) n seat (world_of s st))))
+      by : is_beyond n ≡ false → (o : Option Seat) → seat_at s.seats.seats n ≡ o → Leaves WholeIn (within (with_place s n) (or_refused o (λ seat. steps_at (turn seat.connection) (givens_of s n keeps) n seat (world_of s st) s.seats.manager)))
       by near None here = tt
       by near (Some seat) here = at_turn s n keeps st has whole seat here (heard st seat near is here) (turn seat.connection)
 

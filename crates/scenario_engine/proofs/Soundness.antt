@@ -54,7 +54,8 @@ use Rattle.scenario_engine.specs.Seats.{seat_over}
 use Rattle.scenario_engine.specs.Sound.{CommitsUnrebooted, RunsSerially}
 use Rattle.scenario_text.specs.declared.seat_line.SeatLine.{SeatLine}
 use Rattle.seat_laws.specs.Fitting.{CommitsAtMost, SeatFits}
-use Rattle.seat_lines.specs.Giving.{sessions_given_back}
+use Rattle.seat_lines.specs.Giving.{sessions_given_back, without_seats}
+use Rattle.seat_lines.specs.Site.{SeatsState, no_seats}
 use Rattle.seat_steps.specs.Seats.{SeatGivens, SeatWorld, seat_step}
 use Rattle.seat_steps.specs.declared.seat.Seat.{Seat}
 use Rattle.scenario_engine.specs.State.{RunningState}
@@ -62,6 +63,7 @@ use Rattle.scenario_engine.specs.Transcript.{Turn, first, boots_in, boots_from, 
 use Rattle.component_pool.specs.Plans.{left_by_process}
 use Rattle.line_steps.specs.CallLines.{CallDone}
 use Rattle.scenario_engine.proofs.Entered.{entered_once, sound_entered}
+use Rattle.scenario_engine.proofs.Reported.{leaves_report}
 
 -- What boots promise of themselves and of their calls.
 pub record BootLaws : Type 0 where
@@ -206,11 +208,13 @@ sound_boot laws seats r (boots.Up name) run = sound_up laws seats r name run
 sound_boot laws seats r (boots.Reboot name) run = sound_reboot laws seats r name run
 sound_boot laws seats r boots.Table run = run
 sound_boot laws seats r boots.Journal run = run
+sound_boot laws seats r (boots.Report names) run =
+    leaves_report IsSoundRun r names (λ manager. record { sound = run.sound; few = run.few; fit = run.fit; seats = run.seats })
 
 -- a boot that was just started over these parts goes on, without connections
-sound_started : (laws : BootLaws) (sessions : SessionsState) (word : ℕ) (site : Bool) (start : Start) (parts : Parts) → AreFew parts → (site ≡ true → parts ≡ site_parts) → start.deployment ≡ parts
-    → IsSoundRun (started sessions (record { seats = []; word = word }) site start)
-sound_started laws sessions word site start parts few its over = record {
+sound_started : (laws : BootLaws) (sessions : SessionsState) (old : SeatsState) (site : Bool) (start : Start) (parts : Parts) → AreFew parts → (site ≡ true → parts ≡ site_parts) → start.deployment ≡ parts
+    → IsSoundRun (started sessions (without_seats old) site start)
+sound_started laws sessions old site start parts few its over = record {
   sound = laws.started start;
   few = subst AreFew (sym over) few;
   fit = All-nil (FitsCaller (new_boot start));
@@ -252,10 +256,10 @@ sound_keeps laws seats = record {
   heads = (λ head line h. leaves_both (λ (x : Head). AreFew x.parts) IsOfSite (head_line head line) (few_head head line h.0) (of_head head line h.1));
   opens = (λ head replies start h opened.
       let P : Opening → Type 0 = OpensOver head.parts in
-      sound_started laws (set_up head.setup 0) 1 head.site start head.parts h.0 h.1 (subst P opened (opens_over head.parts head.plans head.limits replies)));
+      sound_started laws (set_up head.setup 0) (no_seats head.parts) head.site start head.parts h.0 h.1 (subst P opened (opens_over head.parts head.plans head.limits replies)));
   reopens = (λ r replies start run opened.
       let P : Opening → Type 0 = OpensOver r.boot.start.deployment in
-      sound_started laws (sessions_given_back r.seats.seats r.sessions) r.seats.word r.site start r.boot.start.deployment run.few (λ is. (run.seats is).of_site)
+      sound_started laws (sessions_given_back r.seats.seats r.sessions) r.seats r.site start r.boot.start.deployment run.few (λ is. (run.seats is).of_site)
       (subst P opened (opens_over r.boot.start.deployment (left_by_process r.boot.start.plans) r.boot.start.limits replies)));
   commits = sound_commit laws seats;
   calls = sound_call seats;

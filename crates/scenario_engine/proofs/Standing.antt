@@ -48,7 +48,7 @@ use Rattle.scenario_engine.specs.State.{RunningState, State, Heading, Running, O
 use Rattle.scenario_engine.specs.Transcript.{Turn, answer_to, turn_outcome}
 use Rattle.scenario_engine.proofs.BricksKept.{LimitsLaw, NewLaw, lead_limits, turn_bricks}
 use Rattle.scenario_engine.proofs.Keeping.{LeavesTo}
-use Rattle.scenario_engine.proofs.Leading.{LeadsTo, Reaches, SameSessions, StateHasDrawn, first_drew, same_boot, same_commit, same_entered}
+use Rattle.scenario_engine.proofs.Leading.{LeadsTo, Reaches, SameSessions, StateHasDrawn, as_sessions, first_drew, same_boot, same_commit, same_entered}
 use Rattle.scenario_engine.proofs.SeatRows.{RunsTo, bricks_of, line_of_run, near_of, run_to}
 use Rattle.scenario_engine.proofs.SeatsLead.{DrawLaws, IfDrew, SiteHasDrawn, Stays, drew_here, stays_bytes, stays_conn, stays_end}
 use Rattle.scenario_engine.proofs.SeatsStand.{ArePlaced, IsGood, IsStep, IsWhole, KeptLaws, StandLaws, WholeIf, bytes_whole, conn_whole, end_whole, hears_done, known_line, no_seats_placed, step_goes, steps_go, under}
@@ -148,7 +148,7 @@ module _ (L : LanesState → Type 0) (K : ℕ → Option ℕ → Type 0) (kept :
     stand_same (Done q text) (sessions, start, places) = λ st is left.
         let P : SessionsState → Type 0 = λ x. x.store ≡ Some st in
         let Q : SessionsState → Type 0 = λ x. x.serial < 2 ^ 64 - 1 in
-        subst (λ (x : SeatsState). ArePlaced K x.seats st) (sym places) (all st (subst P sessions is) (subst Q sessions left))
+        subst (λ (x : List (Option Seat)). ArePlaced K x st) (sym places) (all st (subst P sessions is) (subst Q sessions left))
 
     -- lines about connections that leave the sessions as they are
     stand_still : (a : Answer SiteState) → Leaves (Stays draw S) a → ((st : LanesState) → r.sessions.store ≡ Some st → ArePlaced K r.seats.seats st → Leaves (λ (v : SiteState). ArePlaced K v.seats.seats st) a) → StandTo (in_boot r (within (with_site r) a))
@@ -263,8 +263,8 @@ module _ (L : LanesState → Type 0) (K : ℕ → Option ℕ → Type 0) (kept :
     stand_over : (line : Line) (replies : Replies) → All StepHearsSpelled (makes_over r line replies) → StandTo (line_over r line replies) × All (IsStep L K) (makes_over r line replies)
     stand_over lines.Pass replies heard = (all, All-nil (IsStep L K))
     stand_over (lines.Head line) replies heard = (all, All-nil (IsStep L K))
-    stand_over (lines.Call n line) replies heard = (stand_same (within (with_called r) (call_step r.boot r.callers n line)) (same_entered r n line), All-nil (IsStep L K))
-    stand_over (lines.Commit n) replies heard = (stand_same (commit_step r n (first_keeps replies.keeps)) (same_commit r n (first_keeps replies.keeps)), All-nil (IsStep L K))
+    stand_over (lines.Call n line) replies heard = (stand_same (within (with_called r) (call_step r.boot r.callers n line)) (as_sessions r (within (with_called r) (call_step r.boot r.callers n line)) (same_entered r n line)), All-nil (IsStep L K))
+    stand_over (lines.Commit n) replies heard = (stand_same (commit_step r n (first_keeps replies.keeps)) (as_sessions r (commit_step r n (first_keeps replies.keeps)) (same_commit r n (first_keeps replies.keeps))), All-nil (IsStep L K))
     stand_over (lines.Boot line) replies heard = (stand_same (boot_line r line) (same_boot r line), All-nil (IsStep L K))
     stand_over lines.Reopen replies heard = (stand_reopen (next_opening r replies.again), All-nil (IsStep L K))
     stand_over (lines.Session line) replies heard = (stand_session line (session_line r.sessions line) refl, All-nil (IsStep L K))
@@ -283,7 +283,7 @@ module _ (L : LanesState → Type 0) (K : ℕ → Option ℕ → Type 0) (kept :
   stand_opened : (head : Head) (how : Opening) (line : Line) (replies : Replies) → HasCounts head.setup.counts → ((st : LanesState) → L st) → BootsRise 0 (first_start (Heading head) (opened_target head how)) → All StepHearsSpelled (makes_on (opened_target head how) line replies)
       → AllTo (line_on (opened_target head how) line replies) (makes_on (opened_target head how) line replies)
   stand_opened head (Opened start) line replies counts later rise heard =
-      let r : RunningState = started (set_up head.setup 0) no_seats head.site start in
+      let r : RunningState = started (set_up head.setup 0) (no_seats head.parts) head.site start in
       let story : Story L (Boots start.boot ∷ []) r = record {
         setup = head.setup;
         counts = counts;

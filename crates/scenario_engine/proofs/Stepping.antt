@@ -52,7 +52,7 @@ reached (Running r) k = record { replies = no_start; is = refl; made = none_made
 pub reached_running : (r : RunningState) (k : KeeperSeen) → Reaches (Running r) true (TheBoot r) k k
 reached_running r k = record { replies = no_start; is = refl; made = none_made k }
 
-pub reached_opened : (head : Head) (start : Start) (old new : KeeperSeen) → Opens head.parts head.plans head.limits (Opened start) old new → Reaches (Heading head) true (TheBoot (started (set_up head.setup 0) no_seats head.site start)) old new
+pub reached_opened : (head : Head) (start : Start) (old new : KeeperSeen) → Opens head.parts head.plans head.limits (Opened start) old new → Reaches (Heading head) true (TheBoot (started (set_up head.setup 0) (no_seats head.parts) head.site start)) old new
 reached_opened head start old new h = record {
   replies = h.replies;
   is = ap (λ o. opened_target head o) h.opens;
@@ -302,7 +302,7 @@ line_done (Err failure) v w after line reach h = ends_line failure v.state line 
 
 -- a boot that was started, or not
 
-pub started_so : (v : EngineValue) (head : Head) (k : KeeperSeen) (r : RunningValue) (start : Start) → heading head k ≡ v → r.running ≡ started (set_up head.setup 0) no_seats head.site start → Opens head.parts head.plans head.limits (Opened start) k r.keeper → Reaches v.state true (TheBoot r.running) v.keeper r.keeper
+pub started_so : (v : EngineValue) (head : Head) (k : KeeperSeen) (r : RunningValue) (start : Start) → heading head k ≡ v → r.running ≡ started (set_up head.setup 0) (no_seats head.parts) head.site start → Opens head.parts head.plans head.limits (Opened start) k r.keeper → Reaches v.state true (TheBoot r.running) v.keeper r.keeper
 started_so v head k r start is so opens =
     let P : EngineValue → Type 0 = λ v. Reaches v.state true (TheBoot r.running) v.keeper r.keeper in
     let Q : RunningState → Type 0 = λ s. Reaches (Heading head) true (TheBoot s) k r.keeper in

@@ -56,6 +56,7 @@ use Rattle.crash_base.specs.declared.fault_plans.FaultPlan.{FaultPlan}
 use Rattle.component_pool.specs.Plans.{left_by_process}
 use Rattle.scenario_engine.proofs.Entered.{leaves_called}
 use Rattle.scenario_text.specs.declared.call_line.CallLine.{CallLine}
+use Rattle.scenario_engine.proofs.Reported.{leaves_report}
 
 -- what a start leaves
 
@@ -233,6 +234,7 @@ rows_boot r (boots.Up name) = rows_up r name
 rows_boot r (boots.Reboot name) = rows_reboot r name
 rows_boot r boots.Table = (refl, refl)
 rows_boot r boots.Journal = (refl, refl)
+rows_boot r (boots.Report names) = leaves_report (HasSameRows r) r names (λ manager. (refl, refl))
 
 -- a commit
 

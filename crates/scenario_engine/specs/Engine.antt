@@ -73,7 +73,7 @@ target_in (Running r) = TheBoot r
 
 -- the boot over a head that opens so
 abbrev pub opened_target : Head → Opening → Target
-opened_target head (Opened start) = TheBoot (started (set_up head.setup 0) no_seats head.site start)
+opened_target head (Opened start) = TheBoot (started (set_up head.setup 0) (no_seats head.parts) head.site start)
 opened_target head (UnstartedBoot cause) = TheUnstarted head cause
 
 -- what a line is done to that is an event line, or is none

@@ -15,4 +15,5 @@ pub mod Telling
 pub mod Told
 pub mod Sound
 pub mod Sessions
+pub mod Reports
 pub mod UnderWay

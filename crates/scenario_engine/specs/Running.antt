@@ -29,6 +29,7 @@ use Rattle.line_steps.specs.declared.callers.Caller.TheVariants.{Absent, Live}
 use Rattle.scenario_engine.specs.KeeperCalls.{KeeperCall, apply_calls}
 use Rattle.scenario_engine.specs.State.{RunningState}
 use Rattle.seat_lines.specs.Giving.{sessions_given_back, without_seats}
+use Rattle.seat_lines.specs.Hearing.{report_line}
 use Rattle.seat_lines.specs.Site.{SeatsState}
 use Rattle.session_steps.specs.Sessions.{SessionsState, reopened}
 use Rattle.scenario_text.specs.Answer.{Answer, Refused, Done, or_refused, within}
@@ -49,7 +50,8 @@ started sessions seats site start =
       site = site;
     }
 
--- the next boot: the callers are gone; the connections gave back what they hold of the bricks, and are gone
+-- the next boot: the callers are gone; the connections gave back what they hold of the bricks, and are gone; the manager
+-- stays
 abbrev pub reopened_over : RunningState → Start → RunningState
 reopened_over r start = started (sessions_given_back r.seats.seats r.sessions) (without_seats r.seats) r.site start
 
@@ -60,6 +62,10 @@ with_callers r callers = record r { callers = callers }
 -- the boot and the callers that a line of a call left
 abbrev pub with_called : RunningState → CallDone (List Caller) → RunningState
 with_called r done = record r { boot = done.boot; callers = done.left }
+
+-- the same boot with these connections, and their manager
+abbrev pub with_seats : RunningState → SeatsState → RunningState
+with_seats r seats = record r { seats = seats }
 
 -- the same boot with these sessions
 abbrev pub with_sessions : RunningState → SessionsState → RunningState
@@ -193,3 +199,5 @@ boot_line r (boots.Up word) = up_step r word
 boot_line r (boots.Reboot word) = reboot_step r word
 boot_line r boots.Table = table_step r
 boot_line r boots.Journal = journal_step r
+boot_line r (boots.Report names) =
+    within (with_seats r) (report_line r.boot.start.deployment r.seats names r.sessions.moment)

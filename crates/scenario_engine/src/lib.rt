@@ -34,12 +34,17 @@
 //! parts (`boots_of_the_site_have_its_parts`), and `steps_made_are_those_of_lines` that the steps of which the laws
 //! speak are those that such lines make, which `seat_lines::steps_made_are_those_of_a_line` names.
 //! `connections_go_by_their_lines` says which bytes came to a connection, and which of these steps are its own.
+//!
+//! A manager hears of requests that failed, over all boots: what lines `report` say of them, and what the steps of
+//! connections report. `decisions_are_by_all_reports` says that on each report it decides by all reports so far, and
+//! `reports_are_those_of_lines` which these are, and that each `decide` line tells such a decision.
 #![tactic(auto)]
 
 mod connections;
 mod engine;
 mod failure;
 mod laws;
+mod reporting;
 mod resting;
 mod running;
 mod serving;
@@ -56,6 +61,7 @@ pub use laws::{
     no_commit_is_kept_partly, no_turns_break_the_order, no_turns_commit_after_a_reboot,
     nonces_are_of_one_node, scenarios_have_sessions, transcripts_begin_alike,
 };
+pub use reporting::{decisions_are_by_all_reports, reports_are_those_of_lines};
 pub use resting::{
     boots_of_the_site_have_its_parts, runs_come_to_rest, runs_of_scenarios_come_to_rest,
 };

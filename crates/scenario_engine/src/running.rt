@@ -9,6 +9,7 @@ ghost use Rattle.journal_model.specs.Rows.{rows_after};
 ghost use Rattle.line_steps.specs.Texts.{committed_text};
 ghost use Rattle.line_steps.specs.Callers.{begin_step, call_step};
 ghost use Rattle.line_steps.specs.Head.{IsOfSite};
+ghost use Rattle.seat_lines.specs.Hearing.{report_line};
 ghost use Rattle.seat_lines.specs.Site.{AllGoOn, no_seats, site_in};
 ghost use Rattle.container_core.specs.Container.{HasGrownBy};
 ghost use Rattle.scenario_engine.specs.Seats.{BreaksSite, DoesSite};
@@ -22,7 +23,7 @@ ghost use Rattle.scenario_engine.specs.declared.failure.LineFailure.{LineFailure
 ghost use Rattle.scenario_engine.specs.declared.failure.UnstartedCause.{UnstartedCause};
 ghost use Rattle.scenario_engine.specs.KeeperCalls.{seen};
 ghost use Rattle.scenario_engine.specs.Opening.{Opened};
-ghost use Rattle.scenario_engine.specs.Running.{started, reopened_over, with_callers, with_called, with_sessions, scope_of, drop_step, down_step, up_step, reboot_step, table_step, journal_step, boot_line};
+ghost use Rattle.scenario_engine.specs.Running.{started, reopened_over, with_callers, with_called, with_seats, with_sessions, scope_of, drop_step, down_step, up_step, reboot_step, table_step, journal_step, boot_line};
 ghost use Rattle.scenario_engine.specs.Telling.{Opens, FailsToOpen, Commits, CommitsPartly, AnswersSeat, EndsSeat, failure_of};
 
 use crate::failure::{LineFailure, UnstartedCause, failure_of};
@@ -37,7 +38,7 @@ use line_steps::{
     reboot_refusal_text, rebooted_text, request_of, table_text, up_text,
 };
 use outside::Keeper;
-use scenario_text::{BootLine, CallLine, LineAnswer, MAX_CALLER, SeatLine, SessionLine};
+use scenario_text::{BootLine, CallLine, LineAnswer, MAX_CALLER, NameList, SeatLine, SessionLine};
 use seat_lines::Seats;
 use session_steps::Sessions;
 use site_routes::SiteRouter;
@@ -198,7 +199,7 @@ impl<K: Keeper + Drop> Running<K> {
     ) -> Result<Running<K>, Unopened<K>>
         requires site { is_some router ≡ true → deployment ≡ site_parts }
         ensures opens { MatchResult result
-            (λ r. (start : Start) × (r.running ≡ started sessions no_seats (is_some router) start)
+            (λ r. (start : Start) × (r.running ≡ started sessions (no_seats deployment) (is_some router) start)
             × Opens deployment plans limits (Opened start) (seen (K.told keeper) (K.faults keeper)) r.keeper)
             (λ u. FailsToOpen u.failure deployment plans limits (seen (K.told keeper) (K.faults keeper))
             (seen (K.told u.keeper) (K.faults u.keeper))) }
@@ -208,16 +209,21 @@ impl<K: Keeper + Drop> Running<K> {
         ensures count { MatchResult result (λ r. K.faults keeper ≤ r.keeper.faults)
             (λ u. K.faults keeper ≤ K.faults u.keeper) }
     {
+        let Ok(seats) = Seats::new(alloc, &deployment) else {
+            drop(deployment);
+            drop(plans);
+            drop(sessions);
+            drop(router);
+            return Err(Unopened {
+                failure: LineFailure::OutOfMemory,
+                keeper,
+            });
+        };
         match Container::start(alloc, deployment, keeper, plans, limits) {
-            Ok(container) => Ok(Running::over(
-                alloc,
-                container,
-                sessions,
-                Seats::new(alloc),
-                router,
-            )),
+            Ok(opened) => Ok(Running::over(alloc, opened, sessions, seats, router)),
             Err(fail) => {
                 drop(sessions);
+                drop(seats);
                 drop(router);
                 Err(not_opened(fail))
             }
@@ -230,7 +236,7 @@ impl<K: Keeper + Drop> Running<K> {
         requires accepted { deploy_refusal head.parts ≡ None }
         requires of_site { IsOfSite head }
         ensures opens { MatchResult result
-            (λ r. (start : Start) × (r.running ≡ started (set_up head.setup 0) no_seats head.site start)
+            (λ r. (start : Start) × (r.running ≡ started (set_up head.setup 0) (no_seats head.parts) head.site start)
             × Opens head.parts head.plans head.limits (Opened start) (seen (K.told keeper) (K.faults keeper)) r.keeper)
             (λ u. FailsToOpen u.failure head.parts head.plans head.limits (seen (K.told keeper) (K.faults keeper))
             (seen (K.told u.keeper) (K.faults u.keeper))) }
@@ -286,7 +292,7 @@ impl<K: Keeper + Drop> Running<K> {
 
     /// Starts the next boot, over the same deployment and limits, with the fault plans that a reboot of the process
     /// leaves. The callers and the connections of this one are gone, which gave back what they held, and the sessions
-    /// stay. Where it is not started, the keeper is handed back.
+    /// and the manager stay. Where it is not started, the keeper is handed back.
     pub(crate) fn reopen(self, alloc: Global) -> Result<Running<K>, Unopened<K>>
         ensures opens { MatchResult result
             (λ r. (start : Start) × (r.running ≡ reopened_over self.running start)
@@ -471,6 +477,18 @@ impl<K: Keeper + Drop> Running<K> {
         Ok(LineAnswer::Wrote(text))
     }
 
+    /// A request is reported that failed: the manager hears of it, and its decision is written.
+    fn report_step(&mut self, alloc: Global, names: &NameList) -> Result<LineAnswer, OutOfMemory>
+        ensures answer { IfOk result (λ a. answer_of a self.new.running ≡ within (with_seats self.old.running)
+            (report_line self.old.running.boot.start.deployment self.old.running.seats names.now self.old.running.sessions.moment)) }
+        ensures refused { IfOk result (λ a. KeepsRefused a self.old.running self.new.running) }
+        ensures kept { self.new.keeper ≡ self.old.keeper }
+    {
+        let now = self.sessions.moment();
+        let deployment = self.container.deployment();
+        self.seats.report_line(alloc, deployment, names, now)
+    }
+
     /// A caller begins a call.
     #[tactic(auto, unfolding(line_steps::specs::Callers::begin_step))]
     fn begin_step(&mut self, alloc: Global, caller: u64) -> Result<LineAnswer, OutOfMemory>
@@ -527,6 +545,7 @@ impl<K: Keeper + Drop> Running<K> {
             BootLine::Reboot(word) => self.reboot_step(alloc, word),
             BootLine::Table => self.table_step(alloc),
             BootLine::Journal => self.journal_step(alloc),
+            BootLine::Report(names) => self.report_step(alloc, &names),
         }
     }
 

@@ -1,0 +1,14 @@
+use Rattle.scenario_engine.proofs.ReportLines.{line-steps, line-tells, reports-push, step-tells}
+use Rattle.scenario_engine.proofs.reporting.reports_are_those_of_lines.Goals as goal
+
+pub returns-clause-line : goal.returns-clause-line
+returns-clause-line c = line-tells
+
+pub returns-clause-steps : goal.returns-clause-steps
+returns-clause-steps c = line-steps
+
+pub returns-clause-step : goal.returns-clause-step
+returns-clause-step c = step-tells c.steps_are_those_of_seats.ensures.step
+
+pub returns-clause-turns : goal.returns-clause-turns
+returns-clause-turns c = reports-push
