@@ -8,6 +8,7 @@ pub mod Hexadecimal
 pub mod FaultWords
 pub mod SessionWords
 pub mod WordKinds
+pub mod NameLists
 pub mod LineForms
 pub mod LineReads
 pub mod SessionSpelled

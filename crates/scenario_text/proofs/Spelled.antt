@@ -13,7 +13,8 @@ use Rattle.scenario_text.specs.Texts.{hex_text}
 use Rattle.scenario_text.specs.Words.{words_of, four_words}
 use Rattle.scenario_text.specs.Reading.{line_of, line_of_words, head_line, event_line, call_or_other, call_line, boot_or_other, session_or_seat, boot_line, put_line, passes, is_comment_byte}
 use Rattle.scenario_text.specs.Spelling.{Spells, IsInRange, IsHeadInRange, IsCallInRange, IsBootInRange, IsComment, spelling, words_of_line, words_of_head_line, words_of_call_line, words_of_boot_line}
-use Rattle.scenario_text.specs.FieldSpelling.{IsCaller, caller_word, kind_word, level_word}
+use Rattle.scenario_text.specs.Arguments.{some_names}
+use Rattle.scenario_text.specs.FieldSpelling.{IsCaller, AreNames, caller_word, kind_word, level_word}
 use Rattle.scenario_text.specs.SeatReading.{seat_line}
 use Rattle.scenario_text.specs.SessionReading.{session_line}
 use Rattle.scenario_text.specs.declared.line.Line.{Line}
@@ -23,11 +24,12 @@ use Rattle.scenario_text.specs.declared.head_line.HeadLine.TheVariants.{Componen
 use Rattle.scenario_text.specs.declared.call_line.CallLine.{CallLine}
 use Rattle.scenario_text.specs.declared.call_line.CallLine.TheVariants.{Enter, Exit, Read, List as ListLine, Put}
 use Rattle.scenario_text.specs.declared.boot_line.BootLine.{BootLine}
-use Rattle.scenario_text.specs.declared.boot_line.BootLine.TheVariants.{Begin, Drop, Down, Up, Reboot, Table, Journal}
+use Rattle.scenario_text.specs.declared.boot_line.BootLine.TheVariants.{Begin, Drop, Down, Up, Reboot, Table, Journal, Report}
 use Rattle.crash_base.proofs.Options.{then_some, map_some}
 use Rattle.scenario_text.proofs.Splits.{words_joined}
 use Rattle.scenario_text.proofs.WordKinds.{names, numbers, callers, texts, faults, levels, bytes, four_are}
-use Rattle.scenario_text.proofs.LineForms.{Grammar, AreWords, same_line, form, no_form, one_form, two_form, three_form, four_form}
+use Rattle.scenario_text.proofs.NameLists.{some_spelled, names_read, names_whole}
+use Rattle.scenario_text.proofs.LineForms.{Grammar, AreWords, same_line, form, made_words, no_form, one_form, two_form, three_form, four_form}
 use Rattle.scenario_text.proofs.LineReads.{IsRead, no_read, one_read, two_read}
 use Rattle.scenario_text.proofs.SeatSpelled.{seat_spelled, seat_read}
 use Rattle.scenario_text.proofs.SessionSpelled.{one_of, session_spelled, session_read}
@@ -95,7 +97,8 @@ boot_spelled first words line h =
     one_form boots texts (codes "reboot") (λ t. Reboot t) (λ _ r. (r, refl)) first words line _ (
     no_form boots (codes "table") Table (tt, refl) first words line _ (
     no_form boots (codes "journal") Journal (tt, refl) first words line _ (
-    λ k. cc))))))) h
+    form boots (codes "report") first words line _ _ (made_words boots (codes "report") (λ n. Report n) (λ n. n) AreNames (λ _ r. (r, refl)) words line (some_names words) (some_spelled words)) (
+    λ k. cc)))))))) h
 
 -- a line of one group, which is made a line
 of_group : {S : Type 0} (mk : S → Line) (words : List (List ℕ)) (line : Line) (o : Option S) → ((s : S) → o ≡ Some s → AreWords lines words (mk s)) → option_map mk o ≡ Some line → AreWords lines words line
@@ -230,6 +233,8 @@ boot_read (Up word) h = one_read texts (Boot (Up word)) (codes "up") word h (as_
 boot_read (Reboot word) h = one_read texts (Boot (Reboot word)) (codes "reboot") word h (as_boot (λ a. Reboot a)) refl refl refl refl refl
 boot_read Table h = no_read (Boot Table) (codes "table") refl refl refl refl
 boot_read Journal h = no_read (Boot Journal) (codes "journal") refl refl refl refl
+boot_read (Report []) (some, each) = absurd (omega arith)
+boot_read (Report (name ∷ more)) (some, each) = (refl, words_joined (codes "report") (name ∷ more) refl (names_whole (name ∷ more) each), rw (names_read (name ∷ more) each) refl)
 
 -- the spelling of a line is read as that line
 spelling_read : (text : List ℕ) (line : Line) → length text ≤ MAX_LINE_BYTES → IsInRange line → text ≡ spelling line → line_of text ≡ Some line

@@ -11,7 +11,7 @@ pub type NameList = Items<ComponentName>;
 /// A line over the boot, with what its words say, in their order. A caller `cN` is its number N.
 ///
 /// A `begin` and a `drop` are among these since they act on the boot's room for tickets: a call that begins takes its
-/// ticket from there, and one that is dropped gives it back. A `report` is, since what is told of it decides on reboots.
+/// ticket from there, and one that is dropped gives it back. A `report` is among these since reboots are decided by it.
 #[derive(Drop)]
 pub enum BootLine {
     /// The caller that begins a call.

@@ -12,7 +12,7 @@ ghost use Rattle.scenario_text.specs.declared.session_line.TheConstants.{MAX_KEY
 
 /// A text is read as a line exactly where it spells that line, and so the line is in its ranges. A line has 8,192 bytes
 /// at most, and gives 4,000 bytes in hexadecimal at most; callers and session keys have the numbers 1 to 65,535,
-/// and connections 1 to 64. A path has 16 components at most, which is no limit of a line. It refuses brick 0, a leading
+/// and connections 1 to 64. A path has 16 components at most, but a line may name more. It refuses brick 0, a leading
 /// zero, two spellings of one line, and other limits.
 pub fn spelling_law()
     ensures spells { (text : List ℕ) (line : Line) → (line_of text ≡ Some line) ↔ Spells text line }
