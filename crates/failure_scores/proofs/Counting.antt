@@ -79,7 +79,7 @@ unlike c d apart = go (d.0 == c.0) refl
     go false same = same
 
 -- a component that is no component of a path is not on it
-off_path : (c : ComponentNo) (path : List ComponentNo) → All (λ (d : ComponentNo). d ≢ c) path → is_on c path ≡ false
+pub off_path : (c : ComponentNo) (path : List ComponentNo) → All (λ (d : ComponentNo). d ≢ c) path → is_on c path ≡ false
 off_path c path apart = list_any_none (λ (d : ComponentNo). d.0 == c.0) path (All-weaker (λ (d : ComponentNo). d ≢ c) (λ (d : ComponentNo). (d.0 == c.0) ≡ false) (unlike c) path apart)
 
 within_so_far : (now m k : ℕ) → now ≤ m + k → nat_le (now - m) k ≡ true

@@ -1,7 +1,7 @@
 //! Reports of requests that failed.
 
 ghost use Rattle.std.specs.Prelude.{◌≡◌, length, filter, IfOk};
-ghost use Rattle.failure_scores.specs.Scores.{is_within, is_on, is_recent, counts, score};
+ghost use Rattle.failure_scores.specs.Scores.{report_of, is_within, is_on, is_recent, counts, score};
 
 use crash_base::{ComponentNo, Moment, OutOfMemory, PathList};
 use std::alloc::Global;
@@ -74,8 +74,7 @@ pub(crate) fn score_of(reports: &[PathReport], component: ComponentNo, now: Mome
 
 /// A report of a path, which is copied. It visits each component.
 pub fn report_of(alloc: Global, path: &PathList, moment: Moment) -> Result<PathReport, OutOfMemory>
-    ensures path { IfOk result (λ report. report.path ≡ path.now) }
-    ensures moment { IfOk result (λ report. report.moment ≡ moment) }
+    ensures { IfOk result (λ report. report ≡ report_of path.now moment) }
 {
     let copy = PathList::from_vec(Vec::from_slice(alloc, path.as_slice())?);
     Ok(PathReport { path: copy, moment })

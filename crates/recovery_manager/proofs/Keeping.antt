@@ -25,9 +25,9 @@ use Rattle.recovery_manager.specs.declared.decision.Decision.{Decision}
 use Rattle.recovery_manager.specs.declared.decision.Decision.TheVariants.{None, Reboot}
 use Rattle.recovery_manager.specs.Decisions.{decision_of}
 use Rattle.recovery_manager.specs.Events.{ManagerEvent, Reported, JournalFilled, acts_by, acts_in, acts_of, consumes, reports_in, pending, unconsumed, moment_of, last_moment, decision_after}
-use Rattle.recovery_manager.specs.Kept.{ManagerValue, groups_of, known_path, known_report, StandsFor, AreScores}
+use Rattle.recovery_manager.specs.Kept.{ManagerValue, groups_of, known_path, known_report, kept_decision, StandsFor}
 use Rattle.recovery_manager.specs.Levels.{is_recent}
-use Rattle.recovery_manager.proofs.Blaming.{decision_kept}
+use Rattle.recovery_manager.proofs.Blaming.{decided_by_scores, decision_kept}
 
 -- whether reports are consumed by one of the events and a last one
 consumed_by_last : (events : List ManagerEvent) (event : ManagerEvent) → list_any consumes (events ++ event ∷ []) ≡ (list_any consumes events || (consumes event || false))
@@ -94,19 +94,6 @@ is_on_known count c (d ∷ path) below = go (is_on_known count c path below) (na
     go more false above true same = let wrong : true ≡ false = apart above same in cc
     go more false above false differs = more ∙ sym (ap (λ (t : Bool). t || is_on c path) differs)
 
--- another number is on no path of components
-is_on_unknown : (count : ℕ) (c : ComponentNo) (path : List ComponentNo) → count ≤ c.0 → is_on c (known_path count path) ≡ false
-is_on_unknown count c [] above = refl
-is_on_unknown count c (d ∷ path) above = go (is_on_unknown count c path above) (nat_lt d.0 count) refl (d.0 == c.0) refl
-  where
-    apart : nat_lt d.0 count ≡ true → (d.0 == c.0) ≡ true → true ≡ false
-    apart below same = let equal : d.0 ≡ c.0 = grind (arith, nat_tests) in let less : d.0 < count = grind (arith, nat_tests) in absurd (omega arith)
-
-    go : is_on c (known_path count path) ≡ false → (b : Bool) → nat_lt d.0 count ≡ b → (e : Bool) → (d.0 == c.0) ≡ e → is_on c (cond b (d ∷ known_path count path) (known_path count path)) ≡ false
-    go more true below true same = let wrong : true ≡ false = apart below same in cc
-    go more true below false differs = ap (λ (t : Bool). t || is_on c (known_path count path)) differs ∙ more
-    go more false not_below e same = more
-
 -- a component of the deployment scores by the components on the paths what it does by the paths
 score_known : (count : ℕ) (reports : List PathReport) (c : ComponentNo) (now : Moment) → c.0 < count → score (map (known_report count) reports) c now ≡ score reports c now
 score_known count [] c now below = refl
@@ -121,46 +108,33 @@ score_known count (r ∷ rs) c now below =
     go more true = omega arith
     go more false = more
 
--- another number scores nothing
-score_unknown : (count : ℕ) (reports : List PathReport) (c : ComponentNo) (now : Moment) → count ≤ c.0 → score (map (known_report count) reports) c now ≡ 0
-score_unknown count [] c now above = refl
-score_unknown count (r ∷ rs) c now above =
-    ap (λ (b : Bool). length (cond b (known_report count r ∷ filter (counts c now) (map (known_report count) rs)) (filter (counts c now) (map (known_report count) rs)))) (and_without (scores.is_recent now r) (is_on c (known_path count r.path)) (is_on_unknown count c r.path above))
-    ∙ score_unknown count rs c now above
-
 -- the scores by what is kept and one more report
 kept_score : (count : ℕ) (reports : List PathReport) (report : PathReport) (then now : Moment) (c : ComponentNo) → then.0 ≤ now.0 → score (filter (scores.is_recent then) (map (known_report count) reports) ++ known_report count report ∷ []) c now ≡ score (map (known_report count) (reports ++ report ∷ [])) c now
 kept_score count reports report then now c earlier =
     ap (λ (rs : List PathReport). length rs) (filter_later (scores.is_recent then) (counts c now) (recent_before then now c earlier) (map (known_report count) reports) (known_report count report ∷ []))
     ∙ ap (λ (rs : List PathReport). score rs c now) (sym (map-append (known_report count) reports (report ∷ [])))
 
--- by what is kept each component scores what it does by all reports that are not consumed
-are_scores : (parts : Parts) (reports : List PathReport) (report : PathReport) (then now : Moment) → then.0 ≤ now.0 → AreScores parts (reports ++ report ∷ []) now (filter (scores.is_recent then) (map (known_report (length parts.components)) reports) ++ known_report (length parts.components) report ∷ [])
-are_scores parts reports report then now earlier = record {
-  components = λ c below. kept_score (length parts.components) reports report then now c earlier ∙ score_known (length parts.components) (reports ++ report ∷ []) c now below;
-  others = λ c above. kept_score (length parts.components) reports report then now c earlier ∙ score_unknown (length parts.components) (reports ++ report ∷ []) c now above;
-}
-
 count_of : (parts : Parts) (groups : List GroupNo) → groups ≡ groups_of parts → length groups ≡ length parts.components
 count_of parts groups same = ap (λ (gs : List GroupNo). length gs) same ∙ length-map-range_with_len (λ (n : ℕ). group_no (group_of parts n)) 0 (length parts.components)
 
 -- what is decided by what is kept and one more report is decided by all
-pub decided_by_kept : (parts : Parts) (events : List ManagerEvent) (old : ManagerValue) (path : List ComponentNo) (moment : Moment) (decision : Decision) → StandsFor old parts events → old.latest.0 ≤ moment.0
-    → ((p : Parts) (reports : List PathReport) → old.groups ≡ groups_of p → AreScores p reports moment (old.reports ++ report_of (known_path (length old.groups) path) moment ∷ []) → decision ≡ decision_of p reports old.acts moment)
-    → decision ≡ decision_after parts events (report_of path moment)
-decided_by_kept parts events old path moment decision stands in_order decides =
-    decides parts (pending events ++ report_of path moment ∷ []) stands.groups kept_scores
-    ∙ ap (λ (acts : List Act). decision_of parts (pending events ++ report_of path moment ∷ []) acts moment) stands.acts
-    ∙ decision_kept parts (pending events ++ report_of path moment ∷ []) (acts_of events) (last_moment events) moment earlier
+pub decided_by_kept : (parts : Parts) (events : List ManagerEvent) (old : ManagerValue) (report : PathReport) → StandsFor old parts events → old.latest.0 ≤ report.moment.0 → kept_decision old.groups (old.reports ++ known_report (length old.groups) report ∷ []) old.acts report.moment ≡ decision_after parts events report
+decided_by_kept parts events old report stands in_order =
+    decided_by_scores parts old.groups (old.reports ++ known_report (length old.groups) report ∷ []) (pending events ++ report ∷ []) old.acts report.moment stands.groups same_scores
+    ∙ ap (λ (acts : List Act). decision_of parts (pending events ++ report ∷ []) acts report.moment) stands.acts
+    ∙ decision_kept parts (pending events ++ report ∷ []) (acts_of events) (last_moment events) report.moment earlier
   where
-    earlier : (last_moment events).0 ≤ moment.0
-    earlier = subst (λ (m : Moment). m.0 ≤ moment.0) stands.latest in_order
+    earlier : (last_moment events).0 ≤ report.moment.0
+    earlier = subst (λ (m : Moment). m.0 ≤ report.moment.0) stands.latest in_order
 
-    kept_is : filter (scores.is_recent (last_moment events)) (map (known_report (length parts.components)) (pending events)) ++ known_report (length parts.components) (report_of path moment) ∷ [] ≡ old.reports ++ report_of (known_path (length old.groups) path) moment ∷ []
-    kept_is = ap (λ (rs : List PathReport). rs ++ known_report (length parts.components) (report_of path moment) ∷ []) (sym stands.reports) ∙ ap (λ (n : ℕ). old.reports ++ report_of (known_path n path) moment ∷ []) (sym (count_of parts old.groups stands.groups))
+    kept_is : old.reports ++ known_report (length old.groups) report ∷ [] ≡ filter (scores.is_recent (last_moment events)) (map (known_report (length parts.components)) (pending events)) ++ known_report (length parts.components) report ∷ []
+    kept_is = ap (λ (n : ℕ). old.reports ++ known_report n report ∷ []) (count_of parts old.groups stands.groups) ∙ ap (λ (rs : List PathReport). rs ++ known_report (length parts.components) report ∷ []) stands.reports
 
-    kept_scores : AreScores parts (pending events ++ report_of path moment ∷ []) moment (old.reports ++ report_of (known_path (length old.groups) path) moment ∷ [])
-    kept_scores = subst (λ (rs : List PathReport). AreScores parts (pending events ++ report_of path moment ∷ []) moment rs) kept_is (are_scores parts (pending events) (report_of path moment) (last_moment events) moment earlier)
+    same_scores : (c : ComponentNo) → c.0 < length parts.components → score (old.reports ++ known_report (length old.groups) report ∷ []) c report.moment ≡ score (pending events ++ report ∷ []) c report.moment
+    same_scores c below =
+        ap (λ (rs : List PathReport). score rs c report.moment) kept_is
+        ∙ kept_score (length parts.components) (pending events) report (last_moment events) report.moment c earlier
+        ∙ score_known (length parts.components) (pending events ++ report ∷ []) c report.moment below
 
 -- of reports and one more those that a decision leaves are kept
 unconsumed_kept : (count : ℕ) (reports : List PathReport) (report : PathReport) (decision : Decision) (then now : Moment) → then.0 ≤ now.0 → filter (scores.is_recent now) (unconsumed decision (filter (scores.is_recent then) (map (known_report count) reports) ++ known_report count report ∷ [])) ≡ filter (scores.is_recent now) (map (known_report count) (unconsumed decision (reports ++ report ∷ [])))

@@ -1,3 +1,4 @@
 pub mod Blaming
+pub mod Hearing
 pub mod Keeping
 pub mod Widening
