@@ -1,5 +1,5 @@
 -- What a step hands to the keeper, by what the keeper replied to it.
-use Rattle.std.proofs.Common.{◌≡◌, ◌≢◌, ◌⊎◌, ◌∙◌, inl, inr, refl, sym, ap, subst, ℕ, ◌≤◌, ◌<◌, ◌^◌, Bool, true, false, List, [], ◌∷◌, Option, Some, None, arith}
+use Rattle.std.proofs.Common.{◌≡◌, ◌≢◌, ◌⊎◌, ◌∙◌, inl, inr, refl, sym, ap, subst, ℕ, ◌≤◌, ◌<◌, ◌^◌, Bool, true, false, List, [], ◌∷◌, ◌++◌, Option, Some, None, arith}
 use Rattle.std.proofs.lemmas.List.{append-nil}
 use Rattle.auction_calls.specs.declared.action.ActionCall.{ActionCall}
 use Rattle.auction_site.specs.Actions.{steps_of}
@@ -15,6 +15,7 @@ use Rattle.outside.specs.Faults.{Rose}
 use Rattle.outside.specs.declared.clock.TheConstants.{MOMENTS_END}
 use Rattle.outside.specs.Keeper.{KeeperTold, TellsRefusal}
 use Rattle.outside.specs.declared.keeper.KeeperFault.TheVariants as faults
+use Rattle.recovery_manager.specs.Kept.{ManagerValue}
 use Rattle.request_tries.specs.Steps.{KeepsNothing}
 use Rattle.request_visit.specs.Stepping.{VisitsInside}
 use Rattle.request_visit.specs.declared.visit.Visit.{Visit}
@@ -41,6 +42,7 @@ use Rattle.shepherd.specs.declared.shepherd.Stage.TheVariants.{Resting, Serving,
 use Rattle.shepherd_steps.specs.Inside.{HasReplied, Inside, TellsReply, added_to, handed, inside}
 use Rattle.shepherd_steps.specs.Stepping.{World, event_at, step, step_inside, steps_in}
 use Rattle.seat_lines.specs.Handing.{AreCounted, AreHanded, AreSomeHanded, BreaksIn, Handed, HasMovedIn, TellsHanded, handed_first, writes_by}
+use Rattle.seat_lines.specs.Hearing.{decided_text, manager_after}
 use Rattle.seat_lines.specs.Making.{PlaceHearsSpelled, WasStepped}
 use Rattle.seat_lines.specs.Lines.{Place, moved, moves, place_step, step_text, steps_at, still_by, end_of, worker_of}
 
@@ -164,17 +166,17 @@ nothing_kept handed old new keeps count = record {
 }
 
 -- at a turn that moves, a connection comes to what its step comes to
-pub moved_at : (t : ShepherdTurn) (g : SeatGivens) (n : ℕ) (seat : Seat) (w : SeatWorld) → moves t ≡ true → steps_at t g n seat w ≡ moved t n (seat_step g seat w)
-moved_at turns.Bytes g n seat w is = absurd (cc)
-moved_at turns.Request g n seat w is = refl
-moved_at turns.Outside g n seat w is = refl
-moved_at turns.Windows g n seat w is = refl
-moved_at turns.Inside g n seat w is = refl
-moved_at turns.Program g n seat w is = refl
-moved_at turns.Own g n seat w is = refl
-moved_at turns.Output g n seat w is = refl
-moved_at turns.Item g n seat w is = refl
-moved_at (turns.Ended end) g n seat w is = absurd (cc)
+pub moved_at : (t : ShepherdTurn) (g : SeatGivens) (n : ℕ) (seat : Seat) (w : SeatWorld) (m : ManagerValue) → moves t ≡ true → steps_at t g n seat w m ≡ moved t n (seat_step g seat w) m
+moved_at turns.Bytes g n seat w m is = absurd (cc)
+moved_at turns.Request g n seat w m is = refl
+moved_at turns.Outside g n seat w m is = refl
+moved_at turns.Windows g n seat w m is = refl
+moved_at turns.Inside g n seat w m is = refl
+moved_at turns.Program g n seat w m is = refl
+moved_at turns.Own g n seat w m is = refl
+moved_at turns.Output g n seat w m is = refl
+moved_at turns.Item g n seat w m is = refl
+moved_at (turns.Ended end) g n seat w m is = absurd (cc)
 
 -- what a step in the container leaves of the boot and of its events is a function
 abbrev pub InsideLaw : Type 0
@@ -235,36 +237,36 @@ boot_stays old new grown before after since =
     ∙ ap (λ (es : List Entry). let b : BootValue = record { start = old.boot.start; entries = es; entered = new.boot.entered } in b) (sym after ∙ (ap entries_in since ∙ before))
 
 -- memory ran out in a step of a seat
-pub broke_in : InsideLaw → (key : List ℕ) (now : Moment) (n : ℕ) (seat : Seat) (old new : ContainerValue) (lanes : LanesState) (next after : NextDraws) → BreaksOff key now seat old lanes next new after → moves (turn seat.connection) ≡ true → (new.since ≡ old.since → HasOnlyEntered old.boot new.boot) → old.faults ≤ new.faults → BreaksIn key now n (Some seat) old (world_from old lanes next) new
+pub broke_in : InsideLaw → (key : List ℕ) (now : Moment) (n : ℕ) (seat : Seat) (old new : ContainerValue) (lanes : LanesState) (next after : NextDraws) (m : ManagerValue) → BreaksOff key now seat old lanes next new after → moves (turn seat.connection) ≡ true → (new.since ≡ old.since → HasOnlyEntered old.boot new.boot) → old.faults ≤ new.faults → BreaksIn key now n (Some seat) old (world_from old lanes next) m new
 unfolding place_step
-broke_in law key now n seat old new lanes next after (inl nothing) moving stays count = record {
+broke_in law key now n seat old new lanes next after m (inl nothing) moving stays count = record {
   keeps = true;
   handed = nothing_kept (handed_first (seat_writes seat.connection old.boot) true []) old new nothing.keeper count;
   added = inl (refl, (stays nothing.since, nothing.since));
 }
-broke_in law key now n seat old new lanes next after (inr (bytes, mid, link, made)) moving stays count =
+broke_in law key now n seat old new lanes next after m (inr (bytes, mid, link, made)) moving stays count =
     let keeps : Bool = kept_between old new in
     let g : SeatGivens = record { key = key; worker = worker_of n; now = now; keeps = keeps } in
     let w : SeatWorld = world_from old lanes next in
     let o : SeatOutcome = seat_step g seat w in
     let writes : List RowWrite = seat_writes seat.connection old.boot in
     let event : MakesEvent g seat.connection old (record { lanes = lanes; active = seat.twin }) next bytes mid new link after = made (worker_of n) in
-    let place : Place = record { seat = Some o.seat; world = o.world } in
+    let place : Place = record { seat = Some o.seat; world = o.world; manager = manager_after m o.report } in
     let left : (new.boot ≡ o.world.boot) × (new.since ≡ o.world.since) = made_leaves law g seat old lanes next bytes mid new link after event in
     record {
       keeps = keeps;
       handed = all_handed (handed_first writes keeps []) old new (handed_once writes keeps old new event.keeper count);
-      added = inr (refl, refl, (place, step_text (turn seat.connection) n o.bytes, moved_at (turn seat.connection) g n seat w moving, left.0, left.1), one_hears seat lanes event.heard);
+      added = inr (refl, refl, (place, step_text (turn seat.connection) n o.bytes ++ decided_text m o.report, moved_at (turn seat.connection) g n seat w m moving, left.0, left.1), one_hears seat lanes event.heard);
     }
 
 -- the same, of the key and the moment that are lent
-pub breaks_lent : (key lent_key : List ℕ) (now lent_now : Moment) (n : ℕ) (seat : Option Seat) (old : ContainerValue) (w : SeatWorld) (new : ContainerValue) → key ≡ lent_key → now ≡ lent_now → BreaksIn key now n seat old w new → BreaksIn lent_key lent_now n seat old w new
-breaks_lent key lent_key now lent_now n seat old w new keys moments at =
-    subst (λ (k : List ℕ). BreaksIn k lent_now n seat old w new) keys (subst (λ (m : Moment). BreaksIn key m n seat old w new) moments at)
+pub breaks_lent : (key lent_key : List ℕ) (now lent_now : Moment) (n : ℕ) (seat : Option Seat) (old : ContainerValue) (w : SeatWorld) (m : ManagerValue) (new : ContainerValue) → key ≡ lent_key → now ≡ lent_now → BreaksIn key now n seat old w m new → BreaksIn lent_key lent_now n seat old w m new
+breaks_lent key lent_key now lent_now n seat old w m new keys moments at =
+    subst (λ (k : List ℕ). BreaksIn k lent_now n seat old w m new) keys (subst (λ (x : Moment). BreaksIn key x n seat old w m new) moments at)
 
 -- the same, where the connection is not there, or nothing is handed
-pub broke_still : (key : List ℕ) (now : Moment) (n : ℕ) (seat : Option Seat) (c : ContainerValue) (w : SeatWorld) → BreaksIn key now n seat c w c
-broke_still key now n seat c w = record {
+pub broke_still : (key : List ℕ) (now : Moment) (n : ℕ) (seat : Option Seat) (c : ContainerValue) (w : SeatWorld) (m : ManagerValue) → BreaksIn key now n seat c w m c
+broke_still key now n seat c w m = record {
   keeps = true;
   handed = nothing_kept (handed_first (writes_by seat c.boot) true []) c c (inl refl) (omega (arith));
   added = inl (refl, (refl, refl));
@@ -277,14 +279,14 @@ done_keeps answers.Done old new text is = tt
 done_keeps (answers.Wrote out) old new text is = tt
 
 -- a connection that made a step at its turn came to what the function says
-pub moved_in : (key : List ℕ) (now : Moment) (n : ℕ) (seat : Seat) (old : ContainerValue) (w : SeatWorld) (new : ContainerValue) (o : SeatOutcome) (a : Answer Place) → HasStepped key (worker_of n) now seat old w new o → AroundStep now seat old w new o → moves (turn seat.connection) ≡ true → old.faults ≤ new.faults → a ≡ moved (turn seat.connection) n o
-    → HasMovedIn key now n (Some seat) old w a new
+pub moved_in : (key : List ℕ) (now : Moment) (n : ℕ) (seat : Seat) (old : ContainerValue) (w : SeatWorld) (m : ManagerValue) (new : ContainerValue) (o : SeatOutcome) (a : Answer Place) → HasStepped key (worker_of n) now seat old w new o → AroundStep now seat old w new o → moves (turn seat.connection) ≡ true → old.faults ≤ new.faults → a ≡ moved (turn seat.connection) n o m
+    → HasMovedIn key now n (Some seat) old w m a new
 unfolding place_step
-moved_in key now n seat old w new o a stepped around moving count is =
+moved_in key now n seat old w m new o a stepped around moving count is =
     let g : SeatGivens = record { key = key; worker = worker_of n; now = now; keeps = stepped.keeps } in
     record {
       keeps = stepped.keeps;
-      answers = is ∙ (ap (λ (x : SeatOutcome). moved (turn seat.connection) n x) stepped.step_is ∙ sym (moved_at (turn seat.connection) g n seat w moving));
+      answers = is ∙ (ap (λ (x : SeatOutcome). moved (turn seat.connection) n x m) stepped.step_is ∙ sym (moved_at (turn seat.connection) g n seat w m moving));
       handed = handed_once (seat_writes seat.connection old.boot) stepped.keeps old new stepped.keeper count;
       heard = one_hears seat w.store stepped.heard;
       made = one_made g seat w (was_stepped key now n seat old w new o stepped around);
@@ -305,9 +307,9 @@ no_writes turns.Item seat boot is at = absurd (cc)
 no_writes (turns.Ended end) seat boot is at = ap (λ (x : ShepherdTurn). writes_at x seat.connection.stage boot) at
 
 -- a connection that is not there is refused
-pub none_moves : (key : List ℕ) (now : Moment) (n : ℕ) (c : ContainerValue) (w : SeatWorld) → HasMovedIn key now n None c w Refused c
+pub none_moves : (key : List ℕ) (now : Moment) (n : ℕ) (c : ContainerValue) (w : SeatWorld) (m : ManagerValue) → HasMovedIn key now n None c w m Refused c
 unfolding place_step
-none_moves key now n c w =
+none_moves key now n c w m =
     record {
       keeps = true;
       answers = refl;
@@ -317,39 +319,39 @@ none_moves key now n c w =
     }
 
 -- what a connection comes to at a turn at which it makes no step
-still_at : (t : ShepherdTurn) (g : SeatGivens) (n : ℕ) (seat : Seat) (w : SeatWorld) → moves t ≡ false → still_by (end_of t) n seat w ≡ steps_at t g n seat w
-still_at turns.Bytes g n seat w is = refl
-still_at turns.Request g n seat w is = absurd (cc)
-still_at turns.Outside g n seat w is = absurd (cc)
-still_at turns.Windows g n seat w is = absurd (cc)
-still_at turns.Inside g n seat w is = absurd (cc)
-still_at turns.Program g n seat w is = absurd (cc)
-still_at turns.Own g n seat w is = absurd (cc)
-still_at turns.Output g n seat w is = absurd (cc)
-still_at turns.Item g n seat w is = absurd (cc)
-still_at (turns.Ended end) g n seat w is = refl
+still_at : (t : ShepherdTurn) (g : SeatGivens) (n : ℕ) (seat : Seat) (w : SeatWorld) (m : ManagerValue) → moves t ≡ false → still_by (end_of t) n seat w m ≡ steps_at t g n seat w m
+still_at turns.Bytes g n seat w m is = refl
+still_at turns.Request g n seat w m is = absurd (cc)
+still_at turns.Outside g n seat w m is = absurd (cc)
+still_at turns.Windows g n seat w m is = absurd (cc)
+still_at turns.Inside g n seat w m is = absurd (cc)
+still_at turns.Program g n seat w m is = absurd (cc)
+still_at turns.Own g n seat w m is = absurd (cc)
+still_at turns.Output g n seat w m is = absurd (cc)
+still_at turns.Item g n seat w m is = absurd (cc)
+still_at (turns.Ended end) g n seat w m is = refl
 
 -- a connection makes no step at its turn, and this is what it comes to
-pub still_moves : (key : List ℕ) (now : Moment) (n : ℕ) (seat : Seat) (c : ContainerValue) (w : SeatWorld) (a : Answer Place) → moves (turn seat.connection) ≡ false → a ≡ still_by (end_of (turn seat.connection)) n seat w → HasMovedIn key now n (Some seat) c w a c
+pub still_moves : (key : List ℕ) (now : Moment) (n : ℕ) (seat : Seat) (c : ContainerValue) (w : SeatWorld) (m : ManagerValue) (a : Answer Place) → moves (turn seat.connection) ≡ false → a ≡ still_by (end_of (turn seat.connection)) n seat w m → HasMovedIn key now n (Some seat) c w m a c
 unfolding place_step
-still_moves key now n seat c w a rests is =
+still_moves key now n seat c w m a rests is =
     let g : SeatGivens = record { key = key; worker = worker_of n; now = now; keeps = true } in
     record {
       keeps = true;
-      answers = is ∙ still_at (turn seat.connection) g n seat w rests;
+      answers = is ∙ still_at (turn seat.connection) g n seat w m rests;
       handed = subst (λ (writes : List RowWrite). AreHanded (handed_first writes true []) c c) (sym (no_writes (turn seat.connection) seat c.boot rests refl)) (handed_none c);
       heard = one_hears seat w.store (still_hears seat w.store rests);
       made = still_made g seat w rests;
     }
 
 -- memory ran out behind a step of a seat that was made
-pub stepped_breaks : (key : List ℕ) (now : Moment) (n : ℕ) (seat : Seat) (old : ContainerValue) (w : SeatWorld) (new : ContainerValue) (o : SeatOutcome) → HasStepped key (worker_of n) now seat old w new o → moves (turn seat.connection) ≡ true → new.boot ≡ o.world.boot → new.since ≡ o.world.since → old.faults ≤ new.faults → BreaksIn key now n (Some seat) old w new
+pub stepped_breaks : (key : List ℕ) (now : Moment) (n : ℕ) (seat : Seat) (old : ContainerValue) (w : SeatWorld) (m : ManagerValue) (new : ContainerValue) (o : SeatOutcome) → HasStepped key (worker_of n) now seat old w new o → moves (turn seat.connection) ≡ true → new.boot ≡ o.world.boot → new.since ≡ o.world.since → old.faults ≤ new.faults → BreaksIn key now n (Some seat) old w m new
 unfolding place_step
-stepped_breaks key now n seat old w new o stepped moving boot since count =
+stepped_breaks key now n seat old w m new o stepped moving boot since count =
     let g : SeatGivens = record { key = key; worker = worker_of n; now = now; keeps = stepped.keeps } in
     let to : SeatOutcome = seat_step g seat w in
     let writes : List RowWrite = seat_writes seat.connection old.boot in
-    let place : Place = record { seat = Some to.seat; world = to.world } in
+    let place : Place = record { seat = Some to.seat; world = to.world; manager = manager_after m to.report } in
     record {
       keeps = stepped.keeps;
       handed = all_handed (handed_first writes stepped.keeps []) old new (handed_once writes stepped.keeps old new stepped.keeper count);
@@ -358,8 +360,8 @@ stepped_breaks key now n seat old w new o stepped moving boot since count =
         refl,
         (
           place,
-          step_text (turn seat.connection) n to.bytes,
-          moved_at (turn seat.connection) g n seat w moving,
+          step_text (turn seat.connection) n to.bytes ++ decided_text m to.report,
+          moved_at (turn seat.connection) g n seat w m moving,
           boot ∙ ap (λ (x : SeatOutcome). x.world.boot) stepped.step_is,
           since ∙ ap (λ (x : SeatOutcome). x.world.since) stepped.step_is,
         ),
@@ -368,5 +370,5 @@ stepped_breaks key now n seat old w new o stepped moving boot since count =
     }
 
 -- the same, in its place
-pub still_there : (key : List ℕ) (now : Moment) (n : ℕ) (place : Option Seat) (seat : Seat) (c : ContainerValue) (w : SeatWorld) (a : Answer Place) → place ≡ Some seat → moves (turn seat.connection) ≡ false → a ≡ still_by (end_of (turn seat.connection)) n seat w → HasMovedIn key now n place c w a c
-still_there key now n place seat c w a there rests is = subst (λ (p : Option Seat). HasMovedIn key now n p c w a c) (sym there) (still_moves key now n seat c w a rests is)
+pub still_there : (key : List ℕ) (now : Moment) (n : ℕ) (place : Option Seat) (seat : Seat) (c : ContainerValue) (w : SeatWorld) (m : ManagerValue) (a : Answer Place) → place ≡ Some seat → moves (turn seat.connection) ≡ false → a ≡ still_by (end_of (turn seat.connection)) n seat w m → HasMovedIn key now n place c w m a c
+still_there key now n place seat c w m a there rests is = subst (λ (p : Option Seat). HasMovedIn key now n p c w m a c) (sym there) (still_moves key now n seat c w m a rests is)

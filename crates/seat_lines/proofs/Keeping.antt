@@ -34,8 +34,8 @@ use Rattle.seat_lines.specs.Responding.{bytes_by, in_row}
 use Rattle.seat_lines.specs.Runs.{rests, run_from, seat_line, steps_from}
 use Rattle.seat_lines.specs.Site.{SiteState, seat_at, with_seat}
 use Rattle.seat_lines.proofs.Answering.{Comes, run_begun, run_keeps}
-use Rattle.seat_lines.proofs.Outs.{none_given}
 use Rattle.seat_lines.proofs.OneSeat.{answer_is, bytes_fed, input_ended, others_stay, still_alone, there_refused}
+use Rattle.seat_lines.proofs.Saying.{none_given}
 use Rattle.seat_lines.proofs.SeatSteps.{goes_ended, left_by_seat, near_step, none_steps, stays_at, waits_still, with_bricks, within_places}
 
 -- What a line leaves of a site: its key, its moment and the start of its boot are as they were, and events were added
@@ -264,7 +264,7 @@ step_leads n keeps more s t text is =
 -- What steps yield.
 
 -- what a run yields is what its steps yield
-run_by_steps : {A : Type 0} (gives : ShepherdTurn → SeatOutcome → List A) (n : ℕ) (replies : List Bool) (s : SiteState)
+pub run_by_steps : {A : Type 0} (gives : ShepherdTurn → SeatOutcome → List A) (n : ℕ) (replies : List Bool) (s : SiteState)
     → run_yields gives s n replies ≡ flat_map (λ (step : StepMade). step_yields gives step.site step.number step.keeps) (run_makes s n replies)
 run_by_steps {A} gives n [] s = refl
 run_by_steps {A} gives n (keeps ∷ more) s = go (λ x. run_by_steps gives n more x) (rests (seat_at s.seats.seats n)) (step_line s n keeps) where
@@ -279,7 +279,7 @@ run_by_steps {A} gives n (keeps ∷ more) s = go (λ x. run_by_steps gives n mor
   go later false (Done x o) = ap (λ (xs : List A). step_yields gives s n keeps ++ xs) (later x)
 
 -- what a line yields is what its steps yield
-line_by_steps : {A : Type 0} (gives : ShepherdTurn → SeatOutcome → List A) (n : ℕ) (keeps : Bool) (more : List Bool) (s t : SiteState) (text : List ℕ) → step_line s n keeps ≡ Done t text
+pub line_by_steps : {A : Type 0} (gives : ShepherdTurn → SeatOutcome → List A) (n : ℕ) (keeps : Bool) (more : List Bool) (s t : SiteState) (text : List ℕ) → step_line s n keeps ≡ Done t text
     → step_yields gives s n keeps ≡ flat_map (λ (step : StepMade). step_yields gives step.site step.number step.keeps) (step_makes s n (keeps ∷ more))
 line_by_steps {A} gives n keeps more s t text is =
     sym (ap (λ (a : Answer SiteState). flat_map (λ (step : StepMade). step_yields gives step.site step.number step.keeps) (elim a [ Refused ↦ [] | Done x o ↦ record { site = s; number = n; keeps = keeps } ∷ [] ])) is

@@ -2,6 +2,7 @@ mod Answering
 pub mod GivenUp
 pub mod Going
 mod Handing
+pub mod Hearing
 pub mod Keeping
 mod Leaving
 pub mod Making
@@ -11,6 +12,7 @@ pub mod OneSeat
 pub mod Outs
 mod Placing
 pub mod RunSteps
+mod Saying
 pub mod SeatSteps
 pub mod Taken
 mod LinesAnswer

@@ -63,8 +63,8 @@ module _ (s : SiteState) (n m : ℕ) (other : m ≢ n) where
   step_stays t keeps stays =
       comes_if (λ u text. Stays u) (is_beyond n) (or_refused t.sessions.store (λ (st : LanesState). step_over t n keeps st)) (λ near.
       comes_or (λ u text. Stays u) t.sessions.store (λ (st : LanesState). step_over t n keeps st) (λ st is.
-      comes_within (λ u text. Stays u) (with_place t n) (place_step (givens_of t n keeps) n (seat_at t.seats.seats n) (world_of t st))
-      (comes_all (λ (p : Place) text. Stays (with_place t n p)) (place_step (givens_of t n keeps) n (seat_at t.seats.seats n) (world_of t st)) (λ p text. get_or-set_other t.seats.seats n m p.seat None other ∙ stays))))
+      comes_within (λ u text. Stays u) (with_place t n) (place_step (givens_of t n keeps) n (seat_at t.seats.seats n) (world_of t st) t.seats.manager)
+      (comes_all (λ (p : Place) text. Stays (with_place t n p)) (place_step (givens_of t n keeps) n (seat_at t.seats.seats n) (world_of t st) t.seats.manager) (λ p text. get_or-set_other t.seats.seats n m p.seat None other ∙ stays))))
 
   run_stays : (t : SiteState) (replies : List Bool) (text : List ℕ) → run_line s n replies ≡ Some (Done t text) → Stays t
   run_stays t replies text is = run_keeps Stays n step_stays s [] replies t text refl (run_begun s t n replies text is)
@@ -94,7 +94,7 @@ unfolding open_line
 conn_alone s n =
     comes_if (ChangesSeatsAlone s) (is_beyond n) (open_line s n) (λ near.
     comes_if (ChangesSeatsAlone s) (is_some (seat_at s.seats.seats n)) (Done (with_seat (with_seats s (padded s.seats.seats n)) n (Some new_seat)) []) (λ none.
-    record { boot = refl; since = refl; sessions = refl; word = refl; silent = refl }))
+    record { boot = refl; since = refl; sessions = refl; word = refl; manager = refl; silent = refl }))
 
 -- a connection to which something came, and which wrote nothing
 record Came (seat : Option Seat) (become : Seat → Seat) (new : Option Seat) (text : List ℕ) : Type 0 where
@@ -117,7 +117,7 @@ end_came (Some seat) =
 -- what came to one connection is a change of connections alone
 came_alone : (s : SiteState) (n : ℕ) (become : Seat → Seat) (a : Answer (Option Seat)) → Comes (Came (seat_at s.seats.seats n) become) a → Comes (ChangesSeatsAlone s) (within (with_seat s n) a)
 came_alone s n become Refused came = tt
-came_alone s n become (Done new text) came = record { boot = refl; since = refl; sessions = refl; word = refl; silent = came.silent }
+came_alone s n become (Done new text) came = record { boot = refl; since = refl; sessions = refl; word = refl; manager = refl; silent = came.silent }
 
 came_becomes : (s : SiteState) (n : ℕ) (become : Seat → Seat) (a : Answer (Option Seat)) → Comes (Came (seat_at s.seats.seats n) become) a → Comes (λ t text. SeatBecomes n s become t) (within (with_seat s n) a)
 came_becomes s n become Refused came = tt

@@ -7,6 +7,7 @@ use Rattle.scenario_text.specs.Answer.{Answer, Refused, Done, KeepsRefused, answ
 use Rattle.scenario_text.specs.declared.answer.LineAnswer.{LineAnswer}
 use Rattle.scenario_text.specs.declared.answer.LineAnswer.TheVariants as answers
 use Rattle.scenario_text.specs.declared.seat_line.TheConstants.{MAX_SEAT}
+use Rattle.recovery_manager.specs.Kept.{ManagerValue}
 use Rattle.seat_steps.specs.Replies.{SeatHears}
 use Rattle.seat_steps.specs.Seats.{SeatGivens, SeatWorld}
 use Rattle.seat_steps.specs.declared.seat.Seat.{Seat}
@@ -42,27 +43,27 @@ module _ (s : SiteState) (n : ℕ) (keeps : Bool) where
   abbrev HandsBy : Option Seat → Answer SiteState → List Handed
   HandsBy seat answer = elim answer [ Refused ↦ [] | Done t out ↦ handed_first (writes_by seat s.boot) keeps [] ]
 
-  hands_at : (t : ShepherdTurn) (seat : Seat) (w : SeatWorld) → HandsBy (Some seat) (within (with_place s n) (steps_at t (givens_of s n keeps) n seat w)) ≡ handed_first (writes_by (Some seat) s.boot) keeps []
-  hands_at turns.Bytes seat w = refl
-  hands_at turns.Request seat w = refl
-  hands_at turns.Outside seat w = refl
-  hands_at turns.Windows seat w = refl
-  hands_at turns.Inside seat w = refl
-  hands_at turns.Program seat w = refl
-  hands_at turns.Own seat w = refl
-  hands_at turns.Output seat w = refl
-  hands_at turns.Item seat w = refl
-  hands_at (turns.Ended end) seat w = refl
+  hands_at : (t : ShepherdTurn) (seat : Seat) (w : SeatWorld) (m : ManagerValue) → HandsBy (Some seat) (within (with_place s n) (steps_at t (givens_of s n keeps) n seat w m)) ≡ handed_first (writes_by (Some seat) s.boot) keeps []
+  hands_at turns.Bytes seat w m = refl
+  hands_at turns.Request seat w m = refl
+  hands_at turns.Outside seat w m = refl
+  hands_at turns.Windows seat w m = refl
+  hands_at turns.Inside seat w m = refl
+  hands_at turns.Program seat w m = refl
+  hands_at turns.Own seat w m = refl
+  hands_at turns.Output seat w m = refl
+  hands_at turns.Item seat w m = refl
+  hands_at (turns.Ended end) seat w m = refl
 
-  hands_in : (seat : Option Seat) (w : SeatWorld) → HandsBy seat (within (with_place s n) (place_step (givens_of s n keeps) n seat w)) ≡ handed_first (writes_by seat s.boot) keeps []
+  hands_in : (seat : Option Seat) (w : SeatWorld) (m : ManagerValue) → HandsBy seat (within (with_place s n) (place_step (givens_of s n keeps) n seat w m)) ≡ handed_first (writes_by seat s.boot) keeps []
   unfolding place_step
-  hands_in None w = refl
-  hands_in (Some seat) w = hands_at (turn seat.connection) seat w
+  hands_in None w m = refl
+  hands_in (Some seat) w m = hands_at (turn seat.connection) seat w m
 
   -- what the step of a connection hands over bricks
   pub hands_there : (store : LanesState) → n ≤ MAX_SEAT → s.sessions.store ≡ Some store → step_hands s n (keeps ∷ []) ≡ handed_first (writes_by (seat_at s.seats.seats n) s.boot) keeps []
   hands_there store fits there =
-      ap (HandsBy (seat_at s.seats.seats n)) (step_there s n keeps store fits there) ∙ hands_in (seat_at s.seats.seats n) (world_of s store)
+      ap (HandsBy (seat_at s.seats.seats n)) (step_there s n keeps store fits there) ∙ hands_in (seat_at s.seats.seats n) (world_of s store) s.seats.manager
 
 -- an answer that is done
 abbrev pub IsDone : Answer SiteState → Type 0
@@ -75,26 +76,26 @@ done_is : (answer : Answer SiteState) → is_done answer ≡ true → IsDone ans
 done_is Refused is = absurd (cc)
 done_is (Done t out) is = (t, out, refl)
 
-done_at : (s : SiteState) (n : ℕ) (t : ShepherdTurn) (g : SeatGivens) (seat : Seat) (w : SeatWorld) → is_done (within (with_place s n) (steps_at t g n seat w)) ≡ true
-done_at s n turns.Bytes g seat w = refl
-done_at s n turns.Request g seat w = refl
-done_at s n turns.Outside g seat w = refl
-done_at s n turns.Windows g seat w = refl
-done_at s n turns.Inside g seat w = refl
-done_at s n turns.Program g seat w = refl
-done_at s n turns.Own g seat w = refl
-done_at s n turns.Output g seat w = refl
-done_at s n turns.Item g seat w = refl
-done_at s n (turns.Ended end) g seat w = refl
+done_at : (s : SiteState) (n : ℕ) (t : ShepherdTurn) (g : SeatGivens) (seat : Seat) (w : SeatWorld) (m : ManagerValue) → is_done (within (with_place s n) (steps_at t g n seat w m)) ≡ true
+done_at s n turns.Bytes g seat w m = refl
+done_at s n turns.Request g seat w m = refl
+done_at s n turns.Outside g seat w m = refl
+done_at s n turns.Windows g seat w m = refl
+done_at s n turns.Inside g seat w m = refl
+done_at s n turns.Program g seat w m = refl
+done_at s n turns.Own g seat w m = refl
+done_at s n turns.Output g seat w m = refl
+done_at s n turns.Item g seat w m = refl
+done_at s n (turns.Ended end) g seat w m = refl
 
 -- over bricks, the step of a connection that is not at rest is done
 pub steps_done : (s : SiteState) (n : ℕ) (keeps : Bool) (store : LanesState) → n ≤ MAX_SEAT → s.sessions.store ≡ Some store → rests (seat_at s.seats.seats n) ≡ false → IsDone (step_line s n keeps)
 unfolding place_step
 steps_done s n keeps store fits there going =
     done_is (step_line s n keeps) (ap is_done (step_there s n keeps store fits there) ∙ go (seat_at s.seats.seats n) going) where
-      go : (o : Option Seat) → rests o ≡ false → is_done (within (with_place s n) (place_step (givens_of s n keeps) n o (world_of s store))) ≡ true
+      go : (o : Option Seat) → rests o ≡ false → is_done (within (with_place s n) (place_step (givens_of s n keeps) n o (world_of s store) s.seats.manager)) ≡ true
       go None e = absurd (cc)
-      go (Some seat) e = done_at s n (turn seat.connection) (givens_of s n keeps) seat (world_of s store)
+      go (Some seat) e = done_at s n (turn seat.connection) (givens_of s n keeps) seat (world_of s store) s.seats.manager
 
 -- an answer in a place is that of the whole
 within_answer : {A S : Type 0} (a : LineAnswer) (whole : A → S) (part : A) → answer_of a (whole part) ≡ within whole (answer_of a part)
@@ -122,7 +123,7 @@ module _ (n : ℕ) (old : ContainerValue) (lent : LentSessionsState) (lanes : La
   step_was_made keeps made st seat store there moving = made_over s n keeps lanes st seat store (made seat there moving)
 
   -- a connection that came to this in its place made a step of the site
-  pub made_there : (a : LineAnswer) (place : Place) → HasMovedIn lent.key lent.moment n (seat_at seats.seats n) old (world_of s lanes) (answer_of a place) new → HasMadeStep n old (put_back lent (Some lanes) serial) seats (answer_of a (with_place s n place)) new
+  pub made_there : (a : LineAnswer) (place : Place) → HasMovedIn lent.key lent.moment n (seat_at seats.seats n) old (world_of s lanes) seats.manager (answer_of a place) new → HasMadeStep n old (put_back lent (Some lanes) serial) seats (answer_of a (with_place s n place)) new
   made_there a place moved = record {
     keeps = moved.keeps;
     answers = within_answer a (with_place s n) place ∙ (ap (within (with_place s n)) moved.answers ∙ sym (step_there s n moved.keeps lanes fits refl));
@@ -132,7 +133,7 @@ module _ (n : ℕ) (old : ContainerValue) (lent : LentSessionsState) (lanes : La
   }
 
   -- so it is where memory ran out
-  pub breaks_there : BreaksIn lent.key lent.moment n (seat_at seats.seats n) old (world_of s lanes) new → BreaksStep n old (put_back lent (Some lanes) serial) seats new
+  pub breaks_there : BreaksIn lent.key lent.moment n (seat_at seats.seats n) old (world_of s lanes) seats.manager new → BreaksStep n old (put_back lent (Some lanes) serial) seats new
   breaks_there broke = record {
     keeps = broke.keeps;
     handed = record {
@@ -147,7 +148,7 @@ module _ (n : ℕ) (old : ContainerValue) (lent : LentSessionsState) (lanes : La
     added = added broke.added;
   } where
     answer : Answer Place
-    answer = place_step (record { key = lent.key; worker = worker_of n; now = lent.moment; keeps = broke.keeps }) n (seat_at seats.seats n) (world_of s lanes)
+    answer = place_step (record { key = lent.key; worker = worker_of n; now = lent.moment; keeps = broke.keeps }) n (seat_at seats.seats n) (world_of s lanes) seats.manager
 
     added : (HasAddedNothing broke.handed.made old new ⊎ ((broke.handed.more ≡ []) × (new.told ≡ broke.handed.between) × IsAsPlaceLeaves answer new × PlaceHearsSpelled (seat_at seats.seats n) lanes))
         → (HasAddedNothing broke.handed.made old new ⊎ ((broke.handed.more ≡ []) × (new.told ≡ broke.handed.between) × IsAsStepLeaves (step_line s n broke.keeps) new × StepHearsSpelled (step_in old (put_back lent (Some lanes) serial) seats n broke.keeps)))
@@ -158,13 +159,13 @@ module _ (n : ℕ) (old : ContainerValue) (lent : LentSessionsState) (lanes : La
   -- a connection that is not there makes no step
   pub none_there : (at : new ≡ old) → seat_at seats.seats n ≡ None → HasMadeStep n old (put_back lent (Some lanes) serial) seats Refused new
   none_there at none =
-      let place : Place = record { seat = None; world = world_of s lanes } in
+      let place : Place = record { seat = None; world = world_of s lanes; manager = seats.manager } in
       made_there answers.Refused place
-      (subst (λ (c : ContainerValue). HasMovedIn lent.key lent.moment n (seat_at seats.seats n) old (world_of s lanes) Refused c) (sym at)
-      (subst (λ (p : Option Seat). HasMovedIn lent.key lent.moment n p old (world_of s lanes) Refused old) (sym none) (none_moves lent.key lent.moment n old (world_of s lanes))))
+      (subst (λ (c : ContainerValue). HasMovedIn lent.key lent.moment n (seat_at seats.seats n) old (world_of s lanes) seats.manager Refused c) (sym at)
+      (subst (λ (p : Option Seat). HasMovedIn lent.key lent.moment n p old (world_of s lanes) seats.manager Refused old) (sym none) (none_moves lent.key lent.moment n old (world_of s lanes) seats.manager)))
 
   -- what is refused in its place leaves the site as it was
-  pub kept_there : (a : LineAnswer) (place : Place) → KeepsRefused a (let p : Place = record { seat = seat_at seats.seats n; world = world_of s lanes } in p) place → KeepsRefused a s (with_place s n place)
+  pub kept_there : (a : LineAnswer) (place : Place) → KeepsRefused a (let p : Place = record { seat = seat_at seats.seats n; world = world_of s lanes; manager = seats.manager } in p) place → KeepsRefused a s (with_place s n place)
   kept_there answers.Refused place is = ap (with_place s n) is ∙ ap (with_seats s) (set-get_or seats.seats n None)
   kept_there answers.Done place is = tt
   kept_there (answers.Wrote text) place is = tt

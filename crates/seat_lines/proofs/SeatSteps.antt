@@ -1,5 +1,5 @@
 -- The step of a connection is that of its seat.
-use Rattle.std.proofs.Common.{◌≡◌, ◌≢◌, ◌⊎◌, inl, inr, ℕ, ◌<◌, Bool, true, false, List, [], length, Option, Some, None, refl, sym, ap, ◌∙◌, arith}
+use Rattle.std.proofs.Common.{◌≡◌, ◌≢◌, ◌⊎◌, inl, inr, ℕ, ◌<◌, Bool, true, false, List, [], ◌++◌, length, Option, Some, None, refl, sym, ap, ◌∙◌, arith}
 use Rattle.std.proofs.lemmas.Bool.{cases_lt}
 use Rattle.std.proofs.lemmas.Bool.Decides.{nat_tests}
 use Rattle.std.proofs.lemmas.List.{get_or-set_same, get_or_past, set-get_or}
@@ -15,6 +15,7 @@ use Rattle.shepherd.specs.declared.shepherd.EndKind.{EndKind}
 use Rattle.shepherd.specs.declared.shepherd.ShepherdTurn.{ShepherdTurn}
 use Rattle.shepherd.specs.declared.shepherd.ShepherdTurn.TheVariants as turns
 use Rattle.seat_lines.specs.Changing.{IsLeftBySeat}
+use Rattle.seat_lines.specs.Hearing.{decided_text, manager_after}
 use Rattle.seat_lines.specs.Lines.{Place, givens_of, is_beyond, moves, place_step, step_line, step_over, step_text, steps_at, with_place, world_of}
 use Rattle.seat_lines.specs.Site.{SiteState, seat_at, with_seat, with_seats}
 use Rattle.seat_lines.specs.Texts.{gone_text}
@@ -29,7 +30,7 @@ within_places seats n seat there = elim (cases_lt n (length seats)) [
 
 -- the step of a connection in its place, over bricks
 abbrev pub InPlace : SiteState → ℕ → Bool → Seat → LanesState → Answer SiteState
-InPlace s n keeps seat st = within (with_place s n) (steps_at (turn seat.connection) (givens_of s n keeps) n seat (world_of s st))
+InPlace s n keeps seat st = within (with_place s n) (steps_at (turn seat.connection) (givens_of s n keeps) n seat (world_of s st) s.seats.manager)
 
 module _ (s : SiteState) (n : ℕ) (keeps : Bool) where
   -- a step that is done is of a number that a connection may have
@@ -56,7 +57,7 @@ module _ (s : SiteState) (n : ℕ) (keeps : Bool) where
     inner : or_refused s.sessions.store (λ (x : LanesState). step_over s n keeps x) ≡ InPlace s n keeps seat st
     inner =
         ap (λ (o : Option LanesState). or_refused o (λ (x : LanesState). step_over s n keeps x)) bricks
-        ∙ ap (λ (o : Option Seat). within (with_place s n) (or_refused o (λ (x : Seat). steps_at (turn x.connection) (givens_of s n keeps) n x (world_of s st)))) there
+        ∙ ap (λ (o : Option Seat). within (with_place s n) (or_refused o (λ (x : Seat). steps_at (turn x.connection) (givens_of s n keeps) n x (world_of s st) s.seats.manager))) there
 
     go : (b : Bool) → refused_if b (or_refused s.sessions.store (λ (x : LanesState). step_over s n keeps x)) ≡ Done t text → InPlace s n keeps seat st ≡ Done t text
     go true e = absurd (cc)
@@ -74,21 +75,23 @@ module _ (s : SiteState) (n : ℕ) (keeps : Bool) where
   left_by_seat t text seat st there bricks moving is =
       let g : SeatGivens = givens_of s n keeps in
       let o : SeatOutcome = seat_step g seat (world_of s st) in
-      let p : Place = record { seat = Some o.seat; world = o.world } in
-      let at : (t ≡ with_place s n p) × (text ≡ step_text (turn seat.connection) n o.bytes) =
-      placed p (step_text (turn seat.connection) n o.bytes) (steps_at (turn seat.connection) g n seat (world_of s st)) t text
-      (moved_at (turn seat.connection) g n seat (world_of s st) moving) (step_in_place t text seat st there bricks is) in
+      let p : Place = record { seat = Some o.seat; world = o.world; manager = manager_after s.seats.manager o.report } in
+      let out : List ℕ = step_text (turn seat.connection) n o.bytes ++ decided_text s.seats.manager o.report in
+      let at : (t ≡ with_place s n p) × (text ≡ out) =
+      placed p out (steps_at (turn seat.connection) g n seat (world_of s st) s.seats.manager) t text
+      (moved_at (turn seat.connection) g n seat (world_of s st) s.seats.manager moving) (step_in_place t text seat st there bricks is) in
       record {
         seat = ap (λ (x : SiteState). seat_at x.seats.seats n) at.0 ∙ get_or-set_same s.seats.seats n (Some o.seat) None (within_places s.seats.seats n seat there);
         boot = ap (λ (x : SiteState). x.boot) at.0;
         since = ap (λ (x : SiteState). x.since) at.0;
         sessions = ap (λ (x : SiteState). x.sessions) at.0;
         word = ap (λ (x : SiteState). x.seats.word) at.0;
+        manager = ap (λ (x : SiteState). x.seats.manager) at.0;
         text_is = at.1;
       }
 
   -- the site in which a connection is put back as it was
-  as_it_was : (seat : Seat) (st : LanesState) → seat_at s.seats.seats n ≡ Some seat → s.sessions.store ≡ Some st → with_place s n (let p : Place = record { seat = Some seat; world = world_of s st } in p) ≡ s
+  as_it_was : (seat : Seat) (st : LanesState) → seat_at s.seats.seats n ≡ Some seat → s.sessions.store ≡ Some st → with_place s n (let p : Place = record { seat = Some seat; world = world_of s st; manager = s.seats.manager } in p) ≡ s
   as_it_was seat st there bricks =
       ap (λ (o : Option LanesState). record s { sessions = put_back (lent_out s.sessions) o s.sessions.serial; seats = record (s.seats) { seats = slice_set s.seats.seats n (Some seat) } }) (sym bricks)
       ∙ (ap (λ (o : Option Seat). with_seats s (slice_set s.seats.seats n o)) (sym there)
@@ -98,20 +101,20 @@ module _ (s : SiteState) (n : ℕ) (keeps : Bool) where
   waits_still t text seat there waiting is = by (with_bricks t text is) where
     by : ((st : LanesState) × (s.sessions.store ≡ Some st)) → (t ≡ s) × (text ≡ [])
     by (st, bricks) =
-        let p : Place = record { seat = Some seat; world = world_of s st } in
+        let p : Place = record { seat = Some seat; world = world_of s st; manager = s.seats.manager } in
         let at : (t ≡ with_place s n p) × (text ≡ []) =
-        placed p [] (steps_at (turn seat.connection) (givens_of s n keeps) n seat (world_of s st)) t text
-        (ap (λ (u : ShepherdTurn). steps_at u (givens_of s n keeps) n seat (world_of s st)) waiting) (step_in_place t text seat st there bricks is) in
+        placed p [] (steps_at (turn seat.connection) (givens_of s n keeps) n seat (world_of s st) s.seats.manager) t text
+        (ap (λ (u : ShepherdTurn). steps_at u (givens_of s n keeps) n seat (world_of s st) s.seats.manager) waiting) (step_in_place t text seat st there bricks is) in
         (at.0 ∙ as_it_was seat st there bricks, at.1)
 
   pub goes_ended : (t : SiteState) (text : List ℕ) (seat : Seat) (end : EndKind) → seat_at s.seats.seats n ≡ Some seat → turn seat.connection ≡ turns.Ended end → step_line s n keeps ≡ Done t text → (t ≡ with_seat s n None) × (text ≡ gone_text n end)
   goes_ended t text seat end there over_is is = by (with_bricks t text is) where
     by : ((st : LanesState) × (s.sessions.store ≡ Some st)) → (t ≡ with_seat s n None) × (text ≡ gone_text n end)
     by (st, bricks) =
-        let p : Place = record { seat = None; world = world_of s st } in
+        let p : Place = record { seat = None; world = world_of s st; manager = s.seats.manager } in
         let at : (t ≡ with_place s n p) × (text ≡ gone_text n end) =
-        placed p (gone_text n end) (steps_at (turn seat.connection) (givens_of s n keeps) n seat (world_of s st)) t text
-        (ap (λ (u : ShepherdTurn). steps_at u (givens_of s n keeps) n seat (world_of s st)) over_is) (step_in_place t text seat st there bricks is) in
+        placed p (gone_text n end) (steps_at (turn seat.connection) (givens_of s n keeps) n seat (world_of s st) s.seats.manager) t text
+        (ap (λ (u : ShepherdTurn). steps_at u (givens_of s n keeps) n seat (world_of s st) s.seats.manager) over_is) (step_in_place t text seat st there bricks is) in
         (at.0 ∙ ap (λ (o : Option LanesState). record s { sessions = put_back (lent_out s.sessions) o s.sessions.serial; seats = record (s.seats) { seats = slice_set s.seats.seats n None } }) (sym bricks), at.1)
 
   either : (b : Bool) → refused_if b (let x : Answer SiteState = Refused in x) ≡ Refused
@@ -123,7 +126,7 @@ module _ (s : SiteState) (n : ℕ) (keeps : Bool) where
   none_steps none = ap (refused_if (is_beyond n)) (go s.sessions.store) ∙ either (is_beyond n) where
     go : (o : Option LanesState) → or_refused o (λ (x : LanesState). step_over s n keeps x) ≡ Refused
     go None = refl
-    go (Some st) = ap (λ (o : Option Seat). within (with_place s n) (or_refused o (λ (x : Seat). steps_at (turn x.connection) (givens_of s n keeps) n x (world_of s st)))) none
+    go (Some st) = ap (λ (o : Option Seat). within (with_place s n) (or_refused o (λ (x : Seat). steps_at (turn x.connection) (givens_of s n keeps) n x (world_of s st) s.seats.manager))) none
 
   pub bare_steps : s.sessions.store ≡ None → step_line s n keeps ≡ Refused
   unfolding step_line

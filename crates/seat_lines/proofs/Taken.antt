@@ -1,6 +1,7 @@
 -- A line about a connection that may be done is not refused, and one that may not is.
 use Rattle.std.proofs.Common.{◌≡◌, ◌≢◌, ℕ, ◌≤◌, ◌<◌, Bool, true, false, not, ◌&&◌, cond, List, [], ◌∷◌, ◌++◌, Option, Some, None, is_some, refl, sym, ap, subst, ◌∙◌, arith}
 use Rattle.std.proofs.lemmas.Bool.Decides.{nat_tests}
+use Rattle.recovery_manager.specs.Kept.{ManagerValue}
 use Rattle.scenario_text.specs.Answer.{Answer, Refused, Done, or_refused, refused_if, within}
 use Rattle.scenario_text.specs.declared.seat_line.SeatLine.TheVariants as lines
 use Rattle.scenario_text.specs.declared.seat_line.TheConstants.{MAX_SEAT}
@@ -31,17 +32,17 @@ whole_made f Refused made e = made refl
 whole_made f (Done x text) made e = absurd (cc)
 
 -- a connection that is there makes its step at each turn
-made_at : (t : ShepherdTurn) (g : SeatGivens) (n : ℕ) (seat : Seat) (w : SeatWorld) → steps_at t g n seat w ≢ Refused
-made_at turns.Bytes g n seat w e = absurd (cc)
-made_at turns.Request g n seat w e = absurd (cc)
-made_at turns.Outside g n seat w e = absurd (cc)
-made_at turns.Windows g n seat w e = absurd (cc)
-made_at turns.Inside g n seat w e = absurd (cc)
-made_at turns.Program g n seat w e = absurd (cc)
-made_at turns.Own g n seat w e = absurd (cc)
-made_at turns.Output g n seat w e = absurd (cc)
-made_at turns.Item g n seat w e = absurd (cc)
-made_at (turns.Ended end) g n seat w e = absurd (cc)
+made_at : (t : ShepherdTurn) (g : SeatGivens) (n : ℕ) (seat : Seat) (w : SeatWorld) (m : ManagerValue) → steps_at t g n seat w m ≢ Refused
+made_at turns.Bytes g n seat w m e = absurd (cc)
+made_at turns.Request g n seat w m e = absurd (cc)
+made_at turns.Outside g n seat w m e = absurd (cc)
+made_at turns.Windows g n seat w m e = absurd (cc)
+made_at turns.Inside g n seat w m e = absurd (cc)
+made_at turns.Program g n seat w m e = absurd (cc)
+made_at turns.Own g n seat w m e = absurd (cc)
+made_at turns.Output g n seat w m e = absurd (cc)
+made_at turns.Item g n seat w m e = absurd (cc)
+made_at (turns.Ended end) g n seat w m e = absurd (cc)
 
 module _ (s : SiteState) (n : ℕ) (keeps : Bool) where
   -- the step of a connection that is there, over bricks
@@ -50,12 +51,12 @@ module _ (s : SiteState) (n : ℕ) (keeps : Bool) where
   in_place seat st near there bricks =
       ap (λ (b : Bool). refused_if b (or_refused s.sessions.store (λ (x : LanesState). step_over s n keeps x))) near
       ∙ (ap (λ (o : Option LanesState). or_refused o (λ (x : LanesState). step_over s n keeps x)) bricks
-      ∙ ap (λ (o : Option Seat). within (with_place s n) (or_refused o (λ (x : Seat). steps_at (turn x.connection) (givens_of s n keeps) n x (world_of s st)))) there)
+      ∙ ap (λ (o : Option Seat). within (with_place s n) (or_refused o (λ (x : Seat). steps_at (turn x.connection) (givens_of s n keeps) n x (world_of s st) s.seats.manager))) there)
 
   pub step_made : (seat : Seat) (st : LanesState) → is_beyond n ≡ false → seat_at s.seats.seats n ≡ Some seat → s.sessions.store ≡ Some st → step_line s n keeps ≢ Refused
   step_made seat st near there bricks e =
-      whole_made (with_place s n) (steps_at (turn seat.connection) (givens_of s n keeps) n seat (world_of s st))
-      (made_at (turn seat.connection) (givens_of s n keeps) n seat (world_of s st)) (sym (in_place seat st near there bricks) ∙ e)
+      whole_made (with_place s n) (steps_at (turn seat.connection) (givens_of s n keeps) n seat (world_of s st) s.seats.manager)
+      (made_at (turn seat.connection) (givens_of s n keeps) n seat (world_of s st) s.seats.manager) (sym (in_place seat st near there bricks) ∙ e)
 
 pub opens_new : (s : SiteState) (n : ℕ) (replies : List Bool) → n ≤ MAX_SEAT → seat_at s.seats.seats n ≡ None → seat_line s (lines.Conn n) replies ≢ Some Refused
 unfolding open_line
@@ -109,8 +110,8 @@ unfolding step_line
 bricks_left s n keeps =
     comes_if (λ t text. HasBricks t) (is_beyond n) (or_refused s.sessions.store (λ (st : LanesState). step_over s n keeps st)) (λ near.
     comes_or (λ t text. HasBricks t) s.sessions.store (λ (st : LanesState). step_over s n keeps st) (λ st is.
-    comes_within (λ t text. HasBricks t) (with_place s n) (place_step (givens_of s n keeps) n (seat_at s.seats.seats n) (world_of s st))
-    (comes_all (λ (p : Place) text. HasBricks (with_place s n p)) (place_step (givens_of s n keeps) n (seat_at s.seats.seats n) (world_of s st)) (λ p text. (p.world.store, refl)))))
+    comes_within (λ t text. HasBricks t) (with_place s n) (place_step (givens_of s n keeps) n (seat_at s.seats.seats n) (world_of s st) s.seats.manager)
+    (comes_all (λ (p : Place) text. HasBricks (with_place s n p)) (place_step (givens_of s n keeps) n (seat_at s.seats.seats n) (world_of s st) s.seats.manager) (λ p text. (p.world.store, refl)))))
 
 -- what a line comes to is no refusal
 abbrev Unrefused : Option (Answer SiteState) → Type 0

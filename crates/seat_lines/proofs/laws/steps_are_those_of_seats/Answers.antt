@@ -36,7 +36,7 @@ pub returns-clause-silent : goal.returns-clause-silent
 returns-clause-silent c = silent_at
 
 pub returns-clause-first : goal.returns-clause-first
-returns-clause-first c = refl
+returns-clause-first c = λ parts. refl
 
 pub returns-clause-boots : goal.returns-clause-boots
 returns-clause-boots c = λ s. refl
