@@ -1,6 +1,6 @@
 //! What the manager hears of requests that failed, and the lines of its decisions.
 
-ghost use Rattle.std.specs.Prelude.{◌≡◌, Some, IfOk, string_bytes};
+ghost use Rattle.std.specs.Prelude.{◌≡◌, Some, IfOk, OnOk, string_bytes};
 ghost use Rattle.container_core.specs.Container.{ContainerValue};
 ghost use Rattle.scenario_text.specs.Answer.{KeepsRefused, answer_of};
 ghost use Rattle.seat_lines.specs.Hearing.{decided_text, manager_after, path_of, report_line, report_said};
@@ -22,9 +22,9 @@ fn hear_one(
     report: FailureReport,
 ) -> Result<String, OutOfMemory>
     ensures text { IfOk result (λ text. string_bytes text ≡ decided_text manager.old (Some report)) }
-    ensures after { IfOk result (λ _. manager.new ≡ manager_after manager.old (Some report)) }
+    ensures after { OnOk result (manager.new ≡ manager_after manager.old (Some report)) }
 {
-    let decision = manager.hear(alloc, report)?;
+    let decision = manager.hear(report)?;
     decide_text(alloc, decision)
 }
 
@@ -35,7 +35,7 @@ pub(crate) fn hear(
     report: Option<FailureReport>,
 ) -> Result<String, OutOfMemory>
     ensures text { IfOk result (λ text. string_bytes text ≡ decided_text manager.old report) }
-    ensures after { IfOk result (λ _. manager.new ≡ manager_after manager.old report) }
+    ensures after { OnOk result (manager.new ≡ manager_after manager.old report) }
 {
     match report {
         None => Ok(String::new(alloc)),

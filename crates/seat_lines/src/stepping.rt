@@ -68,7 +68,7 @@ fn tell_step(
 ) -> Result<LineAnswer, OutOfMemory>
     ensures text { IfOk result (λ a. (place : Place) → answer_of a place
         ≡ Done place (step_text turn number stepped.bytes ++ decided_text manager.old stepped.report)) }
-    ensures after { IfOk result (λ _. manager.new ≡ manager_after manager.old stepped.report) }
+    ensures after { OnOk result (manager.new ≡ manager_after manager.old stepped.report) }
 {
     let SeatStepped {
         bytes,
