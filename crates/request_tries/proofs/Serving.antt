@@ -1,6 +1,6 @@
 -- What each step of a request is, and what it brings, by what the code has in hand.
 use Rattle.std.specs.Prelude.{IfOk, IfSome, IsSome, Result, Ok, Err, option_map}
-use Rattle.std.proofs.Common.{◌≡◌, inl, List, Option, Some, None, refl, sym, ap, ◌∙◌, subst}
+use Rattle.std.proofs.Common.{◌≡◌, List, Option, Some, None, refl, sym, ap, ◌∙◌, subst}
 use Rattle.crash_base.specs.declared.memory.OutOfMemory.{OutOfMemory}
 use Rattle.crash_base.specs.declared.rows.RowWrite.{RowWrite}
 use Rattle.journal_model.specs.declared.entry.DoneText.{DoneText}
@@ -17,7 +17,7 @@ use Rattle.call_attempts.specs.declared.attempt.Stepped.TheVariants as coming
 use Rattle.call_attempts.specs.declared.stop.Stop.{Stop}
 use Rattle.call_attempts.proofs.UnderWay.{begins, boot_grows, same_begin, same_request}
 use Rattle.request_tries.specs.Serving.{TriesValue, IsOpen, IsServing, closed, has_begun, wanted_by}
-use Rattle.request_tries.specs.Steps.{AnswersOwn, Brings, CommitsAs, HasAdvanced, HasAtMostAdvanced, IsStopped, LeavesBoot, StepsAs, end_of, front_at, progress_of}
+use Rattle.request_tries.specs.Steps.{AnswersOwn, Brings, CommitsAs, HasAdvanced, IsStopped, LeavesBoot, StepsAs, end_of, front_at, progress_of}
 use Rattle.request_tries.specs.declared.outcome.Ended.{Ended}
 use Rattle.request_tries.specs.declared.outcome.Progress.{Progress}
 use Rattle.request_tries.specs.declared.outcome.Progress.TheVariants as progress
@@ -60,20 +60,6 @@ is_open boot asks s (Some b) a is h = subst (λ x. IsOpen boot asks s x) (cc) h
 pub leaves : (old new : ContainerValue) (asks : List Answer → Next) (s after : TriesValue) (came : Stepped) → LeavesBoot old asks s.attempt (Some came) new → (h : HasAdvanced old.boot asks s came after)
     → new ≡ with_boot old (boot_left old.boot (wanted asks h.before) came)
 leaves old new asks s after came left h = subst (λ (o : Option AttemptValue). LeavesBoot old asks o (Some came) new) h.was_open left
-
--- A container that is as it was, is so at most changed by a step.
-pub as_before : (old new : ContainerValue) (asks : List Answer → Next) (o : Option AttemptValue) → new ≡ old → HasAtMostAdvanced old asks o new
-as_before old new asks None same = same
-as_before old new asks (Some a) same = inl same
-
--- It is as it was where no step was made, or something stopped it.
-pub left_unmade : (old new : ContainerValue) (asks : List Answer → Next) (o : Option AttemptValue) → LeavesBoot old asks o None new → new ≡ old
-left_unmade old new asks None left = left
-left_unmade old new asks (Some a) left = left
-
-pub left_stopped : (old new : ContainerValue) (asks : List Answer → Next) (o : Option AttemptValue) (stop : Stop) → LeavesBoot old asks o (Some (coming.Stopped stop)) new → new ≡ old
-left_stopped old new asks None stop left = left
-left_stopped old new asks (Some a) stop left = left
 
 -- A step that was answered.
 pub went : (old new : ContainerValue) (asks : List Answer → Next) (s after : TriesValue) → LeavesBoot old asks s.attempt (Some coming.Went) new → IsServing old.boot asks s → HasAdvanced old.boot asks s coming.Went after
