@@ -25,7 +25,8 @@ fn hear_one(
     ensures after { OnOk result (manager.new ≡ manager_after manager.old (Some report)) }
 {
     let decision = manager.hear(report)?;
-    decide_text(alloc, decision)
+    let text = decide_text(alloc, decision)?;
+    Ok(text)
 }
 
 /// The manager hears what a step reports, if it reports something. The text of its decision then.
