@@ -1,10 +1,10 @@
 -- The component to blame.
-use Rattle.std.proofs.Common.{◌≡◌, ◌∙◌, ◌≢◌, ◌↔◌, ◌⊎◌, inl, inr, ℕ, zero, suc, ◌+◌, ◌-◌, ◌<◌, ◌≤◌, ◌&&◌, nat_le, nat_lt, Bool, true, false, cond, List, [], ◌∷◌, ◌++◌, length, map, filter, slice_get, Option, Some, None, refl, sym, ap, subst, arith}
+use Rattle.std.proofs.Common.{◌≡◌, ◌∙◌, ◌≢◌, ◌↔◌, ◌⊎◌, inl, inr, ℕ, zero, suc, ◌+◌, ◌-◌, ◌<◌, ◌≤◌, ◌&&◌, nat_le, nat_lt, Bool, true, false, cond, List, [], ◌∷◌, ◌++◌, length, map, filter, slice_get, All, Option, Some, None, refl, sym, ap, subst, arith}
 use Rattle.std.specs.Prelude.{find}
 use Rattle.std.specs.List.{list_all, range_with_len}
 use Rattle.std.specs.Option.{option_and_then}
 use Rattle.std.proofs.lemmas.Bool.Decides.{nat_tests}
-use Rattle.std.proofs.lemmas.List.Elements.{All-weaker}
+use Rattle.std.proofs.lemmas.List.Elements.{All-head, All-tail, All-weaker}
 use Rattle.std.proofs.lemmas.List.FromFn.{length-map-range_with_len, get_or-map-range_with_len, map-range_with_len_more}
 use Rattle.std.proofs.lemmas.Option.{slice_get-get_or}
 use Rattle.crash_base.specs.declared.numbers.ComponentNo.{ComponentNo}
@@ -196,8 +196,8 @@ own_at parts c below =
 scores_nothing : (count : ℕ) (kept : List PathReport) (now : Moment) (c : ComponentNo) → AreKnown count kept → count ≤ c.0 → score kept c now ≡ 0
 scores_nothing count [] now c known above = refl
 scores_nothing count (r ∷ rs) now c known above =
-    ap (λ (b : Bool). length (cond b (r ∷ filter (counts c now) rs) (filter (counts c now) rs))) (and_without (scores.is_recent now r) (is_on c r.path) (off_path c r.path (All-weaker (λ (d : ComponentNo). d.0 < count) (λ (d : ComponentNo). d ≢ c) (λ d lower same. differ d.0 lower (ap (λ (e : ComponentNo). e.0) same)) r.path known.0)))
-    ∙ scores_nothing count rs now c known.1 above
+    ap (λ (b : Bool). length (cond b (r ∷ filter (counts c now) rs) (filter (counts c now) rs))) (and_without (scores.is_recent now r) (is_on c r.path) (off_path c r.path (All-weaker (λ (d : ComponentNo). d.0 < count) (λ (d : ComponentNo). d ≢ c) (λ d lower same. differ d.0 lower (ap (λ (e : ComponentNo). e.0) same)) r.path (All-head (λ (q : PathReport). All (λ (d : ComponentNo). d.0 < count) q.path) r rs known))))
+    ∙ scores_nothing count rs now c (All-tail (λ (q : PathReport). All (λ (d : ComponentNo). d.0 < count) q.path) r rs known) above
   where
     differ : (d : ℕ) → d < count → d ≡ c.0 → ⊥
     differ d lower same = omega arith

@@ -1,10 +1,10 @@
 -- What is kept of reports and acts decides as all of them do.
-use Rattle.std.proofs.Common.{◌≡◌, ◌∙◌, ℕ, ◌<◌, ◌≤◌, ◌==◌, ◌&&◌, ◌||◌, nat_lt, Bool, true, false, cond, List, [], ◌∷◌, ◌++◌, length, map, filter, refl, sym, ap, subst, arith}
+use Rattle.std.proofs.Common.{◌≡◌, ◌∙◌, ℕ, ◌<◌, ◌≤◌, ◌==◌, ◌&&◌, ◌||◌, nat_lt, Bool, true, false, cond, List, [], ◌∷◌, ◌++◌, length, map, filter, All, refl, sym, ap, subst, arith}
 use Rattle.std.specs.List.{list_any}
 use Rattle.std.proofs.lemmas.Bool.Decides.{nat_tests}
 use Rattle.std.proofs.lemmas.Grind.{flat_map-append}
 use Rattle.std.proofs.lemmas.List.{append_assoc, append-nil, map-append}
-use Rattle.std.proofs.lemmas.List.Elements.{filter-append}
+use Rattle.std.proofs.lemmas.List.Elements.{All-nil, All-push, All-filter, All-weaker, filter-append, filter_passes}
 use Rattle.std.proofs.lemmas.List.Folds.{list_any-append}
 use Rattle.std.proofs.lemmas.List.FromFn.{length-map-range_with_len}
 use Rattle.std.proofs.lemmas.List.Sums.{fold-append}
@@ -17,7 +17,7 @@ use Rattle.deployment.specs.Groups.{group_no, group_of}
 use Rattle.failure_scores.specs.declared.report.PathReport.{PathReport}
 use Rattle.failure_scores.specs.Scores as scores
 use Rattle.failure_scores.specs.Scores.{report_of, is_on, counts, score}
-use Rattle.failure_scores.proofs.Counting.{filter_within, within_before, recent_before, and_without}
+use Rattle.failure_scores.proofs.Counting.{filter_within, within_before, recent_before}
 use Rattle.failure_scores.specs.declared.report.TheConstants.{SCORED_MILLISECONDS}
 use Rattle.recovery_manager.specs.declared.acts.TheConstants.{WIDENED_MILLISECONDS}
 use Rattle.recovery_manager.specs.declared.acts.Act.{Act}
@@ -25,7 +25,7 @@ use Rattle.recovery_manager.specs.declared.decision.Decision.{Decision}
 use Rattle.recovery_manager.specs.declared.decision.Decision.TheVariants.{None, Reboot}
 use Rattle.recovery_manager.specs.Decisions.{decision_of}
 use Rattle.recovery_manager.specs.Events.{ManagerEvent, Reported, JournalFilled, acts_by, acts_in, acts_of, consumes, reports_in, pending, unconsumed, moment_of, last_moment, decision_after}
-use Rattle.recovery_manager.specs.Kept.{ManagerValue, groups_of, known_path, known_report, kept_decision, StandsFor}
+use Rattle.recovery_manager.specs.Kept.{AreKnown, ManagerValue, groups_of, known_path, known_report, kept_decision, StandsFor}
 use Rattle.recovery_manager.specs.Levels.{is_recent}
 use Rattle.recovery_manager.proofs.Blaming.{decided_by_scores, decision_kept}
 
@@ -202,3 +202,19 @@ stands_filled parts events old new moment stands in_order groups reports acts la
 
 pub pending_full : (events : List ManagerEvent) (moment : Moment) → pending (events ++ JournalFilled moment ∷ []) ≡ pending events
 pending_full events moment = pending_more events (JournalFilled moment) refl ∙ append-nil (pending events)
+
+-- reports of known components and one more, without the numbers on its path that are none's
+pub known_more : (groups : List GroupNo) (reports : List PathReport) (report : PathReport) → AreKnown (length groups) reports → AreKnown (length groups) (reports ++ known_report (length groups) report ∷ [])
+known_more groups reports report known =
+    All-push (λ (r : PathReport). All (λ (c : ComponentNo). c.0 < length groups) r.path) reports (known_report (length groups) report) known
+    (All-weaker (λ (c : ComponentNo). nat_lt c.0 (length groups) ≡ true) (λ (c : ComponentNo). c.0 < length groups) (λ c test. less c.0 (length groups) test) (known_path (length groups) report.path) (filter_passes (λ (c : ComponentNo). nat_lt c.0 (length groups)) report.path))
+  where
+    less : (a b : ℕ) → nat_lt a b ≡ true → a < b
+    less a b test = grind (arith, nat_tests)
+
+pub known_recent : (count : ℕ) (reports : List PathReport) (now : Moment) → AreKnown count reports → AreKnown count (filter (scores.is_recent now) reports)
+known_recent count reports now known = All-filter (scores.is_recent now) (λ (r : PathReport). All (λ (c : ComponentNo). c.0 < count) r.path) reports known
+
+pub known_left : (count : ℕ) (reports : List PathReport) (decision : Decision) → AreKnown count reports → AreKnown count (unconsumed decision reports)
+known_left count reports None known = known
+known_left count reports (Reboot level) known = All-nil (λ (r : PathReport). All (λ (c : ComponentNo). c.0 < count) r.path)

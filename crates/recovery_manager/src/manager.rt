@@ -48,6 +48,7 @@ impl Model for Manager {
 
 impl Manager {
     /// A manager of a deployment, which was told of nothing. It takes memory for a number for each component.
+    #[tactic(auto, unfolding(crate::specs::Telling::new_manager))]
     pub fn new(alloc: Global, deployment: &Deployment) -> Result<Manager, OutOfMemory>
         ensures value { IfOk result (λ manager. manager ≡ new_manager deployment.now) }
         ensures events { IfOk result (λ manager. StandsFor manager deployment.now []) }
@@ -109,7 +110,8 @@ impl Manager {
         ensures err { OnErr result (self.new ≡ self.old) }
     {
         let report = report_of(alloc, path, moment)?;
-        self.tell(FailureReport::Path(report))
+        let decision = self.tell(FailureReport::Path(report))?;
+        Ok(decision)
     }
 
     /// What is to be done about a journal that is full at a moment: the process is rebooted. It is kept as an act, and
@@ -125,7 +127,8 @@ impl Manager {
         ensures latest { IfOk result (λ _. self.new.latest ≡ moment) }
         ensures err { OnErr result (self.new ≡ self.old) }
     {
-        self.tell(FailureReport::JournalFull(moment))
+        let decision = self.tell(FailureReport::JournalFull(moment))?;
+        Ok(decision)
     }
 
     /// What is to be done about a report.

@@ -13,7 +13,8 @@ fn later(a: Moment, b: Moment) -> Moment
     if a.0 < b.0 { b } else { a }
 }
 
-/// A report at no earlier a moment than this one. Its path is not moved.
+/// A report at no earlier a moment than this one. Its path is not copied.
+#[tactic(auto, unfolding(crate::specs::Events::no_earlier))]
 pub(crate) fn no_earlier(report: FailureReport, moment: Moment) -> FailureReport
     ensures { result ≡ no_earlier moment report }
 {
