@@ -1,5 +1,5 @@
 -- Lines of calls leave their boot as it was, but for how often its components were entered.
-use Rattle.std.proofs.Common.{◌≡◌, ℕ, ◌==◌, List, [], length, Option, Some, None, refl}
+use Rattle.std.proofs.Common.{ℕ, ◌==◌, List, [], length, Option, Some, None, refl}
 use Rattle.std.specs.Prelude.{not, slice_set}
 use Rattle.call_ticket.specs.Access.{is_in_owner, may_enter}
 use Rattle.call_ticket.specs.Ticket.{TicketValue, ticket_kept, ticket_left}
@@ -10,7 +10,6 @@ use Rattle.boot_core.specs.Boot.{BootValue, HasOnlyEntered, with_entered}
 use Rattle.boot_core.specs.Refusals.{enter_refusal, exit_refusal, read_refusal, list_refusal, put_refusal}
 use Rattle.boot_core.specs.Steps.{ticket_entered, ticket_has_read, ticket_has_listed}
 use Rattle.boot_core.specs.declared.refusals.CallRefusal.{CallRefusal}
-use Rattle.scenario_text.specs.Answer.{Answer}
 use Rattle.scenario_text.specs.declared.call_line.CallLine.{CallLine}
 use Rattle.scenario_text.specs.declared.call_line.CallLine.TheVariants as calls
 use Rattle.line_steps.specs.declared.callers.Caller.{Caller}

@@ -1,6 +1,6 @@
 //! Lines of one live call.
 
-ghost use Rattle.std.specs.Prelude.{◌≡◌, IfOk};
+ghost use Rattle.std.specs.Prelude.{◌≡◌, IfOk, OnErr};
 ghost use Rattle.boot_core.specs.Fits.{FitsIn};
 ghost use Rattle.scenario_text.specs.Answer.{KeepsRefused, answer_of};
 ghost use Rattle.container_core.specs.Container.{IsButEntered};
@@ -31,6 +31,7 @@ fn enter_step<K: Keeper + Drop>(
         (done_in container.new.boot ticket.new)) }
     ensures fits { FitsIn container.new.boot ticket.new.call }
     ensures but_entered { IsButEntered container.old container.new }
+    ensures memory { OnErr result (container.new ≡ container.old) }
 {
     let Some(c) = container.deployment().named(name.as_slice()) else {
         return Ok(LineAnswer::Refused);
@@ -59,6 +60,7 @@ fn exit_step<K: Keeper + Drop>(
         (done_in container.new.boot ticket.new)) }
     ensures fits { FitsIn container.new.boot ticket.new.call }
     ensures but_entered { IsButEntered container.old container.new }
+    ensures memory { OnErr result (container.new ≡ container.old) }
 {
     if ticket.depth() == 0 {
         return Ok(LineAnswer::Refused);
@@ -94,6 +96,7 @@ fn read_step<K: Keeper + Drop>(
         (done_in container.new.boot ticket.new)) }
     ensures fits { FitsIn container.new.boot ticket.new.call }
     ensures but_entered { IsButEntered container.old container.new }
+    ensures memory { OnErr result (container.new ≡ container.old) }
 {
     let Some(table) = table_of(number) else {
         return Ok(LineAnswer::Refused);
@@ -124,6 +127,7 @@ fn list_step<K: Keeper + Drop>(
         (done_in container.new.boot ticket.new)) }
     ensures fits { FitsIn container.new.boot ticket.new.call }
     ensures but_entered { IsButEntered container.old container.new }
+    ensures memory { OnErr result (container.new ≡ container.old) }
 {
     let Some(listed) = table_of(number) else {
         return Ok(LineAnswer::Refused);
@@ -155,6 +159,7 @@ fn put_step<K: Keeper + Drop>(
         (done_in container.new.boot ticket.new)) }
     ensures fits { FitsIn container.new.boot ticket.new.call }
     ensures but_entered { IsButEntered container.old container.new }
+    ensures memory { OnErr result (container.new ≡ container.old) }
 {
     let Some(table) = table_of(number) else {
         return Ok(LineAnswer::Refused);
@@ -173,7 +178,7 @@ fn put_step<K: Keeper + Drop>(
 }
 
 /// A line of one live call. It visits what the step of the call does, and the bytes of what it writes. Where memory ran
-/// out, the step may have been made.
+/// out, the container is as it was, and the call may have read the row or listed the table.
 pub fn call_line<K: Keeper + Drop>(
     alloc: Global,
     container: &mut Container<K>,
@@ -188,6 +193,7 @@ pub fn call_line<K: Keeper + Drop>(
         (done_in container.new.boot ticket.new)) }
     ensures fits { FitsIn container.new.boot ticket.new.call }
     ensures but_entered { IsButEntered container.old container.new }
+    ensures memory { OnErr result (container.new ≡ container.old) }
 {
     match line {
         CallLine::Enter(name) => enter_step(alloc, container, ticket, caller, name),

@@ -1,6 +1,6 @@
 //! Callers of a scenario.
 
-ghost use Rattle.std.specs.Prelude.{◌≡◌, ◌<◌, ◌≤◌, [], length, slice_set, IfOk, OnOk, MatchOption};
+ghost use Rattle.std.specs.Prelude.{◌≡◌, ◌<◌, ◌≤◌, [], length, slice_set, IfOk, OnOk, OnErr, MatchOption};
 ghost use Rattle.boot_core.specs.Boot.{BootValue};
 ghost use Rattle.boot_core.specs.Fits.{FitsIn};
 ghost use Rattle.scenario_text.specs.Answer.{KeepsRefused, answer_of};
@@ -79,6 +79,7 @@ fn caller_line<K: Keeper + Drop>(
         (done_in container.new.boot caller.new)) }
     ensures fits { FitsCaller container.new.boot caller.new }
     ensures but_entered { IsButEntered container.old container.new }
+    ensures memory { OnErr result (container.new ≡ container.old) }
 {
     match caller {
         Caller::Live(ticket) => call_line(alloc, container, ticket, number, line),
@@ -149,7 +150,7 @@ impl Callers {
         self.callers[number as usize] = Caller::Live(ticket);
     }
 
-    /// A line of a live call. It visits that caller.
+    /// A line of a live call. It visits that caller. Where memory ran out, the container is as it was.
     #[tactic(auto, unfolding(crate::specs::Callers::call_step))]
     pub fn call_step<K: Keeper + Drop>(
         &mut self,
@@ -165,6 +166,7 @@ impl Callers {
             (done_in container.new.boot self.new)) }
         ensures fits { AllFit container.new.boot self.new }
         ensures but_entered { IsButEntered container.old container.new }
+        ensures memory { OnErr result (container.new ≡ container.old) }
     {
         if number >= self.callers.len() as u64 {
             return Ok(LineAnswer::Refused);

@@ -2,7 +2,7 @@
 //!
 //! A line is refused, or is done and writes its text. What each line does is defined as a function of the state before
 //! it, whose value is the answer: the state that the line leaves, and the text. A line of a call that enters a
-//! component counts that in the boot, and changes nothing else of it.
+//! component counts that in the boot, and changes nothing else of it; where memory ran out, it changes nothing.
 //!
 //! ```text
 //! let mut head = Head::new(alloc);
