@@ -2,7 +2,7 @@ mod Answering
 pub mod GivenUp
 pub mod Going
 mod Handing
-pub mod Hearing
+pub mod Heard
 pub mod Keeping
 mod Leaving
 pub mod Making

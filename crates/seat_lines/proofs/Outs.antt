@@ -34,7 +34,7 @@ use Rattle.seat_lines.specs.Texts.{gone_text}
 use Rattle.seat_lines.proofs.Answering.{run_begun}
 use Rattle.seat_lines.proofs.Keeping.{given}
 use Rattle.seat_lines.proofs.Leaving.{Passes, is_open_turn, open_turn, seat_passes}
-use Rattle.seat_lines.proofs.Hearing.{step_hears}
+use Rattle.seat_lines.proofs.Heard.{step_hears}
 use Rattle.seat_lines.proofs.OneSeat.{answer_is, bytes_fed, input_ended, still_alone, there_refused}
 use Rattle.seat_lines.proofs.Saying.{heard_on, none_given, none_said, outs_said, reports_said, said_on, step_parts, text_said}
 use Rattle.seat_lines.proofs.SeatSteps.{goes_ended, left_by_seat, stays_at, waits_still, with_bricks, within_places}

@@ -1,4 +1,4 @@
-use Rattle.seat_lines.proofs.Hearing.{is_reported, line_hears, many_refused, none_refused, reports_by_steps, unknown_none}
+use Rattle.seat_lines.proofs.Heard.{is_reported, line_hears, many_refused, none_refused, reports_by_steps, unknown_none}
 use Rattle.seat_lines.proofs.Saying.{reports_in_line}
 use Rattle.seat_lines.proofs.laws.managers_hear_of_failures.Goals as goal
 
