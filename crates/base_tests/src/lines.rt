@@ -1,8 +1,11 @@
 //! What is read of a line, in words.
 
 use crate::words::{add_bytes, add_number, add_text, add_word, cut, expect_words, number};
-use crash_base::ComponentName;
-use scenario_text::{BootLine, CallLine, Freed, HeadLine, Line, SeatLine, SessionLine, read_line};
+use crash_base::{ComponentName, FaultKind};
+use scenario_text::{
+    BootLine, CallLine, CureLevel, Freed, HeadLine, Line, NameList, SeatLine, SessionLine,
+    read_line,
+};
 use std::alloc::Global;
 use std::process::Abort;
 
@@ -77,6 +80,24 @@ fn add_session_line(rt: &impl Abort, words: &mut String, line: &SessionLine) {
     }
 }
 
+/// The word for what a component does that fails.
+fn kind_word(kind: FaultKind) -> &'static str {
+    match kind {
+        FaultKind::Raise => "raise",
+        FaultKind::Hang => "hang",
+        FaultKind::Leak => "leak",
+    }
+}
+
+/// The word for what cures a fault.
+fn level_word(level: CureLevel) -> &'static str {
+    match level {
+        CureLevel::Group => "group",
+        CureLevel::App => "app",
+        CureLevel::Process => "process",
+    }
+}
+
 /// Adds the form of a line of the head, and what its words say.
 fn add_head_line(rt: &impl Abort, words: &mut String, line: &HeadLine) {
     match line {
@@ -86,6 +107,12 @@ fn add_head_line(rt: &impl Abort, words: &mut String, line: &HeadLine) {
         HeadLine::Owns(name, table) => {
             add_named(rt, words, "owns", name.as_slice());
             add_number(rt, words, *table);
+        }
+        HeadLine::Fault(name, after, kind, level) => {
+            add_named(rt, words, "fault", name.as_slice());
+            add_number(rt, words, *after);
+            add_word(rt, words, kind_word(*kind));
+            add_word(rt, words, level_word(*level));
         }
         HeadLine::Limit(entries, bytes) => add_pair(rt, words, "limit", *entries, *bytes),
         HeadLine::Bricks(bricks, most, least) => {
@@ -116,6 +143,14 @@ fn add_call_line(rt: &impl Abort, words: &mut String, caller: u64, line: &CallLi
     }
 }
 
+/// Adds the word of a report, and each of its names.
+fn add_report(rt: &impl Abort, words: &mut String, names: &NameList) {
+    add_word(rt, words, "report");
+    for name in names.as_slice() {
+        add_text(rt, words, " ", name.as_slice());
+    }
+}
+
 /// Adds the form of a line over the boot, and what its words say.
 fn add_boot_line(rt: &impl Abort, words: &mut String, line: &BootLine) {
     match line {
@@ -126,6 +161,7 @@ fn add_boot_line(rt: &impl Abort, words: &mut String, line: &BootLine) {
         BootLine::Reboot(word) => add_named(rt, words, "reboot", word.as_slice()),
         BootLine::Table => add_word(rt, words, "table"),
         BootLine::Journal => add_word(rt, words, "journal"),
+        BootLine::Report(names) => add_report(rt, words, names),
     }
 }
 
@@ -185,11 +221,12 @@ pub fn expect_refused(rt: &impl Abort, alloc: Global, lines: &str) {
     }
 }
 
-/// How many bytes a line gives: 0 where it is another line.
+/// How many bytes a line gives, or how many names a report has: 0 where it is another line.
 fn given(line: &Line) -> usize {
     match line {
         Line::Boot(BootLine::Down(word) | BootLine::Up(word) | BootLine::Reboot(word)) =>
             word.len(),
+        Line::Boot(BootLine::Report(names)) => names.len(),
         Line::Call(_, CallLine::Put(_, _, bytes)) => bytes.as_slice().len(),
         Line::Head(HeadLine::Key(bytes)) => bytes.as_slice().len(),
         Line::Session(SessionLine::Write(_, bytes)) => bytes.as_slice().len(),
@@ -199,7 +236,7 @@ fn given(line: &Line) -> usize {
     }
 }
 
-/// Adds how many bytes a line gives.
+/// Adds how many bytes or names a line gives.
 fn add_length(rt: &impl Abort, alloc: Global, words: &mut String, line: &str) {
     match read_line(alloc, line.as_bytes()).expect(rt, line) {
         Some(line) => add_number(rt, words, given(&line) as u64),
@@ -217,7 +254,7 @@ fn filled(rt: &impl Abort, alloc: Global, text: &str, fill: &str, times: u64) ->
 }
 
 /// A row has, between bars, how a line begins, what it goes on with and how often, and how many
-/// bytes it gives.
+/// bytes or names it gives.
 fn expect_length(rt: &impl Abort, alloc: Global, row: &str) {
     let (text, rest) = cut(rt, row, '|');
     let (fill, rest) = cut(rt, rest, '|');
@@ -228,7 +265,7 @@ fn expect_length(rt: &impl Abort, alloc: Global, row: &str) {
     expect_words(rt, &words, want, row);
 }
 
-/// Asserts how many bytes the lines of a table's rows give.
+/// Asserts how many bytes or names the lines of a table's rows give.
 pub fn expect_lengths(rt: &impl Abort, alloc: Global, table: &str) {
     for row in table.split('\n') {
         expect_length(rt, alloc, row);
