@@ -4,6 +4,7 @@ use crate::parts::deployment_of;
 use crate::scores::path_of;
 use crate::words::{add_named, add_word, cut, expect_so, expect_words, number};
 use crash_base::{ComponentNo, GroupNo, Level, Moment, PathList};
+use failure_scores::{FailureReport, PathReport};
 use recovery_manager::{Decision, Manager};
 use std::alloc::Global;
 use std::process::Abort;
@@ -57,6 +58,63 @@ fn do_word(rt: &impl Abort, alloc: Global, manager: &mut Manager, words: &mut St
     let path = path_of(rt, alloc, path);
     for _ in 0..number(rt, times) {
         add_decision(rt, words, report(rt, alloc, manager, &path, moment));
+    }
+}
+
+/// What is decided on a report that is handed on.
+fn hear(rt: &impl Abort, manager: &mut Manager, words: &mut String, report: FailureReport) {
+    add_decision(rt, words, manager.hear(report).expect(rt, "a decision"));
+}
+
+/// Hands on what a word says, as `do_word` reads it.
+fn hear_word(
+    rt: &impl Abort,
+    alloc: Global,
+    manager: &mut Manager,
+    words: &mut String,
+    word: &str,
+) {
+    let (event, moment) = cut(rt, word, '@');
+    let moment = Moment(number(rt, moment));
+    if event == "full" {
+        hear(rt, manager, words, FailureReport::JournalFull(moment));
+        return;
+    }
+    let (times, path) = cut(rt, event, 'x');
+    for _ in 0..number(rt, times) {
+        let path = path_of(rt, alloc, path);
+        hear(
+            rt,
+            manager,
+            words,
+            FailureReport::Path(PathReport { path, moment }),
+        );
+    }
+}
+
+fn expect_heard(rt: &impl Abort, alloc: Global, row: &str) {
+    let (script, want) = cut(rt, row, '|');
+    let deployment = deployment_of(rt, alloc, SHOP);
+    let mut manager = Manager::new(alloc, &deployment).expect(rt, "a manager");
+    let mut words = String::new(alloc);
+    for word in script.split(' ') {
+        if !word.is_empty() {
+            hear_word(rt, alloc, &mut manager, &mut words, word);
+        }
+    }
+    expect_words(rt, &words, want.trim_start(), row);
+}
+
+#[test]
+fn earlier_reports_are_taken_as_of_the_last(rt: HostRuntime) {
+    let rows = [
+        "2x0@20000 1x0@5 | none none group0",
+        "3x0.5@20000 3x5@0 3x0@30001 | none none group0 none none group3 none none app",
+        "full@20000 3x2@5 full@7 3x2@50001 | process none none human process none none group2",
+        "2x0@0 1x0@10001 2x0@10000 | none none none none group0",
+    ];
+    for row in rows {
+        expect_heard(&rt, rt.alloc(), row);
     }
 }
 
