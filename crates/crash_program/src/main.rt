@@ -19,7 +19,8 @@ use words::Invocation;
 const HELP: &str =
     "drive: reads a scenario from standard input and writes its transcript to standard output\n\
 groups: reads descriptors in TOML from standard input and writes each component with its recovery group\n\
-workload, serve: not built yet\n";
+workload: makes the calls and the reboots that the number NUMBER draws, in COUNT turns, and sums them up\n\
+serve: not built yet\n";
 
 /// What `--version` writes.
 const VERSION: &str = "crash 0.2.0\n";

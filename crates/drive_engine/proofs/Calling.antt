@@ -13,7 +13,7 @@ use Rattle.scenario_text.specs.declared.line.TheConstants.{MAX_LINE_BYTES}
 use Rattle.drive_engine.specs.declared.drive.TheConstants.{MAX_SCENARIO_BYTES}
 use Rattle.drive_engine.specs.declared.groups.TheConstants.{MAX_DESCRIPTOR_BYTES}
 use Rattle.drive_engine.specs.declared.words.Command.{Command}
-use Rattle.drive_engine.specs.declared.words.Command.TheVariants.{Drive, Groups}
+use Rattle.drive_engine.specs.declared.words.Command.TheVariants.{Drive, Groups, Workload}
 use Rattle.drive_engine.specs.Command.{CallsFor, DescriptorsCallFor, status_of_end, status_of_unstarted, status_past_limit}
 
 -- a text has lines, and calls for a status whatever the keeper replies to them
@@ -65,6 +65,7 @@ status_called answers Drive text = elim (cases_lt MAX_SCENARIO_BYTES (length tex
   | inr short ↦ (lines_of text, λ turns is answered. (let p = status_there (end_from first 1 turns) answered in (p.0, inl (record { short = short; lines = is; called = p.1 }))))
 ]
 status_called answers Groups text = ([], λ turns is answered. (let called = called_for_groups answers text in (called.0, (no_turns turns is, called.1))))
+status_called answers (Workload number count) text = ([], λ turns is answered. (0, (no_turns turns is, refl)))
 
 called_once_for_groups : (text : List ℕ) (a b : ℕ) → DescriptorsCallFor text a → DescriptorsCallFor text b → a ≡ b
 called_once_for_groups text a b (inl h) (inl k) = h.0 ∙ sym k.0
@@ -86,3 +87,4 @@ called_once Drive text turns a b (inr h) (inr k) =
     let same = cut_once (take MAX_SCENARIO_BYTES text) (lines_in turns) (lines_in turns) h.part k.part h.cut k.cut in
     same_number a b (h.called ∙ ap (λ p. status_past_limit (end_from first 1 turns) (length p)) same.1 ∙ sym k.called)
 called_once Groups text turns a b h k = called_once_for_groups text a b h.1 k.1
+called_once (Workload number count) text turns a b h k = h.1 ∙ sym k.1

@@ -19,7 +19,7 @@ use Rattle.scenario_engine.proofs.Turns.{lines_in-push, no_replies, turns_of, li
 use Rattle.drive_engine.specs.declared.drive.TheConstants.{MAX_SCENARIO_BYTES}
 use Rattle.drive_engine.specs.declared.groups.TheConstants.{MAX_DESCRIPTOR_BYTES}
 use Rattle.drive_engine.specs.declared.words.Command.{Command}
-use Rattle.drive_engine.specs.declared.words.Command.TheVariants.{Drive, Groups}
+use Rattle.drive_engine.specs.declared.words.Command.TheVariants.{Drive, Groups, Workload}
 use Rattle.drive_engine.specs.declared.ending.Ending.{Ending}
 use Rattle.drive_engine.specs.declared.ending.Ending.TheVariants as endings
 use Rattle.drive_engine.specs.Command.{DescriptorsCallFor, IsCalledFor, Runs, Ends, status_of_unstarted, status_of_end, status_past_limit}
@@ -232,6 +232,7 @@ decided_for_groups x text n unasked called = record { turns = []; calls = (refl,
 abbrev pub LeavesKeeper : Command → Exchange → Type 0
 LeavesKeeper Drive x = Unit {0}
 LeavesKeeper Groups x = x.keeper_after.told ≡ x.keeper_before.told
+LeavesKeeper (Workload number count) x = x.keeper_after.told ≡ x.keeper_before.told
 
 -- Where the input tells its text, the status is what text and keeper call for, but for out of memory and for faults.
 decided : (command : Command) (e : Ending) (x : Exchange) (text : List ℕ) → x.left_before ≡ Some text → LeavesKeeper command x → Runs command e x → IsCalledFor command text x.keeper_before.told x.keeper_after.told (status e) ⊎ ((status e ≡ 9) ⊎ ((status e ≡ 4) ⊎ (status e ≡ 5)))
@@ -239,26 +240,35 @@ decided Drive endings.Done x text is unasked h = inl (decided_at_end x text is h
 decided Groups endings.Done x text is unasked h =
     let whole = told_whole x MAX_DESCRIPTOR_BYTES text h.text is h.read in
     inl (decided_for_groups x text 0 unasked (inr (inl (refl, (omega (arith, h.read.short, ap length whole), (h.parts, subst (λ t. IsDeployment t h.parts) (sym whole) h.deployment))))))
+decided (Workload number count) endings.Done x text is unasked h =
+    inl (record { turns = []; calls = (refl, refl); told = unasked })
 decided command endings.UnknownCommand x text is unasked h = absurd h
 decided Drive (endings.LineRefused n) x text is unasked h = inl (decided_at_line x text n is h.1)
 decided Groups (endings.LineRefused n) x text is unasked h = cc
+decided (Workload number count) (endings.LineRefused n) x text is unasked h = cc
 decided command endings.ReadFailed x text is unasked h = inr (inr (inl refl))
 decided command endings.WriteFailed x text is unasked h = inr (inr (inr refl))
 decided Drive endings.KeeperFailed x text is unasked h = inl (decided_at_start x text causes.KeeperFailed is h.1)
 decided Groups endings.KeeperFailed x text is unasked h = cc
+decided (Workload number count) endings.KeeperFailed x text is unasked h = cc
 decided Drive (endings.BadRow id) x text is unasked h = inl (decided_at_start x text (causes.BadRow id) is h.1)
 decided Groups (endings.BadRow id) x text is unasked h = cc
+decided (Workload number count) (endings.BadRow id) x text is unasked h = cc
 decided Drive (endings.LineTooLong n) x text is unasked h = inl (decided_at_long_line x text n is h)
 decided Groups (endings.LineTooLong n) x text is unasked h = inl (decided_for_groups x text 8 unasked (inl (refl, subst (λ (o : Option (List ℕ)). IfSome o (λ text. MAX_DESCRIPTOR_BYTES < length text)) is h.1.long)))
+decided (Workload number count) (endings.LineTooLong n) x text is unasked h = absurd h
 decided command endings.OutOfMemory x text is unasked h = inr (inl refl)
 decided Drive endings.DescriptorsRefused x text is unasked h = cc
 decided Groups endings.DescriptorsRefused x text is unasked h =
     let whole = told_whole x MAX_DESCRIPTOR_BYTES text h.1.text is h.1.read in
     inl (decided_for_groups x text 10 unasked (inr (inr (refl, (omega (arith, h.1.read.short, ap length whole), subst IsRefused (sym whole) h.1.refused)))))
+decided (Workload number count) endings.DescriptorsRefused x text is unasked h = cc
 decided Drive endings.BootsSpent x text is unasked h = inl (decided_at_start x text causes.BootsSpent is h.1)
 decided Groups endings.BootsSpent x text is unasked h = cc
+decided (Workload number count) endings.BootsSpent x text is unasked h = cc
 decided Drive endings.ScenarioTooLong x text is unasked h = inl (decided_past_limit x text is h.1)
 decided Groups endings.ScenarioTooLong x text is unasked h = cc
+decided (Workload number count) endings.ScenarioTooLong x text is unasked h = cc
 
 -- the status that is answered
 pub decided_status : (words : Option Command) (e r : Ending) (x : Exchange) (n : ℕ) → (words ≢ Some Drive → x.keeper_after.told ≡ x.keeper_before.told) → Ends words e x → IsReported e r → n ≡ status r → IfSome x.left_before (λ text. IfSome words (λ command. IsCalledFor command text x.keeper_before.told x.keeper_after.told n ⊎ ((n ≡ 9) ⊎ ((n ≡ 4) ⊎ (n ≡ 5)))))
@@ -267,6 +277,7 @@ decided_status words e r x n unasked ends reported is = told_or_not x.left_befor
     leaves : (command : Command) → words ≡ Some command → LeavesKeeper command x
     leaves Drive so = tt
     leaves Groups so = unasked (λ drive. cc)
+    leaves (Workload number count) so = unasked (λ drive. cc)
 
     by_command : (w : Option Command) (text : List ℕ) → words ≡ w → x.left_before ≡ Some text → Ends w e x → IfSome w (λ command. IsCalledFor command text x.keeper_before.told x.keeper_after.told n ⊎ ((n ≡ 9) ⊎ ((n ≡ 4) ⊎ (n ≡ 5))))
     by_command None text which so h = tt

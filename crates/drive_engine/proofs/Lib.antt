@@ -3,3 +3,4 @@ pub mod Calling
 pub mod Coming
 pub mod Deciding
 pub mod Reporting
+pub mod Working

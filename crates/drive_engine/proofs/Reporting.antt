@@ -2,7 +2,7 @@
 use Rattle.std.proofs.Common.{◌≡◌, ◌≢◌, List, codes, inl, inr, ℕ, Option, Some, None, refl, sym, ◌∙◌, subst, arith}
 use Rattle.std.specs.Prelude.{IfSome}
 use Rattle.drive_engine.specs.declared.words.Command.{Command}
-use Rattle.drive_engine.specs.declared.words.Command.TheVariants.{Drive, Groups}
+use Rattle.drive_engine.specs.declared.words.Command.TheVariants.{Drive, Groups, Workload}
 use Rattle.drive_engine.specs.declared.ending.Ending.{Ending}
 use Rattle.drive_engine.specs.declared.ending.Ending.TheVariants as endings
 use Rattle.drive_engine.specs.Command.{Runs, Ends, RunsOutOfMemory, EndsOutOfMemory}
@@ -26,10 +26,12 @@ is_out_of_memory endings.ScenarioTooLong is = absurd (omega arith)
 ran_out : (command : Command) (x : Exchange) → RunsOutOfMemory command x → EndsOutOfMemory command x
 ran_out Drive x h = inl h
 ran_out Groups x h = h
+ran_out (Workload number count) x h = h
 
 too_long : (command : Command) (n : ℕ) (x : Exchange) → Runs command (endings.LineTooLong n) x → EndsOutOfMemory command x
 too_long Drive n x h = inr (inr (inl (n, h)))
 too_long Groups n x h = h.1.silent
+too_long (Workload number count) n x h = absurd h
 
 -- there is no memory for the numbers of a report
 without_numbers : (command : Command) (e : Ending) (x : Exchange) → HasNumbers e → Runs command e x → EndsOutOfMemory command x
@@ -37,11 +39,13 @@ without_numbers command endings.Done x has h = absurd has
 without_numbers command endings.UnknownCommand x has h = absurd has
 without_numbers Drive (endings.LineRefused n) x has h = inr (inl (n, h.1))
 without_numbers Groups (endings.LineRefused n) x has h = cc
+without_numbers (Workload number count) (endings.LineRefused n) x has h = cc
 without_numbers command endings.ReadFailed x has h = absurd has
 without_numbers command endings.WriteFailed x has h = absurd has
 without_numbers command endings.KeeperFailed x has h = absurd has
 without_numbers Drive (endings.BadRow id) x has h = inr (inr (inr (id, h.1)))
 without_numbers Groups (endings.BadRow id) x has h = cc
+without_numbers (Workload number count) (endings.BadRow id) x has h = cc
 without_numbers command (endings.LineTooLong n) x has h = too_long command n x h
 without_numbers command endings.OutOfMemory x has h = absurd has
 without_numbers command endings.DescriptorsRefused x has h = absurd has

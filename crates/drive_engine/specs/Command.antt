@@ -13,41 +13,49 @@ use Rattle.drive_engine.specs.declared.groups.TheConstants.{MAX_DESCRIPTOR_BYTES
 use Rattle.drive_engine.specs.declared.ending.Ending.{Ending}
 use Rattle.drive_engine.specs.declared.ending.Ending.TheVariants.{Done, UnknownCommand, LineRefused, ReadFailed, WriteFailed, KeeperFailed, BadRow, LineTooLong, OutOfMemory, DescriptorsRefused, BootsSpent, ScenarioTooLong}
 use Rattle.drive_engine.specs.declared.words.Command.{Command}
-use Rattle.drive_engine.specs.declared.words.Command.TheVariants.{Drive, Groups}
+use Rattle.drive_engine.specs.declared.words.Command.TheVariants.{Drive, Groups, Workload}
 use Rattle.drive_engine.specs.Drive.{WritesTranscript, StopsAtLine, StopsUnstarted, StopsAtLongLine, StopsAtFailedRead, StopsAtFailedWrite, StopsOutOfMemory, HasNoReport, StopsPastLimit}
 use Rattle.drive_engine.specs.Exchange.{Exchange, WritesNothing}
 use Rattle.drive_engine.specs.Groups.{WritesGroups, WritesGroupsPrefix, RefusesDescriptors, HasTooManyBytes, IsDeployment, IsRefused}
+use Rattle.drive_engine.specs.Work.{WritesSummary, WritesSummaryPrefix, LeavesStreams}
 
--- The input was read to its end, and all was written that the command writes for it.
+-- The input was read to its end, or for a workload nothing of it, and all was written that the command writes.
 abbrev pub WritesAll : Command → Exchange → Type 0
 WritesAll Drive x = WritesTranscript x
 WritesAll Groups x = WritesGroups x
+WritesAll (Workload number count) x = WritesSummary number count x
 
--- A read failed: a scenario was done as far as its lines had ended; for descriptors nothing was written.
+-- A read failed: a scenario was done as far as its lines had ended; for descriptors nothing was written. A workload
+-- reads nothing.
 abbrev pub FailsToRead : Command → Exchange → Type 0
 FailsToRead Drive x = StopsAtFailedRead x
 FailsToRead Groups x = WritesNothing x
+FailsToRead (Workload number count) x = ⊥
 
--- A write failed: a scenario was done up to a line, and of what this line writes, or of the lines of groups, a prefix
--- was written.
+-- A write failed: a scenario was done up to a line, and of what this line writes, of the lines of groups, or of the
+-- summary of a workload, a prefix was written.
 abbrev pub FailsToWrite : Command → Exchange → Type 0
 FailsToWrite Drive x = StopsAtFailedWrite x
 FailsToWrite Groups x = WritesGroupsPrefix x
+FailsToWrite (Workload number count) x = WritesSummaryPrefix number count x
 
 -- The line of this number is too long, or a descriptor text is, which counts as its first line.
 abbrev pub HasLongLine : Command → ℕ → Exchange → Type 0
 HasLongLine Drive n x = StopsAtLongLine n x
 HasLongLine Groups n x = (n ≡ 1) × HasTooManyBytes x
+HasLongLine (Workload number count) n x = ⊥
 
--- Memory ran out: a scenario was done up to a line; for descriptors nothing was written.
+-- Memory ran out: a scenario was done up to a line; for descriptors and for a workload nothing was written.
 abbrev pub RunsOutOfMemory : Command → Exchange → Type 0
 RunsOutOfMemory Drive x = StopsOutOfMemory x
 RunsOutOfMemory Groups x = WritesNothing x
+RunsOutOfMemory (Workload number count) x = LeavesStreams x
 
 -- Memory ran out, while a command ran or for its report.
 abbrev pub EndsOutOfMemory : Command → Exchange → Type 0
 EndsOutOfMemory Drive x = StopsOutOfMemory x ⊎ HasNoReport x
 EndsOutOfMemory Groups x = WritesNothing x
+EndsOutOfMemory (Workload number count) x = LeavesStreams x
 
 -- What a command that ends so has read, written and asked of its keeper.
 abbrev pub Runs : Command → Ending → Exchange → Type 0
@@ -116,11 +124,12 @@ DescriptorsCallFor text status =
     ⊎ ((status ≡ 10) × ((length text ≤ MAX_DESCRIPTOR_BYTES) × IsRefused text)))
 
 -- The status that a text calls for where the keeper replies as these turns say, neither input nor output fails, and
--- memory does not run out. A descriptor text has no turns.
+-- memory does not run out. A descriptor text has no turns. Before a workload each text calls for 0, since none is read.
 abbrev pub CallsFor : Command → List ℕ → List Turn → ℕ → Type 0
 CallsFor Drive text turns status =
     CallsWithinLimit text turns status ⊎ CallsPastLimit text turns status
 CallsFor Groups text turns status = (turns ≡ []) × DescriptorsCallFor text status
+CallsFor (Workload number count) text turns status = (turns ≡ []) × (status ≡ 0)
 
 -- A text calls for this status by what a keeper replies that tells this before and after.
 pub record IsCalledFor (command : Command) (text : List ℕ) (old new : Option KeeperTold) (status : ℕ) : Type 0 where

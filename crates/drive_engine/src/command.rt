@@ -11,12 +11,13 @@ ghost use Rattle.drive_engine.specs.Drive.{StopsAtLine, StopsUnstarted, StopsPas
 ghost use Rattle.drive_engine.specs.Ending.{report, line_report, long_line_report, bad_row_report, IsReported};
 ghost use Rattle.drive_engine.specs.Exchange.{exchange};
 ghost use Rattle.drive_engine.specs.Groups.{RefusesDescriptors, is_silent};
-ghost use Rattle.drive_engine.specs.Words.{command_of};
+ghost use Rattle.drive_engine.specs.Words.{command_of, HasFewTurns};
 
 use crate::drive::drive;
 use crate::ending::Ending;
 use crate::groups::groups;
 use crate::words::{Command, USAGE, command_of};
+use crate::work::work;
 use crash_base::{OutOfMemory, RowId, WordText};
 use outside::{Keeper, Sink, Source, write_all};
 use scenario_engine::UnstartedCause;
@@ -113,6 +114,7 @@ fn run<S: Source, T: Sink, K: Keeper + Drop>(
     out: &mut T,
     keeper: K,
 ) -> (Ending, K)
+    requires { HasFewTurns command }
     ensures runs { Runs command result.0
         (exchange (S.left input.old) (S.left input.new) (T.written out.old) (T.written out.new)
         (seen (K.told keeper) (K.faults keeper)) (seen (K.told result.1) (K.faults result.1))) }
@@ -124,11 +126,13 @@ fn run<S: Source, T: Sink, K: Keeper + Drop>(
         → Rose (K.faults keeper) (K.faults result.1) }
     ensures keeper_count { K.faults keeper ≤ K.faults result.1 }
     ensures silent { command ≡ Command.Groups → is_silent result.0 ≡ true → out.new ≡ out.old }
-    ensures unasked { command ≡ Command.Groups → result.1 ≡ keeper }
+    ensures unasked { command ≢ Command.Drive → result.1 ≡ keeper }
+    ensures unread { (number count : ℕ) → command ≡ Command.Workload number count → input.new ≡ input.old }
 {
     match command {
         Command::Drive => drive(alloc, input, out, keeper),
         Command::Groups => (groups(alloc, input, out), keeper),
+        Command::Workload { number, count } => (work(alloc, number, count, out), keeper),
     }
 }
 
@@ -153,6 +157,8 @@ fn run_words<S: Source, T: Sink, K: Keeper + Drop>(
     ensures silent { command_of words.now ≡ Some Command.Groups
         → is_silent result.0 ≡ true → out.new ≡ out.old }
     ensures unasked { command_of words.now ≢ Some Command.Drive → result.1 ≡ keeper }
+    ensures unread { (number count : ℕ) → command_of words.now ≡ Some (Command.Workload number count)
+        → input.new ≡ input.old }
     ensures unknown { command_of words.now ≡ None
         → (input.new ≡ input.old) × (out.new ≡ out.old) }
 {
@@ -165,7 +171,8 @@ fn run_words<S: Source, T: Sink, K: Keeper + Drop>(
 /// Runs a command over its outside, and answers its status and the keeper.
 ///
 /// - 0: the input was read to its end. For `drive` what was written is the transcript of its lines, and for
-///   `groups` the line of each component that it describes.
+///   `groups` the line of each component that it describes. For `workload` nothing was read, and its summary was
+///   written.
 /// - 2: the words spell no command.
 /// - 3: a line of a scenario was refused, whose number is reported.
 /// - 4, 5: the input, the output failed.
@@ -193,14 +200,17 @@ pub fn run_command<S: Source, T: Sink, E: Sink, K: Keeper + Drop>(
     errors: &mut E,
     keeper: K,
 ) -> (u8, K)
-    // Only a scenario asks the keeper. Its count of faults never falls.
+    // Only a scenario asks the keeper: a workload has one of its own, and reads nothing. The keeper's count of faults
+    // never falls.
     ensures unasked { command_of words.now ≢ Some Command.Drive → result.1 ≡ keeper }
     ensures keeper_count { K.faults keeper ≤ K.faults result.1 }
+    ensures unread { (number count : ℕ) → command_of words.now ≡ Some (Command.Workload number count)
+        → input.new ≡ input.old }
     ensures statuses { list_any (λ status. status == result.0)
         (0 ∷ 2 ∷ 3 ∷ 4 ∷ 5 ∷ 6 ∷ 7 ∷ 8 ∷ 9 ∷ 10 ∷ 11 ∷ 12 ∷ []) ≡ true }
 
     // At 0 the input was read to its end and all was written: the transcript of a scenario, or the
-    // groups of a deployment. Nothing is reported.
+    // groups of a deployment. For a workload nothing was read, and its summary was written. Nothing is reported.
     ensures done { result.0 ≡ 0 → (errors.new ≡ errors.old)
         × IfSome (command_of words.now) (λ command. WritesAll command
         (exchange (S.left input.old) (S.left input.new) (T.written out.old) (T.written out.new)
@@ -268,9 +278,9 @@ pub fn run_command<S: Source, T: Sink, E: Sink, K: Keeper + Drop>(
         × AppendsOrFails (E.written errors.old) (E.written errors.new)
         (E.faults errors.old) (E.faults errors.new) (long_line_report n) }
 
-    // At 9 the transcript of the lines that were done was written, or for groups nothing. What they did stands, and
-    // so do the steps of a connection that the next line had made by then, also one whose commit the keeper had just
-    // kept.
+    // At 9 the transcript of the lines that were done was written, or for groups and for a workload nothing. What the
+    // lines did stands, and so do the steps of a connection that the next line had made by then, also one whose commit
+    // the keeper had just kept.
     ensures out_of_memory { result.0 ≡ 9
         → IfSome (command_of words.now) (λ command. EndsOutOfMemory command
         (exchange (S.left input.old) (S.left input.new) (T.written out.old) (T.written out.new)

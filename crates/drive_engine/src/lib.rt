@@ -5,7 +5,9 @@
 //! the next. A line with what the keeper replies to it is a turn of `scenario_engine`. What is written is a
 //! function of the turns alone, `transcript` of its `specs/Transcript`; so is how the scenario ends, `end_from`,
 //! and which calls of the keeper it makes, `calls_from`. For `groups` it reads a descriptor text to its end, and
-//! writes the lines of its deployment, `groups_text` of `specs/Groups`.
+//! writes the lines of its deployment, `groups_text` of `specs/Groups`. For `workload` it reads nothing, runs the
+//! workload over a keeper of its own, and writes its summary, `workload_text` of `specs/Work`, which is a function of
+//! the number and of the count of turns alone.
 //!
 //! ```text
 //! let (status, keeper) = run_command(alloc, words, &mut input, &mut out, &mut errors, keeper);
@@ -20,7 +22,7 @@
 //!
 //! A scenario takes room for one piece and one line, however long it is. A line visits its bytes and those that it
 //! writes, and what its call of the boot visits; a begin also makes a place for each caller of a lesser number
-//! that has none. `groups` visits each byte of its text and of its lines.
+//! that has none. `groups` visits each byte of its text and of its lines. `workload` costs what `run_workload` says.
 #![tactic(auto)]
 
 mod command;
@@ -30,6 +32,7 @@ mod groups;
 mod laws;
 mod play;
 mod words;
+mod work;
 
 pub use command::run_command;
 pub use drive::MAX_SCENARIO_BYTES;

@@ -26,7 +26,10 @@ fn groups_leave_the_keeper(rt: HostRuntime) {
 }
 
 /// Words that spell no command. The program takes the last two before it looks for one.
-const NO_COMMANDS: &str = "\nDrive\ndrive x\nworkload\n--version\n--help";
+const NO_COMMANDS: &str =
+    "\nDrive\ndrive x\nworkload\nworkload 7\nworkload 7 1 1\nWorkload 7 1\n7 workload 1\n\
+workload 07 1\nworkload 7 01\nworkload +7 1\nworkload 7 -1\nworkload 7 1.\nworkload x 1\n\
+workload 18446744073709551616 1\nworkload 7 100001\n--version\n--help";
 
 /// They make no call of the keeper, whatever it is.
 const UNCALLED: &str = "0 0 00000003;40 7 61;|1|0|0 0 00000003;40 7 61;|2|\

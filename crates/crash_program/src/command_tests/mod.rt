@@ -14,3 +14,4 @@ mod starts;
 mod streams;
 mod table;
 mod words;
+mod workloads;
