@@ -6,8 +6,8 @@ mod Ending
 mod Growing
 mod Keeping
 mod Replying
-mod Reporting
 mod Requests
 mod Responding
 mod Stopped
+mod Telling
 mod Turning

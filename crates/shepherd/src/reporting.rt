@@ -42,6 +42,7 @@ fn report_by<P>(
 
 impl<P> Stage<P> {
     /// What is reported of the request that is open.
+    #[tactic(auto, unfolding(crate::specs::Reports::report_in))]
     fn report(&self, alloc: Global) -> Result<Option<FailureReport>, OutOfMemory>
         ensures { IfOk result (λ report. report ≡ report_in self.now) }
     {

@@ -1,4 +1,4 @@
-use Rattle.shepherd.proofs.Reporting.{failed, full, goes_on, told}
+use Rattle.shepherd.proofs.Telling.{failed, full, goes_on, told}
 use Rattle.shepherd.proofs.reporting.failed_requests_are_reported.Goals as goal
 
 pub returns-clause-failed : goal.returns-clause-failed

@@ -1,6 +1,6 @@
 -- What is reported of the request that is open, and that it is what its end tells.
 use Rattle.std.specs.Prelude.{option_map}
-use Rattle.std.proofs.Common.{◌≡◌, ◌↔◌, ◌⊎◌, Bool, List, Option, Some, None, refl, sym, ap, ◌∙◌, subst}
+use Rattle.std.proofs.Common.{◌≡◌, ◌↔◌, ◌⊎◌, inl, inr, Bool, List, Option, Some, None, refl, sym, ap, ◌∙◌, subst}
 use Rattle.call_ticket.specs.declared.next.Answer.{Answer}
 use Rattle.call_ticket.specs.declared.next.Next.{Next}
 use Rattle.container_core.specs.Container.{ContainerValue, events_of}
@@ -30,7 +30,6 @@ use Rattle.request_visit.specs.declared.visit.Work.{Work}
 use Rattle.request_visit.specs.declared.visit.Work.TheVariants.{Reading, Opening, Serving as ServingBy, Committed, Decided, Answered, Left}
 use Rattle.session_way.specs.Way.{wants}
 use Rattle.session_way.specs.declared.way.Wants.{Wants}
-use Rattle.session_way.specs.declared.way.Wants.TheVariants as wanted
 use Rattle.shepherd.specs.Reports.{FoundFull, HasFailed, TellsOfEnd, report_by, report_in}
 use Rattle.shepherd.specs.Shepherds.{turn}
 use Rattle.shepherd.specs.Steps.{OnVisit, ShepherdSteps}
@@ -54,18 +53,18 @@ failed_so v r (Page place again) is e = absurd (cc)
 failed_so v r (Sentinel group down) is e = absurd (cc)
 failed_so v r (Hung component fault path) is e =
     let same = same_path (record { path = path; moment = v.facts.now }) r e in record {
-  component = component;
-  fault = fault;
-  moment_is = ap (λ (x : PathReport). x.moment) same;
-  became = inl (is ∙ ap (λ (x : PathReport). Decided (item.Ended (Hung component fault x.path))) same);
-}
+      component = component;
+      fault = fault;
+      moment_is = ap (λ (x : PathReport). x.moment) same;
+      became = inl (is ∙ ap (λ (x : PathReport). Decided (item.Ended (Hung component fault x.path))) same);
+    }
 failed_so v r (Raised component fault path) is e =
     let same = same_path (record { path = path; moment = v.facts.now }) r e in record {
-  component = component;
-  fault = fault;
-  moment_is = ap (λ (x : PathReport). x.moment) same;
-  became = inr (is ∙ ap (λ (x : PathReport). Decided (item.Ended (Raised component fault x.path))) same);
-}
+      component = component;
+      fault = fault;
+      moment_is = ap (λ (x : PathReport). x.moment) same;
+      became = inr (is ∙ ap (λ (x : PathReport). Decided (item.Ended (Raised component fault x.path))) same);
+    }
 failed_so v r (Revoked tries) is e = absurd (cc)
 failed_so v r (Conflict tries) is e = absurd (cc)
 failed_so v r (JournalFull full) is e = absurd (cc)
@@ -185,10 +184,10 @@ module _ {P : Type 0} (v w : Visit P) (after : ContainerValue) (report : Failure
   by_end later tries program closing (Some e) errand going is closes stands =
       let there = ap reported is ∙ ap (λ (c : Option Closing). reported (after_closing_if c (record v { work = later }))) closes in
       record {
-    ended = e;
-    stands = stands;
-    tells = left_tells (record v { work = later; holds = holds_of e }) (λ again. ready_of v.facts v.lease (done_of (events_of after) e)) e.outcome report (sym there ∙ told);
-  }
+        ended = e;
+        stands = stands;
+        tells = left_tells (record v { work = later; holds = holds_of e }) (λ again. ready_of v.facts v.lease (done_of (events_of after) e)) e.outcome report (sym there ∙ told);
+      }
 
   -- this is told of a request that was served so
   abbrev Told : (P → List Answer → Next) → TriesValue → P → Type 0
