@@ -21,10 +21,9 @@ use Rattle.journal_model.specs.declared.entry.Entry.TheVariants.{Commit}
 use Rattle.outside.specs.Keeper.{KeeperTold, TellsRefusal}
 use Rattle.outside.specs.declared.keeper.KeeperFault.TheVariants as faults
 use Rattle.request_tries.specs.Serving.{TriesValue, closed}
-use Rattle.request_tries.specs.Steps.{CommitsAs, CommitsTry, ComesTo, HearsCommit, IsRefused, StepsAs, action_of, front_at, refusal_of}
+use Rattle.request_tries.specs.Steps.{CommitsTry, ComesTo, HearsCommit, IsRefused, StepsAs, action_of, front_at, refusal_of}
 use Rattle.request_tries.specs.declared.outcome.Ended.{Ended}
 use Rattle.request_tries.specs.declared.outcome.Progress.{Progress}
-use Rattle.request_tries.specs.declared.outcome.Progress.TheVariants as progress
 use Rattle.request_visit.specs.Serving.{GoesOn}
 use Rattle.request_visit.specs.Stepping.{ServesWork, VisitsInside}
 use Rattle.request_visit.specs.declared.serving.Closing.{Closing}

@@ -19,6 +19,7 @@ use Rattle.call_ticket.specs.declared.next.Next.TheVariants as next
 use Rattle.container_core.specs.Container.{CommitLeaves, ContainerValue, RefusalLeaves, with_boot}
 use Rattle.container_core.specs.declared.history.Event.{Event}
 use Rattle.container_core.specs.declared.history.Event.TheVariants.{Added, KeeperFailed}
+use Rattle.crash_base.specs.declared.numbers.ComponentNo.{ComponentNo}
 use Rattle.crash_base.specs.declared.numbers.Place.{Place}
 use Rattle.crash_base.specs.declared.rows.RowWrite.{RowWrite}
 use Rattle.journal_model.specs.Calls.{Call, entry_of}
