@@ -350,7 +350,7 @@ class Connection:
             next(self.course)
         except StopIteration:
             self.course = None
-        return [f"s{self.number} out {it.hex()}" for it in out]
+        return out
 
     def run(self):
         wrote = []
@@ -369,7 +369,8 @@ class Connection:
             head.append("Set-Cookie: crash=; Path=/; Max-Age=0; HttpOnly")
         head += ["Retry-After: 2"] * retry + [f"Allow: {allow}"] * bool(allow)
         head += ["Connection: close"] * request.closes() + ["", ""]
-        self.site.out.append("\r\n".join(head).encode() + page * (request.method != "HEAD"))
+        response = "\r\n".join(head).encode() + page * (request.method != "HEAD")
+        self.site.out.append(f"s{self.number} out {response.hex()}")
         self.closing = request.closes()
 
     def decide(self, request):
@@ -468,7 +469,8 @@ class Connection:
         return None
 
     def attempt(self, one, order):
-        """A try. Its page; None where it met a group that is down, or the journal is full; else that it is void."""
+        """A try. Its page; None where it met a group that is down, or the journal is full, upon which it is decided to
+        reboot the process; else that it is void."""
         program = steps_of(order.action, order.call)
         answer = None
         while True:
@@ -491,6 +493,7 @@ class Connection:
         if refusal == "already":
             return self.site.done[order.number][1]
         if refusal and refusal.startswith("full "):
+            self.site.out.append("decide process")
             return None
         one.once = one.once and bool(refusal) and refusal.startswith("revoked ")
         return "again" if refusal else page
