@@ -149,11 +149,12 @@ module _ (parts : Parts) (s : SeatsState) (names : List (List ℕ)) (now : Momen
 
 -- a name that is no component's
 pub unknown_none : (parts : Parts) (names : List (List ℕ)) (name : List ℕ) → Contains names name → named parts.components name ≡ None → path_of parts names ≡ None
-unknown_none parts [] name (k, within, at) none = absurd (omega (arith, within))
-unknown_none parts (first ∷ names) name (zero, within, at) none =
+unknown_none parts [] name (k, within, is) none = absurd (omega (arith, within))
+unknown_none parts (first ∷ names) name (zero, within, is) none =
     ap (λ (o : Option ℕ). option_and_then (λ (n : ℕ). option_map (λ (path : List ComponentNo). component_no n ∷ path) (path_of parts names)) o)
-    (ap (λ (x : List ℕ). named parts.components x) at ∙ none)
-unknown_none parts (first ∷ names) name (suc k, within, at) none = go (named parts.components first) where
-  go : (o : Option ℕ) → option_and_then (λ (n : ℕ). option_map (λ (path : List ComponentNo). component_no n ∷ path) (path_of parts names)) o ≡ None
-  go None = refl
-  go (Some n) = ap (λ (p : Option (List ComponentNo)). option_map (λ (path : List ComponentNo). component_no n ∷ path) p) (unknown_none parts names name (k, omega (arith, within), at) none)
+    (ap (λ (x : List ℕ). named parts.components x) is ∙ none)
+unknown_none parts (first ∷ names) name (suc k, within, is) none =
+    go (unknown_none parts names name (k, omega (arith, within), is) none) (named parts.components first) where
+      go : path_of parts names ≡ None → (o : Option ℕ) → option_and_then (λ (n : ℕ). option_map (λ (path : List ComponentNo). component_no n ∷ path) (path_of parts names)) o ≡ None
+      go later None = refl
+      go later (Some n) = ap (λ (p : Option (List ComponentNo)). option_map (λ (path : List ComponentNo). component_no n ∷ path) p) later

@@ -89,6 +89,7 @@ impl Seats {
     ///
     /// # Errors
     /// Out of memory. The manager may have heard the report then.
+    #[tactic(auto, unfolding(crate::specs::Hearing::report_line))]
     pub fn report_line(
         &mut self,
         alloc: Global,
