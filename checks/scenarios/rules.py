@@ -1,6 +1,6 @@
 """Scenarios that are made by plain rules, which also say what they should write: two calls and a reboot in every order,
 two calls of one table in every order, lists of lines by chance in which callers, reboots and sessions are mixed, pairs
-of faults of bricks, and requests of a browser that are cut at every place.
+of faults of bricks, requests of a browser that are cut at every place, and reports of requests that failed.
 Each function of ALL yields pairs of an input and an output. The rules are stated again here, apart from the program."""
 
 from itertools import combinations
@@ -613,6 +613,61 @@ def home_pages_by_every_cut():
         yield whole("site\nconn s1\n", (lines, [out, "s1 ended cut"]))
 
 
+# Reports of requests that failed, of components and moments by chance. A component that three or more of the last ten
+# seconds have, and no other more, brings a reboot that is one wider than the widest of its group of the last thirty.
+
+
+class Manager:
+    """What decides on reboots, by the groups of the components."""
+
+    def __init__(self, groups):
+        self.groups, self.reports, self.acts = groups, [], []
+
+    def hear(self, now, path):
+        """A report, and what is decided then."""
+        self.reports.append((now, path))
+        recent = [known for moment, known in self.reports if now - moment <= 10_000]
+        scores = [sum(component in known for known in recent) for component in range(len(self.groups))]
+        if max(scores) < 3:
+            return "decide none"
+        group = self.groups[scores.index(max(scores))]
+        wide = [level for moment, level, of in self.acts if now - moment <= 30_000 and (level > 0 or of == group)]
+        level = min(max(wide, default=-1) + 1, 3)
+        self.acts.append((now, level, group))
+        self.reports = []
+        return "decide " + (f"group {group}", "app", "process", "human")[level]
+
+
+def reports_by_chance():
+    """40 lists of 300 lines, most of which report one to four of five components, in three groups."""
+    head = "component A\ncomponent B\ncomponent C\ncomponent D\ncomponent E\nhard C A\nhard B D\n"
+    left = {"decide none", "decide group 0", "decide group 1", "decide group 4"}
+    left |= {"decide app", "decide process", "decide human"}
+    for seed in range(40):
+        chance, manager, now, boot, place = Chance(seed), Manager((0, 1, 0, 1, 4)), 0, 1, 0
+        lines, wanted = [], []
+        for _ in range(300):
+            what = chance.below(16)
+            if what < 4:
+                now += chance.below((200, 4_000, 12_000, 40_000)[what])
+                lines.append(f"now {now}")
+            elif what == 4 and chance.below(4) == 0:
+                boot, place = boot + 1, 0
+                lines.append("reopen")
+                wanted.append(f"boot {boot}")
+            elif what == 5:
+                lines.append(f"reboot {'ABCDE'[chance.below(5)]}")
+                wanted += [f"down {place}", f"up {place + 1}"]
+                place += 2
+            else:
+                path = [chance.below(5) for _ in range(chance.up_to(4))]
+                lines.append("report " + " ".join("ABCDE"[component] for component in path))
+                wanted.append(manager.hear(now, path))
+        left -= set(wanted)
+        yield whole(head, (lines, wanted))
+    assert not left, f"not decided: {sorted(left)}"
+
+
 def whole(head, played):
     """An input and an output of these lines."""
     lines, wanted = played
@@ -620,4 +675,4 @@ def whole(head, played):
 
 
 ALL = (reboots_in_every_order, calls_of_one_table_in_every_order, mixed_by_chance, reads_by_chance)
-ALL += (one_fault_at_the_write_and_one_at_the_read, full_bricks_are_told, home_pages_by_every_cut)
+ALL += (one_fault_at_the_write_and_one_at_the_read, full_bricks_are_told, home_pages_by_every_cut, reports_by_chance)
