@@ -38,9 +38,9 @@ reports-append : (xs ys : List ReportMade) → reports_by (xs ++ ys) ≡ reports
 reports-append xs ys = map-append (λ (m : ReportMade). m.report) xs ys
 
 decided-append : (before : List FailureReport) (xs ys : List ReportMade) → AllDecided before xs → AllDecided (before ++ reports_by xs) ys → AllDecided before (xs ++ ys)
-decided-append before [] ys first second = subst (λ (rs : List FailureReport). AllDecided rs ys) (append-nil before) second
-decided-append before (made ∷ xs) ys (its, first) second =
-    (its, decided-append (before ++ made.report ∷ []) xs ys first (subst (λ (rs : List FailureReport). AllDecided rs ys) (sym (one-more before made xs)) second))
+decided-append before [] ys its more = subst (λ (rs : List FailureReport). AllDecided rs ys) (append-nil before) more
+decided-append before (made ∷ xs) ys (its, rest) more =
+    (its, decided-append (before ++ made.report ∷ []) xs ys rest (subst (λ (rs : List FailureReport). AllDecided rs ys) (sym (one-more before made xs)) more))
 
 decided-at : (before : List FailureReport) (xs ys : List ReportMade) (made : ReportMade) → AllDecided before (xs ++ made ∷ ys) → decided_on made ≡ decided_by_all made.site.boot.start.deployment (before ++ reports_by xs) made.report
 decided-at before [] ys made all =
@@ -114,12 +114,12 @@ module _ (laws : DecideLaws) where
 
     -- and more is
     and-more : (before : List FailureReport) (xs ys : List ReportMade) (t u : State) → HasHeardAll before xs t → HasHeardAll (before ++ reports_by xs) ys u → HasHeardAll before (xs ++ ys) u
-    and-more before xs ys t u first second =
+    and-more before xs ys t u its more =
         let as_one : (before ++ reports_by xs) ++ reports_by ys ≡ before ++ reports_by (xs ++ ys) =
         append_assoc before (reports_by xs) (reports_by ys) ∙ ap (λ (rs : List FailureReport). before ++ rs) (sym (reports-append xs ys)) in
         record {
-          heard = subst (λ (rs : List FailureReport). HasHeard rs u) as_one second.heard;
-          decided = decided-append before xs ys first.decided second.decided;
+          heard = subst (λ (rs : List FailureReport). HasHeard rs u) as_one more.heard;
+          decided = decided-append before xs ys its.decided more.decided;
         }
 
     heard-turns : (s : State) (n : ℕ) (turns : List Turn) (before : List FailureReport) → HasHeard before s → HasHeardAll before (reports_from s turns) (last_state (end_from s n turns))

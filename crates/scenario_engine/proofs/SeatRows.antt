@@ -13,7 +13,7 @@ use Rattle.scenario_text.specs.declared.seat_line.SeatLine.TheVariants as lines
 use Rattle.scenario_text.proofs.Leaving.{Leaves, leaves-refused_if}
 use Rattle.seat_lines.specs.Handing.{Handed, handed_first, line_hands, run_hands, writes_by}
 use Rattle.seat_lines.specs.Lines.{bytes_line, bytes_step, conn_line, end_line, end_step, givens_of, is_beyond, open_line, place_step, step_line, step_over, steps_at, with_place, world_of}
-use Rattle.seat_lines.specs.Making.{run_makes}
+use Rattle.seat_lines.specs.Making.{StepMade, run_makes}
 use Rattle.seat_lines.specs.Runs.{can_run, rests, run_from, run_line, seat_line}
 use Rattle.seat_lines.specs.Site.{SiteState, seat_at, with_seat}
 use Rattle.seat_steps.specs.Seats.{SeatGivens, SeatWorld}
@@ -202,13 +202,17 @@ no_hands s n (keeps ∷ more) none = go (rests (seat_at s.seats.seats n)) refl (
     go false here Refused refused = refl
     go false here (Done v out) refused = let not : true ≡ false = refused (there_where (seat_at s.seats.seats n) here) in absurd (cc)
 
--- and makes no step
+-- what steps a run makes by the answer of a step
+abbrev makes_after : SiteState → ℕ → Bool → List Bool → Bool → Answer SiteState → List StepMade
+makes_after s n keeps more b a = if b then [] else (elim a [ Refused ↦ [] | Done v out ↦ record { site = s; number = n; keeps = keeps } ∷ run_makes v n more ])
+
+-- and it makes no step
 pub no_makes : (s : SiteState) (n : ℕ) (replies : List Bool) → can_run s n ≡ false → run_makes s n replies ≡ []
 no_makes s n [] none = refl
 no_makes s n (keeps ∷ more) none = go (rests (seat_at s.seats.seats n)) refl (step_line s n keeps) (refused_without s n keeps none (is_beyond n) s.sessions.store refl refl)
   where
     go : (b : Bool) → rests (seat_at s.seats.seats n) ≡ b → (a : Answer SiteState) → (is_some (seat_at s.seats.seats n) ≡ true → is_done a ≡ false)
-        → cond b [] (elim a [ Refused ↦ [] | Done v out ↦ record { site = s; number = n; keeps = keeps } ∷ run_makes v n more ]) ≡ []
+        → makes_after s n keeps more b a ≡ []
     go true here a refused = refl
     go false here Refused refused = refl
     go false here (Done v out) refused = let not : true ≡ false = refused (there_where (seat_at s.seats.seats n) here) in absurd (cc)

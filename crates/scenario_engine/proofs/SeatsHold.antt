@@ -43,8 +43,8 @@ module _ (P : BootValue → Type 0) (Q : BootValue → Seat → Type 0) (T : Mom
   pub record StepLaws : Type 0 where
     pub begins : (boot : BootValue) → P boot → Q boot new_seat
     pub still : (boot : BootValue) (seat new : Seat) → new.connection.stage ≡ seat.connection.stage → Q boot seat → Q boot new
-    pub boot : (g : SeatGivens) (seat : Seat) (w : SeatWorld) (m : ManagerValue) → T g.now → Q w.boot seat → P w.boot → P (seat_step g seat w).world.boot
-    pub step : (g : SeatGivens) (seat : Seat) (w : SeatWorld) (m : ManagerValue) → T g.now → Q w.boot seat → Q (seat_step g seat w).world.boot (seat_step g seat w).seat
+    pub boot : (g : SeatGivens) (seat : Seat) (w : SeatWorld) → T g.now → Q w.boot seat → P w.boot → P (seat_step g seat w).world.boot
+    pub step : (g : SeatGivens) (seat : Seat) (w : SeatWorld) → T g.now → Q w.boot seat → Q (seat_step g seat w).world.boot (seat_step g seat w).seat
     pub others : (g : SeatGivens) (seat other : Seat) (w : SeatWorld) → Q w.boot seat → Q w.boot other → Q (seat_step g seat w).world.boot other
 
   if_other : (old new : BootValue) → ((seat : Seat) → Q old seat → Q new seat) → (o : Option Seat) → IfHas old o → IfHas new o
