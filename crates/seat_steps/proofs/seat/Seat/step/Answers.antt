@@ -32,7 +32,7 @@ returns-in-Ok-follow_event-clause-step g c =
     (λ (bytes : List ℕ). EventMade c.args.key.now c.args.now c.args.self.now.connection c.args.container.now (record { lanes = c.args.lanes; active = c.args.self.now.twin }) c.args.next.now bytes
     c.make_event-link.new.connection c.make_event-link.new.container c.make_event-link.result.0 c.make_event-link.new.next) c.in-Ok.is c.make_event-link.ensures.event c.args.worker in
     let reported : c.in-Ok-follow_event.report ≡ report_at (turn c.args.self.now.connection) c.make_event-link.new.connection.stage =
-    c.in-Ok-follow_event.ensures.reported ∙ ap (λ (t : ShepherdTurn). report_at t c.make_event-link.new.connection.stage) c.turn.ensures in
+    c.in-Ok-follow_event.ensures.reported ∙ ap (λ (t : ShepherdTurn). report_at t c.make_event-link.new.connection.stage) c.turn-turn.ensures in
     record {
       keeps = given.keeps;
       keeper = event.keeper;
