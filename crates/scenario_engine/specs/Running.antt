@@ -50,8 +50,8 @@ started sessions seats site start =
       site = site;
     }
 
--- the next boot: the callers are gone; the connections gave back what they hold of the bricks, and are gone; the manager
--- stays
+-- the next boot: the callers are gone; the connections gave back what they hold of the bricks, and are gone; and the
+-- manager stays
 abbrev pub reopened_over : RunningState → Start → RunningState
 reopened_over r start = started (sessions_given_back r.seats.seats r.sessions) (without_seats r.seats) r.site start
 
