@@ -54,8 +54,8 @@ returns-in-Ok-tell_step-clause-refused g c =
     done_keeps c.in-Ok-tell_step.answer (place_from (Some c.args.seat.now) c.args.container.now c.args.lending c.args.word.now c.args.manager.now) place
     (step_text c.turn-turn.result c.args.number c.in-Ok.stepped.bytes ++ decided_text c.args.manager.now c.in-Ok.stepped.report) (c.in-Ok-tell_step.ensures.text place)
 
-pub returns-in-Ok-clause-breaks : goal.returns-in-Ok-clause-breaks
-returns-in-Ok-clause-breaks g c =
+pub returns-in-Err-tell_step-clause-breaks : goal.returns-in-Err-tell_step-clause-breaks
+returns-in-Err-tell_step-clause-breaks g c =
     let n : ℕ = c.args.number in
     let old : ContainerValue = c.args.container.now in
     let new : ContainerValue = c.step-lanes.new.container in
@@ -66,8 +66,8 @@ returns-in-Ok-clause-breaks g c =
     breaks_lent c.key.result.now c.args.lent.now.key c.moment.result c.args.lent.now.moment n (Some c.args.seat.now) old w c.args.manager.now new c.key.ensures c.moment.ensures.moment
     (stepped_breaks c.key.result.now c.moment.result n c.args.seat.now old w c.args.manager.now new o stepped c.requires.moves refl refl c.step-lanes.ensures.count)
 
-pub returns-clause-breaks : goal.returns-clause-breaks
-returns-clause-breaks g c =
+pub returns-in-Err-clause-breaks : goal.returns-in-Err-clause-breaks
+returns-in-Err-clause-breaks g c =
     let n : ℕ = c.args.number in
     let old : ContainerValue = c.args.container.now in
     let new : ContainerValue = c.step-lanes.new.container in
