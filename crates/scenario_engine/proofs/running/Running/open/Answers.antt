@@ -6,18 +6,21 @@ use Rattle.scenario_engine.specs.KeeperCalls.{KeeperSeen, seen}
 use Rattle.scenario_engine.specs.Opening.{Opened}
 use Rattle.scenario_engine.specs.Telling.{Opens, FailsToOpen, failure_of}
 use Rattle.scenario_engine.specs.declared.failure.LineFailure.{LineFailure}
-use Rattle.scenario_engine.proofs.Starting.{opened, not_opened}
+use Rattle.scenario_engine.proofs.Starting.{opened, not_opened, unopened_at_once}
 use Rattle.scenario_engine.proofs.running.Running.open.Goals as goal
 
-pub returns-in-Ok-clause-opens : goal.returns-in-Ok-clause-opens
-returns-in-Ok-clause-opens g c =
+pub returns-in_default-clause-opens : goal.returns-in_default-clause-opens
+returns-in_default-clause-opens g c = unopened_at_once (seen (g.K.Keeper.told c.args.keeper) (g.K.Keeper.faults c.args.keeper))
+
+pub returns-in-Ok-start-clause-opens : goal.returns-in-Ok-start-clause-opens
+returns-in-Ok-start-clause-opens g c =
     let old = seen (g.K.Keeper.told c.args.keeper) (g.K.Keeper.faults c.args.keeper) in
-    let k = c.in-Ok.container in
+    let k = c.in-Ok-start.opened in
     let new = seen k.told k.faults in
-    let h = opened c.args.deployment c.args.plans c.args.limits old new k.boot c.in-Ok.ensures.started.opened c.in-Ok.ensures.count in
+    let h = opened c.args.deployment c.args.plans c.args.limits old new k.boot c.in-Ok-start.ensures.started.opened c.in-Ok-start.ensures.count in
     let P : KeeperSeen → Type 0 = λ n. Opens c.args.deployment c.args.plans c.args.limits (Opened h.0) old n in
-    let none : c.over.result.running ≡ started c.args.sessions no_seats (is_some c.args.router) h.0 =
-    c.over.ensures.started h.0 h.1 c.in-Ok.ensures.started.since ∙ ap (λ s. started c.args.sessions s (is_some c.args.router) h.0) c.new.ensures.state in
+    let none : c.over.result.running ≡ started c.args.sessions (no_seats c.args.deployment) (is_some c.args.router) h.0 =
+    c.over.ensures.started h.0 h.1 c.in-Ok-start.ensures.started.since ∙ ap (λ s. started c.args.sessions s (is_some c.args.router) h.0) c.in-Ok.ensures.state in
     (h.0, none, subst P (sym c.over.ensures.keeper) h.2)
 
 pub returns-in-Err-clause-opens : goal.returns-in-Err-clause-opens
