@@ -3,7 +3,6 @@ use Rattle.std.proofs.Common.{◌≡◌, ℕ, ◌+◌, Bool, true, false, cond, 
 use Rattle.std.proofs.lemmas.List.{map-append}
 use Rattle.deployment.specs.declared.parts.Parts.{Parts}
 use Rattle.failure_scores.specs.declared.report.FailureReport.{FailureReport}
-use Rattle.line_steps.specs.Head.{no_head}
 use Rattle.recovery_manager.specs.Events.{ManagerEvent, decided_in, event_on, events_after, last_moment, no_earlier}
 use Rattle.recovery_manager.specs.Kept.{ManagerValue, StandsFor}
 use Rattle.recovery_manager.specs.Telling.{handed_on, new_manager, told}
@@ -11,7 +10,7 @@ use Rattle.scenario_text.specs.declared.line.TheConstants.{MAX_LINE_BYTES}
 use Rattle.scenario_engine.proofs.HeardSteps.{HeardLaws, Hears}
 use Rattle.scenario_engine.proofs.HeardTurns.{HeardTo, heard-turn}
 use Rattle.scenario_engine.proofs.Keeping.{LeavesTo}
-use Rattle.scenario_engine.specs.Reports.{HasDecided, HasHeard, ReportMade, decided_by_all, decided_on, reports_by, reports_from, reports_of, turn_reports}
+use Rattle.scenario_engine.specs.Reports.{HasDecided, HasHeard, ReportMade, decided_by_all, decided_on, reports_by, reports_from, turn_reports}
 use Rattle.scenario_engine.specs.State.{State, Heading, Running, Outcome, RefusedIn, DoneTo, UnstartedIn, UnderWayIn}
 use Rattle.scenario_engine.specs.Transcript.{Turn, RefusedAt, TooLong, Unstarted, UnderWay, end_from, first, last_state, turn_outcome}
 

@@ -16,7 +16,7 @@ use Rattle.seat_lines.specs.Hearing.{manager_after}
 use Rattle.seat_lines.specs.Items.{over_yields, place_yields, reports_at, reports_if, step_yields}
 use Rattle.seat_lines.specs.Lines.{givens_of, is_beyond, moves, step_line, world_of}
 use Rattle.seat_lines.specs.Making.{StepMade, run_makes}
-use Rattle.seat_lines.specs.Runs.{can_run, rests, seat_line}
+use Rattle.seat_lines.specs.Runs.{rests, seat_line}
 use Rattle.seat_lines.specs.Site.{SiteState, seat_at, with_seat}
 use Rattle.seat_lines.specs.Texts.{gone_text}
 use Rattle.seat_steps.specs.Seats.{SeatOutcome, seat_step}

@@ -1,19 +1,15 @@
 -- Over all turns the manager has heard just what was reported, and decides by all of it.
-use Rattle.std.proofs.Common.{◌≡◌, ℕ, ◌+◌, Bool, true, false, cond, nat_lt, List, [], ◌∷◌, ◌++◌, append-nil, append_assoc, length, map, Option, Some, None, is_some, refl, sym, ap, ◌∙◌, subst}
+use Rattle.std.proofs.Common.{◌≡◌, ℕ, Bool, true, false, cond, List, [], ◌∷◌, ◌++◌, Option, Some, None, is_some, refl, sym, ap, ◌∙◌, subst}
 use Rattle.std.specs.List.{flat_map}
-use Rattle.std.proofs.lemmas.List.{map-append}
 use Rattle.boot_core.specs.Boot.{BootValue}
 use Rattle.boot_core.specs.declared.boot.Start.{Start}
 use Rattle.component_pool.specs.Plans.{left_by_process}
 use Rattle.deployment.specs.declared.parts.Parts.{Parts}
 use Rattle.failure_scores.specs.declared.report.FailureReport.{FailureReport}
 use Rattle.line_steps.specs.Callers.{begin_step, call_step}
-use Rattle.line_steps.specs.Head.{head_line, no_head}
+use Rattle.line_steps.specs.Head.{head_line}
 use Rattle.line_steps.specs.declared.head.Head.{Head}
-use Rattle.recovery_manager.specs.declared.decision.Decision.{Decision}
-use Rattle.recovery_manager.specs.Events.{ManagerEvent, decided_in, event_on, events_after, events_and, last_moment, no_earlier}
-use Rattle.recovery_manager.specs.Kept.{ManagerValue, StandsFor}
-use Rattle.recovery_manager.specs.Telling.{handed_on, new_manager, told}
+use Rattle.recovery_manager.specs.Telling.{new_manager}
 use Rattle.scenario_text.proofs.Leaving.{Leaves}
 use Rattle.scenario_text.specs.Answer.{Answer, Refused, Done, or_refused, within}
 use Rattle.scenario_text.specs.Line.{is_event}
@@ -22,7 +18,6 @@ use Rattle.scenario_text.specs.declared.boot_line.BootLine.{BootLine}
 use Rattle.scenario_text.specs.declared.boot_line.BootLine.TheVariants as boots
 use Rattle.scenario_text.specs.declared.line.Line.{Line}
 use Rattle.scenario_text.specs.declared.line.Line.TheVariants as lines
-use Rattle.scenario_text.specs.declared.line.TheConstants.{MAX_LINE_BYTES}
 use Rattle.scenario_text.specs.declared.seat_line.SeatLine.{SeatLine}
 use Rattle.scenario_text.specs.declared.seat_line.SeatLine.TheVariants as seats
 use Rattle.seat_lines.specs.Changing.{ChangesSeatsAlone}
@@ -40,13 +35,13 @@ use Rattle.scenario_engine.proofs.Leading.{SameBeside, same_called, same_commit,
 use Rattle.scenario_engine.proofs.OfSite.{OpensOver, opens_over}
 use Rattle.scenario_engine.proofs.SeatRows.{RunsTo, bricks_of, line_of_run, near_of, no_makes, run_to}
 use Rattle.scenario_engine.specs.Connections.{makes_on, makes_over, makes_to, seat_makes, turn_makes}
-use Rattle.scenario_engine.specs.Engine.{Replies, Target, TheBoot, TheHead, TheUnstarted, first_keeps, in_head, line_on, line_over, next_opening, opened_target, reopens, step, target_of}
+use Rattle.scenario_engine.specs.Engine.{Replies, Target, first_keeps, in_head, line_on, line_over, next_opening, opened_target, reopens, step, target_of}
 use Rattle.scenario_engine.specs.Opening.{Opening, Opened, UnstartedBoot, opening}
-use Rattle.scenario_engine.specs.Reports.{HasDecided, HasHeard, ReportMade, decided_by_all, decided_on, made_over, reports_by, reports_from, reports_of, said_on, said_over, said_to, step_reports, turn_reports}
+use Rattle.scenario_engine.specs.Reports.{ReportMade, made_over, said_on, said_over, said_to, step_reports, turn_reports}
 use Rattle.scenario_engine.specs.Running.{boot_line, commit_step, down_step, drop_step, journal_step, reboot_step, started, table_step, up_step, with_called, with_callers, with_seats, with_sessions}
 use Rattle.scenario_engine.specs.Seats.{after_steps, by_replies, in_boot, seat_over}
 use Rattle.scenario_engine.specs.State.{RunningState, State, Heading, Running, Outcome, RefusedIn, DoneTo, UnstartedIn, UnderWayIn, site_of, with_site}
-use Rattle.scenario_engine.specs.Transcript.{Turn, End, Ended, RefusedAt, TooLong, Unstarted, UnderWay, answer_to, end_from, first, last_state, turn_outcome}
+use Rattle.scenario_engine.specs.Transcript.{Turn, answer_to, turn_outcome}
 
 -- a site leads to that of a boot, whose manager has heard these
 abbrev pub HeardIn : SiteState → List ReportMade → State → Type 0

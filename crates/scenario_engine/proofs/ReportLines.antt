@@ -14,8 +14,7 @@ use Rattle.failure_scores.specs.declared.report.FailureReport.{FailureReport}
 use Rattle.failure_scores.specs.declared.report.FailureReport.TheVariants.{Path, JournalFull}
 use Rattle.recovery_manager.specs.Events.{later, no_earlier}
 use Rattle.line_steps.specs.declared.head.Head.{Head}
-use Rattle.recovery_manager.specs.Kept.{ManagerValue}
-use Rattle.scenario_text.specs.Answer.{Answer, Refused, Done, or_refused, within}
+use Rattle.scenario_text.specs.Answer.{Done, or_refused, within}
 use Rattle.scenario_text.specs.Reading.{line_of}
 use Rattle.scenario_text.specs.declared.boot_line.BootLine.TheVariants as boots
 use Rattle.scenario_text.specs.declared.line.Line.{Line}
@@ -42,7 +41,7 @@ use Rattle.scenario_engine.proofs.HeardSteps.{reports-moved}
 use Rattle.scenario_engine.proofs.SeatsStand.{near_done}
 use Rattle.scenario_engine.proofs.StepsMade.{turn_made}
 use Rattle.scenario_engine.specs.Connections.{makes_on, makes_to, step_leaves, turn_makes}
-use Rattle.scenario_engine.specs.Engine.{Replies, line_on, line_over, opened_target, step}
+use Rattle.scenario_engine.specs.Engine.{Replies, line_on, opened_target, step}
 use Rattle.scenario_engine.specs.Opening.{Opening, Opened, UnstartedBoot, opening}
 use Rattle.scenario_engine.specs.Reports.{ReportMade, decided_on, decisions_text, made_over, reports_by, reports_from, said_on, said_to, step_reports, turn_reports}
 use Rattle.scenario_engine.specs.Running.{boot_line, started, with_seats}

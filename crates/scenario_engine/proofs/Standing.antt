@@ -23,7 +23,7 @@ use Rattle.seat_laws.specs.Owing.{write_owed}
 use Rattle.seat_lines.specs.Lines.{bytes_line, conn_line, end_line, is_beyond, step_line}
 use Rattle.seat_lines.specs.Making.{LineHearsSpelled, StepHearsSpelled, StepMade, line_makes, run_makes}
 use Rattle.seat_lines.specs.Runs.{can_run, run_from, run_line, seat_line}
-use Rattle.seat_lines.specs.Site.{SeatsState, SiteState, no_seats, seat_at}
+use Rattle.seat_lines.specs.Site.{SiteState, no_seats, seat_at}
 use Rattle.seat_steps.specs.declared.seat.Seat.{Seat}
 use Rattle.send_windows.specs.Windows.{KeepLimits}
 use Rattle.session_lanes.specs.Lanes.{LanesState}
