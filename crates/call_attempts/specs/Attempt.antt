@@ -99,8 +99,8 @@ unfoldable pub entered_by : (List Answer → Next) → List Answer → List Comp
 entered_by asks answers =
     flat_map (λ before. entered_in (asks (take before answers))) (range_with_len 0 (length answers))
 
--- A program asks to enter a component that fails, and this is its path: the components that it entered before, in order,
--- and this one, last.
+-- A program asks to enter a component that fails, and this is its path: the components that it entered before, in
+-- order, and this one, last.
 pub record FailsOnItsWay (asks : List Answer → Next) (component : ComponentNo) (path : List ComponentNo) : Type 0 where
   pub answers : List Answer
   pub method : ℕ

@@ -26,9 +26,8 @@
 //! `tries_again_keep_cookies`, `requests_add_one_event`, `again_is_already`, `no_pass_stays_out`,
 //! `heads_are_answered_as_gets_are` and `responses_are_one`.
 //!
-//! `report_of` is what the manager that decides on reboots is told of a request: of one that a component has failed the
-//! components that it went through, and of one that found the journal full that it did; of any other it is told
-//! nothing.
+//! `report_of` is what the manager that decides on reboots is told of a request: which components one went through that
+//! a component has failed; of one that found the journal full, just that; and of any other nothing.
 //!
 //! The table of answers takes no memory. A page's text is copied once, into the response.
 #![tactic(auto)]

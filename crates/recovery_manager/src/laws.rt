@@ -76,8 +76,8 @@ pub fn decisions_consume_reports()
         ≡ acts_of events ++ (record { moment = moment; level = Process }) ∷ [] }
 {}
 
-/// What a manager keeps decides on the next report as all events so far do, and as all reports do that were handed on
-/// one after the other.
+/// By what it keeps a manager decides on the next report just as by all events so far, and so as by all reports that it
+/// was told, one after the other.
 pub fn managers_decide_by_all_reports()
     ensures decision { (m : ManagerValue) (parts : Parts) (events : List ManagerEvent) (report : FailureReport)
         → StandsFor m parts events

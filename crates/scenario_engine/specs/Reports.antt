@@ -99,8 +99,9 @@ decided_by_all parts before report =
     (let events = events_after parts before in
     decided_in (event_on parts events (no_earlier (last_moment events) report)))
 
--- In these turns it was decided by all reports so far: the manager of each state that they lead to has heard just what was
--- reported by then (`heard`), and on each report it was decided from scratch by those before it and itself (`decided`).
+-- In these turns it was decided by all reports so far: the manager of each state that they lead to has heard just what
+-- was reported by then (`heard`), and on each report it was decided from scratch by those before it and itself
+-- (`decided`).
 pub record HasDecided (turns : List Turn) : Type 0 where
   pub heard : (before more : List Turn) → turns ≡ before ++ more
       → HasHeard (reports_of before) (last_state (end_from first 1 before))

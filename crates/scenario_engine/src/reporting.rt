@@ -40,8 +40,8 @@ use seat_lines::{lines_change_one_connection, steps_are_those_of_seats};
 
 /// Whatever the turns, also where they stop at a line, the manager of each state that they lead to has heard just what
 /// was reported by then, over all boots; and on each report it decides from scratch by all those before it and itself.
-/// A report of an earlier moment than the one before is taken as of that one's (`moments`). Which reports these are, and
-/// that each `decide` line tells such a decision, is in `reports_are_those_of_lines`.
+/// A report of an earlier moment than the one before is taken as of that one's (`moments`). Which reports these are,
+/// and that each `decide` line tells such a decision, is in `reports_are_those_of_lines`.
 pub fn decisions_are_by_all_reports()
     ensures decided { (turns : List Turn) → HasDecided turns }
     ensures moments { (before at : Moment) (path : List ComponentNo)

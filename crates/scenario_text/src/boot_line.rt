@@ -2,7 +2,7 @@
 
 use crash_base::{ComponentName, Items, WordText};
 
-/// The most components on the path of a request that is reported as failed.
+/// The most components that a line `report` may name.
 pub const MAX_PATH: usize = 16;
 
 /// Names of components.

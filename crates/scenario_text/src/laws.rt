@@ -12,8 +12,8 @@ ghost use Rattle.scenario_text.specs.declared.session_line.TheConstants.{MAX_KEY
 
 /// A text is read as a line exactly where it spells that line, and so the line is in its ranges. A line has 8,192 bytes
 /// at most, and gives 4,000 bytes in hexadecimal at most; callers and session keys have the numbers 1 to 65,535,
-/// and connections 1 to 64. A path has 16 components at most, but a line may name more. It refuses brick 0, a leading
-/// zero, two spellings of one line, and other limits.
+/// and connections 1 to 64. A `report` of more than 16 names is read too, and refused later. It refuses brick 0, a
+/// leading zero, two spellings of one line, and other limits.
 pub fn spelling_law()
     ensures spells { (text : List ℕ) (line : Line) → (line_of text ≡ Some line) ↔ Spells text line }
     ensures limits { (MAX_LINE_BYTES ≡ 8192) × (MAX_HEX_BYTES ≡ 4000) × (MAX_CALLER ≡ 65535) × (MAX_KEY ≡ 65535)

@@ -41,11 +41,12 @@ pub fn lines_come_to_one_answer()
 {}
 
 /// A step of a connection is that of its seat, over the site as it is: what it leaves of the seat and of the site, and
-/// what is drawn next. It writes what is put out at the turn of output, and nothing at another one; and where it reports
-/// that its request failed, the manager hears it, and its decision is written. One that waits for bytes does nothing, and
-/// one that has ended goes; and it is refused where the connection is not there, where none has its number, and where
-/// there are no bricks. Its worker is 65,536 and its number, and its moment and its key are those of the sessions. The
-/// first random word of a scenario is 1, and those that follow go on over its boots, as the manager does.
+/// what is drawn next. It writes what is put out at the turn of output, and nothing at another one; and where it
+/// reports that its request failed, the manager hears it, and its decision is written. One that waits for bytes does
+/// nothing, and one that has ended goes; and it is refused where the connection is not there, where none has its
+/// number, and where there are no bricks. Its worker is 65,536 and its number, and its moment and its key are those of
+/// the sessions. The first random word of a scenario is 1, and those that follow go on over its boots, as the manager
+/// does.
 pub fn steps_are_those_of_seats()
     ensures step { (s t : SiteState) (n : ℕ) (keeps : Bool) (text : List ℕ) (seat : Seat) (st : LanesState)
         → seat_at s.seats.seats n ≡ Some seat → s.sessions.store ≡ Some st → moves (turn seat.connection) ≡ true
@@ -160,8 +161,8 @@ pub fn lines_are_taken()
 
 /// What a line writes is what its connection puts out by it and what the manager decides on its reports, in order, and
 /// how it ended, if it goes. Over all lines a connection puts out as many responses as it gives items, each before its
-/// item; behind them stands at most the response of the request that is open, which has left, or at last the one to what
-/// is refused. Where it is given up, each response that has left has its item.
+/// item; behind them stands at most the response of the request that is open, which has left, or at last the one to
+/// what is refused. Where it is given up, each response that has left has its item.
 pub fn responses_are_put_out_in_order()
     ensures begins { (n : ℕ) → HasPutOut n [] [] (Some (record { connection = fresh; twin = None })) [] }
     ensures line { (s t : SiteState) (line : SeatLine) (replies : List Bool) (text : List ℕ) (outs : List (List ℕ)) (items : List Item) (seat : Seat)

@@ -2,8 +2,8 @@
 //!
 //! A line is refused, or is done and writes its text. What each line does is defined as a function of the site before
 //! it, and of what the keeper replies to its steps, whose value is the answer: the site that the line leaves, and the
-//! text. The site is the boot with its events, the sessions, and the connections by their numbers, with the manager that
-//! hears of their requests that failed.
+//! text. The site is the boot with its events, the sessions, and the connections by their numbers, with the manager
+//! that hears of their requests that failed.
 //!
 //! ```text
 //! let mut seats = Seats::new(alloc, &deployment)?;
@@ -22,9 +22,9 @@
 //! A line is refused whose number no connection has (`MAX_SEAT`), and a step or a run where the sessions have no
 //! bricks.
 //!
-//! Where a step reports that its request failed, the manager hears it (`specs/Hearing.antt`), and its decision is written
-//! behind the text of the step. A line `report` tells the manager of a request likewise. Nothing is rebooted: whoever
-//! reads the decision carries it out.
+//! Where a step reports that its request failed, the manager hears it (`specs/Hearing.antt`), and its decision is
+//! written behind the text of the step. A line `report` tells the manager of a request likewise. Nothing is rebooted:
+//! whoever reads the decision carries it out.
 //!
 //! Each contract also tells of the steps that a line makes (`specs/Making.antt`) that each was made by its calls, and
 //! that what it heard is spelled by its bytes, as each frame of the code is: the laws about what connections read,

@@ -7,8 +7,8 @@
 //!
 //! The deployment is that of `work_parts`: A needs B and owns table 40, and C owns table 41; no component has a fault
 //! plan, so none fails. Each turn draws the next number (`next_number`), which chooses what one of the callers does
-//! with which key (`chosen`). What a turn leaves of the boot, of the caller's call and of the tally is a function of the
-//! state and of whether the keeper keeps a commit's writes (`turn` of `specs/Turns.antt`), and the summary is a
+//! with which key (`chosen`). What a turn leaves of the boot, of the caller's call and of the tally is a function of
+//! the state and of whether the keeper keeps a commit's writes (`turn` of `specs/Turns.antt`), and the summary is a
 //! function of the last state (`summary` of `specs/Summary.antt`). So equal numbers over equal keepers give equal
 //! summaries.
 #![tactic(auto)]

@@ -23,8 +23,8 @@ digest 03679ddaad491a6530f8d664d8fc03d60c8e860a74b6cf7b6cc7786eebdfa179;
 7 20000|commits 2856;revoked 1287;conflicts 377;refused 0;journal 4774;rows 32;\
 digest 80aaf95d7c0a37691b634aebe09b3b75c427eb149755e96ad1d63ab66f34d596;";
 
-/// Asserts `STATUS|REPORTED|WRITTEN` of a workload over an outside, and that it leaves its keeper, whose first call would
-/// fail.
+/// Asserts `STATUS|REPORTED|WRITTEN` of a workload over an outside, and that it leaves its keeper, whose first call
+/// would fail.
 fn expect_worked<K: TestKeeper>(
     rt: &impl Abort,
     alloc: Global,
