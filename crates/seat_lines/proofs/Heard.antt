@@ -20,13 +20,13 @@ use Rattle.shepherd.specs.Shepherds.{turn}
 use Rattle.shepherd.specs.declared.shepherd.EndKind.{EndKind}
 use Rattle.shepherd.specs.declared.shepherd.ShepherdTurn.{ShepherdTurn}
 use Rattle.shepherd.specs.declared.shepherd.ShepherdTurn.TheVariants as turns
-use Rattle.seat_lines.specs.Changing.{IsLeftBySeat, makes_steps}
-use Rattle.seat_lines.specs.Hearing.{hears, manager_after, manager_by, path_of, report_line, report_said}
-use Rattle.seat_lines.specs.Items.{line_reports, line_yields, over_yields, place_yields, reports_at, reports_if, run_yields, step_yields}
+use Rattle.seat_lines.specs.Changing.{IsLeftBySeat}
+use Rattle.seat_lines.specs.Hearing.{hears, manager_after, manager_by, path_of, report_line}
+use Rattle.seat_lines.specs.Items.{line_reports, reports_at, reports_if, run_yields, step_yields}
 use Rattle.seat_lines.specs.Lines.{givens_of, moves, step_line, world_of}
 use Rattle.seat_lines.specs.Making.{line_makes, reports_made}
 use Rattle.seat_lines.specs.Runs.{rests, run_from, seat_line}
-use Rattle.seat_lines.specs.Site.{SeatsState, SiteState, seat_at, with_seat}
+use Rattle.seat_lines.specs.Site.{SeatsState, SiteState, seat_at}
 use Rattle.seat_lines.proofs.Answering.{run_begun}
 use Rattle.seat_lines.proofs.Keeping.{given, line_by_steps, run_by_steps}
 use Rattle.seat_lines.proofs.OneSeat.{answer_is, still_alone}
