@@ -14,7 +14,8 @@ use Rattle.drive_engine.specs.declared.drive.TheConstants.{MAX_SCENARIO_BYTES}
 use Rattle.drive_engine.specs.declared.groups.TheConstants.{MAX_DESCRIPTOR_BYTES}
 use Rattle.drive_engine.specs.declared.words.Command.{Command}
 use Rattle.drive_engine.specs.declared.words.Command.TheVariants.{Drive, Groups, Workload}
-use Rattle.drive_engine.specs.Command.{CallsFor, DescriptorsCallFor, status_of_end, status_of_unstarted, status_past_limit}
+use Rattle.drive_engine.specs.Command.{CallsFor, DescriptorsCallFor, status_of_end, status_of_opening, status_of_unstarted, status_past_limit, start_replies}
+use Rattle.drive_engine.specs.Work.{work_opening}
 
 -- a text has lines, and calls for a status whatever the keeper replies to them
 abbrev pub CallsForAny : Command → List ℕ → Type 0
@@ -65,7 +66,7 @@ status_called answers Drive text = elim (cases_lt MAX_SCENARIO_BYTES (length tex
   | inr short ↦ (lines_of text, λ turns is answered. (let p = status_there (end_from first 1 turns) answered in (p.0, inl (record { short = short; lines = is; called = p.1 }))))
 ]
 status_called answers Groups text = ([], λ turns is answered. (let called = called_for_groups answers text in (called.0, (no_turns turns is, called.1))))
-status_called answers (Workload number count) text = ([], λ turns is answered. (0, (no_turns turns is, refl)))
+status_called answers (Workload number count) text = ([] ∷ [], λ turns is answered. (status_of_opening (work_opening (start_replies turns)), (is, refl)))
 
 called_once_for_groups : (text : List ℕ) (a b : ℕ) → DescriptorsCallFor text a → DescriptorsCallFor text b → a ≡ b
 called_once_for_groups text a b (inl h) (inl k) = h.0 ∙ sym k.0

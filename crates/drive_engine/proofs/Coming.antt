@@ -216,8 +216,8 @@ ends_at_line endings.WriteFailed left left_now written old new held before after
   written = is ∙ ap (λ o. appended o prefix) so_far ∙ appended_more written (transcript first turns) prefix;
   stands = law (turns ++ record { line = line; replies = d.replies } ∷ []) held after (done-push s turns line (DoneTo t wrote) held before after done short tells d);
 }
-ends_at_line endings.KeeperFailed left left_now written old new held before after turns s number line law stand done next so_far tells h (none, (t, d)) = (refl, ends_at_start causes.KeeperFailed left left_now written old new held before after turns s t line law done so_far tells h none d)
-ends_at_line (endings.BadRow id) left left_now written old new held before after turns s number line law stand done next so_far tells h (none, (t, d)) = (refl, ends_at_start (causes.BadRow id) left left_now written old new held before after turns s t line law done so_far tells h none d)
+ends_at_line endings.KeeperFailed left left_now written old new held before after turns s number line law stand done next so_far tells h (none, (t, d)) = ends_at_start causes.KeeperFailed left left_now written old new held before after turns s t line law done so_far tells h none d
+ends_at_line (endings.BadRow id) left left_now written old new held before after turns s number line law stand done next so_far tells h (none, (t, d)) = ends_at_start (causes.BadRow id) left left_now written old new held before after turns s t line law done so_far tells h none d
 ends_at_line (endings.LineTooLong n) left left_now written old new held before after turns s number line law stand done next so_far tells h (is, long, same, unasked) = record {
   before = turns;
   line = line;
@@ -249,7 +249,7 @@ ends_at_line endings.OutOfMemory left left_now written old new held before after
     last_of (inl partly) = inl (record { line = line; read = h.read; short = short; partly = partly; rows = numbers_alone s (line_of line) before after partly })
     last_of (inr broken) = inr (broken_off left left_now written new held before after turns s line law stand done tells h.read short broken)
 ends_at_line endings.DescriptorsRefused left left_now written old new held before after turns s number line law stand done next so_far tells h ends = absurd ends
-ends_at_line endings.BootsSpent left left_now written old new held before after turns s number line law stand done next so_far tells h (none, (t, d)) = (refl, ends_at_start causes.BootsSpent left left_now written old new held before after turns s t line law done so_far tells h none d)
+ends_at_line endings.BootsSpent left left_now written old new held before after turns s number line law stand done next so_far tells h (none, (t, d)) = ends_at_start causes.BootsSpent left left_now written old new held before after turns s t line law done so_far tells h none d
 ends_at_line endings.ScenarioTooLong left left_now written old new held before after turns s number line law stand done next so_far tells h ends = absurd ends
 
 -- a line that ends in a piece ends the scenario

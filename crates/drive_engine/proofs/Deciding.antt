@@ -1,5 +1,5 @@
 -- A run that ends by its text and its keeper ends with the status that these call for.
-use Rattle.std.proofs.Common.{◌≡◌, ◌≢◌, inl, inr, ◌⊎◌, ℕ, ◌+◌, ◌-◌, ◌<◌, ◌≤◌, nat_lt, true, false, cond, List, [], ◌∷◌, ◌++◌, length, length-append, take, Option, Some, None, All, refl, ap, sym, subst, ◌∙◌, append_assoc, append-nil, arith}
+use Rattle.std.proofs.Common.{◌≡◌, ◌≢◌, inl, inr, ◌⊎◌, ℕ, ◌+◌, ◌-◌, ◌<◌, ◌≤◌, nat_lt, Bool, true, false, cond, List, [], ◌∷◌, ◌++◌, length, length-append, take, Option, Some, None, All, refl, ap, sym, subst, ◌∙◌, append_assoc, append-nil, arith}
 use Rattle.std.specs.Prelude.{IfSome}
 use Rattle.std.proofs.lemmas.Bool.{cases_lt}
 use Rattle.std.proofs.lemmas.Bool.Decides.{nat_tests}
@@ -12,7 +12,14 @@ use Rattle.scenario_text.specs.Cutting.{lines_of, text_of_lines, IsOneLine, IsCu
 use Rattle.scenario_text.specs.declared.line.TheConstants.{MAX_LINE_BYTES}
 use Rattle.scenario_text.proofs.Cuts.{lines_fed, line_unfed}
 use Rattle.scenario_text.proofs.EndedLines.{cut_of, cut_before, cut_after, lines_cut, FirstHas}
-use Rattle.scenario_engine.specs.KeeperCalls.{KeeperCall, TellsCalls}
+use Rattle.scenario_engine.specs.KeeperCalls.{KeeperCall, TellsCalls, seen}
+use Rattle.scenario_engine.specs.Opening.{StartReplies, Opening}
+use Rattle.scenario_engine.proofs.Starting.{opened}
+use Rattle.boot_core.specs.Boot.{BootValue}
+use Rattle.container_core.specs.Container.{HoldsRows}
+use Rattle.workload.specs.Parts.{work_parts}
+use Rattle.workload.specs.Turns.{worked}
+use Rattle.workload.specs.Working.{work_limits}
 use Rattle.scenario_engine.specs.State.{State}
 use Rattle.scenario_engine.specs.Transcript.{Turn, lines_in, first, End, Ended, RefusedAt, TooLong, Unstarted, UnderWay, end_from, calls_from}
 use Rattle.scenario_engine.proofs.Turns.{lines_in-push, no_replies, turns_of, lines_in-more, end_from-more, calls_from-more, Stops, end_from-stopped, calls_from-stopped, end_from-refused, end_from-unstarted, end_from-long, calls_from-long}
@@ -22,11 +29,12 @@ use Rattle.drive_engine.specs.declared.words.Command.{Command}
 use Rattle.drive_engine.specs.declared.words.Command.TheVariants.{Drive, Groups, Workload}
 use Rattle.drive_engine.specs.declared.ending.Ending.{Ending}
 use Rattle.drive_engine.specs.declared.ending.Ending.TheVariants as endings
-use Rattle.drive_engine.specs.Command.{DescriptorsCallFor, IsCalledFor, Runs, Ends, status_of_unstarted, status_of_end, status_past_limit}
+use Rattle.drive_engine.specs.Command.{DescriptorsCallFor, IsCalledFor, Runs, Ends, asks_keeper, status_of_opening, status_of_unstarted, status_of_end, status_past_limit}
 use Rattle.drive_engine.specs.Drive.{AreRead, HasDone, ScenarioStands, StopsAtLine, StopsUnstarted, StopsAtLongLine, StopsPastLimit, WritesTranscript}
 use Rattle.drive_engine.specs.Ending.{status, IsReported}
 use Rattle.drive_engine.specs.Exchange.{Exchange, IsRead}
 use Rattle.drive_engine.specs.Groups.{IsDeployment, IsRefused}
+use Rattle.drive_engine.specs.Work.{WritesSummary, WorksUnstarted, TellsTurns}
 
 -- a text that was read, before what is left, where the source tells
 told : (taken text : List ℕ) (before now : Option (List ℕ)) → before ≡ prepended taken now → before ≡ Some text → (more : List ℕ) × (now ≡ Some more) × (text ≡ taken ++ more)
@@ -228,11 +236,47 @@ decided_at_end x text is h =
 decided_for_groups : (x : Exchange) (text : List ℕ) (n : ℕ) → x.keeper_after.told ≡ x.keeper_before.told → DescriptorsCallFor text n → IsCalledFor Groups text x.keeper_before.told x.keeper_after.told n
 decided_for_groups x text n unasked called = record { turns = []; calls = (refl, called); told = unasked }
 
+-- the turn of a workload, where the keeper replies so
+abbrev pub one_turn : StartReplies → List Bool → List Turn
+one_turn replies keeps = record { line = []; replies = record { first = replies; again = replies; keeps = keeps } } ∷ []
+
+-- a workload ran to its end
+decided_for_work : (number count : ℕ) (x : Exchange) (text : List ℕ) → WritesSummary number count x → IsCalledFor (Workload number count) text x.keeper_before.told x.keeper_after.told 0
+decided_for_work number count x text h =
+    let works = h.works in
+    let o = opened work_parts [] work_limits (seen x.keeper_before.told 0) (seen works.first 0) works.opened works.opens (omega arith) in
+    let opens = o.2 in
+    let Rows : BootValue → Type 0 = λ b. HoldsRows x.keeper_after.told (worked number b works.replies).boot in
+    let Told : Opening → Type 0 = λ how. TellsTurns number count works.replies how works.first x.keeper_after.told in
+    record {
+      turns = one_turn opens.replies works.replies;
+      calls = (refl, ap status_of_opening opens.opens);
+      told = record {
+        between = works.first;
+        start = opens.made.told;
+        turns = subst Told opens.opens (works.turns, subst Rows o.1 works.rows);
+      };
+    }
+
+-- the boot of a workload was left unstarted
+decided_without_work : (number count : ℕ) (x : Exchange) (text : List ℕ) (cause : UnstartedCause) → WorksUnstarted cause x → IsCalledFor (Workload number count) text x.keeper_before.told x.keeper_after.told (status_of_unstarted cause)
+decided_without_work number count x text cause h =
+    let Told : Opening → Type 0 = λ how. TellsTurns number count [] how x.keeper_after.told x.keeper_after.told in
+    record {
+      turns = one_turn h.opens.replies [];
+      calls = (refl, ap status_of_opening h.opens.opens);
+      told = record {
+        between = x.keeper_after.told;
+        start = h.opens.made.told;
+        turns = subst Told h.opens.opens refl;
+      };
+    }
+
 -- a command that asks its keeper for nothing leaves it as it was
 abbrev pub LeavesKeeper : Command → Exchange → Type 0
 LeavesKeeper Drive x = Unit {0}
 LeavesKeeper Groups x = x.keeper_after.told ≡ x.keeper_before.told
-LeavesKeeper (Workload number count) x = x.keeper_after.told ≡ x.keeper_before.told
+LeavesKeeper (Workload number count) x = Unit {0}
 
 -- Where the input tells its text, the status is what text and keeper call for, but for out of memory and for faults.
 decided : (command : Command) (e : Ending) (x : Exchange) (text : List ℕ) → x.left_before ≡ Some text → LeavesKeeper command x → Runs command e x → IsCalledFor command text x.keeper_before.told x.keeper_after.told (status e) ⊎ ((status e ≡ 9) ⊎ ((status e ≡ 4) ⊎ (status e ≡ 5)))
@@ -241,19 +285,21 @@ decided Groups endings.Done x text is unasked h =
     let whole = told_whole x MAX_DESCRIPTOR_BYTES text h.text is h.read in
     inl (decided_for_groups x text 0 unasked (inr (inl (refl, (omega (arith, h.read.short, ap length whole), (h.parts, subst (λ t. IsDeployment t h.parts) (sym whole) h.deployment))))))
 decided (Workload number count) endings.Done x text is unasked h =
-    inl (record { turns = []; calls = (refl, refl); told = unasked })
+    inl (decided_for_work number count x text h)
 decided command endings.UnknownCommand x text is unasked h = absurd h
 decided Drive (endings.LineRefused n) x text is unasked h = inl (decided_at_line x text n is h.1)
 decided Groups (endings.LineRefused n) x text is unasked h = cc
 decided (Workload number count) (endings.LineRefused n) x text is unasked h = cc
 decided command endings.ReadFailed x text is unasked h = inr (inr (inl refl))
 decided command endings.WriteFailed x text is unasked h = inr (inr (inr refl))
-decided Drive endings.KeeperFailed x text is unasked h = inl (decided_at_start x text causes.KeeperFailed is h.1)
-decided Groups endings.KeeperFailed x text is unasked h = cc
-decided (Workload number count) endings.KeeperFailed x text is unasked h = cc
-decided Drive (endings.BadRow id) x text is unasked h = inl (decided_at_start x text (causes.BadRow id) is h.1)
-decided Groups (endings.BadRow id) x text is unasked h = cc
-decided (Workload number count) (endings.BadRow id) x text is unasked h = cc
+decided Drive endings.KeeperFailed x text is unasked h = inl (decided_at_start x text causes.KeeperFailed is h)
+decided Groups endings.KeeperFailed x text is unasked h = absurd h
+decided (Workload number count) endings.KeeperFailed x text is unasked h =
+    inl (decided_without_work number count x text causes.KeeperFailed h)
+decided Drive (endings.BadRow id) x text is unasked h = inl (decided_at_start x text (causes.BadRow id) is h)
+decided Groups (endings.BadRow id) x text is unasked h = absurd h
+decided (Workload number count) (endings.BadRow id) x text is unasked h =
+    inl (decided_without_work number count x text (causes.BadRow id) h)
 decided Drive (endings.LineTooLong n) x text is unasked h = inl (decided_at_long_line x text n is h)
 decided Groups (endings.LineTooLong n) x text is unasked h = inl (decided_for_groups x text 8 unasked (inl (refl, subst (λ (o : Option (List ℕ)). IfSome o (λ text. MAX_DESCRIPTOR_BYTES < length text)) is h.1.long)))
 decided (Workload number count) (endings.LineTooLong n) x text is unasked h = absurd h
@@ -263,21 +309,22 @@ decided Groups endings.DescriptorsRefused x text is unasked h =
     let whole = told_whole x MAX_DESCRIPTOR_BYTES text h.1.text is h.1.read in
     inl (decided_for_groups x text 10 unasked (inr (inr (refl, (omega (arith, h.1.read.short, ap length whole), subst IsRefused (sym whole) h.1.refused)))))
 decided (Workload number count) endings.DescriptorsRefused x text is unasked h = cc
-decided Drive endings.BootsSpent x text is unasked h = inl (decided_at_start x text causes.BootsSpent is h.1)
-decided Groups endings.BootsSpent x text is unasked h = cc
-decided (Workload number count) endings.BootsSpent x text is unasked h = cc
+decided Drive endings.BootsSpent x text is unasked h = inl (decided_at_start x text causes.BootsSpent is h)
+decided Groups endings.BootsSpent x text is unasked h = absurd h
+decided (Workload number count) endings.BootsSpent x text is unasked h =
+    inl (decided_without_work number count x text causes.BootsSpent h)
 decided Drive endings.ScenarioTooLong x text is unasked h = inl (decided_past_limit x text is h.1)
 decided Groups endings.ScenarioTooLong x text is unasked h = cc
 decided (Workload number count) endings.ScenarioTooLong x text is unasked h = cc
 
 -- the status that is answered
-pub decided_status : (words : Option Command) (e r : Ending) (x : Exchange) (n : ℕ) → (words ≢ Some Drive → x.keeper_after.told ≡ x.keeper_before.told) → Ends words e x → IsReported e r → n ≡ status r → IfSome x.left_before (λ text. IfSome words (λ command. IsCalledFor command text x.keeper_before.told x.keeper_after.told n ⊎ ((n ≡ 9) ⊎ ((n ≡ 4) ⊎ (n ≡ 5)))))
+pub decided_status : (words : Option Command) (e r : Ending) (x : Exchange) (n : ℕ) → (asks_keeper words ≡ false → x.keeper_after.told ≡ x.keeper_before.told) → Ends words e x → IsReported e r → n ≡ status r → IfSome x.left_before (λ text. IfSome words (λ command. IsCalledFor command text x.keeper_before.told x.keeper_after.told n ⊎ ((n ≡ 9) ⊎ ((n ≡ 4) ⊎ (n ≡ 5)))))
 decided_status words e r x n unasked ends reported is = told_or_not x.left_before refl
   where
     leaves : (command : Command) → words ≡ Some command → LeavesKeeper command x
     leaves Drive so = tt
-    leaves Groups so = unasked (λ drive. cc)
-    leaves (Workload number count) so = unasked (λ drive. cc)
+    leaves Groups so = unasked (ap asks_keeper so)
+    leaves (Workload number count) so = tt
 
     by_command : (w : Option Command) (text : List ℕ) → words ≡ w → x.left_before ≡ Some text → Ends w e x → IfSome w (λ command. IsCalledFor command text x.keeper_before.told x.keeper_after.told n ⊎ ((n ≡ 9) ⊎ ((n ≡ 4) ⊎ (n ≡ 5))))
     by_command None text which so h = tt

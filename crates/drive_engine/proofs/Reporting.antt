@@ -26,7 +26,7 @@ is_out_of_memory endings.ScenarioTooLong is = absurd (omega arith)
 ran_out : (command : Command) (x : Exchange) → RunsOutOfMemory command x → EndsOutOfMemory command x
 ran_out Drive x h = inl h
 ran_out Groups x h = h
-ran_out (Workload number count) x h = h
+ran_out (Workload number count) x h = inl h
 
 too_long : (command : Command) (n : ℕ) (x : Exchange) → Runs command (endings.LineTooLong n) x → EndsOutOfMemory command x
 too_long Drive n x h = inr (inr (inl (n, h)))
@@ -43,9 +43,9 @@ without_numbers (Workload number count) (endings.LineRefused n) x has h = cc
 without_numbers command endings.ReadFailed x has h = absurd has
 without_numbers command endings.WriteFailed x has h = absurd has
 without_numbers command endings.KeeperFailed x has h = absurd has
-without_numbers Drive (endings.BadRow id) x has h = inr (inr (inr (id, h.1)))
-without_numbers Groups (endings.BadRow id) x has h = cc
-without_numbers (Workload number count) (endings.BadRow id) x has h = cc
+without_numbers Drive (endings.BadRow id) x has h = inr (inr (inr (id, h)))
+without_numbers Groups (endings.BadRow id) x has h = absurd h
+without_numbers (Workload number count) (endings.BadRow id) x has h = inr (id, h)
 without_numbers command (endings.LineTooLong n) x has h = too_long command n x h
 without_numbers command endings.OutOfMemory x has h = absurd has
 without_numbers command endings.DescriptorsRefused x has h = absurd has

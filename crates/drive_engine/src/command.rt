@@ -1,13 +1,13 @@
 //! Commands over their outside.
 
-ghost use Rattle.std.specs.Prelude.{codes, ◌≡◌, ◌≢◌, ◌≤◌, ◌↔◌, ◌⊎◌, ℕ, ◌==◌, true, [], ◌∷◌, Some, None, IfOk, IfSome, string_bytes};
+ghost use Rattle.std.specs.Prelude.{codes, ◌≡◌, ◌≢◌, ◌≤◌, ◌↔◌, ◌⊎◌, ℕ, ◌==◌, true, false, [], ◌∷◌, Some, None, IfOk, IfSome, string_bytes};
 ghost use Rattle.std.specs.List.{list_any};
 ghost use Rattle.scenario_engine.specs.declared.failure.UnstartedCause.{UnstartedCause};
 ghost use Rattle.outside.specs.Faults.{Rose};
 ghost use Rattle.outside.specs.Sink.{AppendsOrFails};
 ghost use Rattle.scenario_engine.specs.KeeperCalls.{seen};
-ghost use Rattle.drive_engine.specs.Command.{WritesAll, FailsToRead, FailsToWrite, HasLongLine, EndsOutOfMemory, Runs, Ends, IsCalledFor};
-ghost use Rattle.drive_engine.specs.Drive.{StopsAtLine, StopsUnstarted, StopsPastLimit};
+ghost use Rattle.drive_engine.specs.Command.{WritesAll, FailsToRead, FailsToWrite, LeavesUnstarted, HasLongLine, EndsOutOfMemory, asks_keeper, Runs, Ends, IsCalledFor};
+ghost use Rattle.drive_engine.specs.Drive.{StopsAtLine, StopsPastLimit};
 ghost use Rattle.drive_engine.specs.Ending.{report, line_report, long_line_report, bad_row_report, IsReported};
 ghost use Rattle.drive_engine.specs.Exchange.{exchange};
 ghost use Rattle.drive_engine.specs.Groups.{RefusesDescriptors, is_silent};
@@ -126,13 +126,15 @@ fn run<S: Source, T: Sink, K: Keeper + Drop>(
         → Rose (K.faults keeper) (K.faults result.1) }
     ensures keeper_count { K.faults keeper ≤ K.faults result.1 }
     ensures silent { command ≡ Command.Groups → is_silent result.0 ≡ true → out.new ≡ out.old }
-    ensures unasked { command ≢ Command.Drive → result.1 ≡ keeper }
+    ensures unasked { asks_keeper (Some command) ≡ false → result.1 ≡ keeper }
+    ensures unwritten { (number count : ℕ) → command ≡ Command.Workload number count
+        → result.0 ≢ Ending.Done → result.0 ≢ Ending.WriteFailed → out.new ≡ out.old }
     ensures unread { (number count : ℕ) → command ≡ Command.Workload number count → input.new ≡ input.old }
 {
     match command {
         Command::Drive => drive(alloc, input, out, keeper),
         Command::Groups => (groups(alloc, input, out), keeper),
-        Command::Workload { number, count } => (work(alloc, number, count, out), keeper),
+        Command::Workload { number, count } => work(alloc, number, count, out, keeper),
     }
 }
 
@@ -156,9 +158,11 @@ fn run_words<S: Source, T: Sink, K: Keeper + Drop>(
     ensures keeper_count { K.faults keeper ≤ K.faults result.1 }
     ensures silent { command_of words.now ≡ Some Command.Groups
         → is_silent result.0 ≡ true → out.new ≡ out.old }
-    ensures unasked { command_of words.now ≢ Some Command.Drive → result.1 ≡ keeper }
+    ensures unasked { asks_keeper (command_of words.now) ≡ false → result.1 ≡ keeper }
     ensures unread { (number count : ℕ) → command_of words.now ≡ Some (Command.Workload number count)
         → input.new ≡ input.old }
+    ensures unwritten { (number count : ℕ) → command_of words.now ≡ Some (Command.Workload number count)
+        → result.0 ≢ Ending.Done → result.0 ≢ Ending.WriteFailed → out.new ≡ out.old }
     ensures unknown { command_of words.now ≡ None
         → (input.new ≡ input.old) × (out.new ≡ out.old) }
 {
@@ -171,8 +175,8 @@ fn run_words<S: Source, T: Sink, K: Keeper + Drop>(
 /// Runs a command over its outside, and answers its status and the keeper.
 ///
 /// - 0: the input was read to its end. For `drive` what was written is the transcript of its lines, and for
-///   `groups` the line of each component that it describes. For `workload` nothing was read, and its summary was
-///   written.
+///   `groups` the line of each component that it describes. For `workload` nothing was read, its turns were taken over
+///   the keeper, and its summary was written.
 /// - 2: the words spell no command.
 /// - 3: a line of a scenario was refused, whose number is reported.
 /// - 4, 5: the input, the output failed.
@@ -191,6 +195,9 @@ fn run_words<S: Source, T: Sink, K: Keeper + Drop>(
 /// ran out of memory (9) may have handed it the number of a boot; at 5 also the rows of the commits of that line, and
 /// at 9 those of the commits that the steps of a connection made by then.
 ///
+/// A workload that has no summary writes nothing. At 0 and 5 the keeper, where it tells, holds just the rows that its
+/// turns left, and at 9 those of the turns that were taken by then, if it came to the first.
+///
 /// How it ended is reported on `errors`, except at 0.
 pub fn run_command<S: Source, T: Sink, E: Sink, K: Keeper + Drop>(
     alloc: Global,
@@ -200,17 +207,20 @@ pub fn run_command<S: Source, T: Sink, E: Sink, K: Keeper + Drop>(
     errors: &mut E,
     keeper: K,
 ) -> (u8, K)
-    // Only a scenario asks the keeper: a workload has one of its own, and reads nothing. The keeper's count of faults
-    // never falls.
-    ensures unasked { command_of words.now ≢ Some Command.Drive → result.1 ≡ keeper }
+    // Only a scenario and a workload ask the keeper, whose count of faults never falls. A workload reads nothing, and
+    // but at 0 and 5 it writes nothing.
+    ensures unasked { asks_keeper (command_of words.now) ≡ false → result.1 ≡ keeper }
     ensures keeper_count { K.faults keeper ≤ K.faults result.1 }
     ensures unread { (number count : ℕ) → command_of words.now ≡ Some (Command.Workload number count)
         → input.new ≡ input.old }
+    ensures unwritten { (number count : ℕ) → command_of words.now ≡ Some (Command.Workload number count)
+        → result.0 ≢ 0 → result.0 ≢ 5 → out.new ≡ out.old }
     ensures statuses { list_any (λ status. status == result.0)
         (0 ∷ 2 ∷ 3 ∷ 4 ∷ 5 ∷ 6 ∷ 7 ∷ 8 ∷ 9 ∷ 10 ∷ 11 ∷ 12 ∷ []) ≡ true }
 
-    // At 0 the input was read to its end and all was written: the transcript of a scenario, or the
-    // groups of a deployment. For a workload nothing was read, and its summary was written. Nothing is reported.
+    // At 0 the input was read to its end and all was written: the transcript of a scenario, or the groups of a
+    // deployment. For a workload nothing was read, it ran to its end over the keeper, and its summary was written.
+    // Nothing is reported.
     ensures done { result.0 ≡ 0 → (errors.new ≡ errors.old)
         × IfSome (command_of words.now) (λ command. WritesAll command
         (exchange (S.left input.old) (S.left input.new) (T.written out.old) (T.written out.new)
@@ -247,24 +257,24 @@ pub fn run_command<S: Source, T: Sink, E: Sink, K: Keeper + Drop>(
         (E.faults errors.old) (E.faults errors.new) (codes "write failed\n") }
 
     // At 6, 7 and 11 a line needs a boot that was not started, and the transcript of the lines before it was
-    // written. At 6 the keeper's count of faults rose, at 7 it gave a bad row, and at 11 no number is left.
-    ensures keeper_failed { result.0 ≡ 6 → (command_of words.now ≡ Some Command.Drive)
-        × Rose (K.faults keeper) (K.faults result.1)
-        × StopsUnstarted UnstartedCause.KeeperFailed
+    // written; or that of a workload was not started. At 6 the keeper's count of faults rose, at 7 it gave a bad row,
+    // and at 11 no number is left.
+    ensures keeper_failed { result.0 ≡ 6 → Rose (K.faults keeper) (K.faults result.1)
+        × IfSome (command_of words.now) (λ command. LeavesUnstarted command UnstartedCause.KeeperFailed
         (exchange (S.left input.old) (S.left input.new) (T.written out.old) (T.written out.new)
-        (seen (K.told keeper) (K.faults keeper)) (seen (K.told result.1) (K.faults result.1)))
+        (seen (K.told keeper) (K.faults keeper)) (seen (K.told result.1) (K.faults result.1))))
         × AppendsOrFails (E.written errors.old) (E.written errors.new)
         (E.faults errors.old) (E.faults errors.new) (codes "keeper failed\n") }
-    ensures bad_row { result.0 ≡ 7 → (command_of words.now ≡ Some Command.Drive)
-        × ((id : RowId) × StopsUnstarted (UnstartedCause.BadRow id)
+    ensures bad_row { result.0 ≡ 7 → (id : RowId)
+        × IfSome (command_of words.now) (λ command. LeavesUnstarted command (UnstartedCause.BadRow id)
         (exchange (S.left input.old) (S.left input.new) (T.written out.old) (T.written out.new)
-        (seen (K.told keeper) (K.faults keeper)) (seen (K.told result.1) (K.faults result.1)))
+        (seen (K.told keeper) (K.faults keeper)) (seen (K.told result.1) (K.faults result.1))))
         × AppendsOrFails (E.written errors.old) (E.written errors.new)
-        (E.faults errors.old) (E.faults errors.new) (bad_row_report id)) }
-    ensures boots_spent { result.0 ≡ 11 → (command_of words.now ≡ Some Command.Drive)
-        × StopsUnstarted UnstartedCause.BootsSpent
+        (E.faults errors.old) (E.faults errors.new) (bad_row_report id) }
+    ensures boots_spent { result.0 ≡ 11
+        → IfSome (command_of words.now) (λ command. LeavesUnstarted command UnstartedCause.BootsSpent
         (exchange (S.left input.old) (S.left input.new) (T.written out.old) (T.written out.new)
-        (seen (K.told keeper) (K.faults keeper)) (seen (K.told result.1) (K.faults result.1)))
+        (seen (K.told keeper) (K.faults keeper)) (seen (K.told result.1) (K.faults result.1))))
         × AppendsOrFails (E.written errors.old) (E.written errors.new)
         (E.faults errors.old) (E.faults errors.new) (codes "boots spent\n") }
 
@@ -280,7 +290,7 @@ pub fn run_command<S: Source, T: Sink, E: Sink, K: Keeper + Drop>(
 
     // At 9 the transcript of the lines that were done was written, or for groups and for a workload nothing. What the
     // lines did stands, and so do the steps of a connection that the next line had made by then, also one whose commit
-    // the keeper had just kept.
+    // the keeper had just kept; and so do the turns that a workload had taken.
     ensures out_of_memory { result.0 ≡ 9
         → IfSome (command_of words.now) (λ command. EndsOutOfMemory command
         (exchange (S.left input.old) (S.left input.new) (T.written out.old) (T.written out.new)
@@ -307,7 +317,7 @@ pub fn run_command<S: Source, T: Sink, E: Sink, K: Keeper + Drop>(
         (E.faults errors.old) (E.faults errors.new) (codes "input too long\n") }
 
     // Where the input tells its text, the words, the text and what the keeper replies decide the status, but
-    // for out of memory and for faults of input and output.
+    // for out of memory and for faults of input and output. That of a workload is decided by the words and the keeper.
     ensures decided { IfSome (S.left input.old) (λ text. IfSome (command_of words.now) (λ command.
         IsCalledFor command text (K.told keeper) (K.told result.1) result.0
         ⊎ ((result.0 ≡ 9) ⊎ ((result.0 ≡ 4) ⊎ (result.0 ≡ 5))))) }

@@ -1,12 +1,16 @@
 //! Laws of commands. Each is the contract of a function that does nothing: a caller that needs the
 //! law calls the function.
 
-ghost use Rattle.std.specs.Prelude.{◌≡◌, ℕ, List};
+ghost use Rattle.std.specs.Prelude.{◌≡◌, ℕ, List, [], Option, Some};
+ghost use Rattle.outside.specs.Faults.{Rose};
+ghost use Rattle.outside.specs.Keeper.{KeeperTold};
 ghost use Rattle.scenario_engine.specs.KeeperCalls.{KeeperSeen};
 ghost use Rattle.scenario_engine.specs.Transcript.{Turn, lines_in, first, end_from, IsAnswered};
+ghost use Rattle.workload.specs.Working.{Works};
 ghost use Rattle.drive_engine.specs.declared.words.Command.{Command};
 ghost use Rattle.drive_engine.specs.Command.{CallsFor};
 ghost use Rattle.drive_engine.specs.Drive.{ScenarioStands, TurnsStand, WereAsked, WereAskedWhole};
+ghost use Rattle.drive_engine.specs.Work.{workload_text};
 
 use descriptor_text::texts_have_an_answer;
 use scenario_engine::{
@@ -58,4 +62,15 @@ pub fn texts_call_for_a_status()
 pub fn texts_call_for_one_status()
     ensures { (command : Command) (text : List ℕ) (turns : List Turn) (a b : ℕ)
         → CallsFor command text turns a → CallsFor command text turns b → a ≡ b }
+{}
+
+/// The summary of a workload is a function of its two numbers where its keeper gave no rows and did not fail: as one
+/// does that tells, holds none, and whose count of faults did not rise.
+pub fn workloads_over_no_rows_have_one_summary()
+    ensures given { (number count : ℕ) (text : List ℕ) (old new : Option KeeperTold) (before after : ℕ)
+        → (works : Works number count text old new before after) → works.opens.rows ≡ []
+        → ¬ Rose before after → text ≡ workload_text number count }
+    ensures told { (number count : ℕ) (text : List ℕ) (old : KeeperTold) (new : Option KeeperTold)
+        (before after : ℕ) → old.rows ≡ [] → Works number count text (Some old) new before after
+        → ¬ Rose before after → text ≡ workload_text number count }
 {}

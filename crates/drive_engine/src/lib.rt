@@ -6,8 +6,8 @@
 //! function of the turns alone, `transcript` of its `specs/Transcript`; so is how the scenario ends, `end_from`,
 //! and which calls of the keeper it makes, `calls_from`. For `groups` it reads a descriptor text to its end, and
 //! writes the lines of its deployment, `groups_text` of `specs/Groups`. For `workload` it reads nothing, runs the
-//! workload over a keeper of its own, and writes its summary, `workload_text` of `specs/Work`, which is a function of
-//! the number and of the count of turns alone.
+//! workload over the keeper, and writes its summary (`WritesSummary` of `specs/Work`); that is a function of the number
+//! and of the count of turns alone where the keeper gave no rows and did not fail, `workload_text`.
 //!
 //! ```text
 //! let (status, keeper) = run_command(alloc, words, &mut input, &mut out, &mut errors, keeper);
@@ -38,5 +38,7 @@ pub use command::run_command;
 pub use drive::MAX_SCENARIO_BYTES;
 pub use ending::Ending;
 pub use groups::MAX_DESCRIPTOR_BYTES;
-pub use laws::{texts_call_for_a_status, texts_call_for_one_status};
+pub use laws::{
+    texts_call_for_a_status, texts_call_for_one_status, workloads_over_no_rows_have_one_summary,
+};
 pub use words::{Command, USAGE};

@@ -1,53 +1,58 @@
 //! A workload, from its numbers to its summary.
 
-ghost use Rattle.std.specs.Prelude.{◌≡◌, ◌≤◌, ◌⊎◌, ℕ, List, Option, IfOk, string_bytes};
+ghost use Rattle.std.specs.Prelude.{◌≡◌, ◌≢◌, ◌≤◌, ℕ, List, Option, string_bytes};
 ghost use Rattle.outside.specs.Faults.{Rose};
-ghost use Rattle.scenario_engine.specs.KeeperCalls.{KeeperSeen};
+ghost use Rattle.outside.specs.Sink.{appended, AppendsPrefix};
+ghost use Rattle.scenario_engine.specs.KeeperCalls.{seen};
 ghost use Rattle.drive_engine.specs.Command.{Runs};
 ghost use Rattle.drive_engine.specs.Exchange.{exchange};
-ghost use Rattle.drive_engine.specs.Work.{workload_text};
+ghost use Rattle.drive_engine.specs.Work.{ending_of};
 
 use crate::ending::Ending;
 use crate::words::Command;
 use boot_core::StartRefusal;
-use crash_base::{OutOfMemory, RowList};
-use outside::{Sink, SureKeeper, write_all};
+use outside::{Keeper, Sink, write_all};
 use std::alloc::Global;
 use workload::{MAX_TURNS, WorkloadFailure, run_workload};
 
-/// The summary of a workload over a keeper of its own, which holds no rows at first and never fails.
-fn workload_text(alloc: Global, number: u64, count: u64) -> Result<String, OutOfMemory>
-    requires { count ≤ MAX_TURNS }
-    ensures { IfOk result (λ text. string_bytes text ≡ workload_text number count) }
+/// How a command ends whose workload has no summary.
+fn ending_of(failure: WorkloadFailure) -> Ending
+    ensures { result ≡ ending_of failure }
 {
-    let keeper = SureKeeper::new(RowList::new(alloc));
-    let (_, answer) = run_workload(alloc, number, count, keeper);
-    match answer {
-        Ok(text) => Ok(text),
-        Err(WorkloadFailure::OutOfMemory) => Err(OutOfMemory),
-        Err(WorkloadFailure::Unstarted(StartRefusal::OutOfMemory)) => Err(OutOfMemory),
-        Err(WorkloadFailure::Unstarted(StartRefusal::KeeperFailed)) => unreachable!(),
-        Err(WorkloadFailure::Unstarted(StartRefusal::BadRow { .. })) => unreachable!(),
-        Err(WorkloadFailure::Unstarted(StartRefusal::BootsSpent)) => unreachable!(),
+    match failure {
+        WorkloadFailure::OutOfMemory => Ending::OutOfMemory,
+        WorkloadFailure::Unstarted(StartRefusal::OutOfMemory) => Ending::OutOfMemory,
+        WorkloadFailure::Unstarted(StartRefusal::KeeperFailed) => Ending::KeeperFailed,
+        WorkloadFailure::Unstarted(StartRefusal::BadRow { id }) => Ending::BadRow(id),
+        WorkloadFailure::Unstarted(StartRefusal::BootsSpent) => Ending::BootsSpent,
     }
 }
 
-/// Runs a workload over a keeper of its own, and writes its summary. It reads nothing.
-pub fn work<T: Sink>(alloc: Global, number: u64, count: u64, out: &mut T) -> Ending
+/// Runs a workload over the keeper, which is handed back, and writes its summary. It reads nothing.
+pub fn work<T: Sink, K: Keeper + Drop>(
+    alloc: Global,
+    number: u64,
+    count: u64,
+    out: &mut T,
+    keeper: K,
+) -> (Ending, K)
     requires { count ≤ MAX_TURNS }
-    ensures runs { (left : Option (List ℕ)) (keeper : KeeperSeen)
-        → Runs (Command.Workload number count) result
-        (exchange left left (T.written out.old) (T.written out.new) keeper keeper) }
-    ensures ends { (result ≡ Ending.Done) ⊎ ((result ≡ Ending.WriteFailed) ⊎ (result ≡ Ending.OutOfMemory)) }
-    ensures write_failed { result ≡ Ending.WriteFailed
+    ensures runs { (left : Option (List ℕ)) → Runs (Command.Workload number count) result.0
+        (exchange left left (T.written out.old) (T.written out.new)
+        (seen (K.told keeper) (K.faults keeper)) (seen (K.told result.1) (K.faults result.1))) }
+    ensures write_failed { result.0 ≡ Ending.WriteFailed
         → Rose (T.faults out.old) (T.faults out.new) }
-    ensures silent { result ≡ Ending.OutOfMemory → out.new ≡ out.old }
+    ensures keeper_failed { result.0 ≡ Ending.KeeperFailed
+        → Rose (K.faults keeper) (K.faults result.1) }
+    ensures keeper_count { K.faults keeper ≤ K.faults result.1 }
+    ensures unwritten { result.0 ≢ Ending.Done → result.0 ≢ Ending.WriteFailed → out.new ≡ out.old }
 {
-    match workload_text(alloc, number, count) {
-        Err(OutOfMemory) => Ending::OutOfMemory,
+    let (keeper, answer) = run_workload(alloc, number, count, keeper);
+    match answer {
+        Err(failure) => (ending_of(failure), keeper),
         Ok(text) => match write_all(out, text.as_bytes()) {
-            Ok(()) => Ending::Done,
-            Err(_) => Ending::WriteFailed,
+            Ok(()) => (Ending::Done, keeper),
+            Err(_) => (Ending::WriteFailed, keeper),
         },
     }
 }

@@ -29,4 +29,4 @@ returns-clause-decided g c =
     let before : KeeperSeen = seen (g.K.Keeper.told c.args.keeper) (g.K.Keeper.faults c.args.keeper) in
     let after : KeeperSeen = seen (g.K.Keeper.told c.run_words-ending.result.1) (g.K.Keeper.faults c.run_words-ending.result.1) in
     let x : Exchange = exchange (left c.args.input.now) (left c.run_words-ending.new.input) (written c.args.out.now) (written c.run_words-ending.new.out) before after in
-    decided_status (command_of c.args.words.now) c.run_words-ending.result.0 c.report_ending-ending.result x c.status.result (λ other. ap g.K.Keeper.told (c.run_words-ending.ensures.unasked other)) c.run_words-ending.ensures.ends c.report_ending-ending.ensures.ending c.status.ensures
+    decided_status (command_of c.args.words.now) c.run_words-ending.result.0 c.report_ending-ending.result x c.status.result (λ unasked. ap g.K.Keeper.told (c.run_words-ending.ensures.unasked unasked)) c.run_words-ending.ensures.ends c.report_ending-ending.ensures.ending c.status.ensures
