@@ -1,8 +1,7 @@
 //! A workload, from its numbers to its summary.
 
-ghost use Rattle.std.specs.Prelude.{◌≡◌, ◌≢◌, ◌≤◌, ℕ, List, Option, string_bytes};
+ghost use Rattle.std.specs.Prelude.{◌≡◌, ◌≢◌, ◌≤◌, ℕ, List, Option};
 ghost use Rattle.outside.specs.Faults.{Rose};
-ghost use Rattle.outside.specs.Sink.{appended, AppendsPrefix};
 ghost use Rattle.scenario_engine.specs.KeeperCalls.{seen};
 ghost use Rattle.drive_engine.specs.Command.{Runs};
 ghost use Rattle.drive_engine.specs.Exchange.{exchange};
