@@ -57,7 +57,11 @@ const FAILED: &str =
 fn expect_answer(rt: &impl Abort, alloc: Global, play: &mut Play, response: &str, item: &str) {
     play.feed(rt, "ann", CURL.as_bytes());
     let left = play.hear(rt, alloc, "ann");
-    assert!(rt; left.response == response, "{}\n{item}", left.response);
+    assert!(rt;
+        left.response.as_str() == response,
+        "{}\n{item}",
+        left.response
+    );
     expect_words(rt, &left.words, item, CURL);
 }
 
