@@ -1,0 +1,19 @@
+-- Words and their seats, as contracts see them.
+use Rattle.std.specs.Prelude.{ℕ, List}
+use Rattle.atomic_table.specs.Seated.{TableId}
+use Rattle.shared_words.specs.declared.view.Sight.{Sight}
+
+-- Which words they are, how many groups they have a generation of, and how many parts their seats have together.
+pub record WordsValue : Type 0 where
+  pub id : TableId
+  pub groups : ℕ
+  pub parts : ℕ
+
+-- The words of a seat, its parts, the numbers that it drew, the greatest serial word that it saw, and the generations
+-- that it saw or raised.
+pub record WordSeatValue : Type 0 where
+  pub words : TableId
+  pub parts : ℕ
+  pub drawn : List ℕ
+  pub seen : ℕ
+  pub sights : List Sight
