@@ -3,7 +3,7 @@
 ghost use Rattle.std.specs.Prelude.{◌≡◌, ℕ, ◌+◌, ◌-◌, ◌<◌, ◌≤◌, ◌⊎◌, [], ◌∷◌, ◌++◌, None, length, true, false, IfOk, IfErr};
 ghost use mathlib.Core.List.{IsPrefix};
 ghost use Rattle.turn_lock.specs.Seats.{new_places};
-ghost use Rattle.turn_lock.specs.Turns.{longer, shorter};
+ghost use Rattle.turn_lock.specs.Turns.{longer};
 ghost use Rattle.turn_lock.specs.declared.view.Stage.{Stage};
 
 use crate::chronicle::Chronicle;
@@ -153,8 +153,9 @@ impl<T: Chronicle + Drop> TurnLock<T> {
         }
     }
 
-    /// Adds the other's parts. What was seen is then the longer of what the two have seen, which begins with the
-    /// shorter, and the places of both are the seat's own. It takes no memory, and waits for nobody.
+    /// Adds the other's parts. What was seen is then the longer of what the two have seen, which begins with either, and
+    /// the places of both are the seat's own. It takes no memory, and waits for nobody.
+    #[tactic(auto, using(crate::proofs::Beginnings::mine_begins, crate::proofs::Beginnings::others_begin))]
     pub fn join(&self, seat: &mut Seat<T>, other: Seat<T>)
         requires seats { (seat.old.lock ≡ self.now.id) × (other.lock ≡ self.now.id) }
         requires home { (seat.old.holds ≡ false) × (other.holds ≡ false) }
@@ -163,7 +164,7 @@ impl<T: Chronicle + Drop> TurnLock<T> {
           seen = longer seat.old.seen other.seen;
           own = seat.old.own ++ other.own;
         } }
-        ensures begun { IsPrefix (shorter seat.old.seen other.seen) (longer seat.old.seen other.seen) }
+        ensures begun { IsPrefix seat.old.seen seat.new.seen × IsPrefix other.seen seat.new.seen }
     {
         let Seat { inner } = other;
         join_seats(&self.table, &mut seat.inner, inner);
