@@ -3,11 +3,11 @@
 ghost use Rattle.std.specs.Prelude.{◌≡◌, ◌≢◌, ◌⊎◌, ◌≤◌, ◌<◌, ◌^◌, true, None, Some, IfOk, IfSome, OnOk, OnErr};
 ghost use Rattle.std.specs.Option.{option_map};
 ghost use Rattle.boot_core.specs.Fits.{FitsIn};
-ghost use Rattle.container_core.specs.Container.{HasGrownBy};
+ghost use Rattle.container_core.specs.Container.{HasGrownBy, with_boot};
 ghost use Rattle.outcome_items.specs.Traces.{again_in_end};
 ghost use Rattle.call_ticket.specs.declared.next.Next.TheVariants as next;
 ghost use Rattle.request_tries.specs.Serving.{IsServing, wanted_by};
-ghost use Rattle.request_tries.specs.Steps.{KeepsNothing};
+ghost use Rattle.request_tries.specs.Steps.{HasAtMostAdvanced, KeepsNothing};
 ghost use Rattle.outcome_items.specs.declared.outcome.ItemOutcome.{ItemOutcome};
 ghost use Rattle.request_visit.specs.declared.serving.Closed.{Closed};
 ghost use Rattle.request_visit.specs.Serving.{Commits, Serves, closing_after, ready_after};
@@ -160,6 +160,7 @@ fn commit<K: Keeper + Drop, P: Program>(
     ensures commits { IfOk result (λ closing. Commits container.old (P.asks program.now) facts
         (option_map (λ l. l.now) lease.entry) tries.old done closing container.new tries.new) }
     ensures nothing { OnErr result (container.new.since ≡ container.old.since) }
+    ensures boot { OnErr result (container.new.boot ≡ container.old.boot) }
     ensures keeper { OnErr result (KeepsNothing container.old container.new) }
     ensures held { IfSome tries.new.attempt (λ a. FitsIn container.new.boot a.ticket.call) }
     ensures closed { OnOk result (tries.new.attempt ≡ None) }
@@ -182,7 +183,8 @@ fn commit<K: Keeper + Drop, P: Program>(
 /// wanted once the entry is there. Some is answered where the request has ended, and then nothing is held.
 ///
 /// # Errors
-/// Out of memory: then nothing was added to the history, and the request can only be given up.
+/// Out of memory: then nothing was added to the history, of the boot at most the entering that was asked for was
+/// counted, and the request can only be given up.
 pub fn serve<K: Keeper + Drop, P: Program>(
     alloc: Global,
     facts: VisitFacts,
@@ -197,6 +199,8 @@ pub fn serve<K: Keeper + Drop, P: Program>(
     ensures serves { IfOk result (λ closing. Serves container.old (P.asks program.now) facts
         (option_map (λ l. l.now) lease.entry) tries.old closing container.new tries.new) }
     ensures nothing { OnErr result (container.new.since ≡ container.old.since) }
+    ensures at_most { OnErr result (HasAtMostAdvanced container.old (P.asks program.now) tries.old.attempt
+        (with_boot container.old container.new.boot)) }
     ensures keeper { OnErr result (KeepsNothing container.old container.new) }
     ensures held { IfSome tries.new.attempt (λ a. FitsIn container.new.boot a.ticket.call) }
     ensures closed { IfOk result (λ closing. closing ≢ None → tries.new.attempt ≡ None) }

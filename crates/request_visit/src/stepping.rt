@@ -2,9 +2,9 @@
 
 ghost use Rattle.std.specs.Prelude.{◌≡◌, ◌≤◌, ◌<◌, ◌^◌, ◌++◌, IfOk, OnOk, OnErr};
 ghost use Rattle.std.specs.Option.{option_map};
-ghost use Rattle.container_core.specs.Container.{HasGrownBy};
+ghost use Rattle.container_core.specs.Container.{HasGrownBy, with_boot};
 ghost use Rattle.request_tries.specs.Serving.{IsServing, TriesValue};
-ghost use Rattle.request_tries.specs.Steps.{KeepsNothing};
+ghost use Rattle.request_tries.specs.Steps.{HasAtMostAdvanced, KeepsNothing};
 ghost use Rattle.send_windows.specs.declared.windows.TakeRefusal.TheVariants as refusal;
 ghost use Rattle.session_way.specs.Marks.{marks_by};
 ghost use Rattle.session_way.specs.Way.{BreaksOffOutside, IsRefused, StepsOutside, after_give_back, answer_held, held};
@@ -132,6 +132,8 @@ impl<P: Program + Drop> Work<P> {
         ensures kept { OnErr result (OnServing self.old (λ tries program.
             (after : TriesValue) × (self.new ≡ Work.Serving after program))) }
         ensures nothing { OnErr result (container.new.since ≡ container.old.since) }
+        ensures at_most { OnErr result (OnServing self.old (λ tries program. HasAtMostAdvanced container.old
+            (P.asks program) tries.attempt (with_boot container.old container.new.boot))) }
         ensures keeper { OnErr result (KeepsNothing container.old container.new) }
         ensures count { container.old.faults ≤ container.new.faults }
         ensures grown { HasGrownBy container.old container.new }
@@ -207,7 +209,8 @@ impl<P: Program + Drop> Visit<P> {
     /// page of its own needs is made before its commit.
     ///
     /// # Errors
-    /// There is no memory: then nothing was added to the history.
+    /// There is no memory: then nothing was added to the history, and of the boot at most the entering that was asked
+    /// for was counted.
     pub fn step_inside<K: Keeper + Drop>(
         &mut self,
         alloc: Global,
@@ -222,6 +225,8 @@ impl<P: Program + Drop> Visit<P> {
         ensures holds { OnErr result (OnServing self.old.work (λ tries program.
             (after : TriesValue) × (self.new ≡ record self.old { work = Work.Serving after program }))) }
         ensures nothing { OnErr result (container.new.since ≡ container.old.since) }
+        ensures at_most { OnErr result (OnServing self.old.work (λ tries program. HasAtMostAdvanced container.old
+            (P.asks program) tries.attempt (with_boot container.old container.new.boot))) }
         ensures keeper { OnErr result (KeepsNothing container.old container.new) }
         ensures count { container.old.faults ≤ container.new.faults }
         ensures grown { HasGrownBy container.old container.new }

@@ -1,9 +1,9 @@
 //! The steps of the request that is open: each is one call of the link, of the windows or of the container, or none.
 
 ghost use Rattle.std.specs.Prelude.{◌≡◌, ◌≤◌, ◌<◌, ◌^◌, true, IfSome, OnErr, OnOk};
-ghost use Rattle.container_core.specs.Container.{HasGrownBy};
+ghost use Rattle.container_core.specs.Container.{HasGrownBy, with_boot};
 ghost use Rattle.request_tries.specs.Serving.{IsServing};
-ghost use Rattle.request_tries.specs.Steps.{KeepsNothing};
+ghost use Rattle.request_tries.specs.Steps.{HasAtMostAdvanced, KeepsNothing};
 ghost use Rattle.request_visit.specs.Advancing.{Advances, cookie_in};
 ghost use Rattle.request_visit.specs.Stepping.{OnServing, VisitsInside, VisitsWindows};
 ghost use Rattle.request_visit.specs.Visits.{turn as visit_turn};
@@ -11,7 +11,7 @@ ghost use Rattle.request_visit.specs.declared.visit.Turn.TheVariants as visit;
 ghost use Rattle.request_visit.specs.declared.visit.Work.TheVariants.{Opening};
 ghost use Rattle.session_cookie.specs.Cookie.{AreHolders};
 ghost use Rattle.send_windows.specs.declared.windows.TakeRefusal.TheVariants as refusal;
-ghost use Rattle.session_way.specs.Way.{IsRefused, answer_held};
+ghost use Rattle.session_way.specs.Way.{BreaksOffOutside, IsRefused, answer_held};
 ghost use Rattle.shepherd.specs.Shepherds.{turn};
 ghost use Rattle.shepherd.specs.Steps.{IsServedStill, OnVisit, ShepherdSteps, StepsVisit, VisitsOutside, dropped_stage};
 
@@ -30,6 +30,7 @@ impl<P: Drop> Stage<P> {
         ensures step { OnOk result (StepsVisit (λ v after. VisitsOutside L.makes L.tally v link.old after link.new)
             self.old self.new) }
         ensures same { OnErr result (self.new ≡ self.old) }
+        ensures broke { OnErr result (OnVisit self.old (λ v call. BreaksOffOutside L.makes v.way link.old link.new)) }
     {
         match self {
             Stage::Serving(visit, _) => visit.step_outside(alloc, link),
@@ -89,6 +90,8 @@ impl<P: Program + Drop> Stage<P> {
             self.old self.new) }
         ensures holds { OnErr result (StepsVisit IsServedStill self.old self.new) }
         ensures nothing { OnErr result (container.new.since ≡ container.old.since) }
+        ensures at_most { OnErr result (OnVisit self.old (λ v call. OnServing v.work (λ tries program.
+            HasAtMostAdvanced container.old (P.asks program) tries.attempt (with_boot container.old container.new.boot)))) }
         ensures keeper { OnErr result (KeepsNothing container.old container.new) }
         ensures count { container.old.faults ≤ container.new.faults }
         ensures grown { HasGrownBy container.old container.new }
@@ -136,12 +139,14 @@ impl<P: Drop> Shepherd<P> {
     /// Makes one call of the link, a send or a receive, for the session of the request that is open.
     ///
     /// # Errors
-    /// There is no memory: the connection has ended. The link may have made the call.
+    /// There is no memory: the connection has ended. The link may have made the call, and made no other.
     pub fn step_outside<L: Link>(&mut self, alloc: Global, link: &mut L) -> Result<(), OutOfMemory>
         requires { turn self.old ≡ ShepherdTurn.Outside }
         ensures step { OnOk result (ShepherdSteps (λ v after. VisitsOutside L.makes L.tally v link.old after link.new)
             self.old self.new) }
         ensures want { OnErr result (self.new ≡ record self.old { wants_memory = true }) }
+        ensures broke { OnErr result (OnVisit self.old.stage (λ v call.
+            BreaksOffOutside L.makes v.way link.old link.new)) }
     {
         let answer = self.stage.step_outside(alloc, link);
         self.heed(answer)
@@ -190,8 +195,8 @@ impl<P: Program + Drop> Shepherd<P> {
     /// for, or its commit.
     ///
     /// # Errors
-    /// There is no memory: the connection has ended, and nothing was added to the history. All of the request that is
-    /// open is as it was, but for its tries.
+    /// There is no memory: the connection has ended, nothing was added to the history, and of the boot at most the
+    /// entering that was asked for was counted. All of the request that is open is as it was, but for its tries.
     pub fn step_inside<K: Keeper + Drop>(
         &mut self,
         alloc: Global,
@@ -207,6 +212,8 @@ impl<P: Program + Drop> Shepherd<P> {
         ensures holds { OnErr result (StepsVisit IsServedStill self.old.stage self.new.stage) }
         ensures want { OnErr result (self.new ≡ record self.old { stage = self.new.stage; wants_memory = true }) }
         ensures nothing { OnErr result (container.new.since ≡ container.old.since) }
+        ensures at_most { OnErr result (OnVisit self.old.stage (λ v call. OnServing v.work (λ tries program.
+            HasAtMostAdvanced container.old (P.asks program) tries.attempt (with_boot container.old container.new.boot)))) }
         ensures keeper { OnErr result (KeepsNothing container.old container.new) }
         ensures count { container.old.faults ≤ container.new.faults }
         ensures grown { HasGrownBy container.old container.new }

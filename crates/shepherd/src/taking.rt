@@ -156,7 +156,7 @@ impl<P: Drop> Shepherd<P> {
         ensures taken { OnOk result (TakesRequest C.told R.gives S.looks key.now home (counted (L.tally link.now))
             self.old clock.old random.old serials.old self.new clock.new random.new serials.new) }
         ensures rises { C.told clock.old ≤ C.told clock.new }
-        ensures same { OnErr result (self.new.stage ≡ self.old.stage) }
+        ensures rest { OnErr result (self.new ≡ record self.old { received = self.new.received }) }
     {
         match self.received.take(alloc)? {
             Taken::Request(head) => {
@@ -182,7 +182,7 @@ impl<P: Drop> Shepherd<P> {
     /// it; what is refused has its last response made.
     ///
     /// # Errors
-    /// There is no memory: the connection has ended.
+    /// There is no memory: the connection has ended, and all of it but the bytes that came is as it was.
     pub fn take_request<C: Clock, R: Random, S: Serials, L: Link>(
         &mut self,
         alloc: Global,
@@ -200,6 +200,10 @@ impl<P: Drop> Shepherd<P> {
         ensures rises { C.told clock.old ≤ C.told clock.new }
         ensures same { OnErr result (self.new.stage ≡ self.old.stage) }
         ensures want { OnErr result (self.new.wants_memory ≡ true) }
+        ensures rest { OnErr result (self.new ≡ record self.old {
+          received = self.new.received;
+          wants_memory = true;
+        }) }
     {
         match self.take(alloc, router, key, home, link, clock, random, serials) {
             Ok(()) => Ok(()),
