@@ -2,6 +2,12 @@
 use Rattle.std.specs.Prelude.{◌≡◌, List, All}
 use Rattle.atomic_table.specs.Seated.{TableId}
 
--- Each of these passes is to this queue.
-abbrev pub AreTo : TableId → List TableId → Type 0
-AreTo queue passes = All (λ (pass : TableId). pass ≡ queue) passes
+-- Which queue a pass is to, and what it knows of it.
+pub record PassValue (V : Type 0) : Type 0 where
+  pub queue : TableId
+  pub knows : V
+
+-- Each of these passes is to this queue, and knows this.
+abbrev pub AreTo : {V : Type 0} → TableId → V → List (PassValue V) → Type 0
+AreTo {V} queue knows passes =
+    All (λ (pass : PassValue V). pass ≡ record { queue = queue; knows = knows }) passes

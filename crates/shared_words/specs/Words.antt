@@ -1,5 +1,5 @@
 -- Words and their seats, as contracts see them.
-use Rattle.std.specs.Prelude.{ℕ, List}
+use Rattle.std.specs.Prelude.{ℕ, ◌==◌, max, if◌then◌else◌, List, [], ◌∷◌}
 use Rattle.atomic_table.specs.Seated.{TableId}
 use Rattle.shared_words.specs.declared.view.Sight.{Sight}
 
@@ -17,3 +17,8 @@ pub record WordSeatValue : Type 0 where
   pub drawn : List ℕ
   pub seen : ℕ
   pub sights : List Sight
+
+-- the greatest generation at which a group was seen or to which it was raised, and 0 where there is none
+abbrev pub greatest : ℕ → List Sight → ℕ
+greatest g [] = 0
+greatest g (s ∷ ss) = max (if s.group == g then s.generation else 0) (greatest g ss)

@@ -7,32 +7,41 @@ use crate::view::View;
 use atomic_table::{Join, Play, Split};
 use std::marker::{Brand, PhantomData};
 
-/// The serial word is looked at.
-pub struct Seeing;
+/// How many parts are cut off, or how many there are.
+pub trait Count {
+    ghost count: { ℕ };
+}
 
-impl Play<(), View> for Seeing {
-    ghost then = { Sees };
+impl Count for Brand {
+    ghost count = { 1 };
+}
+
+/// The serial word is looked at, of words with that many parts.
+pub struct Seeing<C: Count>(PhantomData<C>);
+
+impl<C: Count> Play<(), View> for Seeing<C> {
+    ghost then = { λ st m r n. Sees C.count st m r n };
 }
 
 /// A serial number is drawn.
-pub struct Drawing;
+pub struct Drawing<C: Count>(PhantomData<C>);
 
-impl Play<(), View> for Drawing {
-    ghost then = { Draws };
+impl<C: Count> Play<(), View> for Drawing<C> {
+    ghost then = { λ st m r n. Draws C.count st m r n };
 }
 
 /// A generation is looked at.
-pub struct Looking;
+pub struct Looking<C: Count>(PhantomData<C>);
 
-impl Play<(), View> for Looking {
-    ghost then = { Looks };
+impl<C: Count> Play<(), View> for Looking<C> {
+    ghost then = { λ st m r n. Looks C.count st m r n };
 }
 
 /// A generation is raised.
-pub struct Raising;
+pub struct Raising<C: Count>(PhantomData<C>);
 
-impl Play<(), View> for Raising {
-    ghost then = { Raises };
+impl<C: Count> Play<(), View> for Raising<C> {
+    ghost then = { λ st m r n. Raises C.count st m r n };
 }
 
 /// The serial word is looked at by a seat that draws nothing, to learn that its numbers differ.
@@ -40,15 +49,6 @@ pub struct Comparing;
 
 impl Play<(), View> for Comparing {
     ghost then = { Compares };
-}
-
-/// How many parts are cut off.
-pub trait Count {
-    ghost count: { ℕ };
-}
-
-impl Count for Brand {
-    ghost count = { 1 };
 }
 
 /// Parts are cut off. The new seat has seen as much, and has drawn nothing.

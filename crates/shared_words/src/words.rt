@@ -1,9 +1,10 @@
 //! The words.
 
-ghost use Rattle.std.specs.Prelude.{◌≡◌, ℕ, ◌+◌, ◌-◌, ◌^◌, ◌<◌, ◌≤◌, [], ◌∷◌, ◌++◌, max, All, IfOk, IfErr};
+ghost use Rattle.std.specs.Prelude.{◌≡◌, ℕ, ◌+◌, ◌-◌, ◌^◌, ◌<◌, ◌≤◌, [], ◌∷◌, ◌++◌, length, max, IfOk, IfErr, MatchResult};
 ghost use Rattle.outside.specs.declared.serials.TheConstants.{SERIALS_END};
 ghost use Rattle.outside.specs.Serials.{AllDiffer};
-ghost use Rattle.shared_words.specs.Rule.{IsAtMost, sight_of};
+ghost use Rattle.shared_words.specs.Rule.{sight_of};
+ghost use Rattle.shared_words.specs.Words.{greatest};
 
 use crate::seat::WordSeat;
 use crate::steps::{
@@ -49,7 +50,8 @@ impl Words {
     }
 
     /// Draws a number that no seat has drawn: it looks at the serial word, and where that is below 2^62 it draws the
-    /// number that stands there by then. It takes no memory, and waits for nobody.
+    /// number that stands there by then. A seat with all parts draws the numbers from 0 on. It takes no memory, and
+    /// waits for nobody.
     ///
     /// # Errors
     /// `Spent` exactly where the word that it looked at is 2^62 or more.
@@ -66,6 +68,8 @@ impl Words {
         ensures spent { IfErr result (λ spent. (SERIALS_END ≤ spent.seen)
             × (seat.new ≡ record (seat.old) { seen = spent.seen })) }
         ensures more { seat.old.seen ≤ seat.new.seen }
+        ensures whole { seat.old.parts ≡ self.now.parts → MatchResult result (λ serial. serial ≡ length seat.old.drawn)
+            (λ spent. spent.seen ≡ length seat.old.drawn) }
     {
         let found = see_serial(&self.table, &mut seat.inner);
         if found < SERIALS_END {
@@ -75,13 +79,14 @@ impl Words {
         }
     }
 
-    /// The generation of a group: at least what this seat saw or raised there. It takes no memory, and waits for
-    /// nobody.
+    /// The generation of a group: at least what this seat saw or raised there, and just the greatest of that where the
+    /// seat has all parts. It takes no memory, and waits for nobody.
     pub fn look(&self, seat: &mut WordSeat, g: GroupNo) -> u64
         requires seat { seat.old.words ≡ self.now.id }
         requires group { g.0 < self.now.groups }
         ensures seen { seat.new ≡ record (seat.old) { sights = seat.old.sights ++ sight_of g.0 result ∷ [] } }
-        ensures least { All (IsAtMost g.0 result) seat.old.sights }
+        ensures least { greatest g.0 seat.old.sights ≤ result }
+        ensures whole { seat.old.parts ≡ self.now.parts → result ≡ greatest g.0 seat.old.sights }
     {
         see_generation(&self.table, &mut seat.inner, g)
     }
@@ -90,7 +95,8 @@ impl Words {
     pub fn raise(&self, seat: &mut WordSeat, g: GroupNo, n: u64)
         requires seat { seat.old.words ≡ self.now.id }
         requires group { g.0 < self.now.groups }
-        ensures { (found : ℕ) × All (IsAtMost g.0 found) seat.old.sights
+        ensures { (found : ℕ) × (greatest g.0 seat.old.sights ≤ found)
+            × (seat.old.parts ≡ self.now.parts → found ≡ greatest g.0 seat.old.sights)
             × (seat.new ≡ record (seat.old) { sights = seat.old.sights ++ sight_of g.0 (max found n) ∷ [] }) }
     {
         let _ = raise_generation(&self.table, &mut seat.inner, g, n);

@@ -3,4 +3,4 @@ use Rattle.std.proofs.lemmas.List.Elements.{All-pop}
 use Rattle.report_queue.proofs.pass.take_last.Goals as goal
 
 pub returns-clause-queue : goal.returns-clause-queue
-returns-clause-queue c = λ queue all. All-pop (λ pass. pass ≡ queue) _ _ _ c.pop.ensures.items all
+returns-clause-queue g c = λ queue knows all. All-pop (λ pass. pass ≡ record { queue = queue; knows = knows }) _ _ _ c.pop.ensures.items all

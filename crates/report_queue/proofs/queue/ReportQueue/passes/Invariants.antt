@@ -3,4 +3,4 @@ use Rattle.report_queue.specs.Passes.{AreTo}
 use Rattle.report_queue.proofs.queue.ReportQueue.passes.Given as goal
 
 abbrev pub invariant-loop-made : goal.invariant-loop-made
-invariant-loop-made l = (length l.list ≡ l.made) × AreTo l.self l.list
+invariant-loop-made g l = (length l.list ≡ l.made) × AreTo l.self g.P.Protocol.first l.list
