@@ -1,0 +1,5 @@
+pub mod Asked
+pub mod Counting
+pub mod Houses
+pub mod InOrder
+pub mod Lanes

@@ -1,0 +1,5 @@
+use Rattle.brick_house.proofs.InOrder.{none_waits, come_in_order}
+use Rattle.brick_house.proofs.laws.houses_answer_in_order.Goals as goal
+
+pub returns : goal.returns
+returns c = record { new = none_waits; events = come_in_order }

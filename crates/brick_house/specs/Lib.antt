@@ -1,0 +1,4 @@
+pub mod HouseLinks
+pub mod Houses
+pub mod InOrder
+pub mod Tallies
