@@ -1,8 +1,11 @@
 //! Tests of the pieces on which threads meet, over real threads: a lock whose value counts who held it, words that are
-//! drawn from and looked at, and the queue of reports. Each ends by itself, whatever the schedule.
+//! drawn from and looked at, the queue of reports, and a house of bricks. Each ends by itself, whatever the schedule.
 #![tactic(auto)]
 
 pub mod hands;
+#[cfg(test)]
+mod houses;
+pub mod links;
 #[cfg(test)]
 mod locks;
 pub mod notes;

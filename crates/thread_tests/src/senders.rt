@@ -5,7 +5,7 @@ ghost use denote.Param.Send.{IsSync};
 
 use crash_base::Moment;
 use failure_scores::FailureReport;
-use report_queue::{ReportPass, ReportQueue};
+use report_queue::{Free, ReportPass, ReportQueue};
 use std::sync::Wait;
 use std::thread::{Threads, join, yield_now};
 
@@ -30,14 +30,14 @@ pub fn number(report: FailureReport) -> Option<u64> {
 
 /// Puts the reports from 0 on, in order. How many were put.
 fn put_all<R: Wait>(rt: &R, queue: &ReportQueue, mut pass: ReportPass) -> u64
-    requires { pass ≡ queue.now }
+    requires { pass.queue ≡ queue.now }
 {
     let mut next = 0;
     for _ in 0..TRIES {
         if next >= REPORTS {
             break;
         }
-        match queue.put(rt, &mut pass, report(next)) {
+        match queue.put::<Free, R>(rt, &mut pass, report(next)) {
             Ok(()) => next += 1,
             Err(_) => yield_now(),
         }
@@ -47,14 +47,14 @@ fn put_all<R: Wait>(rt: &R, queue: &ReportQueue, mut pass: ReportPass) -> u64
 
 /// Takes the reports, and looks whether they come in order. How many came so.
 fn take_all<R: Wait>(rt: &R, queue: &ReportQueue, mut pass: ReportPass) -> u64
-    requires { pass ≡ queue.now }
+    requires { pass.queue ≡ queue.now }
 {
     let mut next = 0;
     for _ in 0..TRIES {
         if next >= REPORTS {
             break;
         }
-        match queue.take(rt, &mut pass) {
+        match queue.take::<Free, R>(rt, &mut pass) {
             Some(report) => {
                 if number(report) != Some(next) {
                     break;
@@ -74,17 +74,17 @@ pub fn send<R: Threads + Wait + Sync>(
     sender: ReportPass,
     receiver: ReportPass,
 ) -> (u64, u64)
-    requires { (sender ≡ queue.now) × (receiver ≡ queue.now) }
+    requires { (sender.queue ≡ queue.now) × (receiver.queue ≡ queue.now) }
 {
     join(
         rt,
         move || -> u64
             requires sync { IsSync R.row }
-            requires pass { sender ≡ queue.now }
+            requires pass { sender.queue ≡ queue.now }
         { put_all(rt, queue, sender) },
         move || -> u64
             requires sync { IsSync R.row }
-            requires pass { receiver ≡ queue.now }
+            requires pass { receiver.queue ≡ queue.now }
         { take_all(rt, queue, receiver) },
     )
 }

@@ -2,4 +2,4 @@ use Rattle.std.proofs.Common.{◌≡◌}
 use Rattle.thread_tests.proofs.senders.take_all.Given as goal
 
 abbrev pub invariant-loop : goal.invariant-loop
-invariant-loop g l = l.pass ≡ l.queue
+invariant-loop g l = l.pass.queue ≡ l.queue
