@@ -36,6 +36,7 @@ pub mod Soundness
 mod Standing
 pub mod Starting
 pub mod Stepping
+mod StepReports
 pub mod StepsMade
 pub mod Telling
 pub mod TellingCalls

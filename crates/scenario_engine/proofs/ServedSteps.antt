@@ -3,6 +3,7 @@
 use Rattle.std.proofs.Common.{◌≡◌, ◌≢◌, ◌⊎◌, inl, inr, ℕ, ◌^◌, ◌<◌, ◌≤◌, Bool, true, false, cond, List, [], ◌∷◌, ◌++◌, append-nil, append_assoc, length, map, Option, Some, None, refl, sym, ap, ◌∙◌, subst, arith}
 use Rattle.std.specs.Prelude.{All, slice_set}
 use Rattle.std.specs.List.{flat_map}
+use Rattle.std.specs.Option.{option_to_list}
 use Rattle.std.proofs.lemmas.List.{get_or-set_same, map-append}
 use Rattle.std.proofs.lemmas.List.Concat.{flat_map-append}
 use Rattle.std.proofs.lemmas.List.Elements.{All-head, All-nil, All-push, All-tail}
@@ -12,6 +13,7 @@ use Rattle.container_core.specs.Container.{ContainerValue, HasGrownBy}
 use Rattle.container_core.specs.History.{entries_in}
 use Rattle.container_core.specs.declared.history.Event.{Event}
 use Rattle.crash_base.specs.declared.numbers.Moment.{Moment}
+use Rattle.failure_scores.specs.declared.report.FailureReport.{FailureReport}
 use Rattle.outcome_items.specs.declared.item.Item.{Item}
 use Rattle.outside.specs.declared.clock.TheConstants.{MOMENTS_END}
 use Rattle.request_decisions.specs.declared.draws.Draw.{Draw}
@@ -43,8 +45,9 @@ use Rattle.shepherd.specs.declared.shepherd.Shepherd.{Shepherd}
 use Rattle.shepherd.specs.declared.shepherd.ShepherdTurn.{ShepherdTurn}
 use Rattle.shepherd.specs.declared.shepherd.ShepherdTurn.TheVariants as turns
 use Rattle.scenario_engine.specs.Seats.{after_steps}
-use Rattle.scenario_engine.specs.Serving.{DrawsBetween, DrewInStep, HasServed, IsOf, StepDraws, course_of, items_by, written_by}
+use Rattle.scenario_engine.specs.Serving.{DrawsBetween, DrewInStep, HasServed, IsOf, StepDraws, course_of, items_by, reported_by, written_by}
 use Rattle.scenario_engine.proofs.Continuing.{Continues, continues_itself}
+use Rattle.scenario_engine.proofs.StepReports.{moving-reports, reported-push, reports_in, still-reports}
 
 -- what is promised of connections, of their steps, and of lines about them
 pub record ServeLaws : Type 0 where
@@ -105,16 +108,19 @@ drawn-push : (draws : List StepDraws) (d : StepDraws) → drawn_in (draws ++ d �
 drawn-push draws d = flat_map-append (λ (x : StepDraws). x.drawn) draws (d ∷ []) ∙ ap (λ (xs : List Draw). drawn_in draws ++ xs) (append-nil d.drawn)
 
 -- how far a connection has come by one step more
-course-push : (from : SiteState) (bytes : List ℕ) (draws : List StepDraws) (d : StepDraws) (drawn : List Draw) (written : List ℕ) (items : List Item) → drawn_in draws ++ d.drawn ≡ drawn → written_by (steps_in draws) ++ outs_of d.step ≡ written
-    → items_by (steps_in draws) ++ items_of d.step ≡ items → course_of from bytes (draws ++ d ∷ []) ≡ record (course_of from bytes draws) { drawn = drawn; written = written; items = items }
-course-push from bytes draws d drawn written items drew wrote gave =
-    let C : List Draw → List ℕ → List Item → Course = λ x y z. record (course_of from bytes draws) { drawn = x; written = y; items = z } in
+course-push : (from : SiteState) (bytes : List ℕ) (draws : List StepDraws) (d : StepDraws) (drawn : List Draw) (written : List ℕ) (items : List Item) (reports : List FailureReport) → drawn_in draws ++ d.drawn ≡ drawn → written_by (steps_in draws) ++ outs_of d.step ≡ written
+    → items_by (steps_in draws) ++ items_of d.step ≡ items → reported_by (steps_in draws) ++ reports_in d.step ≡ reports
+    → course_of from bytes (draws ++ d ∷ []) ≡ record (course_of from bytes draws) { drawn = drawn; written = written; items = items; reports = reports }
+course-push from bytes draws d drawn written items reports drew wrote gave told =
+    let C : List Draw → List ℕ → List Item → List FailureReport → Course = λ x y z r. record (course_of from bytes draws) { drawn = x; written = y; items = z; reports = r } in
     let all = draws ++ d ∷ [] in
     let outs : written_by (steps_in all) ≡ written = ap written_by (steps-push draws d) ∙ written-push (steps_in draws) d.step ∙ wrote in
     let its : items_by (steps_in all) ≡ items = ap items_by (steps-push draws d) ∙ items-push (steps_in draws) d.step ∙ gave in
-    ap (λ (x : List Draw). C x (written_by (steps_in all)) (items_by (steps_in all))) (drawn-push draws d ∙ drew)
-    ∙ (ap (λ (y : List ℕ). C drawn y (items_by (steps_in all))) outs
-    ∙ ap (λ (z : List Item). C drawn written z) its)
+    let by : reported_by (steps_in all) ≡ reports = ap reported_by (steps-push draws d) ∙ reported-push (steps_in draws) d.step ∙ told in
+    ap (λ (x : List Draw). C x (written_by (steps_in all)) (items_by (steps_in all)) (reported_by (steps_in all))) (drawn-push draws d ∙ drew)
+    ∙ (ap (λ (y : List ℕ). C drawn y (items_by (steps_in all)) (reported_by (steps_in all))) outs
+    ∙ (ap (λ (z : List Item). C drawn written z (reported_by (steps_in all))) its
+    ∙ ap (λ (r : List FailureReport). C drawn written items r) by))
 
 -- what is so of a connection is so in other words
 abbrev Serves : SiteState → Course → Shepherd ActionCall → Type 0
@@ -175,9 +181,10 @@ module _ (laws : ServeLaws) where
           let behind = laws.steps G seat W was.old was.new C was.boot_is was.since_is was.entries_are was.in_time was.word was.grown limits.some few was.stepped here in
           let d : StepDraws = record { step = This; drawn = behind.0 } in
           let course : course_of from bytes (its.draws ++ d ∷ []) ≡ course_behind C behind.0 O =
-          course-push from bytes its.draws d (C.drawn ++ behind.0) (C.written ++ O.bytes) (C.items ++ O.items) refl
+          course-push from bytes its.draws d (C.drawn ++ behind.0) (C.written ++ O.bytes) (C.items ++ O.items) (C.reports ++ option_to_list O.report) refl
           (ap (λ (xs : List ℕ). C.written ++ xs) (moving_outs s n keeps t text done seat there st bricks))
-          (ap (λ (xs : List Item). C.items ++ xs) (moving_items s n keeps t text done seat there st bricks moving)) in
+          (ap (λ (xs : List Item). C.items ++ xs) (moving_items s n keeps t text done seat there st bricks moving))
+          (ap (λ (xs : List FailureReport). C.reports ++ xs) (moving-reports s n keeps t text done seat there st bricks moving)) in
           record {
             draws = its.draws ++ d ∷ [];
             steps_are = steps-push its.draws d ∙ ap (λ (xs : List StepMade). xs ++ This ∷ []) its.steps_are;
@@ -200,9 +207,10 @@ module _ (laws : ServeLaws) where
       served-still u moving is_of serves =
           let d : StepDraws = record { step = This; drawn = [] } in
           let course : course_of from bytes (its.draws ++ d ∷ []) ≡ C =
-          course-push from bytes its.draws d C.drawn C.written C.items (append-nil C.drawn)
+          course-push from bytes its.draws d C.drawn C.written C.items C.reports (append-nil C.drawn)
           (ap (λ (xs : List ℕ). C.written ++ xs) (still_outs s n keeps t text done seat there st bricks moving) ∙ append-nil C.written)
-          (ap (λ (xs : List Item). C.items ++ xs) (still_items s n keeps t text done seat there st bricks moving) ∙ append-nil C.items) in
+          (ap (λ (xs : List Item). C.items ++ xs) (still_items s n keeps t text done seat there st bricks moving) ∙ append-nil C.items)
+          (ap (λ (xs : List FailureReport). C.reports ++ xs) (still-reports s n keeps t text done seat there st bricks moving) ∙ append-nil C.reports) in
           record {
             draws = its.draws ++ d ∷ [];
             steps_are = steps-push its.draws d ∙ ap (λ (xs : List StepMade). xs ++ This ∷ []) its.steps_are;

@@ -2,6 +2,7 @@
 use Rattle.std.specs.Prelude.{◌≡◌, ◌≢◌, ◌⊎◌, ℕ, All, nat_eq, filter, if◌then◌else◌, Bool, true, false, List, [], ◌∷◌, ◌++◌, length, map, Option, Some, None}
 use Rattle.std.specs.List.{flat_map}
 use Rattle.auction_calls.specs.declared.action.ActionCall.{ActionCall}
+use Rattle.failure_scores.specs.declared.report.FailureReport.{FailureReport}
 use Rattle.outcome_items.specs.declared.item.Item.{Item}
 use Rattle.request_decisions.specs.declared.draws.Draw.{Draw}
 use Rattle.scenario_text.specs.Reading.{line_of}
@@ -23,6 +24,7 @@ use Rattle.shepherd.specs.declared.shepherd.EndKind.{EndKind}
 use Rattle.shepherd.specs.declared.shepherd.Shepherd.{Shepherd}
 use Rattle.shepherd.specs.declared.shepherd.ShepherdTurn.TheVariants as turns
 use Rattle.scenario_engine.specs.Connections.{made_from, step_leaves}
+use Rattle.scenario_engine.specs.Reports.{reports_by, step_reports}
 use Rattle.scenario_engine.specs.State.{RunningState, Running, site_of}
 use Rattle.scenario_engine.specs.Transcript.{Turn, Ended, UnderWay, first, end_from}
 
@@ -57,6 +59,10 @@ written_by steps = flat_map (λ (step : StepMade). in_row (step_yields outs_at s
 -- the items that they gave, in order
 abbrev pub items_by : List StepMade → List Item
 items_by steps = flat_map (λ (step : StepMade). step_yields items_at step.site step.number step.keeps) steps
+
+-- what they reported of requests that failed, in order
+abbrev pub reported_by : List StepMade → List FailureReport
+reported_by steps = reports_by (flat_map step_reports steps)
 
 -- A step of a connection, and the numbers that were drawn in it for requests.
 pub record StepDraws : Type 0 where
@@ -103,11 +109,12 @@ course_of opened fed draws =
       drawn = flat_map (λ (d : StepDraws). d.drawn) draws;
       written = written_by steps;
       items = items_by steps;
+      reports = reported_by steps;
     })
 
 -- The connection of a number, which opened in a site, has served its requests in another, which these bytes and these
--- steps of it led to: it serves them by what was drawn in its steps, by what they put out, and by the items that they
--- gave, in order. These follow on one another in the journal.
+-- steps of it led to: it serves them by what was drawn in its steps, by what they put out, by the items that they gave,
+-- and by what they reported, in order. The items follow on one another in the journal.
 pub record HasServed (n : ℕ) (opened : SiteState) (fed : List ℕ) (steps : List StepMade) (now : SiteState) : Type 0 where
   pub draws : List StepDraws
   pub steps_are : map (λ (d : StepDraws). d.step) draws ≡ steps

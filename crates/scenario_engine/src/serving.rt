@@ -11,9 +11,10 @@ ghost use Rattle.scenario_text.specs.Reading.{line_of};
 ghost use Rattle.scenario_text.specs.declared.line.Line.TheVariants as lines;
 ghost use Rattle.scenario_text.specs.declared.seat_line.SeatLine.{SeatLine};
 ghost use Rattle.scenario_text.specs.declared.seat_line.SeatLine.TheVariants as seats;
+ghost use Rattle.seat_laws.specs.Reporting.{HasReported};
 ghost use Rattle.seat_laws.specs.Serving.{SeatServes, history_in, opening, serials_among, words_among};
 ghost use Rattle.seat_lines.specs.Changing.{number_in};
-ghost use Rattle.seat_lines.specs.Items.{line_items, line_outs};
+ghost use Rattle.seat_lines.specs.Items.{line_items, line_outs, line_reports};
 ghost use Rattle.seat_lines.specs.Making.{line_makes};
 ghost use Rattle.seat_lines.specs.Responding.{bytes_by, in_row};
 ghost use Rattle.seat_lines.specs.Runs.{seat_line};
@@ -27,7 +28,7 @@ ghost use Rattle.shepherd.specs.declared.shepherd.Shepherd.{Shepherd};
 ghost use Rattle.shepherd.specs.declared.shepherd.ShepherdTurn.TheVariants as at_turn;
 ghost use Rattle.scenario_engine.specs.Connections.{turn_makes};
 ghost use Rattle.scenario_engine.specs.Hearing.{AllMade};
-ghost use Rattle.scenario_engine.specs.Serving.{AllServed, Connection, DrewInStep, IsServed, StepDraws, bytes_fed, bytes_of, course_of, items_by, its_steps, steps_of, written_by};
+ghost use Rattle.scenario_engine.specs.Serving.{AllServed, Connection, DrewInStep, IsServed, StepDraws, bytes_fed, bytes_of, course_of, items_by, its_steps, reported_by, steps_of, written_by};
 ghost use Rattle.scenario_engine.specs.State.{RunningState, Running, site_of};
 ghost use Rattle.scenario_engine.specs.Transcript.{Turn, Ended, UnderWay, first, end_from};
 
@@ -39,13 +40,18 @@ use seat_steps::seats_answer_their_requests;
 
 /// Each connection of a scenario serves its requests, from the line on by which it opened and up to each turn, as long
 /// as its boot runs: whatever other lines come between, also in a run that is under way, and where the connection is
-/// gone. What was drawn for its requests are the numbers that its steps drew, each as it was next; what it put out, and
-/// its items, are what its steps put out and gave; so all that `seat_laws::seats_serve_their_requests` says of these
-/// holds of it, and its items follow on one another in the journal (`items_of_seats_follow_one_another`). The steps
-/// were made by their calls (`AllMade`), as the contract of each line tells it. Where it is given up, as before the
-/// next boot, the item that is left joins its items.
+/// gone. What was drawn for its requests are the numbers that its steps drew, each as it was next; what it put out, its
+/// items and its reports are what its steps put out, gave and reported; so all that
+/// `seat_laws::seats_serve_their_requests` says of these holds of it, and its items follow on one another in the
+/// journal (`items_of_seats_follow_one_another`). So the manager hears of each of its requests that failed once, in
+/// their order: what its steps reported are the reports of its items, and then that of the request that is open, if
+/// that has failed (`reported`). The steps were made by their calls (`AllMade`), as the contract of each line tells it.
+/// Where it is given up, as before the next boot, the item that is left joins its items, and tells what had been
+/// reported of it.
 pub fn connections_serve_their_requests()
     ensures served { (turns : List Turn) → AllMade first turns → AllServed turns }
+    ensures reported { (turns : List Turn) (c : Connection turns) (it : IsServed c)
+        → HasReported (reported_by (its_steps c)) (items_by (its_steps c)) it.connection.stage }
     ensures given_up { (turns : List Turn) (c : Connection turns) (it : IsServed c) (seat : Seat) (st : LanesState)
         (i : Item) → seat_at c.last.seats.seats c.number ≡ Some seat → (seat_gone seat st).item ≡ Some i
         → (let course = course_of (site_of c.opened) (bytes_fed c) it.draws in (after : Shepherd ActionCall)
@@ -66,7 +72,7 @@ pub fn connections_serve_their_requests()
 /// How far one has come begins with the moment and the history of the boot in which it opened (`course`). Which one has
 /// served is the connection that is there (`whose`), or one that had ended, where none is (`gone`). The numbers that it
 /// drew in a step are those that were next over the site of the step (`serial`, `word`). What the steps of a line put
-/// out and give is what the line puts out and yields.
+/// out, give and report is what the line puts out, yields and reports.
 pub fn connections_go_by_their_lines()
     ensures opens { (before : List Turn) (opening : Turn) (n : ℕ) (r : RunningState)
         → line_of opening.line ≡ Some (lines.Seat (seats.Conn n))
@@ -106,7 +112,8 @@ pub fn connections_go_by_their_lines()
     ensures yields { (s t : SiteState) (line : SeatLine) (replies : List Bool) (text : List ℕ)
         → seat_line s line replies ≡ Some (Done t text)
         → (written_by (line_makes s line replies) ≡ in_row (line_outs s line replies))
-        × (items_by (line_makes s line replies) ≡ line_items s line replies) }
+        × (items_by (line_makes s line replies) ≡ line_items s line replies)
+        × (reported_by (line_makes s line replies) ≡ line_reports s line replies) }
 {
     drawn_numbers_come_next();
 }

@@ -29,6 +29,7 @@ mod ReadBegins
 mod ReadingRightly
 mod Remaining
 mod Replying
+mod ReportedOnce
 mod Running
 mod SeatsFit
 mod SeatsSpell

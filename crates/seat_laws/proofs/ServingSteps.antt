@@ -2,6 +2,7 @@
 use Rattle.std.specs.Prelude.{◌⊎◌}
 use Rattle.std.proofs.Common.{◌≡◌, ◌≤◌, ◌<◌, ◌∙◌, ◌^◌, ◌+◌, ◌%◌, ℕ, List, [], ◌∷◌, ◌++◌, None, inl, inr, refl, sym, ap, subst, arith, add-zero}
 use Rattle.std.proofs.Math.Nat.{mod-eq_of_lt}
+use Rattle.std.specs.Option.{option_to_list}
 use Rattle.auction_calls.specs.declared.action.ActionCall.{ActionCall}
 use Rattle.auction_site.specs.Actions.{steps_of}
 use Rattle.boot_core.specs.Boot.{BootValue}
@@ -41,7 +42,9 @@ use Rattle.seat_steps.specs.Stepped.{HasStepped, MakesCalls, SeatCalling, callin
 use Rattle.seat_steps.specs.declared.seat.NextDraws.{NextDraws}
 use Rattle.seat_steps.specs.declared.seat.Seat.{Seat}
 use Rattle.seat_steps.specs.declared.seat.TheConstants.{NODE}
+use Rattle.seat_laws.specs.Reporting.{HasReported}
 use Rattle.seat_laws.specs.Serving.{Course, DrewNext, SeatServes, course_behind, history_in}
+use Rattle.seat_laws.proofs.ReportedOnce.{step-reported, step-reports}
 use Rattle.seat_laws.proofs.ServingCalls.{CallLaws, DrewSo, OfConnection, call-so, twice-so}
 
 -- how items go back to their requests in boots of this start
@@ -60,6 +63,7 @@ same-start key boot after since now c s is h = record {
   answers = subst (λ (start : Start). SeatAnswers key (Started start ∷ since) c.fed h.heads c.written c.items s) (sym is) h.answers;
   attributes = subst (λ (start : Start). AttributesFrom key start now c (Started start ∷ since) h.heads c.drawn c.items s) (sym is) h.attributes;
   holds = subst (λ (start : Start). Holding c.behind (Started start ∷ since) c.items s) (sym is) h.holds;
+  reported = h.reported;
 }
 
 -- the words and the serial numbers from these on, by how many were drawn
@@ -185,5 +189,7 @@ module _ (events : EventLaws) (answers : StepAnswers) (key : List ℕ) (worker :
       attributes = subst (λ (start : Start). AttributesFrom key start now c (history_in o.world.boot o.world.since) heads (c.drawn ++ drew.more) (c.items ++ o.items) o.seat.connection)
           (sym (start-is events g seat old new lanes next word o stepped.calls stepped.step_is grown)) behind.0;
       holds = behind.1;
+      reported = subst (λ (x : SeatOutcome). HasReported (c.reports ++ option_to_list x.report) (c.items ++ x.items) x.seat.connection.stage) (sym stepped.step_is)
+          (let left : SeatOutcome = seat_step g seat (world_from old lanes next) in step-reported c.reports (option_to_list left.report) c.items left.items s.stage left.seat.connection.stage (step-reports g seat (world_from old lanes next)) h.reported);
     },
   )

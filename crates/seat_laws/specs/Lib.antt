@@ -5,6 +5,7 @@ pub mod LentSteps
 pub mod Ordering
 pub mod Owing
 pub mod Reads
+pub mod Reporting
 pub mod Serving
 pub mod Spelling
 pub mod Standing

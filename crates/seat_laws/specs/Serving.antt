@@ -1,6 +1,7 @@
 -- A connection of a scenario that serves its requests: what it put out, its items, and what was drawn for them.
 use Rattle.std.specs.Prelude.{◌≡◌, ℕ, not, false, Option, Some, None, List, [], ◌∷◌, ◌++◌, take}
 use Rattle.std.specs.List.{count_by}
+use Rattle.std.specs.Option.{option_to_list}
 use Rattle.auction_calls.specs.Texts.{Spells}
 use Rattle.auction_calls.specs.declared.action.ActionCall.{ActionCall}
 use Rattle.auction_site.specs.Actions.{steps_of}
@@ -11,6 +12,7 @@ use Rattle.container_core.specs.declared.history.Event.{Event}
 use Rattle.container_core.specs.declared.history.Event.TheVariants.{Started}
 use Rattle.crash_base.specs.declared.numbers.Moment.{Moment}
 use Rattle.crash_base.specs.declared.numbers.Place.{Place}
+use Rattle.failure_scores.specs.declared.report.FailureReport.{FailureReport}
 use Rattle.http_wire.specs.declared.taken.Head.{Head}
 use Rattle.lane_link.specs.Links.{LaneLinkMakes}
 use Rattle.outcome_items.specs.declared.item.Item.{Item}
@@ -42,13 +44,15 @@ use Rattle.site_programs.specs.declared.maker.SiteMaker.{SiteMaker}
 use Rattle.seat_steps.specs.Answering.{SeatAnswers}
 use Rattle.seat_steps.specs.Seats.{SeatOutcome, SeatWorld, home_in}
 use Rattle.seat_laws.specs.Reads.{value_written}
+use Rattle.seat_laws.specs.Reporting.{HasReported}
 
 -- what the requests of a boot are served by: the key of the service, the boot, and the programs of the site
 abbrev pub service_of : List ℕ → BootValue → Service SiteMaker
 service_of key boot = record { key = key; home = home_in boot; maker = record {} }
 
 -- How far a connection has come: at which moment it opened, and behind how many events of the history; then the bytes
--- that were fed to it, what was drawn for its requests, what it put out, and its items, each in order.
+-- that were fed to it, what was drawn for its requests, what it put out, its items, and what it reported of requests
+-- that failed, each in order.
 pub record Course : Type 0 where
   pub opened : Moment
   pub behind : ℕ
@@ -56,10 +60,11 @@ pub record Course : Type 0 where
   pub drawn : List Draw
   pub written : List ℕ
   pub items : List Item
+  pub reports : List FailureReport
 
 -- a connection that opens at a moment, behind a history of so many events
 abbrev pub opening : Moment → ℕ → Course
-opening now behind = record { opened = now; behind = behind; fed = []; drawn = []; written = []; items = [] }
+opening now behind = record { opened = now; behind = behind; fed = []; drawn = []; written = []; items = []; reports = [] }
 
 -- the history of the container of a boot: its start, and the events since
 abbrev pub history_in : BootValue → List Event → List Event
@@ -68,12 +73,14 @@ history_in boot since = Started boot.start ∷ since
 -- A connection serves its requests, over the history of its container and up to this moment. What it put out are the
 -- responses to its items, in order, and its items are for the requests of its bytes, in order, each once. Each item
 -- goes back to its own request: to what was decided of it, and drawn for it, in order. No item's moment is before the
--- connection opened, or before that of the item before it; and none is older than what the connection had seen.
+-- connection opened, or before that of the item before it; and none is older than what the connection had seen. What it
+-- reported are the reports of its items, in order, each once, and that of the request that is open, if it has failed.
 pub record SeatServes (key : List ℕ) (boot : BootValue) (since : List Event) (now : Moment) (c : Course) (s : Shepherd ActionCall) : Type 0 where
   pub heads : List Head
   pub answers : SeatAnswers key (history_in boot since) c.fed heads c.written c.items s
   pub attributes : Attributing steps_of LaneLinkMakes (λ (maker : SiteMaker). IsMadeOf) PlainGives PlainLooks (service_of key boot) boot.start (history_in boot since) heads c.drawn c.opened.0 now.0 c.items s
   pub holds : Holding c.behind (history_in boot since) c.items s
+  pub reported : HasReported c.reports c.items s.stage
 
 -- The items of a connection follow on one another, from its first one on: the journal was no shorter when the container
 -- was first held for each than when it was last held for the one before.
@@ -132,10 +139,12 @@ serials_among drawn = count_by (λ (d : Draw). is_serial d.kind) drawn
 abbrev pub words_among : List Draw → ℕ
 words_among drawn = count_by (λ (d : Draw). not (is_serial d.kind)) drawn
 
--- what a step adds to how far a connection has come: what was drawn in it, what it put out, and its items
+-- what a step adds to how far a connection has come: what was drawn in it, what it put out, its items, and its report,
+-- if it made one
 abbrev pub course_behind : Course → List Draw → SeatOutcome → Course
 course_behind c drawn o = record c {
   drawn = c.drawn ++ drawn;
   written = c.written ++ o.bytes;
   items = c.items ++ o.items;
+  reports = c.reports ++ option_to_list o.report;
 }

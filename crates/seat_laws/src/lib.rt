@@ -34,6 +34,8 @@
 //!   (`items_of_seats_come_in_order`, `items_of_seats_follow_one_another`), its pages are what the site means
 //!   (`pages_of_seats_are_meant`), and what it drew came next (`drawn_numbers_come_next`). A cookie that its write
 //!   answers is acknowledged with the value that its page sets (`seats_write_what_their_pages_set`).
+//! - `seats_report_each_failure_once`: what a connection reports of requests that failed is what its items tell, in
+//!   order, each once, and then what is to be told of the request that is open.
 //! - `replies_matter_where_handed`: where a step hands nothing to the keeper, its reply changes nothing.
 //!
 //! Two things are asked of whoever drives the seats. What a seat hears is spelled by its bytes (`SeatHears`): the
@@ -46,6 +48,7 @@ mod laws;
 mod lending;
 mod owned_writes;
 mod reading;
+mod reporting;
 mod resting;
 mod serving;
 
@@ -63,6 +66,7 @@ pub use reading::{
     reads_begin_behind_earlier_lanes, seats_acknowledge_what_they_wrote, seats_miss_for_causes,
     seats_read_their_own_sessions, seats_read_what_was_written,
 };
+pub use reporting::seats_report_each_failure_once;
 pub use resting::seats_come_to_rest;
 pub use serving::{
     drawn_numbers_come_next, items_of_seats_come_in_order, items_of_seats_follow_one_another,

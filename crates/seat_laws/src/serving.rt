@@ -34,6 +34,7 @@ ghost use Rattle.seat_steps.specs.Seats.{SeatGivens, SeatWorld, seat_step};
 ghost use Rattle.seat_steps.specs.Stepped.{HasStepped};
 ghost use Rattle.seat_steps.specs.Twinned.{way_in};
 ghost use Rattle.seat_steps.specs.declared.seat.Seat.{Seat};
+ghost use Rattle.seat_laws.specs.Reporting.{HasReported};
 ghost use Rattle.seat_laws.specs.Serving.{Course, DrewNext, ItemsAreServed, ItemsFollow, PageIsMeant, SeatServes, WritesPage, course_behind, history_in, opening, serials_among, words_among};
 ghost use Rattle.seat_laws.specs.Standing.{SeatStands};
 
@@ -68,7 +69,8 @@ use text_readings::{cookies_are_accepted_of_their_texts, tokens_are_read_once};
 /// those of the requests of its bytes, as far as they are served. Each item has the number and the moment of its own
 /// request, and what it tells of its session and of its page is that of its request's own cookie and call: what was
 /// decided of its head, and drawn for it, in order (`means`). It refuses an item that is made of another request's
-/// fields, or told twice, and a number that was drawn for one request and is borne by another.
+/// fields, or told twice, and a number that was drawn for one request and is borne by another. And what it reported are
+/// the reports of its items, in order, each once, and then that of the request that is open, if that has failed.
 pub fn seats_serve_their_requests()
     ensures begins { (key : List ℕ) (boot : BootValue) (since : List Event) (now : Moment)
         → SeatServes key boot since now (opening now (length (history_in boot since))) fresh }
@@ -105,7 +107,7 @@ pub fn seats_serve_their_requests()
         × ((opened : List Head) × (last : List ℕ)
         × AreResponses key (history_in boot since) heads c.written c.items opened last
         × StageSays key (history_in boot since) opened last s.stage)
-        × ItemsAreServed key boot since now c heads }
+        × ItemsAreServed key boot since now c heads × HasReported c.reports c.items s.stage }
 {
     connections_answer_their_requests::<ActionProgram, LaneLink, SiteMaker>();
     connections_stand::<ActionProgram, PlainClock, PlainRandom, PlainSerials>();

@@ -4,6 +4,7 @@ use Rattle.seat_lines.specs.Lines.{moves, world_of}
 use Rattle.shepherd.specs.Shepherds.{turn as turn_of}
 use Rattle.scenario_engine.specs.Connections.{step_leaves}
 use Rattle.scenario_engine.proofs.Followed.{drew-next, follows-by, gone-is, opened-by, others-bring-none, own-line-brings, stays-on, whose-is}
+use Rattle.scenario_engine.proofs.StepReports.{line-reported}
 use Rattle.scenario_engine.proofs.serving.connections_go_by_their_lines.Goals as goal
 
 pub returns-clause-opens : goal.returns-clause-opens
@@ -43,4 +44,8 @@ pub returns-clause-others : goal.returns-clause-others
 returns-clause-others c = others-bring-none
 
 pub returns-clause-yields : goal.returns-clause-yields
-returns-clause-yields c = λ s t line replies text is. (sym (outs_by_steps s t line replies text is), sym (items_by_steps s t line replies text is))
+returns-clause-yields c = λ s t line replies text is. (
+  sym (outs_by_steps s t line replies text is),
+  sym (items_by_steps s t line replies text is),
+  line-reported s t line replies text is,
+)

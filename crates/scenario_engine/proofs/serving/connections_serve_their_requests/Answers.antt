@@ -1,3 +1,7 @@
+use Rattle.std.proofs.Common.{List, subst}
+use Rattle.seat_laws.specs.Reporting.{HasReported}
+use Rattle.seat_lines.specs.Making.{StepMade}
+use Rattle.scenario_engine.specs.Serving.{items_by, reported_by}
 use Rattle.scenario_engine.proofs.ServedSteps.{ServeLaws}
 use Rattle.scenario_engine.proofs.ServedTurns.{all-served, given-up}
 use Rattle.scenario_engine.proofs.serving.connections_serve_their_requests.Goals as goal
@@ -28,6 +32,10 @@ returns-clause-served c =
       input = changed.ended;
     } in
     λ turns made. all-served laws turns made
+
+pub returns-clause-reported : goal.returns-clause-reported
+returns-clause-reported c = λ turns it served.
+    subst (λ (steps : List StepMade). HasReported (reported_by steps) (items_by steps) served.connection.stage) served.steps_are served.serves.reported
 
 pub returns-clause-given_up : goal.returns-clause-given_up
 returns-clause-given_up c = λ turns it served seat st i there is. given-up c.seats_serve_their_requests.ensures.gone turns it served seat st i there is

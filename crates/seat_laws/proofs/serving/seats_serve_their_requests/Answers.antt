@@ -14,13 +14,16 @@ use Rattle.outside.specs.Serials.{PlainLooks}
 use Rattle.served_items.specs.Attributing.{Attributing}
 use Rattle.shepherd.specs.Answering.{Answering, heads_in}
 use Rattle.shepherd.specs.Standing.{Standing}
+use Rattle.shepherd.specs.Steps.{dropped_stage}
 use Rattle.shepherd.specs.declared.shepherd.Shepherd.{Shepherd}
 use Rattle.site_programs.specs.Errands.{IsMadeOf}
 use Rattle.site_programs.specs.declared.maker.SiteMaker.{SiteMaker}
 use Rattle.seat_steps.specs.Gone.{stage_gone}
 use Rattle.seat_steps.specs.Seats.{SeatWorld, home_in, seat_step}
 use Rattle.seat_steps.specs.Stepped.{HasStepped, draws_in, world_from}
+use Rattle.seat_laws.specs.Reporting.{HasReported}
 use Rattle.seat_laws.specs.Serving.{DrewNext, SeatServes, history_in, service_of}
+use Rattle.seat_laws.proofs.ReportedOnce.{given-back-reports, given-up-reports, has-still, taken-reports}
 use Rattle.seat_laws.proofs.ServingCalls.{CallLaws}
 use Rattle.seat_laws.proofs.ServingGone.{GoneLaws, gone-so, left-item}
 use Rattle.seat_laws.proofs.ServingSteps.{AttributesFrom, EventLaws, ItemsStand, StepAnswers, same-start, step-serves}
@@ -32,6 +35,7 @@ returns-clause-begins c = λ key boot since now. record {
   answers = c.seats_answer_their_requests.ensures.begins key (history_in boot since);
   attributes = c.items_go_back_to_their_requests.ensures.begins (service_of key boot) boot.start (history_in boot since) now.0;
   holds = c.items_are_held_in_order.ensures.begins (history_in boot since);
+  reported = refl;
 }
 
 pub returns-clause-fed : goal.returns-clause-fed
@@ -40,6 +44,7 @@ returns-clause-fed c = λ key boot since now course s more h. record {
   answers = c.seats_answer_their_requests.ensures.fed key (history_in boot since) course.fed more h.heads course.written course.items s h.answers;
   attributes = c.items_go_back_to_their_requests.ensures.still (service_of key boot) boot.start (history_in boot since) h.heads course.drawn course.opened.0 now.0 course.items s (record s { received = s.received ++ more }) refl h.attributes;
   holds = c.items_are_held_in_order.ensures.still course.behind (history_in boot since) course.items s (record s { received = s.received ++ more }) refl h.holds;
+  reported = h.reported;
 }
 
 pub returns-clause-ended : goal.returns-clause-ended
@@ -48,6 +53,7 @@ returns-clause-ended c = λ key boot since now course s h. record {
   answers = c.seats_answer_their_requests.ensures.ended key (history_in boot since) course.fed h.heads course.written course.items s h.answers;
   attributes = c.items_go_back_to_their_requests.ensures.still (service_of key boot) boot.start (history_in boot since) h.heads course.drawn course.opened.0 now.0 course.items s (record s { ended = true }) refl h.attributes;
   holds = c.items_are_held_in_order.ensures.still course.behind (history_in boot since) course.items s (record s { ended = true }) refl h.holds;
+  reported = h.reported;
 }
 
 pub returns-clause-meanwhile : goal.returns-clause-meanwhile
@@ -57,6 +63,7 @@ returns-clause-meanwhile c = λ key boot after since more now later course s sam
       answers = c.seats_answer_their_requests.ensures.meanwhile key (history_in boot since) more course.fed h.heads course.written course.items s h.answers;
       attributes = c.items_go_back_to_their_requests.ensures.meanwhile (service_of key boot) boot.start (history_in boot since) more h.heads course.drawn course.opened.0 now.0 course.items later.0 s late h.attributes;
       holds = c.items_are_held_in_order.ensures.meanwhile course.behind (history_in boot since) more course.items s h.holds;
+      reported = h.reported;
     })
 
 pub returns-clause-step : goal.returns-clause-step
@@ -125,31 +132,41 @@ unfolding stage_gone
 returns-clause-gone c = λ key boot since now course seat st i is h.
     let history : List Event = history_in boot since in
     let So : List Item → Shepherd ActionCall → Type 0 = λ items s.
-    Standing course.fed h.heads course.written items s × Answering key history h.heads course.written items s × ItemsStand key boot.start now course history h.heads course.drawn items s in
+    Standing course.fed h.heads course.written items s × Answering key history h.heads course.written items s × (ItemsStand key boot.start now course history h.heads course.drawn items s × HasReported course.reports items s.stage) in
     let laws : GoneLaws So = record {
       given_up = λ items s so. (
         c.connections_stand_with_their_requests.ensures.given_up course.fed h.heads course.written items s so.0,
         c.connections_answer_their_requests.ensures.given_up key history h.heads course.written items s so.1,
-        (c.items_go_back_to_their_requests.ensures.given_up (service_of key boot) boot.start history h.heads course.drawn course.opened.0 now.0 items s so.2.0, c.items_are_held_in_order.ensures.given_up course.behind history items s so.2.1),
+        (
+          (c.items_go_back_to_their_requests.ensures.given_up (service_of key boot) boot.start history h.heads course.drawn course.opened.0 now.0 items s so.2.0.0, c.items_are_held_in_order.ensures.given_up course.behind history items s so.2.0.1),
+          has-still course.reports items s.stage (dropped_stage s.stage) (given-up-reports s.stage) so.2.1,
+        ),
       );
       given_back = λ items s stage windows after back left answered so. (
         c.connections_stand_with_their_requests.ensures.given_back course.fed h.heads course.written items s stage windows after back so.0,
         c.connections_answer_their_requests.ensures.given_back key history h.heads course.written items s stage windows after back left answered so.1,
-        (c.items_go_back_to_their_requests.ensures.given_back (service_of key boot) boot.start history h.heads course.drawn course.opened.0 now.0 items s stage windows after back left so.2.0, c.items_are_held_in_order.ensures.given_back course.behind history items s stage windows after back so.2.1),
+        (
+          (c.items_go_back_to_their_requests.ensures.given_back (service_of key boot) boot.start history h.heads course.drawn course.opened.0 now.0 items s stage windows after back left so.2.0.0, c.items_are_held_in_order.ensures.given_back course.behind history items s stage windows after back so.2.0.1),
+          has-still course.reports items s.stage stage (given-back-reports s.stage stage windows after back) so.2.1,
+        ),
       );
       item = λ items i s stage has takes so. (
         c.connections_stand.ensures.item course.fed h.heads course.written items i s stage takes so.0,
         c.connections_answer_their_requests.ensures.item key history h.heads course.written items i s stage has takes so.1,
-        (c.items_go_back_to_their_requests.ensures.item (service_of key boot) boot.start history h.heads course.drawn course.opened.0 now.0 items i s stage has takes so.2.0, c.items_are_held_in_order.ensures.item course.behind history items i s stage takes so.2.1),
+        (
+          (c.items_go_back_to_their_requests.ensures.item (service_of key boot) boot.start history h.heads course.drawn course.opened.0 now.0 items i s stage has takes so.2.0.0, c.items_are_held_in_order.ensures.item course.behind history items i s stage takes so.2.0.1),
+          taken-reports course.reports items i s.stage stage takes so.2.1,
+        ),
       );
     } in
-    let gone = gone-so So laws c.ways_have_answers.ensures.write_memory st.windows course.items seat.connection i is h.answers.hears (h.answers.stands, h.answers.answers, (h.attributes, h.holds)) in (
+    let gone = gone-so So laws c.ways_have_answers.ensures.write_memory st.windows course.items seat.connection i is h.answers.hears (h.answers.stands, h.answers.answers, ((h.attributes, h.holds), h.reported)) in (
       gone.0,
       record {
         heads = h.heads;
         answers = record { stands = gone.2.0; answers = gone.2.1; hears = gone.1 };
-        attributes = gone.2.2.0;
-        holds = gone.2.2.1;
+        attributes = gone.2.2.0.0;
+        holds = gone.2.2.0.1;
+        reported = gone.2.2.1;
       },
     )
 
@@ -163,4 +180,5 @@ returns-clause-means c = λ key boot since now course s h. (
   λ more. (c.seats_answer_their_requests.ensures.means key (history_in boot since) course.fed more h.heads course.written course.items s h.answers).0,
   (c.seats_answer_their_requests.ensures.means key (history_in boot since) course.fed [] h.heads course.written course.items s h.answers).1,
   c.items_tell_what_was_served.ensures.served (service_of key boot) boot.start (history_in boot since) h.heads course.drawn course.opened.0 now.0 course.items s h.attributes,
+  h.reported,
 )
