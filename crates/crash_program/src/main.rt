@@ -8,9 +8,13 @@
 mod command_tests;
 mod words;
 
+ghost use Rattle.std.specs.Prelude.{◌≡◌, ◌⊎◌, [], IfOk, codes};
+ghost use Rattle.outside.specs.Faults.{Rose};
+ghost use Rattle.outside.specs.Sink.{appended, AppendsPrefix, AppendsOrFails};
+
 use crash_base::{OutOfMemory, RowList, WordText};
 use drive_engine::{USAGE, run_command};
-use outside::{CallList, Failed, InputSource, MapKeeper, OutputSink, Sink, write_all};
+use outside::{CallList, InputSource, MapKeeper, OutputSink, Sink, write_all};
 use std::alloc::Global;
 use std::process::ExitCode;
 use words::Invocation;
@@ -25,31 +29,43 @@ serve: not built yet\n";
 /// What `--version` writes.
 const VERSION: &str = "crash 0.2.0\n";
 
-/// Writes texts one after another.
-fn write_texts<T: Sink>(out: &mut T, texts: &[&str]) -> Result<(), Failed> {
-    for text in texts {
-        write_all(out, text.as_bytes())?;
+/// Writes a text, and answers the status of that: 0; or 5 where the output failed, which is reported.
+fn answer<T: Sink, E: Sink>(out: &mut T, errors: &mut E, text: &str) -> u8
+    ensures status { (result ≡ 0) ⊎ (result ≡ 5) }
+    ensures done { result ≡ 0 → (errors.new ≡ errors.old)
+        × (T.written out.new ≡ appended (T.written out.old) text.now) }
+    ensures failed { result ≡ 5 → Rose (T.faults out.old) (T.faults out.new)
+        × AppendsPrefix (T.written out.old) (T.written out.new) text.now
+        × AppendsOrFails (E.written errors.old) (E.written errors.new)
+        (E.faults errors.old) (E.faults errors.new) (codes "write failed\n") }
+{
+    match write_all(out, text.as_bytes()) {
+        Ok(()) => 0,
+        Err(_) => {
+            let _ = write_all(errors, "write failed\n".as_bytes());
+            5
+        }
     }
-    Ok(())
-}
-
-/// Writes texts, and answers the status of that.
-fn answer<T: Sink, E: Sink>(out: &mut T, errors: &mut E, texts: &[&str]) -> u8 {
-    if write_texts(out, texts).is_err() {
-        let _ = write_all(errors, b"write failed\n");
-        return 5;
-    }
-    0
 }
 
 /// A keeper in memory that holds no rows, and of which no call fails.
-fn empty_keeper(alloc: Global) -> Result<MapKeeper, OutOfMemory> {
+fn empty_keeper(alloc: Global) -> Result<MapKeeper, OutOfMemory>
+    ensures { IfOk result (λ keeper. keeper ≡ record {
+      told = record { rows = []; calls = 0; failed = [] };
+      failing = [];
+      faults = 0;
+    }) }
+{
     MapKeeper::new(alloc, RowList::new(alloc), CallList::new(alloc))
 }
 
 /// Reports that there was no memory to begin with, and answers the status of that.
-fn out_of_memory<E: Sink>(errors: &mut E) -> u8 {
-    let _ = write_all(errors, b"out of memory\n");
+fn out_of_memory<E: Sink>(errors: &mut E) -> u8
+    ensures status { result ≡ 9 }
+    ensures reported { AppendsOrFails (E.written errors.old) (E.written errors.new)
+        (E.faults errors.old) (E.faults errors.new) (codes "out of memory\n") }
+{
+    let _ = write_all(errors, "out of memory\n".as_bytes());
     9
 }
 
@@ -58,8 +74,11 @@ fn run(rt: &HostRuntime, words: &[WordText]) -> u8 {
     let mut out = OutputSink::new(rt.stdout());
     let mut errors = OutputSink::new(rt.stderr());
     match words::invocation_of(words) {
-        Invocation::Help => answer(&mut out, &mut errors, &[USAGE, HELP]),
-        Invocation::Version => answer(&mut out, &mut errors, &[VERSION]),
+        Invocation::Help => match answer(&mut out, &mut errors, USAGE) {
+            0 => answer(&mut out, &mut errors, HELP),
+            status => status,
+        },
+        Invocation::Version => answer(&mut out, &mut errors, VERSION),
         Invocation::Command => {
             let alloc = rt.alloc();
             let mut input = InputSource::new(rt.stdin());
