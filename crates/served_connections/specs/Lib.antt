@@ -1,0 +1,6 @@
+pub mod Behind
+pub mod Courses
+pub mod Resting
+pub mod Serving
+pub mod Stopping
+pub mod Telling

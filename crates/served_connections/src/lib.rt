@@ -1,0 +1,39 @@
+//! Laws of a connection that is served, from its begin to its end, whatever others do between two of its steps.
+//!
+//! `shepherd` and `served_items` say what each step of a connection keeps, in laws of one idea each. Here they are put
+//! together, so that a loop that drives a connection has one fact to keep, and is told at its end what was served:
+//!
+//! ```text
+//! Serves          over its course so far, the history of its container, what its link has counted, and the moment
+//!                 that the clock told last
+//! ServesSoFar     the same where memory was wanted: what was served by then
+//! HasEnded        it has ended, and has served all requests of its bytes
+//! HasServedWhole  it was left between two requests: it has served the first requests of its bytes
+//! HasStopped      memory was wanted: it has served the first requests, and may have done something for one more
+//! ```
+//!
+//! A `Course` is what was done over a connection, from its begin on: the bytes that were fed to it, what was drawn for
+//! its requests, what it put out, its items, the events that it added to the history of its container, and the marks
+//! that it left in that of the windows. `Begun` is where it began.
+//!
+//! `connections_are_served_from_their_begin`, `connections_are_served_behind_their_steps` and
+//! `requests_join_their_connections` have a clause for each call of a shepherd; `meanwhile` is for all that others do.
+//! `connections_stop_where_memory_is_wanted` has one for each call that may want memory, and for what may follow it.
+//! `courses_tell_what_was_served` says what follows at an end, and `connections_come_to_rest` when one is reached.
+//!
+//! Where an item is to be told of each response that was put out, memory for it is to be had before the response leaves.
+//!
+//! There is no code here but functions that do nothing, so there are no wrong bodies to refuse.
+#![tactic(auto)]
+
+mod beginning;
+mod stepping;
+mod stopping;
+mod taking;
+mod telling;
+
+pub use beginning::connections_are_served_from_their_begin;
+pub use stepping::connections_are_served_behind_their_steps;
+pub use stopping::connections_stop_where_memory_is_wanted;
+pub use taking::requests_join_their_connections;
+pub use telling::{connections_come_to_rest, courses_tell_what_was_served};

@@ -1,0 +1,90 @@
+//! Laws of what is told at the end of a connection. Each is the contract of a function that does nothing: a caller that
+//! needs the law calls the function.
+
+ghost use Rattle.std.specs.Prelude.{◌≡◌, false, ℕ, List, []};
+ghost use Rattle.boot_core.specs.declared.boot.Start.{Start};
+ghost use Rattle.container_core.specs.declared.history.Event.{Event};
+ghost use Rattle.outcome_items.specs.declared.item.Item.{Item};
+ghost use Rattle.outside.specs.declared.link.LinkCounts.{LinkCounts};
+ghost use Rattle.send_windows.specs.Windows.{WindowsValue};
+ghost use Rattle.served_items.specs.Attributing.{Service};
+ghost use Rattle.shepherd.specs.Shepherds.{has_item, turn};
+ghost use Rattle.shepherd.specs.Steps.{GivesBack, HasLeftIfOpen, PutsOut, TakesItem, dropped_stage};
+ghost use Rattle.shepherd.specs.declared.shepherd.EndKind.{EndKind};
+ghost use Rattle.shepherd.specs.declared.shepherd.Shepherd.{Shepherd};
+ghost use Rattle.shepherd.specs.declared.shepherd.Stage.{Stage};
+ghost use Rattle.served_connections.specs.Courses.{Begun, Course};
+ghost use Rattle.served_connections.specs.Resting.{HasLeftAll, Rests, last_at};
+ghost use Rattle.served_connections.specs.Serving.{Serves};
+ghost use Rattle.served_connections.specs.Stopping.{HoldsNothing, ServesSoFar};
+ghost use Rattle.served_connections.specs.Telling.{HasEnded, HasServedWhole, HasStopped};
+
+use call_ticket::Program;
+use outside::{Link, Random, Serials};
+use served_items::items_tell_what_was_served;
+use shepherd::{
+    ProgramMaker, ShepherdTurn, items_are_for_requests_in_order, items_tell_what_was_added,
+    responses_are_to_their_items, stopped_connections_account_for_what_they_left,
+};
+
+/// What was served over a connection, at an end. Where no request is open and nothing is to leave, it has served the
+/// first requests of its bytes whole (`rested`); and where it has ended, all of them (`ended`). Where memory was
+/// wanted, and what it held was given back, it has served the first requests, and may have done something for one more,
+/// whose item is not left (`stopped`); so it has where it did nothing for another one (`nothing_more`).
+pub fn courses_tell_what_was_served<
+    P: Program,
+    L: Link,
+    M: ProgramMaker<P>,
+    R: Random,
+    S: Serials,
+>()
+    ensures rested { (service : Service M) (start : Start) (begun : Begun) (history : List Event)
+        (counts : LinkCounts) (now : ℕ) (c : Course) (s : Shepherd P) → Rests s.stage
+        → Serves P.accepts P.asks L.makes M.makes R.gives S.looks service start begun history counts now c s
+        → HasServedWhole P.asks L.makes M.makes R.gives S.looks service start begun history now c (last_at s.stage) }
+    ensures ended { (service : Service M) (start : Start) (begun : Begun) (history : List Event)
+        (counts : LinkCounts) (now : ℕ) (c : Course) (s : Shepherd P) (end : EndKind)
+        → turn s ≡ ShepherdTurn.Ended end
+        → Serves P.accepts P.asks L.makes M.makes R.gives S.looks service start begun history counts now c s
+        → HasEnded P.asks L.makes M.makes R.gives S.looks service start begun history now c end }
+    ensures stopped { (service : Service M) (start : Start) (begun : Begun) (history : List Event)
+        (counts : LinkCounts) (now : ℕ) (c : Course) (s : Shepherd P) → HoldsNothing s.stage
+        → has_item s.stage ≡ false
+        → ServesSoFar P.accepts P.asks L.makes M.makes R.gives S.looks service start begun history counts now c s
+        → HasStopped P.asks L.makes M.makes R.gives S.looks service start begun history now c }
+    ensures nothing_more { (service : Service M) (start : Start) (begun : Begun) (history : List Event) (now : ℕ)
+        (c : Course)
+        → HasServedWhole P.asks L.makes M.makes R.gives S.looks service start begun history now c []
+        → HasStopped P.asks L.makes M.makes R.gives S.looks service start begun history now c }
+{
+    items_are_for_requests_in_order::<P>();
+    items_tell_what_was_added::<P, L>();
+    items_tell_what_was_served::<P, L, M, R, S>();
+    responses_are_to_their_items::<P>();
+    stopped_connections_account_for_what_they_left::<P, L>();
+}
+
+/// A connection comes to rest. The response of its open request has left, if one is open, and nothing else is to leave:
+/// where bytes are to come, where it has ended, where a response was put out, and where an item was taken; and it stays
+/// so where its call is given up (`dropped`). Where its passes are given back then, its item is left, or it rests
+/// (`back`); and it rests behind an item (`rests`). Where it rests, it holds neither a call nor passes (`still`,
+/// `kept`).
+pub fn connections_come_to_rest<P>()
+    ensures bytes { (s : Shepherd P) → turn s ≡ ShepherdTurn.Bytes → HasLeftAll s.stage }
+    ensures ended { (s : Shepherd P) (end : EndKind) → turn s ≡ ShepherdTurn.Ended end → s.wants_memory ≡ false
+        → HasLeftAll s.stage }
+    ensures out { (bytes : List ℕ) (s : Shepherd P) (after : Stage P) → turn s ≡ ShepherdTurn.Output
+        → PutsOut s.stage bytes after → HasLeftAll after }
+    ensures item { (i : Item) (stage after : Stage P) → TakesItem stage i after → HasLeftAll after }
+    ensures dropped { (stage : Stage P) → HasLeftAll stage → HasLeftAll (dropped_stage stage) }
+    ensures left { (stage : Stage P) → HasLeftAll stage → HasLeftIfOpen stage }
+    ensures back { (stage behind : Stage P) (windows after : WindowsValue) → HasLeftAll stage
+        → GivesBack stage windows behind after → has_item behind ≡ false → Rests behind }
+    ensures rests { (i : Item) (stage after : Stage P) → TakesItem stage i after → Rests after }
+    ensures rests_at_bytes { (s : Shepherd P) → turn s ≡ ShepherdTurn.Bytes → Rests s.stage }
+    ensures rests_at_end { (s : Shepherd P) (end : EndKind) → turn s ≡ ShepherdTurn.Ended end
+        → s.wants_memory ≡ false → Rests s.stage }
+    ensures still { (stage : Stage P) → Rests stage → dropped_stage stage ≡ stage }
+    ensures kept { (stage behind : Stage P) (windows after : WindowsValue) → Rests stage
+        → GivesBack stage windows behind after → (behind ≡ stage) × (after ≡ windows) }
+{}
