@@ -1,0 +1,7 @@
+use Rattle.site_locks.proofs.Stopping.{seen_stopped}
+use Rattle.site_locks.proofs.container_lock.ContainerLock.stop.Goals as goal
+
+pub returns-clause-stopped : goal.returns-clause-stopped
+returns-clause-stopped g c =
+    let found = c.take-container.result in
+    seen_stopped c.args.seat.now c.give.new.seat found c.stop.new.self (c.give.ensures c.args.seat.now found c.take-container.ensures c.stop.ensures.grown) c.stop.ensures.stopped
