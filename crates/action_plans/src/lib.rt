@@ -10,11 +10,11 @@
 //! next_step(alloc, tables, through, answers, want)
 //! ```
 //!
-//! `next_step` makes a program of it: it enters the gateway and what the action goes through, accesses each table inside
-//! its owner, puts what the outcome writes, leaves all and is done. The law `plans_run` says that the run of this
-//! program over any rows gives just what the plan comes to over them at once. Which components and tables there are is
-//! the deployment's affair: the code takes its tables, and the laws speak of any parts. By `programs_begin_and_end` the
-//! program enters the gateway first, and has left all that it entered where it is done.
+//! `next_step` makes a program of it: it enters the gateway and what the action goes through, accesses each table
+//! inside its owner, puts what the outcome writes, leaves all and is done. The law `plans_run` says that the run of
+//! this program over any rows gives just what the plan comes to over them at once. Which components and tables there
+//! are is the deployment's affair: the code takes its tables, and the laws speak of any parts. By
+//! `programs_begin_and_end` the program enters the gateway first, and has left all that it entered where it is done.
 #![tactic(auto)]
 
 mod laws;

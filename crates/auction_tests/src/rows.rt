@@ -333,8 +333,8 @@ fn expect_id(rt: &impl Abort, id: RowId, table: u8, key: u64) {
     expect_so(rt, id.table == table && id.key == key, "an id");
 }
 
-/// Names stand under their digest: SHA-256 of `abc` begins with ba7816bf8f01cfea, and that of no bytes with e3b0c44298fc1c14. Each byte of a name
-/// counts, to the last one of the longest, and a capital is another letter.
+/// Names stand under their digest: SHA-256 of `abc` begins with ba7816bf8f01cfea, and that of no bytes with
+/// e3b0c44298fc1c14. Each byte of a name counts, to the last one of the longest, and a capital is another letter.
 #[test]
 fn ids_are_made_of_digests_and_of_numbers(rt: HostRuntime) {
     expect_id(&rt, name_id(b"abc"), 2, 0xba78_16bf_8f01_cfea);

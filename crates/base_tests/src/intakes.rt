@@ -33,8 +33,8 @@ fn add_own(rt: &impl Abort, words: &mut String, request: Option<RequestNo>) {
     }
 }
 
-/// Adds the user, the moment and the fresh word of a call, the last two bytes of each half of its key, and the number in
-/// its form.
+/// Adds the user, the moment and the fresh word of a call, the last two bytes of each half of its key, and the number
+/// in its form.
 fn add_call(rt: &impl Abort, words: &mut String, call: &ActionCall) {
     let key = &call.key.0;
     write!(words, " call {} {} {}", call.user, call.now.0, call.fresh).expect(rt, "a call");

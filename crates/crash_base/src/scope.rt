@@ -18,7 +18,8 @@ pub enum Scope {
 }
 
 impl Scope {
-    /// Whether this scope holds a group: a group's scope that group, and the application every number below `MAX_GROUPS`.
+    /// Whether this scope holds a group: a group's scope that group, and the application every number below
+    /// `MAX_GROUPS`.
     pub fn holds(self, group: GroupNo) -> bool
         ensures { result ≡ holds self group.0 }
     {

@@ -47,8 +47,8 @@ pub(crate) fn scenarios_stand()
 }
 
 /// A text has lines, and calls for a status whatever the keeper replies to each of them, where its replies are as many
-/// as the steps of connections: no line is under way. A workload has one empty line, whatever the text. So each text has
-/// one of the ends that the status's clauses describe.
+/// as the steps of connections: no line is under way. A workload has one empty line, whatever the text. So each text
+/// has one of the ends that the status's clauses describe.
 pub fn texts_call_for_a_status()
     ensures { (command : Command) (text : List ℕ) → (lines : List (List ℕ))
         × ((turns : List Turn) → lines_in turns ≡ lines → IsAnswered (end_from first 1 turns)

@@ -3,7 +3,8 @@ use Rattle.std.specs.Prelude.{◌≡◌, ◌⊎◌, ℕ, ◌<◌, Bool, true, fa
 use Rattle.std.specs.List.{list_any}
 use Rattle.http_wire.specs.Extent.{is_text}
 
--- an empty line ends the bytes: a line feed, or CR LF, behind the line feed of a line before, and there is text before it
+-- an empty line ends the bytes: a line feed, or CR LF, behind the line feed of a line before, and there is text before
+-- it
 abbrev pub EndsAtEmptyLine : List ℕ → Type 0
 EndsAtEmptyLine bytes =
     (front : List ℕ) × (list_any is_text front ≡ true)

@@ -134,7 +134,8 @@ next_old before after a group now late = next_without before after a group now (
 pub next_elsewhere : (before after : List Act) (a : Act) (group other : GroupNo) (now : Moment) → a.level ≡ Group other → other ≢ group → next_level (before ++ a ∷ after) group now ≡ next_level (before ++ after) group now
 next_elsewhere before after a group other now same apart = next_without before after a group now (and_without (is_recent now a) (level_holds a.level group.0) (ap (λ (l : Level). level_holds l group.0) same ∙ other_group group other apart))
 
--- where each element that passes the one test passes the other, filtering by the other changes nothing of whether one passes
+-- where each element that passes the one test passes the other, filtering by the other changes nothing of whether one
+-- passes
 any_within : {X : Type 0} (p q : X → Bool) → ((x : X) → p x ≡ true → q x ≡ true) → (xs : List X) → list_any p (filter q xs) ≡ list_any p xs
 any_within {X} p q implied [] = refl
 any_within {X} p q implied (x ∷ xs) = go (any_within p q implied xs) (q x) refl

@@ -74,8 +74,8 @@ pub record TakesIn {R S : Type 0} (gives : Gives R) (looks : Looks S) (key : Lis
   pub decided : IsDecided key home.boot head decision
   pub follows : TakesInBy gives looks key home decision random serials i random_after serials_after
 
--- A request that is admitted has the number of its order, or one that was drawn for it in this boot; its call is that of
--- its order, under the service's key and in this boot, whoever the user of its session is; and each nonce is of this
+-- A request that is admitted has the number of its order, or one that was drawn for it in this boot; its call is that
+-- of its order, under the service's key and in this boot, whoever the user of its session is; and each nonce is of this
 -- boot, with a serial that was drawn for it.
 pub record IsAdmittedBy (key : List ℕ) (home : HomeBoot) (o : Order) (i : Intake) (a : Admission) : Type 0 where
   pub drawn : AreDrawn o i.drawn

@@ -35,8 +35,8 @@ pub fn refused_requests_draw_nothing<R: Random, S: Serials>(_random: &R, _serial
 
 /// A request that is admitted is one that is ordered, and all that its order wants was drawn for it: of a GET its
 /// number, which is of this boot; a POST has that of its token. Its call is that of its order, at its moment, and its
-/// nonces are of this node and boot. Where a serial number is spent, the request was ordered too, and what was drawn by then is a
-/// front of that; its number is told where its token has one or it was drawn.
+/// nonces are of this node and boot. Where a serial number is spent, the request was ordered too, and what was drawn by
+/// then is a front of that; its number is told where its token has one or it was drawn.
 pub fn ordered_requests_bear_what_was_drawn<R: Random, S: Serials>(_random: &R, _serials: &S)
     ensures admitted { (key : List ℕ) (home : HomeBoot) (head : Head) (random random_after : R)
         (serials serials_after : S) (i : Intake) (a : Admission)

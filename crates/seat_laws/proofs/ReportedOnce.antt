@@ -361,8 +361,8 @@ module _ (g : SeatGivens) (seat : Seat) (w : SeatWorld) where
   stage-reports (Refusing why bytes) false = refl
   stage-reports (Over end) false = refl
 
--- What had been reported of a seat's request and what its step reports is what the items of the step tell, and then what
--- has been reported of the request that is open behind it.
+-- What had been reported of a seat's request and what its step reports is what the items of the step tell, and then
+-- what has been reported of the request that is open behind it.
 pub step-reports : (g : SeatGivens) (seat : Seat) (w : SeatWorld)
     → open_reports seat.connection.stage ++ option_to_list (seat_step g seat w).report ≡ items_reports (seat_step g seat w).items ++ open_reports (seat_step g seat w).seat.connection.stage
 unfolding seat_step step event_of

@@ -9,8 +9,8 @@ use outside::{Serials, Spent};
 use shared_words::{WordSeat, Words};
 use std::marker::PhantomData;
 
-/// Serial numbers that are drawn with a seat of some words, over a loan of it. Whoever is lent them, the seat is the one
-/// of the loan, it stays of these words, and no more is done with it than to draw.
+/// Serial numbers that are drawn with a seat of some words, over a loan of it. Whoever is lent them, the seat is the
+/// one of the loan, it stays of these words, and no more is done with it than to draw.
 #[derive(Drop)]
 pub struct SeatSerials<'a, B: Loan> {
     words: &'a Words,

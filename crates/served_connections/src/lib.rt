@@ -21,7 +21,8 @@
 //! `connections_stop_where_memory_is_wanted` has one for each call that may want memory, and for what may follow it.
 //! `courses_tell_what_was_served` says what follows at an end, and `connections_come_to_rest` when one is reached.
 //!
-//! Where an item is to be told of each response that was put out, memory for it is to be had before the response leaves.
+//! Where an item is to be told of each response that was put out, memory for it is to be had before the response
+//! leaves.
 //!
 //! There is no code here but functions that do nothing, so there are no wrong bodies to refuse.
 #![tactic(auto)]

@@ -28,8 +28,9 @@ use shepherd::{ProgramMaker, ShepherdTurn, stopped_connections_account_for_what_
 
 /// A connection that was served has been served so far behind each call that wanted memory. `feed`, `take_request` and
 /// `step_outside` leave its stage as it was, and so does who wants memory before it makes a call (`bytes`, `request`,
-/// `outside`, `output`, `room`). `step_windows` was to take passes, and may hold them now (`windows`); `step_inside` has added
-/// nothing (`inside`); `open` has lost the call of its request (`open`), and `advance` what it had come to (`advance`).
+/// `outside`, `output`, `room`). `step_windows` was to take passes, and may hold them now (`windows`); `step_inside`
+/// has added nothing (`inside`); `open` has lost the call of its request (`open`), and `advance` what it had come to
+/// (`advance`).
 ///
 /// It stays so whatever others add meanwhile, where its call is given up, and where its passes are given back: it holds
 /// none from then on (`nothing_held`). An item that is left then joins its course (`item`).

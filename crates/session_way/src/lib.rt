@@ -31,10 +31,10 @@
 //! The laws: `runs_go_on` says that steps without a gap are one run (`HasRead`, `HasWritten`), and
 //! `ways_end_as_calls_do` that a run with an answer has ended as `read` and `write` of `ssm_stub` end, so that their
 //! laws say what the answer means; where nothing is wanted there is an answer (`ways_have_answers`).
-//! `writes_follow_their_orders` says what is sent, and by which passes; and `ways_tell_how_they_began` that a read tells
-//! its cookie, and a write its order. `no_pass_is_lost` follows the passes: those that were taken are those that are
-//! spent; `takes_are_spent_once` follows their marks in the history of the windows, and `settled_passes_are_heard` says
-//! by what they are spent. `sessions_are_renewed` says when a session is written, and how long it lasts.
+//! `writes_follow_their_orders` says what is sent, and by which passes; and `ways_tell_how_they_began` that a read
+//! tells its cookie, and a write its order. `no_pass_is_lost` follows the passes: those that were taken are those that
+//! are spent; `takes_are_spent_once` follows their marks in the history of the windows, and `settled_passes_are_heard`
+//! says by what they are spent. `sessions_are_renewed` says when a session is written, and how long it lasts.
 //!
 //! A step costs what a step of `ssm_stub` costs. The value is copied once for its write, and the cookie once for its
 //! read.

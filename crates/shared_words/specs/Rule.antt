@@ -69,8 +69,8 @@ pub record Kept (groups all : ℕ) (s : State (Unit {0}) View) : Type 0 where
 abbrev pub MeOf : Type 0
 MeOf = Me (Unit {0}) View
 
--- The serial word was seen, and where it is below the end, the seat is about to draw. A seat with all parts saw how many
--- numbers it drew.
+-- The serial word was seen, and where it is below the end, the seat is about to draw. A seat with all parts saw how
+-- many numbers it drew.
 abbrev pub Sees : ℕ → Step (Unit {0}) → MeOf → ℕ → MeOf → Type 0
 Sees all st m r m' = (m' ≡ (record (m.0) { flying = nat_lt r SERIALS_END; seen = r }, m.1)) × (m.0.seen ≤ r)
     × (m.0.parts ≡ all → r ≡ length m.0.drawn)

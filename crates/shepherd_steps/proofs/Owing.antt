@@ -1,4 +1,5 @@
--- After a step the call of a request is still there until its program is made, and what a connection owes is still owed.
+-- After a step the call of a request is still there until its program is made, and what a connection owes is still
+-- owed.
 use Rattle.std.proofs.Common.{◌≡◌, ◌≢◌, ◌==◌, ℕ, Bool, true, false, not, if◌then◌else◌, List, Option, Some, None, refl, sym, ap, ◌∙◌, subst, length}
 use Rattle.boot_core.specs.Boot.{BootValue}
 use Rattle.container_core.specs.declared.history.Event.{Event}

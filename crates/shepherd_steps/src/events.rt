@@ -67,8 +67,8 @@ pub fn events_are_fixed<P, L: Link, M: ProgramMaker<P>, C: Clock, R: Random, S: 
 }
 
 /// What the keeper tells after a step is a function of the writes that the step hands to it, which is a function of the
-/// world before, and of whether it keeps them: it keeps all, or refuses them; and it is not called where there are none,
-/// as at each turn but that of the container. So it is after the event alone.
+/// world before, and of whether it keeps them: it keeps all, or refuses them; and it is not called where there are
+/// none, as at each turn but that of the container. So it is after the event alone.
 pub fn what_keepers_tell_is_fixed<P, L: Link, M: ProgramMaker<P>, C: Clock, R: Random, S: Serials>()
     ensures event { (g : Givens P L) (drawn : Counts) (old mid : Calling P L C R S) (bytes : List ℕ)
         → Calls L.makes M.makes C.told R.gives S.looks g (turn old.connection) old mid bytes

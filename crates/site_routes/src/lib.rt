@@ -13,8 +13,8 @@
 //! that text and then at least one byte with no `/`, where the route has a parameter, and the first such route counts.
 //! A path that is no UTF-8 takes none. `specs/PathActions.antt` has the table of which action each route has by which
 //! method. `specs/Paths.antt` has the path of each action, written from the action, and the law
-//! `actions_are_at_their_paths` says that an action is there, by its methods, and nowhere else. Whether anything is at a
-//! path is asked before the method is looked at, so a path that leads nowhere is 404 by every method
+//! `actions_are_at_their_paths` says that an action is there, by its methods, and nowhere else. Whether anything is at
+//! a path is asked before the method is looked at, so a path that leads nowhere is 404 by every method
 //! (`missing_paths_have_no_method`), and HEAD leads where GET does (`heads_are_routed_as_gets`).
 //!
 //! The search is that of `matchit`: it visits the path's bytes, and takes no memory.

@@ -1,4 +1,5 @@
-//! Links to a house of bricks: requests to put and to get numbers, their replies in short, and threads that ask at once.
+//! Links to a house of bricks: requests to put and to get numbers, their replies in short, and threads that ask at
+//! once.
 
 ghost use Rattle.std.specs.Prelude.{◌≡◌, ◌≤◌, IfOk, length, true};
 ghost use denote.Param.Send.{IsSync};

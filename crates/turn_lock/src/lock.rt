@@ -153,8 +153,8 @@ impl<T: Chronicle + Drop> TurnLock<T> {
         }
     }
 
-    /// Adds the other's parts. What was seen is then the longer of what the two have seen, which begins with either, and
-    /// the places of both are the seat's own. It takes no memory, and waits for nobody.
+    /// Adds the other's parts. What was seen is then the longer of what the two have seen, which begins with either,
+    /// and the places of both are the seat's own. It takes no memory, and waits for nobody.
     #[tactic(auto, using(crate::proofs::Beginnings::mine_begins, crate::proofs::Beginnings::others_begin))]
     pub fn join(&self, seat: &mut Seat<T>, other: Seat<T>)
         requires seats { (seat.old.lock ≡ self.now.id) × (other.lock ≡ self.now.id) }

@@ -23,9 +23,9 @@ digest 03679ddaad491a6530f8d664d8fc03d60c8e860a74b6cf7b6cc7786eebdfa179;
 7 20000|commits 2856;revoked 1287;conflicts 377;refused 0;journal 4774;rows 32;\
 digest 80aaf95d7c0a37691b634aebe09b3b75c427eb149755e96ad1d63ab66f34d596;";
 
-/// Rows `NUMBER COUNT|GIVEN|FAILING|CALLS|KEPT|STATUS|REPORTED|WRITTEN` over keepers with rows, and over keepers of which
-/// a call fails: the first two are those of the start, and the others are those of commits. What is kept and written
-/// was worked out by the same model.
+/// Rows `NUMBER COUNT|GIVEN|FAILING|CALLS|KEPT|STATUS|REPORTED|WRITTEN` over keepers with rows, and over keepers of
+/// which a call fails: the first two are those of the start, and the others are those of commits. What is kept and
+/// written was worked out by the same model.
 const KEPT: &str = "\
 3 60||0|5|0 0 00000001;41 6 0000000c;41 7 00000029;41 14 0000002c;|\
 0||commits 8;revoked 4;conflicts 1;refused 0;journal 12;rows 3;\
