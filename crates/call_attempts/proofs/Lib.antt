@@ -1,3 +1,4 @@
+pub mod Entering
 pub mod Paths
 pub mod UnderWay
 pub mod Stopping

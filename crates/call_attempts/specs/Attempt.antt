@@ -1,5 +1,5 @@
 -- An attempt: a call that follows a program, step by step.
-use Rattle.std.specs.Prelude.{◌≡◌, ◌↔◌, ◌⊎◌, ℕ, ◌<◌, ◌&&◌, Bool, true, false, List, [], ◌∷◌, ◌++◌, length, take, Option, Some, None, All}
+use Rattle.std.specs.Prelude.{◌≡◌, ◌↔◌, ◌⊎◌, ℕ, ◌<◌, ◌-◌, ◌&&◌, Bool, true, false, List, [], ◌∷◌, ◌++◌, length, take, Option, Some, None, All, slice_get}
 use Rattle.std.specs.List.{flat_map, range_with_len}
 use Rattle.crash_base.specs.declared.numbers.ComponentNo.{ComponentNo}
 use Rattle.crash_base.specs.declared.numbers.GroupNo.{GroupNo}
@@ -53,6 +53,19 @@ attempt_begun request worker at = attempt_of (ticket_begun request worker at)
 -- the step that an attempt of a program asks for
 abbrev pub wanted : (List Answer → Next) → AttemptValue → Next
 wanted asks a = asks a.answers
+
+-- the last of these components, where this was the answer to an enter
+abbrev pub if_entered : List ComponentNo → Option Answer → Option ComponentNo
+if_entered entered None = None
+if_entered entered (Some answer.Entered) = slice_get entered (length entered - 1)
+if_entered entered (Some (answer.Row row)) = None
+if_entered entered (Some (answer.Rows rows)) = None
+if_entered entered (Some answer.Kept) = None
+if_entered entered (Some answer.Left) = None
+
+-- the component that the last step of an attempt entered, if it entered one
+abbrev pub last_entered : AttemptValue → Option ComponentNo
+last_entered a = if_entered a.entered (slice_get a.answers (length a.answers - 1))
 
 -- the rows that a call sees: those at its begin
 abbrev pub rows_at_begin : BootValue → Call → List RowWrite

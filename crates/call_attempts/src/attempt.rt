@@ -6,12 +6,12 @@ ghost use Rattle.call_ticket.specs.Following.{Follows, MayMake};
 ghost use Rattle.call_ticket.specs.Repeated.{may_repeat};
 ghost use Rattle.boot_core.specs.Fits.{FitsIn};
 ghost use Rattle.container_core.specs.Container.{HasGrownBy, IsButEntered, with_boot};
-ghost use Rattle.call_attempts.specs.Attempt.{HasAtMostMade, HasStepped, IsUnderWay, boot_left, entered_in, rows_at_begin, attempt_of, wanted};
+ghost use Rattle.call_attempts.specs.Attempt.{HasAtMostMade, HasStepped, IsUnderWay, boot_left, entered_in, rows_at_begin, attempt_of, last_entered, wanted};
 
 use crate::steps::{Made, make};
 use crate::stop::Stop;
 use boot_core::{DoneText, Ticket};
-use call_ticket::{AnswerList, Next, Program, calls_follow};
+use call_ticket::{Answer, AnswerList, Next, Program, calls_follow};
 use container_core::{Container, histories_grow};
 use crash_base::{ComponentNo, OutOfMemory, PathList};
 use deployment::Deployment;
@@ -142,6 +142,16 @@ impl Attempt {
         ensures { result ≡ self.now.repeats }
     {
         self.repeats
+    }
+
+    /// The component that its last step entered, if it entered one. It takes no memory.
+    pub fn last_entered(&self) -> Option<ComponentNo>
+        ensures { result ≡ last_entered self.now }
+    {
+        match self.answers.as_slice().last() {
+            Some(Answer::Entered) => self.entered.as_slice().last().copied(),
+            _ => None,
+        }
     }
 
     /// Makes the step that the program asks for next, by one call of the container, or none where the program is done.

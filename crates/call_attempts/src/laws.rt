@@ -20,7 +20,8 @@ ghost use Rattle.call_ticket.specs.declared.next.Next.TheVariants as next;
 ghost use Rattle.call_ticket.specs.Runs.{run_of};
 ghost use Rattle.boot_core.specs.Boot.{BootValue, HasGrown};
 ghost use Rattle.boot_core.specs.Faults.{fault_of};
-ghost use Rattle.call_attempts.specs.Attempt.{AttemptValue, HasStepped, IsUnderWay, attempt_begun, boot_left, rows_at_begin, wanted};
+ghost use Rattle.call_attempts.specs.Attempt.{AttemptValue, HasStepped, IsUnderWay, attempt_begun, attempt_of, boot_left, last_entered, rows_at_begin, wanted};
+ghost use Rattle.call_ticket.specs.Ticket.{TicketValue};
 ghost use Rattle.call_attempts.specs.Stops.{failure, stop_of};
 ghost use Rattle.call_attempts.specs.declared.attempt.Stepped.{Stepped};
 ghost use Rattle.call_attempts.specs.declared.attempt.Stepped.TheVariants.{Went, Done};
@@ -94,3 +95,12 @@ pub fn attempts_come_to_their_end()
 {
     calls_follow();
 }
+
+/// An attempt tells which component its last step entered: none where it has made no step; and after one that was
+/// answered, just the component that this step was to enter. So it tells none after a step that entered none.
+pub fn attempts_tell_what_they_entered_last()
+    ensures begun { (ticket : TicketValue) → last_entered (attempt_of ticket) ≡ None }
+    ensures stepped { (boot : BootValue) (asks : List Answer → Next) (a after : AttemptValue) (c : ComponentNo) →
+        HasStepped boot asks a Went after →
+        (last_entered after ≡ Some c) ↔ ((m : ℕ) × (wanted asks a ≡ next.Enter c m)) }
+{}

@@ -1,11 +1,13 @@
 -- A request that is being served: its tries that ended, and the attempt that is open.
 use Rattle.std.specs.Prelude.{◌≡◌, ◌<◌, ◌≤◌, ℕ, List, [], ◌∷◌, ◌++◌, length, Option, Some, None, IfSome, option_map, unwrap_or}
+use Rattle.std.specs.Option.{option_and_then}
+use Rattle.crash_base.specs.declared.numbers.ComponentNo.{ComponentNo}
 use Rattle.crash_base.specs.declared.numbers.RequestNo.{RequestNo}
 use Rattle.crash_base.specs.declared.numbers.WorkerNo.{WorkerNo}
 use Rattle.call_ticket.specs.declared.next.Answer.{Answer}
 use Rattle.call_ticket.specs.declared.next.Next.{Next}
 use Rattle.boot_core.specs.Boot.{BootValue}
-use Rattle.call_attempts.specs.Attempt.{AttemptValue, IsUnderWay, attempt_begun, wanted}
+use Rattle.call_attempts.specs.Attempt.{AttemptValue, IsUnderWay, attempt_begun, last_entered as attempt_entered, wanted}
 use Rattle.request_tries.specs.Ends.{Errand}
 use Rattle.request_tries.specs.Tries.{AreTries, first_begin, last_front}
 use Rattle.request_tries.specs.declared.outcome.Try.{Try}
@@ -44,6 +46,10 @@ pub record IsServing (boot : BootValue) (asks : List Answer → Next) (s : Tries
 -- the step that the open attempt asks for, if one is open
 abbrev pub wanted_by : (List Answer → Next) → TriesValue → Option Next
 wanted_by asks s = option_map (λ (a : AttemptValue). wanted asks a) s.attempt
+
+-- the component that the last step of the open attempt entered, if one is open and its last step entered one
+abbrev pub last_entered : TriesValue → Option ComponentNo
+last_entered s = option_and_then (λ (a : AttemptValue). attempt_entered a) s.attempt
 
 -- where its first try began, or else a place
 abbrev pub begun_at : TriesValue → ℕ → ℕ

@@ -6,7 +6,7 @@ ghost use Rattle.call_ticket.specs.declared.next.Next.TheVariants as next;
 ghost use Rattle.container_core.specs.Container.{HasGrownBy, IsButEntered, events_of};
 ghost use Rattle.container_core.specs.History.{entries_in};
 ghost use Rattle.call_attempts.specs.Attempt.{IsUnderWay, attempt_of};
-ghost use Rattle.request_tries.specs.Serving.{IsServing, closed, has_begun, unbegun, wanted_by};
+ghost use Rattle.request_tries.specs.Serving.{IsServing, closed, has_begun, last_entered, unbegun, wanted_by};
 ghost use Rattle.request_tries.specs.Steps.{AddsNothing, Advances, AnswersOwn, Brings, CommitsAs, EndsTry, HasAtMostAdvanced, HearsCommit, IfDone, IsRefused, IsStopped, KeepsHistory, KeepsNothing, LeavesBoot, CauseAddsNothing, StepsAs, end_of, ended_at, from_of, front_at, outcome_by, progress_of};
 
 use crate::answers::copied_done_at;
@@ -417,6 +417,17 @@ impl RequestTries {
                 let came = attempt.step(alloc, container, program)?;
                 Ok(Some(came))
             }
+        }
+    }
+
+    /// The component that its last step entered: none where no attempt is open, or where that step entered none. It
+    /// takes no memory.
+    pub fn last_entered(&self) -> Option<ComponentNo>
+        ensures { result ≡ last_entered self.now }
+    {
+        match &self.attempt {
+            None => None,
+            Some(attempt) => attempt.last_entered(),
         }
     }
 

@@ -1,5 +1,6 @@
 -- A request on its way: whose step is next, how it begins, and what it becomes by what it is told.
 use Rattle.std.specs.Prelude.{List, Option, Some, None}
+use Rattle.crash_base.specs.declared.numbers.ComponentNo.{ComponentNo}
 use Rattle.outside.specs.declared.link.LinkCounts.{LinkCounts}
 use Rattle.send_windows.specs.declared.fact.WindowFact.{WindowFact}
 use Rattle.ssm_stub.specs.declared.cause.BrickCause.{BrickCause}
@@ -9,6 +10,7 @@ use Rattle.session_way.specs.declared.way.SessionWay.{SessionWay}
 use Rattle.session_way.specs.declared.way.Wants.{Wants}
 use Rattle.session_way.specs.declared.way.Wants.TheVariants as wanted
 use Rattle.session_way.specs.Way.{wants}
+use Rattle.request_tries.specs.Serving.{last_entered as tries_entered}
 use Rattle.request_tries.specs.declared.outcome.RequestOutcome.TheVariants.{Page}
 use Rattle.outcome_items.specs.declared.item.Holds.{Holds}
 use Rattle.outcome_items.specs.declared.outcome.ItemOutcome.TheVariants as item
@@ -46,6 +48,16 @@ turn_by (Left fate) w = or_over w
 -- Whose step is next for a request.
 abbrev pub turn : {P : Type 0} → Visit P → Turn
 turn v = turn_by v.work (wants v.way)
+
+-- the component that the last step of a request entered, if it is served in the container and that step entered one
+abbrev pub last_entered : {P : Type 0} → Work P → Option ComponentNo
+last_entered Reading = None
+last_entered Opening = None
+last_entered (Serving tries program) = tries_entered tries
+last_entered (Committed place again shown) = None
+last_entered (Decided became) = None
+last_entered (Answered fate bytes) = None
+last_entered (Left fate) = None
 
 -- how far the container had come for a request for which it was not held yet
 abbrev pub unheld : VisitFacts → Holds

@@ -1,11 +1,11 @@
 //! A request from its decision to the end of its way: what is wanted for it next, and what each step leaves.
 
 ghost use Rattle.std.specs.Prelude.{◌≡◌, Some};
-ghost use Rattle.request_visit.specs.Visits.{or_over, or_own, turn, turn_by};
+ghost use Rattle.request_visit.specs.Visits.{last_entered, or_over, or_own, turn, turn_by};
 
 use crate::facts::VisitFacts;
 use crate::ready::Shown;
-use crash_base::{Place, ResponseBytes};
+use crash_base::{ComponentNo, Place, ResponseBytes};
 use outcome_items::{Holds, ItemOutcome};
 use outside::LinkCounts;
 use request_tries::RequestTries;
@@ -121,6 +121,16 @@ impl<P> Work<P> {
             Work::Left(_) => or_over(wants),
         }
     }
+
+    /// The component that its last step entered, if it entered one.
+    fn last_entered(&self) -> Option<ComponentNo>
+        ensures { result ≡ last_entered self.now }
+    {
+        match self {
+            Work::Serving(tries, _) => tries.last_entered(),
+            _ => None,
+        }
+    }
 }
 
 impl<P> Visit<P> {
@@ -129,6 +139,14 @@ impl<P> Visit<P> {
         ensures { result ≡ turn self.now }
     {
         self.work.turn(self.way.wants())
+    }
+
+    /// The component that its last step entered: none where it is not in the container, or that step entered none. It
+    /// takes no memory.
+    pub fn last_entered(&self) -> Option<ComponentNo>
+        ensures { result ≡ last_entered self.now.work }
+    {
+        self.work.last_entered()
     }
 }
 

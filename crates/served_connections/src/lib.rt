@@ -20,6 +20,7 @@
 //! `requests_join_their_connections` have a clause for each call of a shepherd; `meanwhile` is for all that others do.
 //! `connections_stop_where_memory_is_wanted` has one for each call that may want memory, and for what may follow it.
 //! `courses_tell_what_was_served` says what follows at an end, and `connections_come_to_rest` when one is reached.
+//! `items_are_no_older_than_their_connection` says where a connection begins, and what its items have seen since.
 //!
 //! Where an item is to be told of each response that was put out, memory for it is to be had before the response
 //! leaves.
@@ -37,4 +38,7 @@ pub use beginning::connections_are_served_from_their_begin;
 pub use stepping::connections_are_served_behind_their_steps;
 pub use stopping::connections_stop_where_memory_is_wanted;
 pub use taking::requests_join_their_connections;
-pub use telling::{connections_come_to_rest, courses_tell_what_was_served};
+pub use telling::{
+    connections_come_to_rest, courses_tell_what_was_served,
+    items_are_no_older_than_their_connection,
+};

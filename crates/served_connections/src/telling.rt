@@ -1,23 +1,29 @@
 //! Laws of what is told at the end of a connection. Each is the contract of a function that does nothing: a caller that
 //! needs the law calls the function.
 
-ghost use Rattle.std.specs.Prelude.{◌≡◌, false, ℕ, List, []};
+ghost use Rattle.std.specs.Prelude.{◌≡◌, ◌≢◌, ◌↔◌, ◌≤◌, ◌<◌, false, true, ℕ, List, [], All, length, take, Some};
 ghost use Rattle.boot_core.specs.declared.boot.Start.{Start};
+ghost use Rattle.container_core.specs.History.{entries_in};
 ghost use Rattle.container_core.specs.declared.history.Event.{Event};
+ghost use Rattle.crash_base.specs.declared.numbers.Place.{Place};
+ghost use Rattle.http_wire.specs.declared.taken.Head.{Head};
+ghost use Rattle.outcome_items.specs.Traces.{is_outside};
 ghost use Rattle.outcome_items.specs.declared.item.Item.{Item};
 ghost use Rattle.outside.specs.declared.link.LinkCounts.{LinkCounts};
 ghost use Rattle.send_windows.specs.Windows.{WindowsValue};
+ghost use Rattle.send_windows.specs.declared.history.WindowMark.{WindowMark};
 ghost use Rattle.served_items.specs.Attributing.{Service};
+ghost use Rattle.served_items.specs.Served.{committed_at};
 ghost use Rattle.shepherd.specs.Shepherds.{has_item, turn};
 ghost use Rattle.shepherd.specs.Steps.{GivesBack, HasLeftIfOpen, PutsOut, TakesItem, dropped_stage};
 ghost use Rattle.shepherd.specs.declared.shepherd.EndKind.{EndKind};
 ghost use Rattle.shepherd.specs.declared.shepherd.Shepherd.{Shepherd};
 ghost use Rattle.shepherd.specs.declared.shepherd.Stage.{Stage};
-ghost use Rattle.served_connections.specs.Courses.{Begun, Course};
+ghost use Rattle.served_connections.specs.Courses.{Begun, Course, HaveRisen, begun_behind};
 ghost use Rattle.served_connections.specs.Resting.{HasLeftAll, Rests, last_at};
 ghost use Rattle.served_connections.specs.Serving.{Serves};
 ghost use Rattle.served_connections.specs.Stopping.{HoldsNothing, ServesSoFar};
-ghost use Rattle.served_connections.specs.Telling.{HasEnded, HasServedWhole, HasStopped};
+ghost use Rattle.served_connections.specs.Telling.{HasEnded, HasServed, HasServedWhole, HasStopped};
 
 use call_ticket::Program;
 use outside::{Link, Random, Serials};
@@ -63,6 +69,44 @@ pub fn courses_tell_what_was_served<
     responses_are_to_their_items::<P>();
     stopped_connections_account_for_what_they_left::<P, L>();
 }
+
+/// Nothing that a connection tells is older than its begin. It begins behind all events of the history so far, all their
+/// entries, the moment, and what its link has counted (`begun`); a link counts on where neither count falls (`risen`). A
+/// request for which the container was held met at least the entries that there were when the connection began (`seen`).
+/// It was held for exactly those that were decided in it (`held`); the journal had as many entries at the last hold as
+/// the item's front says (`front`), and the entry that an item names is one of them (`named`).
+pub fn items_are_no_older_than_their_connection<
+    P: Program,
+    L: Link,
+    M: ProgramMaker<P>,
+    R: Random,
+    S: Serials,
+>()
+    ensures begun { (history : List Event) (now : ℕ) (counts : LinkCounts)
+        → ((begun_behind history now counts).events ≡ length history)
+        × ((begun_behind history now counts).entries ≡ length (entries_in history))
+        × ((begun_behind history now counts).moment ≡ now) × ((begun_behind history now counts).counts ≡ counts) }
+    ensures risen { (counts later : LinkCounts)
+        → HaveRisen counts later ↔ ((counts.hushed ≤ later.hushed) × (counts.got ≤ later.got)) }
+    ensures seen { (service : Service M) (start : Start) (begun : Begun) (history : List Event) (now : ℕ) (c : Course)
+        (opened : List Head) (last : List ℕ) (own : List Event) (marks : List WindowMark)
+        → HasServed P.asks L.makes M.makes R.gives S.looks service start begun history now c opened last own marks
+        → All (λ (i : Item). i.holds.held ≢ 0 → begun.entries ≤ i.holds.from.0) c.items }
+    ensures held { (service : Service M) (start : Start) (begun : Begun) (history : List Event) (now : ℕ) (c : Course)
+        (opened : List Head) (last : List ℕ) (own : List Event) (marks : List WindowMark)
+        → HasServed P.asks L.makes M.makes R.gives S.looks service start begun history now c opened last own marks
+        → All (λ (i : Item). (i.holds.held ≡ 0) ↔ (is_outside i.outcome ≡ true)) c.items }
+    ensures front { (service : Service M) (start : Start) (begun : Begun) (history : List Event) (now : ℕ) (c : Course)
+        (opened : List Head) (last : List ℕ) (own : List Event) (marks : List WindowMark)
+        → HasServed P.asks L.makes M.makes R.gives S.looks service start begun history now c opened last own marks
+        → All (λ (i : Item). i.holds.held ≢ 0 → length (entries_in (take i.holds.held history)) ≡ i.holds.front.0)
+        c.items }
+    ensures named { (service : Service M) (start : Start) (begun : Begun) (history : List Event) (now : ℕ) (c : Course)
+        (opened : List Head) (last : List ℕ) (own : List Event) (marks : List WindowMark)
+        → HasServed P.asks L.makes M.makes R.gives S.looks service start begun history now c opened last own marks
+        → All (λ (i : Item). (place : Place) → committed_at i.outcome ≡ Some place → place.0 < i.holds.front.0)
+        c.items }
+{}
 
 /// A connection comes to rest. The response of its open request has left, if one is open, and nothing else is to leave:
 /// where bytes are to come, where it has ended, where a response was put out, and where an item was taken; and it stays

@@ -1,7 +1,8 @@
 -- Whose step is next for a connection.
-use Rattle.std.specs.Prelude.{ℕ, ◌==◌, Bool, true, false, if◌then◌else◌, List, [], length}
+use Rattle.std.specs.Prelude.{ℕ, ◌==◌, Bool, true, false, if◌then◌else◌, List, [], length, Option, None}
+use Rattle.crash_base.specs.declared.numbers.ComponentNo.{ComponentNo}
 use Rattle.http_wire.specs.Taking.{settles, taken_of}
-use Rattle.request_visit.specs.Visits.{turn as visit_turn}
+use Rattle.request_visit.specs.Visits.{last_entered as work_entered, turn as visit_turn}
 use Rattle.request_visit.specs.declared.visit.Turn.{Turn}
 use Rattle.request_visit.specs.declared.visit.Turn.TheVariants as visit
 use Rattle.shepherd.specs.declared.shepherd.EndKind.TheVariants.{Closed, Cut, OutOfMemory}
@@ -41,6 +42,13 @@ stage_turn (Over end) received ended = turns.Ended end
 -- Whose step is next.
 abbrev pub turn : {P : Type 0} → Shepherd P → ShepherdTurn
 turn s = if s.wants_memory then turns.Ended OutOfMemory else stage_turn s.stage s.received s.ended
+
+-- the component that the last step of the open request entered, if one is open and that step entered one
+abbrev pub last_entered : {P : Type 0} → Stage P → Option ComponentNo
+last_entered Resting = None
+last_entered (Serving v call) = work_entered v.work
+last_entered (Refusing why bytes) = None
+last_entered (Over end) = None
 
 -- whether nothing is left to be done for a request
 abbrev pub is_over : Turn → Bool

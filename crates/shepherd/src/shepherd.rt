@@ -1,10 +1,10 @@
 //! A connection: what it holds, and whose step is next.
 
 ghost use Rattle.std.specs.Prelude.{◌≡◌, ◌++◌, true, OnErr, OnOk};
-ghost use Rattle.shepherd.specs.Shepherds.{fresh, resting_turn, stage_turn, turn, turn_by};
+ghost use Rattle.shepherd.specs.Shepherds.{fresh, last_entered, resting_turn, stage_turn, turn, turn_by};
 
 use auction_calls::CheckedCall;
-use crash_base::{OutOfMemory, Place, RequestNo, ResponseBytes};
+use crash_base::{ComponentNo, OutOfMemory, Place, RequestNo, ResponseBytes};
 use http_wire::Received;
 use request_visit::{Turn, Visit};
 use site_responses::Untaken;
@@ -127,6 +127,16 @@ impl<P> Stage<P> {
             Stage::Over(end) => ShepherdTurn::Ended(*end),
         }
     }
+
+    /// The component that the last step of the open request entered, if it entered one.
+    fn last_entered(&self) -> Option<ComponentNo>
+        ensures { result ≡ last_entered self.now }
+    {
+        match self {
+            Stage::Serving(visit, _) => visit.last_entered(),
+            _ => None,
+        }
+    }
 }
 
 impl<P> Shepherd<P> {
@@ -152,6 +162,14 @@ impl<P> Shepherd<P> {
         } else {
             self.stage.turn(&self.received, self.ended)
         }
+    }
+
+    /// The component that the last step entered: none where no request is in the container, or that step entered none.
+    /// It takes no memory.
+    pub fn last_entered(&self) -> Option<ComponentNo>
+        ensures { result ≡ last_entered self.now.stage }
+    {
+        self.stage.last_entered()
     }
 
     /// Adds bytes that came.
