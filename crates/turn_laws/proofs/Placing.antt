@@ -2,7 +2,7 @@
 use Rattle.std.proofs.Common.{◌≡◌, ℕ, zero, suc, ◌+◌, ◌-◌, ◌<◌, ◌≤◌, List, [], ◌∷◌, ◌++◌, length, map, slice_get, Option, Some, All, arith, refl, sym, ap, ◌∙◌, subst}
 use Rattle.std.specs.List.{range_with_len}
 use Rattle.std.proofs.lemmas.List.{length-append, append_assoc}
-use Rattle.std.proofs.lemmas.List.Elements.{All-nil, All-cons, All-append}
+use Rattle.std.proofs.lemmas.List.Elements.{All-nil, All-cons, All-append, All-head, All-tail}
 use mathlib.Core.List.{IsPrefix}
 use Rattle.turn_lock.specs.Seats.{new_places}
 use Rattle.turn_laws.specs.Places.{RiseBelow}
@@ -56,3 +56,16 @@ rise_hold own seen taken given rises begun grown =
     let a = prefix_length seen taken begun in
     let b = prefix_length taken given grown in
     rise_on own (length seen) (length taken) (length given - length taken) (length given) rises a (omega arith)
+
+-- places that rise, taken apart
+pub stand_within : (n : ℕ) (before behind : List ℕ) (p : ℕ) → RiseBelow n (before ++ p ∷ behind) → p < n
+stand_within n [] behind p rises = rises.0
+stand_within n (b ∷ before) behind p rises = stand_within n before behind p rises.2
+
+All-at : (P : ℕ → Type 0) (between behind : List ℕ) (q : ℕ) → All P (between ++ q ∷ behind) → P q
+All-at P [] behind q all = All-head P q behind all
+All-at P (b ∷ between) behind q all = All-at P between behind q (All-tail P b (between ++ q ∷ behind) all)
+
+pub stand_in_order : (n : ℕ) (before between behind : List ℕ) (p q : ℕ) → RiseBelow n (before ++ p ∷ (between ++ q ∷ behind)) → p < q
+stand_in_order n [] between behind p q rises = All-at (λ m. p < m) between behind q rises.1
+stand_in_order n (b ∷ before) between behind p q rises = stand_in_order n before between behind p q rises.2
