@@ -17,10 +17,11 @@ use Rattle.outside.specs.declared.link.LinkEvent.{LinkEvent}
 use Rattle.outside.specs.declared.link.LinkEvent.TheVariants.{Sends, SendsInSilence, Gets, HearsSilence, WantsToSend, WantsToReceive}
 use Rattle.outside.specs.Faults.{counted}
 use Rattle.outside.specs.Link.{Made}
+use Rattle.link_lanes.specs.Lanes.{LanesValue, lane_of, on_lane, more_unknown, hushed_with, IsFirst}
+use Rattle.link_lanes.specs.Tallies.{own_lane, other_lane}
 use Rattle.brick_house.specs.Houses.{HouseValue, HouseSeatsValue, IsBrickOf, IsReplyOf}
-use Rattle.brick_house.specs.HouseLinks.{HouseLinkValue, LaneValue, HouseMakes, empty_lane, new_link, lane_of, with_lane, on_lane, with_reply, asked, given, silent, more_unknown, hushed_by, IsFirst, Gives}
+use Rattle.brick_house.specs.HouseLinks.{HouseLinkValue, LaneValue, HouseMakes, empty_lane, new_link, with_reply, asked, given, silent, Gives}
 use Rattle.brick_house.specs.InOrder.{Bears, BearsBrick, request_if, request_to, frame_from, IsDecodedTo, ComeInOrder, waiting, AllBear}
-use Rattle.brick_house.specs.Tallies.{own_lane, other_lane}
 
 eqb-different : (a b : ℕ) → (a ≡ b → ⊥) → (a == b) ≡ false
 eqb-different a b differ = go (a == b) refl where
@@ -30,6 +31,9 @@ eqb-different a b differ = go (a == b) refl where
 
 abbrev queue_of : Option LaneValue → List Frame
 queue_of found = option_map_or (λ (lane : LaneValue). lane.queue) found []
+
+abbrev waits : LanesValue LaneValue → ℕ → List Frame
+waits link brick = queue_of (lane_of link brick)
 
 -- a brick replies to a frame just where it is a request
 pub replied_or_none : (b : BrickValue) (frame : Frame) → ((is_request frame ≡ true) × ((answer : Frame) × (reply b frame ≡ Some answer))) ⊎ ((is_request frame ≡ false) × (reply b frame ≡ None))
@@ -99,17 +103,17 @@ still old brick event new no_request no_frame same = record {
 }
 
 -- what waits for other bricks stays
-waits_beside : (link : HouseLinkValue) (to : BrickNo) (change : LaneValue → LaneValue) (brick : ℕ) → (to.0 ≡ brick → ⊥) → waiting (on_lane to change link) brick ≡ waiting link brick
+waits_beside : (link : LanesValue LaneValue) (to : BrickNo) (change : LaneValue → LaneValue) (brick : ℕ) → (to.0 ≡ brick → ⊥) → waits (on_lane to change link) brick ≡ waits link brick
 waits_beside link to change brick differ = ap queue_of (other_lane link to change brick differ)
 
 -- what waits for a brick whose lane changed
-waits_here : (link : HouseLinkValue) (to : BrickNo) (change : LaneValue → LaneValue) → waiting (on_lane to change link) to.0 ≡ queue_of (option_map change (lane_of link to.0))
+waits_here : (link : LanesValue LaneValue) (to : BrickNo) (change : LaneValue → LaneValue) → waits (on_lane to change link) to.0 ≡ queue_of (option_map change (lane_of link to.0))
 waits_here link to change = ap queue_of (own_lane link to change)
 
 -- what waits stays where no queue of the lane changes
-waits_on : (link : HouseLinkValue) (to : BrickNo) (change : LaneValue → LaneValue) (brick : ℕ) → ((lane : LaneValue) → (change lane).queue ≡ lane.queue) → waiting (on_lane to change link) brick ≡ waiting link brick
+waits_on : (link : LanesValue LaneValue) (to : BrickNo) (change : LaneValue → LaneValue) (brick : ℕ) → ((lane : LaneValue) → (change lane).queue ≡ lane.queue) → waits (on_lane to change link) brick ≡ waits link brick
 waits_on link to change brick keeps = elim (cases_eq to.0 brick) [
-  | inl is ↦ (let P : ℕ → Type 0 = λ n. waiting (on_lane to change link) n ≡ waiting link n in subst P is (waits_here link to change ∙ kept (lane_of link to.0)))
+  | inl is ↦ (let P : ℕ → Type 0 = λ n. waits (on_lane to change link) n ≡ waits link n in subst P is (waits_here link to change ∙ kept (lane_of link to.0)))
   | inr differ ↦ waits_beside link to change brick differ
 ]
   where
@@ -118,9 +122,9 @@ waits_on link to change brick keeps = elim (cases_eq to.0 brick) [
     kept (Some lane) = keeps lane
 
 -- a count of silences has nothing to do with what waits
-waits_silent : (old : HouseLinkValue) (to : BrickNo) (brick : ℕ) → waiting (hushed_by to old) brick ≡ waiting old brick
+waits_silent : (old : LanesValue LaneValue) (to : BrickNo) (brick : ℕ) → waits (hushed_with silent to old) brick ≡ waits old brick
 waits_silent old to brick = go (lane_of old to.0) ∙ waits_on (record old { hushed = counted old.hushed }) to silent brick (λ lane. refl) where
-  go : (found : Option LaneValue) → waiting (more_unknown found (on_lane to silent (record old { hushed = counted old.hushed }))) brick ≡ waiting (on_lane to silent (record old { hushed = counted old.hushed })) brick
+  go : (found : Option LaneValue) → waits (more_unknown found (on_lane to silent (record old { hushed = counted old.hushed }))) brick ≡ waits (on_lane to silent (record old { hushed = counted old.hushed })) brick
   go None = refl
   go (Some lane) = refl
 
@@ -144,14 +148,14 @@ asked_here house brick b lane (Some frame) of = elim (replied_or_none b frame) [
 sends_turn : (old new : HouseLinkValue) (to : BrickNo) (frame : List ℕ) (brick : BrickNo) → HouseMakes old (Sends to frame) new → Turn old brick (Sends to frame) new
 sends_turn old new to frame brick (there, (b, of, is)) = elim (cases_eq to.0 brick.0) [
   | inl same ↦ (let e : to ≡ brick = ap (λ n. record { 0 = n }) same in
-      let P : BrickNo → Type 0 = λ n. Turn old n (Sends to frame) new in subst P e (here (lane_of old to.0) refl there))
+      let P : BrickNo → Type 0 = λ n. Turn old n (Sends to frame) new in subst P e (here (lane_of old.bricks to.0) refl there))
   | inr differ ↦ still old brick (Sends to frame) new
       (ap (λ yes. if yes then request_if (decode_of frame) else []) (eqb-different to.0 brick.0 differ))
       refl
-      (ap (λ l. waiting l brick.0) is ∙ waits_beside old to (asked b frame) brick.0 differ)
+      (ap (λ l. waiting l brick.0) is ∙ waits_beside old.bricks to (asked b frame) brick.0 differ)
 ]
   where
-    here : (found : Option LaneValue) → lane_of old to.0 ≡ found → IsSome found → Turn old to (Sends to frame) new
+    here : (found : Option LaneValue) → lane_of old.bricks to.0 ≡ found → IsSome found → Turn old to (Sends to frame) new
     here None at some = absurd cc
     here (Some lane) at some =
         let got = asked_here old.seats.house to b lane (decode_of frame) of in
@@ -161,23 +165,23 @@ sends_turn old new to frame brick (there, (b, of, is)) = elim (cases_eq to.0 bri
           came = [];
           are_replies = (let P : Bool → Type 0 = λ yes. AllZip (IsReplyOf old.seats.house to) (if yes then request_if (decode_of frame) else []) got.0 in subst P (sym self) got.1);
           are_spelled = tt;
-          in_order = ap (λ o. queue_of o ++ got.0) at ∙ (got.2 ∙ (ap (λ o. queue_of (option_map (asked b frame) o)) (sym at) ∙ (sym (waits_here old to (asked b frame)) ∙ ap (λ l. waiting l to.0) (sym is))));
+          in_order = ap (λ o. queue_of o ++ got.0) at ∙ (got.2 ∙ (ap (λ o. queue_of (option_map (asked b frame) o)) (sym at) ∙ (sym (waits_here old.bricks to (asked b frame)) ∙ ap (λ l. waiting l to.0) (sym is))));
         }
 
 gets_turn : (old new : HouseLinkValue) (from : BrickNo) (frame : List ℕ) (brick : BrickNo) → HouseMakes old (Gets from frame) new → Turn old brick (Gets from frame) new
 gets_turn old new from frame brick (gives, fits, is) = elim (cases_eq from.0 brick.0) [
   | inl same ↦ (let e : from ≡ brick = ap (λ n. record { 0 = n }) same in
-      let P : BrickNo → Type 0 = λ n. Turn old n (Gets from frame) new in subst P e (here (lane_of old from.0) refl gives))
+      let P : BrickNo → Type 0 = λ n. Turn old n (Gets from frame) new in subst P e (here (lane_of old.bricks from.0) refl gives))
   | inr differ ↦ still old brick (Gets from frame) new
       refl
       (ap (λ yes. if yes then frame ∷ [] else []) (eqb-different from.0 brick.0 differ))
       (ap (λ l. waiting l brick.0) is ∙ waits_beside before from given brick.0 differ)
 ]
   where
-    before : HouseLinkValue
-    before = record old { got = counted old.got }
+    before : LanesValue LaneValue
+    before = record (old.bricks) { got = counted old.bricks.got }
 
-    taken : (lane : LaneValue) (queue : List Frame) → lane.queue ≡ queue → IsFirst frame queue → lane_of old from.0 ≡ Some lane → Turn old from (Gets from frame) new
+    taken : (lane : LaneValue) (queue : List Frame) → lane.queue ≡ queue → IsFirst frame queue → lane_of old.bricks from.0 ≡ Some lane → Turn old from (Gets from frame) new
     taken lane [] q first at = absurd first
     taken lane (answer ∷ rest) q first at =
         let self : (from.0 == from.0) ≡ true = eq-eqb from.0 from.0 refl in
@@ -189,34 +193,24 @@ gets_turn old new from frame brick (gives, fits, is) = elim (cases_eq from.0 bri
           in_order = append-nil (waiting old from.0) ∙ (ap queue_of at ∙ (q ∙ ap (λ xs. answer ∷ xs) (ap (drop 1) (sym q) ∙ (ap (λ o. queue_of (option_map given o)) (sym at) ∙ (sym (waits_here before from given) ∙ ap (λ l. waiting l from.0) (sym is))))));
         }
 
-    here : (found : Option LaneValue) → lane_of old from.0 ≡ found → Gives frame found → Turn old from (Gets from frame) new
+    here : (found : Option LaneValue) → lane_of old.bricks from.0 ≡ found → Gives frame found → Turn old from (Gets from frame) new
     here None at g = absurd g
     here (Some lane) at g = taken lane lane.queue refl g at
 
 turn : (old new : HouseLinkValue) (event : LinkEvent) (brick : BrickNo) → HouseMakes old event new → Turn old brick event new
 turn old new (Sends to frame) brick h = sends_turn old new to frame brick h
-turn old new (SendsInSilence to frame) brick h = still old brick (SendsInSilence to frame) new refl refl (ap (λ l. waiting l brick.0) h.2 ∙ waits_silent old to brick.0)
+turn old new (SendsInSilence to frame) brick h = still old brick (SendsInSilence to frame) new refl refl (ap (λ l. waiting l brick.0) h.2 ∙ waits_silent old.bricks to brick.0)
 turn old new (Gets from frame) brick h = gets_turn old new from frame brick h
-turn old new (HearsSilence from) brick h = still old brick (HearsSilence from) new refl refl (ap (λ l. waiting l brick.0) h.2 ∙ waits_silent old from brick.0)
+turn old new (HearsSilence from) brick h = still old brick (HearsSilence from) new refl refl (ap (λ l. waiting l brick.0) h.2 ∙ waits_silent old.bricks from brick.0)
 turn old new (WantsToSend to frame) brick h = still old brick (WantsToSend to frame) new refl refl (ap (λ l. waiting l brick.0) h)
 turn old new (WantsToReceive from) brick h = still old brick (WantsToReceive from) new refl refl (ap (λ l. waiting l brick.0) h)
 
 -- the seats stay
-seats_on : (link : HouseLinkValue) (brick : ℕ) (found : Option LaneValue) → (with_lane link brick found).seats ≡ link.seats
-seats_on link brick None = refl
-seats_on link brick (Some lane) = refl
-
-seats_hushed : (old : HouseLinkValue) (brick : BrickNo) → (hushed_by brick old).seats ≡ old.seats
-seats_hushed old brick = go (lane_of old brick.0) ∙ seats_on (record old { hushed = counted old.hushed }) brick.0 (option_map silent (lane_of old brick.0)) where
-  go : (found : Option LaneValue) → (more_unknown found (on_lane brick silent (record old { hushed = counted old.hushed }))).seats ≡ (on_lane brick silent (record old { hushed = counted old.hushed })).seats
-  go None = refl
-  go (Some lane) = refl
-
 seats_stay : (old new : HouseLinkValue) (event : LinkEvent) → HouseMakes old event new → new.seats ≡ old.seats
-seats_stay old new (Sends to frame) (there, (b, of, is)) = ap (λ l. l.seats) is ∙ seats_on old to.0 (option_map (asked b frame) (lane_of old to.0))
-seats_stay old new (SendsInSilence to frame) h = ap (λ l. l.seats) h.2 ∙ seats_hushed old to
-seats_stay old new (Gets from frame) h = ap (λ l. l.seats) h.2 ∙ seats_on (record old { got = counted old.got }) from.0 (option_map given (lane_of old from.0))
-seats_stay old new (HearsSilence from) h = ap (λ l. l.seats) h.2 ∙ seats_hushed old from
+seats_stay old new (Sends to frame) (there, (b, of, is)) = ap (λ l. l.seats) is
+seats_stay old new (SendsInSilence to frame) h = ap (λ l. l.seats) h.2
+seats_stay old new (Gets from frame) h = ap (λ l. l.seats) h.2
+seats_stay old new (HearsSilence from) h = ap (λ l. l.seats) h.2
 seats_stay old new (WantsToSend to frame) h = ap (λ l. l.seats) h
 seats_stay old new (WantsToReceive from) h = ap (λ l. l.seats) h
 

@@ -2,4 +2,3 @@ pub mod Asked
 pub mod Counting
 pub mod Houses
 pub mod InOrder
-pub mod Lanes

@@ -1,5 +1,5 @@
 -- Which requests were sent to a brick over a link, which frames came of them, and that each bears its brick.
-use Rattle.std.specs.Prelude.{◌≡◌, ℕ, ◌+◌, ◌-◌, ◌^◌, ◌==◌, min, if◌then◌else◌, List, [], ◌∷◌, ◌++◌, All, Option, Some, None}
+use Rattle.std.specs.Prelude.{◌≡◌, ℕ, ◌==◌, if◌then◌else◌, List, [], ◌∷◌, ◌++◌, All, Option, Some, None}
 use Rattle.std.specs.List.{flat_map, AllZip}
 use Rattle.std.specs.Option.{option_map_or}
 use Rattle.crash_base.specs.declared.numbers.BrickNo.{BrickNo}
@@ -9,8 +9,9 @@ use Rattle.ssm_frames.specs.Reading.{decode_of}
 use Rattle.ssm_frames.specs.Requests.{is_request}
 use Rattle.outside.specs.declared.link.LinkEvent.{LinkEvent}
 use Rattle.outside.specs.declared.link.LinkEvent.TheVariants.{Sends, SendsInSilence, Gets, HearsSilence, WantsToSend, WantsToReceive}
+use Rattle.link_lanes.specs.Lanes.{lane_of}
 use Rattle.brick_house.specs.Houses.{IsReplyOf}
-use Rattle.brick_house.specs.HouseLinks.{HouseLinkValue, LaneValue, lane_of}
+use Rattle.brick_house.specs.HouseLinks.{HouseLinkValue, LaneValue}
 
 -- a frame is a reply that bears this number and this incarnation
 abbrev pub Bears : BrickNo → ℕ → Frame → Type 0
@@ -62,7 +63,7 @@ frame_from brick (WantsToReceive from) = []
 
 -- the replies that wait in the lane of a brick
 abbrev pub waiting : HouseLinkValue → ℕ → List Frame
-waiting link brick = option_map_or (λ (lane : LaneValue). lane.queue) (lane_of link brick) []
+waiting link brick = option_map_or (λ (lane : LaneValue). lane.queue) (lane_of link.bricks brick) []
 
 -- a frame is decoded to this reply
 abbrev pub IsDecodedTo : List ℕ → Frame → Type 0
@@ -81,7 +82,3 @@ pub record ComeInOrder (old : HouseLinkValue) (brick : BrickNo) (events : List L
 abbrev pub AllBear : HouseLinkValue → Type 0
 AllBear link =
     (brick : BrickNo) → All (Bears brick link.seats.house.incarnation) (waiting link brick.0)
-
--- a count after so many more, which stays at its last value
-abbrev pub raised : ℕ → ℕ → ℕ
-raised n more = min (n + more) (2 ^ 64 - 1)

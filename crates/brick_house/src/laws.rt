@@ -6,9 +6,10 @@ ghost use Rattle.std.specs.List.{count_by};
 ghost use Rattle.crash_base.specs.declared.numbers.BrickNo.{BrickNo};
 ghost use Rattle.outside.specs.declared.link.LinkEvent.{LinkEvent};
 ghost use Rattle.outside.specs.Link.{Made, is_silence, is_silence_of, is_frame};
+ghost use Rattle.link_lanes.specs.Lanes.{lane_of, raised};
 ghost use Rattle.brick_house.specs.Houses.{HouseSeatsValue};
-ghost use Rattle.brick_house.specs.HouseLinks.{HouseLinkValue, HouseMakes, new_link, lane_of, silences_of};
-ghost use Rattle.brick_house.specs.InOrder.{AllBear, BearsBrick, ComeInOrder, waiting, raised};
+ghost use Rattle.brick_house.specs.HouseLinks.{HouseLinkValue, HouseMakes, new_link, silences_of};
+ghost use Rattle.brick_house.specs.InOrder.{AllBear, BearsBrick, ComeInOrder, waiting};
 
 /// Each frame that comes from a brick over a link is a reply that bears this brick's number and the house's
 /// incarnation, whatever the brick kept and whoever else asked it. A link keeps its seats.
@@ -34,12 +35,12 @@ pub fn houses_answer_in_order()
 /// count stays.
 pub fn house_links_count_their_events()
     ensures hushed { (old new : HouseLinkValue) (events : List LinkEvent)
-        → old.hushed < 2 ^ 64 → Made HouseMakes old events new
-        → new.hushed ≡ raised old.hushed (count_by is_silence events) }
+        → old.bricks.hushed < 2 ^ 64 → Made HouseMakes old events new
+        → new.bricks.hushed ≡ raised old.bricks.hushed (count_by is_silence events) }
     ensures got { (old new : HouseLinkValue) (events : List LinkEvent)
-        → old.got < 2 ^ 64 → Made HouseMakes old events new
-        → new.got ≡ raised old.got (count_by is_frame events) }
+        → old.bricks.got < 2 ^ 64 → Made HouseMakes old events new
+        → new.bricks.got ≡ raised old.bricks.got (count_by is_frame events) }
     ensures brick { (old new : HouseLinkValue) (events : List LinkEvent) (brick : ℕ)
-        → IsSome (lane_of old brick) → silences_of old brick < 2 ^ 64 → Made HouseMakes old events new
+        → IsSome (lane_of old.bricks brick) → silences_of old brick < 2 ^ 64 → Made HouseMakes old events new
         → silences_of new brick ≡ raised (silences_of old brick) (count_by (is_silence_of brick) events) }
 {}

@@ -1,13 +1,14 @@
 //! A link to a house.
 
-ghost use Rattle.std.specs.Prelude.{◌≡◌, ◌+◌, ◌^◌, ◌<◌, IfOk, MatchOption, None, length, replicate};
+ghost use Rattle.std.specs.Prelude.{◌≡◌, ◌^◌, ◌<◌, IfOk, replicate};
 ghost use Rattle.outside.specs.Faults.{counted};
-ghost use Rattle.brick_house.specs.HouseLinks.{HouseMakes, empty_lane, new_link, house_tally, lane_in};
+ghost use Rattle.brick_house.specs.HouseLinks.{HouseMakes, empty_lane, new_link, house_tally, with_bricks};
 
 use crate::house::BrickHouse;
 use crate::lane::Lane;
 use crate::seats::HouseSeats;
 use crash_base::{BrickNo, FrameBytes, OutOfMemory};
+use link_lanes::place_of;
 use outside::{Link, LinkCounts, Received, Sent};
 use std::alloc::Global;
 use std::marker::Model;
@@ -31,21 +32,12 @@ impl<'a, W: Wait> Model for HouseLink<'a, W> {
 
     ghost Value = { HouseLinkValue };
 
-    ghost view = { λ l. record { seats = l.seats; lanes = l.lanes.items; unknown = l.unknown; hushed = l.hushed; got = l.got } };
+    ghost view = { λ l. record {
+      seats = l.seats;
+      bricks = record { lanes = l.lanes.items; unknown = l.unknown; hushed = l.hushed; got = l.got };
+    } };
 
     ghost invariant = { λ l. (l.seats.house ≡ l.house.now) × (length l.lanes.items ≡ length l.seats.house.locks) };
-}
-
-/// The place of the lane of a brick, if it is one.
-fn place_of(lanes: &[Lane], brick: BrickNo) -> Option<usize>
-    ensures { MatchOption result (lane_in lanes.now brick.0 ≡ None)
-        (λ place. (place + 1 ≡ brick.0) × (place < length lanes.now)) }
-{
-    let number = brick.0 as usize;
-    if number == 0 || number > lanes.len() {
-        return None;
-    }
-    Some(number - 1)
 }
 
 /// Lanes for so many bricks.
@@ -103,9 +95,13 @@ impl<'a, W: Wait> HouseLink<'a, W> {
     /// Counts a silence of a number without a brick.
     fn hush_unknown(&mut self)
         ensures counts { self.new
-            ≡ record (self.old) { unknown = counted self.old.unknown; hushed = counted self.old.hushed } }
-        ensures unknown_fits { self.old.unknown < 2 ^ 64 }
-        ensures hushed_fits { self.old.hushed < 2 ^ 64 }
+            ≡ with_bricks self.old
+            (record (self.old.bricks) {
+              unknown = counted self.old.bricks.unknown;
+              hushed = counted self.old.bricks.hushed;
+            }) }
+        ensures unknown_fits { self.old.bricks.unknown < 2 ^ 64 }
+        ensures hushed_fits { self.old.bricks.hushed < 2 ^ 64 }
     {
         self.unknown = self.unknown.saturating_add(1);
         self.hushed = self.hushed.saturating_add(1);

@@ -18,10 +18,11 @@ use Rattle.ssm_stub.specs.declared.event.Told.TheVariants.{Sent, Came, Silent as
 use Rattle.ssm_stub.specs.Ears.{heard}
 use Rattle.ssm_stub.specs.Turns.{wanted_of}
 use Rattle.ssm_stub.specs.Runs.{Machine, told_of, fits, Fits, call_of, calls, after, Ran}
+use Rattle.link_lanes.specs.Lanes.{lane_of}
+use Rattle.link_lanes.specs.Tallies.{slice_get-set_same, slice_get-set_other}
 use Rattle.link_memory.specs.Lane.{LaneValue}
 use Rattle.link_memory.specs.Leaving.{Left, IsAsked, Leaves}
-use Rattle.link_memory.specs.Script.{ScriptValue, lane_of, ScriptMakes}
-use Rattle.link_memory.specs.Tallies.{slice_get-set_same, slice_get-set_other}
+use Rattle.link_memory.specs.Script.{ScriptValue, ScriptMakes}
 use Rattle.link_memory.proofs.Counting.{counts_on, none_counted}
 use Rattle.link_memory.proofs.Steps.{own_step, beside_step, made_split}
 

@@ -23,10 +23,11 @@ use Rattle.ssm_stub.specs.declared.event.StubEvent.TheVariants as event
 use Rattle.ssm_stub.specs.Ears.{after_frame, heard}
 use Rattle.ssm_stub.specs.Turns.{wanted_of}
 use Rattle.ssm_stub.specs.Runs.{told_of, fits, call_of}
-use Rattle.link_memory.specs.Lane.{LaneValue, asked, given, silent, IsFirst, raised, counted_times}
+use Rattle.link_lanes.specs.Lanes.{lane_of, with_lane, more_unknown, IsFirst, raised}
+use Rattle.link_memory.specs.Lane.{LaneValue, asked, given, silent, counted_times}
 use Rattle.link_memory.specs.Rule.{Hearing, heard_from}
 use Rattle.link_memory.specs.Leaving.{IsUnlawful, Left, silences_told, unknown_told, frames_taken, frames_given, Counts}
-use Rattle.link_memory.specs.Script.{ScriptValue, lane_of, with_lane, more_unknown, hushed_by, IsQuiet, Gives, ScriptMakes}
+use Rattle.link_memory.specs.Script.{ScriptValue, hushed_by, IsQuiet, Gives, ScriptMakes}
 use Rattle.link_memory.proofs.Queues.{rule_answers, rule_silent, rule_strays}
 
 pub sooner : (more n : ℕ) → counted (counted_times more n) ≡ counted_times more (counted n)

@@ -22,13 +22,14 @@ use Rattle.ssm_stub.specs.Ears.{after_frame, heard, heard_on}
 use Rattle.ssm_stub.specs.Turns.{wanted_of}
 use Rattle.ssm_stub.specs.Runs.{told_of, fits, Fits, call_of, calls, Ran}
 use Rattle.ssm_stub.specs.Hearing.{ear_machine}
+use Rattle.link_lanes.specs.Lanes.{lane_of, with_lane, more_unknown, IsFirst}
+use Rattle.link_lanes.specs.Tallies.{lane_after}
 use Rattle.link_memory.proofs.Steps.{made_split}
-use Rattle.link_memory.specs.Lane.{LaneValue, asked, given, silent, IsFirst, counted_times}
+use Rattle.link_memory.specs.Lane.{LaneValue, asked, given, silent, counted_times}
 use Rattle.link_memory.specs.Rule.{Hearing, heard_from}
 use Rattle.link_memory.specs.Leaving.{IsUnlawful, after_hearing, silences_after}
 use Rattle.link_memory.specs.InOrder.{Over, link_after, heard_at, heard_over, asked_at, asked_over, to_ear}
-use Rattle.link_memory.specs.Script.{ScriptValue, lane_of, with_lane, more_unknown, hushed_by, IsQuiet, Gives, ScriptMakes}
-use Rattle.link_memory.specs.Tallies.{lane_after}
+use Rattle.link_memory.specs.Script.{ScriptValue, hushed_by, IsQuiet, Gives, ScriptMakes}
 use Rattle.link_memory.proofs.Queues.{rule_answers, rule_silent, rule_strays}
 
 -- what is heard behind a frame, by its verdict and by whether one more stray leaves the brick without

@@ -19,9 +19,10 @@ use Rattle.ssm_stub.specs.Ears.{after_frame, heard, heard_on}
 use Rattle.ssm_stub.specs.Turns.{wanted_of}
 use Rattle.ssm_stub.specs.Hearing.{ear_machine}
 use Rattle.ssm_stub.specs.Runs.{told_of, fits, Fits, call_of, calls, Ran}
+use Rattle.link_lanes.specs.Lanes.{lane_of}
 use Rattle.link_memory.specs.Lane.{LaneValue, silent}
 use Rattle.link_memory.specs.Leaving.{IsUnlawful, HeardAt, HeardOver}
-use Rattle.link_memory.specs.Script.{ScriptValue, lane_of, Gives, ScriptMakes}
+use Rattle.link_memory.specs.Script.{ScriptValue, Gives, ScriptMakes}
 use Rattle.link_memory.proofs.Steps.{Progress, own_hushed, frame_step, silence_step, beside_step, made_split}
 
 -- a number without a brick was heard

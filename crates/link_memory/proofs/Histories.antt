@@ -16,10 +16,11 @@ use Rattle.brick_store.specs.Standing.{StandsFor, heard}
 use Rattle.outside.specs.declared.link.LinkEvent.{LinkEvent}
 use Rattle.outside.specs.declared.link.LinkEvent.TheVariants.{Sends, SendsInSilence, Gets, HearsSilence, WantsToSend, WantsToReceive}
 use Rattle.outside.specs.Faults.{counted}
+use Rattle.link_lanes.specs.Lanes.{lane_of, on_lane, more_unknown}
+use Rattle.link_lanes.specs.Tallies.{own_lane, other_lane}
 use Rattle.link_memory.specs.Lane.{LaneValue, new_lane, with_reply_if, reached, asked, given, silent}
-use Rattle.link_memory.specs.Script.{ScriptValue, new_link, lane_of, on_lane, more_unknown, hushed_by, ScriptMakes}
+use Rattle.link_memory.specs.Script.{ScriptValue, new_link, hushed_by, ScriptMakes}
 use Rattle.link_memory.specs.Standing.{StandsAs, AllStand, with_history, reached_in, asked_in, histories_after}
-use Rattle.link_memory.specs.Tallies.{own_lane, other_lane}
 
 -- a changed lane stands for the history that the change makes
 pub changed_stands : (link : ScriptValue) (brick : BrickNo) (change : LaneValue → LaneValue) (history : List BrickEvent) (histories : ℕ → List BrickEvent) → AllStand histories link → ((lane : LaneValue) → lane_of link brick.0 ≡ Some lane → StandsAs brick.0 (histories brick.0) lane → StandsAs brick.0 history (change lane)) → AllStand (with_history brick history histories) (on_lane brick change link)

@@ -4,7 +4,6 @@ mod Counting
 mod HearingOn
 mod Hearings
 mod Histories
-mod Lanes
 mod OneEnd
 mod OneByOne
 mod Places

@@ -15,9 +15,10 @@ use Rattle.ssm_stub.specs.declared.event.StubNext.TheVariants.{Ended}
 use Rattle.ssm_stub.specs.Ears.{heard}
 use Rattle.ssm_stub.specs.Turns.{none_asked, is_unasked, is_asked, is_open, wanted_of}
 use Rattle.ssm_stub.specs.Runs.{told_of, fits, call_of}
+use Rattle.link_lanes.specs.Lanes.{lane_of}
 use Rattle.link_memory.specs.Lane.{LaneValue}
 use Rattle.link_memory.specs.InOrder.{Over, asked_at, asked_over, asked_in_order, heard_out, with_ask}
-use Rattle.link_memory.specs.Script.{ScriptValue, lane_of, ScriptMakes}
+use Rattle.link_memory.specs.Script.{ScriptValue, ScriptMakes}
 use Rattle.link_memory.proofs.HearingOn.{heard_rest, begun, ask_step, hear_step, still}
 use Rattle.link_memory.proofs.Places.{NonePass}
 

@@ -7,9 +7,10 @@ use Rattle.ssm_stub.specs.declared.event.StubEvent.TheVariants as event
 use Rattle.ssm_stub.specs.declared.event.StubNext.{StubNext}
 use Rattle.ssm_stub.specs.declared.event.StubNext.TheVariants.{Send, Receive, Ended}
 use Rattle.ssm_stub.specs.Runs.{Machine, told_of, fits, Fits, call_of, calls, after}
-use Rattle.link_memory.specs.Lane.{LaneValue, IsFirst}
+use Rattle.link_lanes.specs.Lanes.{lane_of, IsFirst}
+use Rattle.link_memory.specs.Lane.{LaneValue}
 use Rattle.link_memory.specs.Leaving.{HasOneEnd}
-use Rattle.link_memory.specs.Script.{ScriptValue, lane_of, IsQuiet, Gives, ScriptMakes}
+use Rattle.link_memory.specs.Script.{ScriptValue, IsQuiet, Gives, ScriptMakes}
 use Rattle.link_memory.proofs.Asking.{nothing_fits}
 use Rattle.link_memory.proofs.Steps.{no_lane, made_split}
 

@@ -32,15 +32,16 @@ use Rattle.ssm_stub.specs.Hearing.{ear_machine}
 use Rattle.ssm_stub.specs.Runs.{told_of, Fits, calls, ReceiveFails}
 use Rattle.ssm_stub.specs.Writes.{mark_by}
 use Rattle.ssm_stub.specs.Ends.{StopsHearing, HeardOut, SettledAs, Settled}
+use Rattle.link_lanes.specs.Lanes.{lane_in, lane_of, with_lane, IsFirst}
+use Rattle.link_lanes.specs.Tallies.{lane_after, own_lane}
+use Rattle.link_lanes.proofs.Places.{set_back}
 use Rattle.link_memory.specs.InOrder.{Over}
-use Rattle.link_memory.specs.Lane.{LaneValue, given, IsFirst, counted_times}
+use Rattle.link_memory.specs.Lane.{LaneValue, given, counted_times}
 use Rattle.link_memory.specs.Leaving.{IsUnlawful}
-use Rattle.link_memory.specs.Script.{ScriptValue, lane_in, lane_of, with_lane, given_by, Gives, ScriptMakes}
+use Rattle.link_memory.specs.Script.{ScriptValue, given_by, Gives, ScriptMakes}
 use Rattle.link_memory.specs.Settling.{queue_of, left_with, StopsOver, SettledOver, AllSettledOver}
-use Rattle.link_memory.specs.Tallies.{lane_after, own_lane}
 use Rattle.link_memory.proofs.Counting.{sooner}
 use Rattle.link_memory.proofs.HearingOn.{after_frame_by, after_frame-by, rule_over}
-use Rattle.link_memory.proofs.Lanes.{set_back}
 
 -- an outcome stays
 stays : {A : Type 0} (lawful : Frame → Option A) (outcome : Outcome A) (events : List Told) → fold (heard_on lawful) (Heard outcome) events ≡ Heard outcome

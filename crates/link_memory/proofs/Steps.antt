@@ -22,11 +22,12 @@ use Rattle.ssm_stub.specs.declared.event.StubEvent.TheVariants as event
 use Rattle.ssm_stub.specs.Ears.{after_frame, heard}
 use Rattle.ssm_stub.specs.Turns.{wanted_of}
 use Rattle.ssm_stub.specs.Runs.{told_of, fits, call_of}
-use Rattle.link_memory.specs.Lane.{LaneValue, asked, given, silent, IsFirst}
+use Rattle.link_lanes.specs.Lanes.{lane_of, with_lane, more_unknown, IsFirst}
+use Rattle.link_lanes.specs.Tallies.{lane_after, lane_beside, own_lane, other_lane}
+use Rattle.link_memory.specs.Lane.{LaneValue, asked, given, silent}
 use Rattle.link_memory.specs.Rule.{Hearing, heard_from}
 use Rattle.link_memory.specs.Leaving.{after_hearing, IsUnlawful, Taken, HeardByRule, LeftLane, Left}
-use Rattle.link_memory.specs.Script.{ScriptValue, lane_of, with_lane, more_unknown, hushed_by, given_by, IsQuiet, Gives, ScriptMakes}
-use Rattle.link_memory.specs.Tallies.{lane_after, lane_beside, own_lane, other_lane}
+use Rattle.link_memory.specs.Script.{ScriptValue, hushed_by, given_by, IsQuiet, Gives, ScriptMakes}
 use Rattle.link_memory.proofs.Queues.{rule_answers, rule_silent, rule_strays}
 
 pub own_hushed : (link : ScriptValue) (brick : BrickNo) → lane_of (hushed_by brick link) brick.0 ≡ option_map silent (lane_of link brick.0)

@@ -15,10 +15,11 @@ use Rattle.ssm_stub.specs.declared.reply.WriteReply.TheVariants.{Stored, Full}
 use Rattle.ssm_stub.specs.declared.reply.ReadReply.{ReadReply}
 use Rattle.ssm_stub.specs.Turns.{none_asked}
 use Rattle.ssm_stub.specs.Reads.{value_by}
+use Rattle.link_lanes.specs.Lanes.{lane_of, with_lane}
 use Rattle.link_memory.specs.Lane.{LaneValue, asked, counted_times}
 use Rattle.link_memory.specs.Leaving.{after_hearing, silences_after}
 use Rattle.link_memory.specs.Rule.{Hearing, heard_from}
-use Rattle.link_memory.specs.Script.{ScriptValue, lane_of, with_lane, hushed_by}
+use Rattle.link_memory.specs.Script.{ScriptValue, hushed_by}
 
 -- What was heard, and the link then.
 pub record Over (X : Type 0) : Type 0 where

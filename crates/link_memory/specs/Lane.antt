@@ -1,13 +1,13 @@
 -- A lane of the link: a brick, and what was replied.
-use Rattle.std.specs.Prelude.{◌≡◌, ℕ, zero, suc, ◌+◌, ◌-◌, ◌^◌, ◌<◌, min, nat_lt, if◌then◌else◌, List, [], ◌∷◌, ◌++◌, drop, filter_map, slice_get, Option, Some, None}
+use Rattle.std.specs.Prelude.{◌≡◌, ℕ, zero, suc, ◌-◌, ◌^◌, ◌<◌, nat_lt, if◌then◌else◌, List, [], ◌∷◌, ◌++◌, drop, filter_map, slice_get, Option, Some, None}
 use Rattle.crash_base.specs.declared.numbers.Moment.{Moment}
 use Rattle.ssm_frames.specs.declared.frame.Frame.{Frame}
 use Rattle.ssm_frames.specs.Reading.{decode_of}
-use Rattle.ssm_frames.specs.Spelling.{encode_of}
 use Rattle.brick_store.specs.Bricks.{BrickValue, new_brick, swept_at, crashed, answered, reply}
 use Rattle.outside.specs.declared.link.Received.{Received}
 use Rattle.outside.specs.declared.link.Received.TheVariants.{Got, Silent, OutOfMemory}
 use Rattle.outside.specs.Faults.{counted}
+use Rattle.link_lanes.specs.Lanes.{IsFirst, raised}
 
 -- A brick with what was sent to it and what it replied: how many asks are still to be dropped and
 -- replies still to be lost, all replies that it ever made, those that wait to be received, and how
@@ -31,10 +31,6 @@ new_lane number =
       queue = [];
       silences = 0;
     }
-
--- So many more, up to the last value of a count.
-abbrev pub raised : ℕ → ℕ → ℕ
-raised n more = min (n + more) (2 ^ 64 - 1)
 
 -- a count after one more was counted, so many times
 abbrev pub counted_times : ℕ → ℕ → ℕ
@@ -105,11 +101,6 @@ losing more lane = record lane { to_lose = raised lane.to_lose more }
 -- a lane of which so many more asks are to be dropped
 abbrev pub dropping : ℕ → LaneValue → LaneValue
 dropping more lane = record lane { to_drop = raised lane.to_drop more }
-
--- These bytes spell the first reply of a queue, and are decoded to it.
-abbrev pub IsFirst : List ℕ → List Frame → Type 0
-IsFirst bytes [] = ⊥
-IsFirst bytes (reply ∷ rest) = (bytes ≡ encode_of reply) × (decode_of bytes ≡ Some reply)
 
 -- What a receive from the lane with this answer gives, and leaves.
 abbrev pub Receives : Received → List ℕ → LaneValue → LaneValue → Type 0

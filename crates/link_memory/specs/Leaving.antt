@@ -14,9 +14,10 @@ use Rattle.ssm_stub.specs.declared.ear.Ear.TheVariants.{Open, Heard}
 use Rattle.ssm_stub.specs.declared.event.StubEvent.{StubEvent}
 use Rattle.ssm_stub.specs.declared.event.StubNext.TheVariants.{Ended}
 use Rattle.ssm_stub.specs.Runs.{Machine, Ran}
+use Rattle.link_lanes.specs.Lanes.{lane_of}
 use Rattle.link_memory.specs.Lane.{LaneValue, asked, counted_times}
 use Rattle.link_memory.specs.Rule.{Hearing, heard_from}
-use Rattle.link_memory.specs.Script.{ScriptValue, lane_of, ScriptMakes}
+use Rattle.link_memory.specs.Script.{ScriptValue, ScriptMakes}
 
 -- the silences of a lane after this was heard from it
 abbrev pub silences_after : {A : Type 0} → Outcome A → ℕ → ℕ

@@ -12,10 +12,11 @@ use Rattle.ssm_stub.specs.declared.ear.TheConstants.{MAX_STRAYS}
 use Rattle.ssm_stub.specs.declared.ear.Ear.TheVariants.{Heard}
 use Rattle.ssm_stub.specs.declared.reply.WriteReply.{WriteReply}
 use Rattle.ssm_stub.specs.Writes.{mark_by}
+use Rattle.link_lanes.specs.Lanes.{lane_of, on_lane}
 use Rattle.link_memory.specs.InOrder.{heard_over}
 use Rattle.link_memory.specs.Lane.{LaneValue, counted_times}
 use Rattle.link_memory.specs.Leaving.{IsUnlawful}
-use Rattle.link_memory.specs.Script.{ScriptValue, lane_of, on_lane}
+use Rattle.link_memory.specs.Script.{ScriptValue}
 
 -- the replies that wait in the queue of a brick
 abbrev pub queue_of : ScriptValue → BrickNo → List Frame

@@ -7,8 +7,9 @@ use Rattle.brick_store.specs.declared.event.BrickEvent.{BrickEvent}
 use Rattle.brick_store.specs.Standing.{StandsFor, heard}
 use Rattle.outside.specs.declared.link.LinkEvent.{LinkEvent}
 use Rattle.outside.specs.declared.link.LinkEvent.TheVariants.{Sends, SendsInSilence, Gets, HearsSilence, WantsToSend, WantsToReceive}
+use Rattle.link_lanes.specs.Lanes.{lane_of}
 use Rattle.link_memory.specs.Lane.{LaneValue}
-use Rattle.link_memory.specs.Script.{ScriptValue, lane_of}
+use Rattle.link_memory.specs.Script.{ScriptValue}
 
 -- A lane's brick has this number, was of incarnation 1 at first, and stands for this history.
 pub record StandsAs (number : ℕ) (history : List BrickEvent) (lane : LaneValue) : Type 0 where

@@ -1,125 +1,14 @@
 -- The counts of the link in memory never fall, and rise by what an event adds to them.
-use Rattle.std.proofs.Common.{arith, ◌≡◌, ◌∙◌, ap, sym, refl, subst, inl, inr, ℕ, zero, suc, ◌-◌, ◌^◌, ◌<◌, Bool, true, false, nat_lt, if◌then◌else◌, IsTrue, List, [], ◌∷◌, ◌++◌, Option, Some, None}
-use Rattle.std.specs.List.{slice_get, slice_set}
-use Rattle.std.specs.Option.{option_map, option_map_or}
-use Rattle.std.proofs.lemmas.Bool.{cases_lt, cases_eq, eqb-true, ltb-true}
-use Rattle.crash_base.specs.declared.numbers.BrickNo.{BrickNo}
+use Rattle.std.proofs.Common.{◌≡◌, sym, refl, subst, ℕ, ◌-◌, Bool, true, false, nat_lt, if◌then◌else◌, List, [], ◌∷◌, ◌++◌, Option, Some, None}
 use Rattle.ssm_frames.specs.declared.frame.Frame.{Frame}
 use Rattle.ssm_frames.specs.Reading.{decode_of}
 use Rattle.brick_store.specs.Bricks.{answered, reply}
 use Rattle.outside.specs.declared.link.LinkEvent.{LinkEvent}
 use Rattle.outside.specs.declared.link.LinkEvent.TheVariants.{Sends, SendsInSilence, Gets, HearsSilence, WantsToSend, WantsToReceive}
-use Rattle.outside.specs.Faults.{counted, NeverFalls, Rose}
-use Rattle.outside.specs.Link.{Tallied, is_silence_of, is_frame}
+use Rattle.outside.specs.Link.{Tallied}
+use Rattle.link_lanes.specs.Tallies.{sent_tallied, unsent_tallied, got_tallied, unheard_tallied, unmade_tallied, untaken_tallied}
 use Rattle.link_memory.specs.Lane.{LaneValue, with_reply_if, reached, asked, given, silent}
-use Rattle.link_memory.specs.Script.{ScriptValue, lane_in, lane_of, with_lane, on_lane, silences_of, more_unknown, hushed_by, given_by, SilencesFit, script_tally, ScriptMakes}
-
-pub slice_get-set_same : {X : Type 0} (xs : List X) (i : ℕ) (x y : X) → slice_get xs i ≡ Some x → slice_get (slice_set xs i y) i ≡ Some y
-slice_get-set_same [] i x y h = absurd cc
-slice_get-set_same (z ∷ zs) zero x y h = refl
-slice_get-set_same (z ∷ zs) (suc i) x y h = slice_get-set_same zs i x y h
-
-pub slice_get-set_other : {X : Type 0} (xs : List X) (i j : ℕ) (y : X) → (i ≡ j → ⊥) → slice_get (slice_set xs i y) j ≡ slice_get xs j
-slice_get-set_other [] i j y h = refl
-slice_get-set_other (z ∷ zs) zero zero y h = absurd (h refl)
-slice_get-set_other (z ∷ zs) zero (suc j) y h = refl
-slice_get-set_other (z ∷ zs) (suc i) zero y h = refl
-slice_get-set_other (z ∷ zs) (suc i) (suc j) y h = slice_get-set_other zs i j y (λ e. h (omega arith))
-
--- the lane of a brick after it was replaced
-pub lane_after : (lanes : List LaneValue) (brick : ℕ) (lane new : LaneValue) → lane_in lanes brick ≡ Some lane → lane_in (slice_set lanes (brick - 1) new) brick ≡ Some new
-lane_after lanes brick lane new = go (nat_lt 0 brick) where
-  go : (some : Bool) → (if some then slice_get lanes (brick - 1) else None) ≡ Some lane → (if some then slice_get (slice_set lanes (brick - 1) new) (brick - 1) else None) ≡ Some new
-  go true h = slice_get-set_same lanes (brick - 1) lane new h
-  go false h = absurd cc
-
--- the lanes of other bricks stay
-pub lane_beside : (lanes : List LaneValue) (brick other : ℕ) (lane new : LaneValue) → lane_in lanes brick ≡ Some lane → (brick ≡ other → ⊥) → lane_in (slice_set lanes (brick - 1) new) other ≡ lane_in lanes other
-lane_beside lanes brick other lane new h differ = go (nat_lt 0 brick) (nat_lt 0 other) refl refl h where
-  go : (some more : Bool) → nat_lt 0 brick ≡ some → nat_lt 0 other ≡ more → (if some then slice_get lanes (brick - 1) else None) ≡ Some lane
-      → (if more then slice_get (slice_set lanes (brick - 1) new) (other - 1) else None) ≡ (if more then slice_get lanes (other - 1) else None)
-  go true true e f h = slice_get-set_other lanes (brick - 1) (other - 1) new (λ q. differ (let m = ltb-true 0 brick e in let n = ltb-true 0 other f in omega arith))
-  go true false e f h = refl
-  go false more e f h = absurd cc
-
--- a brick that has a lane stays one with the changed lane, and the others stay
-pub own_lane : (link : ScriptValue) (brick : BrickNo) (change : LaneValue → LaneValue) → lane_of (on_lane brick change link) brick.0 ≡ option_map change (lane_of link brick.0)
-own_lane link brick change = go (lane_of link brick.0) refl where
-  go : (found : Option LaneValue) → lane_of link brick.0 ≡ found → lane_of (with_lane link brick.0 (option_map change found)) brick.0 ≡ option_map change found
-  go None h = h
-  go (Some lane) h = lane_after link.lanes brick.0 lane (change lane) h
-
-pub other_lane : (link : ScriptValue) (brick : BrickNo) (change : LaneValue → LaneValue) (other : ℕ) → (brick.0 ≡ other → ⊥) → lane_of (on_lane brick change link) other ≡ lane_of link other
-other_lane link brick change other differ = go (lane_of link brick.0) refl where
-  go : (found : Option LaneValue) → lane_of link brick.0 ≡ found → lane_of (with_lane link brick.0 (option_map change found)) other ≡ lane_of link other
-  go None h = refl
-  go (Some lane) h = lane_beside link.lanes brick.0 other lane (change lane) h differ
-
-same : (n m : ℕ) → m ≡ n → NeverFalls n m
-same n m h = record { least = omega arith; stays = λ e. h ∙ e }
-
-one_more : (n : ℕ) → n < 2 ^ 64 → NeverFalls n (counted n)
-one_more n fits = record { least = omega arith; stays = λ e. (let m : counted n ≡ 2 ^ 64 - 1 = omega arith in m) }
-
-rose : (n : ℕ) → n < 2 ^ 64 → Rose n (counted n)
-rose n fits = elim (cases_lt n (2 ^ 64 - 1)) [ inl below ↦ inl (omega arith) | inr above ↦ inr (omega arith) ]
-
--- what changes no silences of a lane changes none of the link
-silences_stay : (link : ScriptValue) (brick : BrickNo) (change : LaneValue → LaneValue) (number : ℕ) → ((lane : LaneValue) → (change lane).silences ≡ lane.silences) → silences_of (on_lane brick change link) number ≡ silences_of link number
-silences_stay link brick change number keeps = elim (cases_eq brick.0 number) [
-  | inl is ↦ (let P : ℕ → Type 0 = λ n. silences_of (on_lane brick change link) n ≡ silences_of link n in
-      subst P is (unknown_stays brick.0 ∙ (ap (λ o. option_map_or (λ (lane : LaneValue). lane.silences) o link.unknown) (own_lane link brick change) ∙ kept (lane_of link brick.0))))
-  | inr differ ↦ unknown_stays number ∙ ap (λ o. option_map_or (λ (lane : LaneValue). lane.silences) o link.unknown) (other_lane link brick change number differ)
-]
-  where
-    same_unknown : (found : Option LaneValue) → (with_lane link brick.0 found).unknown ≡ link.unknown
-    same_unknown None = refl
-    same_unknown (Some lane) = refl
-
-    unknown_stays : (n : ℕ) → silences_of (on_lane brick change link) n ≡ option_map_or (λ (lane : LaneValue). lane.silences) (lane_of (on_lane brick change link) n) link.unknown
-    unknown_stays n = ap (option_map_or (λ (lane : LaneValue). lane.silences) (lane_of (on_lane brick change link) n)) (same_unknown (option_map change (lane_of link brick.0)))
-
-    kept : (found : Option LaneValue) → option_map_or (λ (lane : LaneValue). lane.silences) (option_map change found) link.unknown ≡ option_map_or (λ (lane : LaneValue). lane.silences) found link.unknown
-    kept None = refl
-    kept (Some lane) = keeps lane
-
--- a silence of a brick, or of a number without one, adds one to its silences
-hushed_more : (link : ScriptValue) (brick : BrickNo) → silences_of (hushed_by brick link) brick.0 ≡ counted (silences_of link brick.0)
-hushed_more link brick = go (lane_of link brick.0) refl where
-  go : (found : Option LaneValue) → lane_of link brick.0 ≡ found
-      → silences_of (more_unknown found (with_lane (record link { hushed = counted link.hushed }) brick.0 (option_map silent found))) brick.0
-      ≡ counted (option_map_or (λ (lane : LaneValue). lane.silences) found link.unknown)
-  go None h = ap (λ o. option_map_or (λ (lane : LaneValue). lane.silences) o (counted link.unknown)) h
-  go (Some lane) h = ap (λ o. option_map_or (λ (lane : LaneValue). lane.silences) o link.unknown) (lane_after link.lanes brick.0 lane (silent lane) h)
-
--- and takes none from those of any number
-hushed_never : (link : ScriptValue) (brick : BrickNo) (number : ℕ) → SilencesFit link brick → NeverFalls (silences_of link number) (silences_of (hushed_by brick link) number)
-hushed_never link brick number fit = elim (cases_eq brick.0 number) [
-  | inl is ↦ (let P : ℕ → Type 0 = λ n. NeverFalls (silences_of link n) (silences_of (hushed_by brick link) n) in
-      subst P is (let Q : ℕ → Type 0 = λ n. NeverFalls (silences_of link brick.0) n in subst Q (sym (hushed_more link brick)) (one_more (silences_of link brick.0) fit.of_brick)))
-  | inr differ ↦ go differ (lane_of link brick.0) refl
-]
-  where
-    unknown_never : (found : Option LaneValue) → link.unknown < 2 ^ 64 → NeverFalls (option_map_or (λ (lane : LaneValue). lane.silences) found link.unknown) (option_map_or (λ (lane : LaneValue). lane.silences) found (counted link.unknown))
-    unknown_never None fits = one_more link.unknown fits
-    unknown_never (Some lane) fits = same lane.silences lane.silences refl
-
-    go : (brick.0 ≡ number → ⊥) → (found : Option LaneValue) → lane_of link brick.0 ≡ found
-        → NeverFalls (silences_of link number) (silences_of (more_unknown found (with_lane (record link { hushed = counted link.hushed }) brick.0 (option_map silent found))) number)
-    go differ None h = unknown_never (lane_of link number) (let P : Option LaneValue → Type 0 = λ o. option_map_or (λ (lane : LaneValue). lane.silences) o link.unknown < 2 ^ 64 in subst P h fit.of_brick)
-    go differ (Some lane) h = same (silences_of link number) (option_map_or (λ (l : LaneValue). l.silences) (lane_in (slice_set link.lanes (brick.0 - 1) (silent lane)) number) link.unknown) (ap (λ o. option_map_or (λ (l : LaneValue). l.silences) o link.unknown) (lane_beside link.lanes brick.0 number lane (silent lane) h differ))
-
--- a changed lane changes no count of all
-others_stay : (link : ScriptValue) (brick : ℕ) (found : Option LaneValue) → ((with_lane link brick found).hushed ≡ link.hushed) × ((with_lane link brick found).got ≡ link.got)
-others_stay link brick None = (refl, refl)
-others_stay link brick (Some lane) = (refl, refl)
-
-hushed_of_all : (link : ScriptValue) (brick : BrickNo) → ((hushed_by brick link).hushed ≡ counted link.hushed) × ((hushed_by brick link).got ≡ link.got)
-hushed_of_all link brick = go (lane_of link brick.0) where
-  go : (found : Option LaneValue) → ((more_unknown found (with_lane (record link { hushed = counted link.hushed }) brick.0 (option_map silent found))).hushed ≡ counted link.hushed)
-      × ((more_unknown found (with_lane (record link { hushed = counted link.hushed }) brick.0 (option_map silent found))).got ≡ link.got)
-  go None = (refl, refl)
-  go (Some lane) = (refl, refl)
+use Rattle.link_memory.specs.Script.{ScriptValue, script_tally, ScriptMakes}
 
 asked_counts : (bytes : List ℕ) (lane : LaneValue) → (asked bytes lane).silences ≡ lane.silences
 asked_counts bytes lane = go (nat_lt 0 lane.to_drop) (decode_of bytes) where
@@ -139,60 +28,25 @@ asked_counts bytes lane = go (nat_lt 0 lane.to_drop) (decode_of bytes) where
   go true found = refl
   go false found = came found
 
--- an event in which a brick was silent
-silence_tallied : (old : ScriptValue) (brick : BrickNo) (event : LinkEvent) → SilencesFit old brick → is_frame event ≡ false → ((number : ℕ) → IsTrue (is_silence_of number event) → brick.0 ≡ number) → Tallied event (script_tally old) (script_tally (hushed_by brick old))
-silence_tallied old brick event fit none own = record {
-  silences_never_fall = λ number. hushed_never old brick number fit;
-  hushed_never_falls = (let P : ℕ → Type 0 = λ n. NeverFalls old.hushed n in subst P (sym (hushed_of_all old brick).0) (one_more old.hushed fit.of_all));
-  got_never_falls = same old.got (hushed_by brick old).got (hushed_of_all old brick).1;
-  silence_rises = λ number h. (let P : ℕ → Type 0 = λ n. Rose (silences_of old n) (silences_of (hushed_by brick old) n) in
-      subst P (own number h) (let Q : ℕ → Type 0 = λ n. Rose (silences_of old brick.0) n in subst Q (sym (hushed_more old brick)) (rose (silences_of old brick.0) fit.of_brick)));
-  hushed_rises = λ h. (let P : ℕ → Type 0 = λ n. Rose old.hushed n in subst P (sym (hushed_of_all old brick).0) (rose old.hushed fit.of_all));
-  got_rises = λ h. absurd cc;
-}
+abbrev silences : LaneValue → ℕ
+silences lane = lane.silences
 
 pub script_tallies : (old new : ScriptValue) (event : LinkEvent) → ScriptMakes old event new → Tallied event (script_tally old) (script_tally new)
 script_tallies old new (Sends to frame) (there, is) =
-    (let P : ScriptValue → Type 0 = λ s. Tallied (Sends to frame) (script_tally old) (script_tally s) in subst P (sym is) (record {
-      silences_never_fall = λ brick. same (silences_of old brick) (silences_of (on_lane to (asked frame) old) brick) (silences_stay old to (asked frame) brick (asked_counts frame));
-      hushed_never_falls = same old.hushed (on_lane to (asked frame) old).hushed (others_stay old to.0 (option_map (asked frame) (lane_of old to.0))).0;
-      got_never_falls = same old.got (on_lane to (asked frame) old).got (others_stay old to.0 (option_map (asked frame) (lane_of old to.0))).1;
-      silence_rises = λ brick h. absurd cc;
-      hushed_rises = λ h. absurd cc;
-      got_rises = λ h. absurd cc;
-    }))
+    (let P : ScriptValue → Type 0 = λ s. Tallied (Sends to frame) (script_tally old) (script_tally s) in
+    subst P (sym is) (sent_tallied silences (asked frame) (asked_counts frame) old to frame))
 script_tallies old new (SendsInSilence to frame) (none, fit, is) =
     (let P : ScriptValue → Type 0 = λ s. Tallied (SendsInSilence to frame) (script_tally old) (script_tally s) in
-    subst P (sym is) (silence_tallied old to (SendsInSilence to frame) fit refl (λ number h. eqb-true to.0 number h)))
+    subst P (sym is) (unsent_tallied silences silent (λ lane. refl) old to frame fit))
 script_tallies old new (Gets from frame) (gives, fits, is) =
-    let before : ScriptValue = record old { got = counted old.got } in
-    let others = others_stay before from.0 (option_map given (lane_of old from.0)) in
-    (let P : ScriptValue → Type 0 = λ s. Tallied (Gets from frame) (script_tally old) (script_tally s) in subst P (sym is) (record {
-      silences_never_fall = λ brick. same (silences_of old brick) (silences_of (given_by from old) brick) (silences_stay before from given brick (λ lane. refl));
-      hushed_never_falls = same old.hushed (given_by from old).hushed others.0;
-      got_never_falls = (let Q : ℕ → Type 0 = λ n. NeverFalls old.got n in subst Q (sym others.1) (one_more old.got fits));
-      silence_rises = λ brick h. absurd cc;
-      hushed_rises = λ h. absurd cc;
-      got_rises = λ h. (let Q : ℕ → Type 0 = λ n. Rose old.got n in subst Q (sym others.1) (rose old.got fits));
-    }))
+    (let P : ScriptValue → Type 0 = λ s. Tallied (Gets from frame) (script_tally old) (script_tally s) in
+    subst P (sym is) (got_tallied silences given (λ lane. refl) old from frame fits))
 script_tallies old new (HearsSilence from) (quiet, fit, is) =
     (let P : ScriptValue → Type 0 = λ s. Tallied (HearsSilence from) (script_tally old) (script_tally s) in
-    subst P (sym is) (silence_tallied old from (HearsSilence from) fit refl (λ number h. eqb-true from.0 number h)))
-script_tallies old new (WantsToSend brick frame) is =
-    (let P : ScriptValue → Type 0 = λ s. Tallied (WantsToSend brick frame) (script_tally old) (script_tally s) in subst P (sym is) (record {
-      silences_never_fall = λ n. same (silences_of old n) (silences_of old n) refl;
-      hushed_never_falls = same old.hushed old.hushed refl;
-      got_never_falls = same old.got old.got refl;
-      silence_rises = λ n h. absurd cc;
-      hushed_rises = λ h. absurd cc;
-      got_rises = λ h. absurd cc;
-    }))
-script_tallies old new (WantsToReceive brick) is =
-    (let P : ScriptValue → Type 0 = λ s. Tallied (WantsToReceive brick) (script_tally old) (script_tally s) in subst P (sym is) (record {
-      silences_never_fall = λ n. same (silences_of old n) (silences_of old n) refl;
-      hushed_never_falls = same old.hushed old.hushed refl;
-      got_never_falls = same old.got old.got refl;
-      silence_rises = λ n h. absurd cc;
-      hushed_rises = λ h. absurd cc;
-      got_rises = λ h. absurd cc;
-    }))
+    subst P (sym is) (unheard_tallied silences silent (λ lane. refl) old from fit))
+script_tallies old new (WantsToSend to frame) is =
+    (let P : ScriptValue → Type 0 = λ s. Tallied (WantsToSend to frame) (script_tally old) (script_tally s) in
+    subst P (sym is) (unmade_tallied (script_tally old) to frame))
+script_tallies old new (WantsToReceive from) is =
+    (let P : ScriptValue → Type 0 = λ s. Tallied (WantsToReceive from) (script_tally old) (script_tally s) in
+    subst P (sym is) (untaken_tallied (script_tally old) from))

@@ -4,7 +4,8 @@ ghost use Rattle.std.specs.Prelude.{◌≡◌, ◌+◌, ◌-◌, ◌^◌, ◌<�
 ghost use Rattle.std.specs.Vec.{vec_len, vec_capacity};
 ghost use Rattle.std.specs.VecDeque.{deque_len, deque_capacity};
 ghost use Rattle.ssm_frames.specs.Requests.{is_request};
-ghost use Rattle.link_memory.specs.Lane.{new_lane, asked, reached, served, Receives, with_reply, given, silent, repeated, crashed_lane, swept_lane, losing, dropping, raised, IsFirst, replies_at};
+ghost use Rattle.link_lanes.specs.Lanes.{raised, IsFirst};
+ghost use Rattle.link_memory.specs.Lane.{new_lane, asked, reached, served, Receives, with_reply, given, silent, repeated, crashed_lane, swept_lane, losing, dropping, replies_at};
 
 use brick_store::Brick;
 use crash_base::{BrickNo, FrameBytes, Moment, OutOfMemory};

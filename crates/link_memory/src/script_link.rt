@@ -1,12 +1,14 @@
 //! The link in memory.
 
-ghost use Rattle.std.specs.Prelude.{◌≡◌, ◌+◌, ◌-◌, ◌^◌, ◌<◌, ◌≤◌, IfOk, OnOk, OnErr, MatchOption, None, length};
+ghost use Rattle.std.specs.Prelude.{◌≡◌, ◌+◌, ◌-◌, ◌^◌, ◌<◌, ◌≤◌, IfOk, OnOk, OnErr, length};
 ghost use Rattle.outside.specs.Faults.{counted};
-ghost use Rattle.link_memory.specs.Script.{ScriptMakes, new_link, new_lanes, lane_in, on_lane, made_of, incarnation_of, values_of, script_tally};
+ghost use Rattle.link_lanes.specs.Lanes.{on_lane};
+ghost use Rattle.link_memory.specs.Script.{ScriptMakes, new_link, new_lanes, made_of, incarnation_of, values_of, script_tally};
 ghost use Rattle.link_memory.specs.Lane.{new_lane, asked, repeated, crashed_lane, swept_lane, losing, dropping};
 
 use crate::lane::Lane;
 use crash_base::{BrickNo, FrameBytes, Moment, OutOfMemory};
+use link_lanes::place_of;
 use outside::{Link, LinkCounts, Received, Sent};
 use std::alloc::Global;
 use std::marker::Model;
@@ -30,18 +32,6 @@ impl Model for ScriptLink {
     ghost Value = { ScriptValue };
 
     ghost view = { λ l. record { lanes = l.lanes.items; unknown = l.unknown; hushed = l.hushed; got = l.got } };
-}
-
-/// The place of the lane of a brick, if it is one.
-fn place_of(lanes: &[Lane], brick: BrickNo) -> Option<usize>
-    ensures { MatchOption result (lane_in lanes.now brick.0 ≡ None)
-        (λ place. (place + 1 ≡ brick.0) × (place < length lanes.now)) }
-{
-    let number = brick.0 as usize;
-    if number == 0 || number > lanes.len() {
-        return None;
-    }
-    Some(number - 1)
 }
 
 /// The lanes of new bricks.

@@ -4,11 +4,11 @@ use Rattle.ssm_stub.specs.Runs.{told_of}
 use Rattle.ssm_stub.specs.Turns.{none_asked}
 use Rattle.ssm_stub.specs.Writes.{WriteState, write_start, write_machine, write_until, put_lawful}
 use Rattle.ssm_stub.specs.declared.reply.WriteReply.{WriteReply}
+use Rattle.link_lanes.specs.Lanes.{lane_of}
 use Rattle.link_memory.specs.Leaving.{Leaves}
 use Rattle.link_memory.proofs.Apart.{passes_apart, none_distinct}
 use Rattle.link_memory.proofs.Asking.{leaves_by}
 use Rattle.link_memory.proofs.Turns.{writes, write_turned, until_turned, none_yet}
-use Rattle.link_memory.specs.Script.{lane_of}
 use Rattle.link_memory.proofs.Unheard.{none_strayed, all_wait}
 use Rattle.link_memory.proofs.laws.writes_over_the_link.Goals as goal
 

@@ -1,8 +1,9 @@
 use Rattle.std.proofs.Common.{◌≡◌, ◌∙◌, ◌+◌, ◌<◌, ◌^◌, ap, rules, Option, IsSome, sym, subst, length, None, Some, List}
 use Rattle.std.specs.Option.{option_map_or}
-use Rattle.link_memory.specs.Lane.{LaneValue, asked}
-use Rattle.link_memory.specs.Script.{ScriptValue, lane_in, lane_of, SilencesFit}
-use Rattle.link_memory.proofs.Lanes.{lane_here, changed_here, set_back, unknown_hushed}
+use Rattle.link_lanes.specs.Lanes.{lane_in, lane_of, SilencesFit}
+use Rattle.link_lanes.proofs.Places.{lane_here, changed_here, set_back, unknown_hushed}
+use Rattle.link_memory.specs.Lane.{LaneValue, asked, silent}
+use Rattle.link_memory.specs.Script.{ScriptValue, script_tally}
 use Rattle.link_memory.proofs.script_link.ScriptLinkLink.send.Goals as goal
 use Rattle.link_memory.proofs.script_link.ScriptLinkLink.send.Goals.{in-Ok, in-Err}
 
@@ -10,11 +11,11 @@ pub returns-in-None : goal.returns-in-None
 returns-in-None c =
     let here : List LaneValue → Type 0 = λ lanes. lane_in lanes c.args.to.0 ≡ None in
     let none : lane_of c.args.self.now c.args.to.0 ≡ None = subst here (c.deref.ensures.value ∙ ap (λ (l : ScriptValue). l.lanes) c.self.view_is) c.in-None.ensures in
-    let fit : SilencesFit c.args.self.now c.args.to = record {
+    let fit : SilencesFit (script_tally c.args.self.now) c.args.to = record {
       of_brick = (let P : Option LaneValue → Type 0 = λ o. option_map_or (λ (l : LaneValue). l.silences) o c.args.self.now.unknown < 2 ^ 64 in subst P (sym none) c.hush_unknown.ensures.unknown_fits);
       of_all = c.hush_unknown.ensures.hushed_fits;
     } in
-    (none, fit, c.hush_unknown.ensures.counts ∙ unknown_hushed c.args.self.now c.args.to none)
+    (none, fit, c.hush_unknown.ensures.counts ∙ unknown_hushed silent c.args.self.now c.args.to none)
 
 pub returns-after-ask : goal.returns-after-ask
 returns-after-ask c =
