@@ -4,4 +4,5 @@ pub mod Growing
 pub mod Leaving
 pub mod Remembering
 pub mod Resting
+pub mod Spent
 pub mod Told

@@ -40,7 +40,7 @@ is_rest turns.Output = false
 is_rest turns.Item = false
 is_rest (turns.Ended end) = true
 
-served_no_rest : (t : Turn) → is_rest (turn_by t) ≡ false
+pub served_no_rest : (t : Turn) → is_rest (turn_by t) ≡ false
 served_no_rest visit.Outside = refl
 served_no_rest visit.Windows = refl
 served_no_rest visit.Inside = refl

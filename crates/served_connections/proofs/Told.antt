@@ -1,6 +1,6 @@
 -- What a connection tells at an end.
 use Rattle.std.specs.Prelude.{◌↔◌}
-use Rattle.std.proofs.Common.{◌≡◌, ◌≢◌, inl, inr, ℕ, ◌==◌, ◌<◌, Bool, true, false, List, [], ◌∷◌, ◌++◌, All, arith, length, map, take, slice_get, Some, refl, sym, ap, ◌∙◌, subst, if◌then◌else◌}
+use Rattle.std.proofs.Common.{◌≡◌, ◌≢◌, ◌⊎◌, inl, inr, ℕ, ◌==◌, ◌<◌, Bool, true, false, List, [], ◌∷◌, ◌++◌, All, arith, length, map, take, slice_get, Some, refl, sym, ap, ◌∙◌, subst, if◌then◌else◌}
 use Rattle.std.proofs.lemmas.List.{append-nil, length-append, length-map}
 use Rattle.std.proofs.lemmas.List.Elements.{All-cons, All-head, All-nil, All-tail}
 use Rattle.std.proofs.lemmas.Option.{slice_get_within}
@@ -24,6 +24,7 @@ use Rattle.request_tries.specs.Ends.{Errand}
 use Rattle.request_tries.specs.declared.outcome.RequestOutcome.{RequestOutcome}
 use Rattle.request_tries.specs.declared.outcome.RequestOutcome.TheVariants.{Page}
 use Rattle.request_visit.specs.Accounts.{Became, EndsWith, IsUnheld}
+use Rattle.request_visit.specs.Visits.{turn as visit_turn}
 use Rattle.request_visit.specs.declared.facts.VisitFacts.{VisitFacts}
 use Rattle.send_windows.specs.declared.history.WindowMark.{WindowMark}
 use Rattle.send_windows.specs.declared.history.WindowMark.TheVariants as mark
@@ -41,9 +42,11 @@ use Rattle.shepherd.specs.declared.shepherd.Shepherd.{Shepherd}
 use Rattle.shepherd.specs.declared.shepherd.ShepherdTurn.TheVariants as turns
 use Rattle.shepherd.specs.declared.shepherd.Stage.{Stage}
 use Rattle.shepherd.specs.declared.shepherd.Stage.TheVariants.{Resting, Serving, Refusing, Over}
+use Rattle.site_responses.specs.declared.answer.Untaken.{Untaken}
 use Rattle.served_connections.specs.Resting.{Rests, last_at}
 use Rattle.served_connections.specs.Stopping.{HoldsNothing, IsUnsent}
 use Rattle.served_connections.specs.Telling.{TellsHolds}
+use Rattle.served_connections.proofs.Resting.{bytes_remember, is_rest, rests_at, served_no_rest}
 
 -- What was said at rest are the last bytes, and what was added and left is told by items.
 pub says_rest : {P : Type 0} (key : List ℕ) (history : List Event) (opened : List Head) (sent : List ℕ) (stage : Stage P) → Rests stage → StageSays key history opened sent stage → (opened ≡ []) × (sent ≡ last_at stage)
@@ -127,6 +130,63 @@ all_taken {P} fed heads written items s end rests remembers is served h = by s.s
   by (Over e) rests ends_so open_so came =
       came ∙ (ap (λ (hs : List Head). let r : Requests = record { heads = hs; ending = ending_of e } in r) (append-nil heads)
       ∙ ap (λ (k : EndKind). let r : Requests = record { heads = heads; ending = ending_of k } in r) (let same : e ≡ end = cc in same))
+
+-- whose step it is where no more bytes come behind those that were to be waited for
+ends_then : (a b c : Bool) → (if a then turns.Request else (if b then (if c then turns.Ended ends.Closed else turns.Ended ends.Cut) else turns.Bytes)) ≡ turns.Bytes
+    → (end : EndKind) × ((if a then turns.Request else (if c then turns.Ended ends.Closed else turns.Ended ends.Cut)) ≡ turns.Ended end)
+ends_then true b c is = absurd (cc)
+ends_then false true true is = absurd (cc)
+ends_then false true false is = absurd (cc)
+ends_then false false true is = (ends.Closed, refl)
+ends_then false false false is = (ends.Cut, refl)
+
+would_end : {P : Type 0} (s : Shepherd P) → turn s ≡ turns.Bytes → (end : EndKind) × (turn (record s { ended = true }) ≡ turns.Ended end)
+would_end {P} s is = by s.wants_memory s.stage is where
+  by : (m : Bool) (x : Stage P) → (if m then turns.Ended ends.OutOfMemory else stage_turn x s.received s.ended) ≡ turns.Bytes
+      → (end : EndKind) × ((if m then turns.Ended ends.OutOfMemory else stage_turn x s.received true) ≡ turns.Ended end)
+  by true x is = absurd (cc)
+  by false Resting is = ends_then (settles (taken_of s.received)) s.ended (length s.received == 0) is
+  by false (Serving v call) is = absurd (let none = served_no_rest (visit_turn v) in let rest = ap is_rest is in cc)
+  by false (Refusing why bytes) is = absurd (cc)
+  by false (Over end) is = absurd (cc)
+
+-- The requests of all bytes of a connection that waits for more are those that were taken off.
+pub all_came : {P : Type 0} (fed : List ℕ) (heads : List Head) (written : List ℕ) (items : List Item) (s : Shepherd P) → turn s ≡ turns.Bytes
+    → ((end : EndKind) → turn (record s { ended = true }) ≡ turns.Ended end → end ≢ ends.OutOfMemory → Standing fed heads written items (record s { ended = true }) → HasServedAll fed written items end)
+    → Standing fed heads written items s → (requests fed).heads ≡ heads
+all_came {P} fed heads written items s is served h =
+    let over : Standing fed heads written items (record s { ended = true }) = record {
+      served = h.served;
+      opened = h.opened;
+      sent = h.sent;
+      heads_are = h.heads_are;
+      items_are = h.items_are;
+      requests_are = h.requests_are;
+      written_is = h.written_is;
+      is_open = h.is_open;
+      front_is = h.front_is;
+    } in
+    let end = would_end s is in
+    let remembers : s.wants_memory ≡ false = bytes_remember s is in
+    ap (λ (r : Requests). r.heads)
+    (all_taken fed heads written items (record s { ended = true }) end.0 (rests_at s remembers (ap is_rest is)) remembers end.1 (λ other. served end.0 end.1 other over) over)
+
+-- A connection that rests has no last bytes, or it has ended at what is refused.
+pub last_or_refused : {P : Type 0} (s : Shepherd P) → Rests s.stage → s.wants_memory ≡ false → (last_at s.stage ≡ []) ⊎ ((why : Untaken) × (turn s ≡ turns.Ended (ends.Refused why)))
+last_or_refused {P} s rests remembers = by s.stage rests refl where
+  ended : (why : Untaken) → s.stage ≡ Over (ends.Refused why) → turn s ≡ turns.Ended (ends.Refused why)
+  ended why is =
+      ap (λ (m : Bool). if m then turns.Ended ends.OutOfMemory else stage_turn s.stage s.received s.ended) remembers
+      ∙ ap (λ (x : Stage P). stage_turn x s.received s.ended) is
+
+  by : (x : Stage P) → Rests x → s.stage ≡ x → (last_at x ≡ []) ⊎ ((why : Untaken) × (turn s ≡ turns.Ended (ends.Refused why)))
+  by Resting rests is = inl refl
+  by (Serving v call) rests is = absurd rests
+  by (Refusing why bytes) rests is = absurd rests
+  by (Over ends.Closed) rests is = inl refl
+  by (Over ends.Cut) rests is = inl refl
+  by (Over (ends.Refused why)) rests is = inr (why, ended why is)
+  by (Over ends.OutOfMemory) rests is = inl refl
 
 module _ (start : Start) (history : List Event) (errand : Errand) (facts : VisitFacts) (holds : Holds) (own : List Event) where
   never_held : IsUnheld facts holds own → holds.held ≢ 0 → length (entries_in (take holds.held history)) ≡ holds.front.0

@@ -19,12 +19,13 @@ pub record Begun : Type 0 where
 abbrev pub begun_behind : List Event → ℕ → LinkCounts → Begun
 begun_behind history now counts = record { events = length history; entries = length (entries_in history); moment = now; counts = counts }
 
--- The course of a connection, each in order: the bytes that were fed to it, what was drawn for its requests, what it
--- put out, its items, the events that it added to the history of the container, and the marks that it left in that of
--- the windows, with the numbers of passes left out.
+-- The course of a connection, each in order: the bytes that were fed to it, what was drawn for its requests, the serial
+-- numbers that were looked at for them and found spent, what it put out, its items, the events that it added to the
+-- history of the container, and the marks that it left in that of the windows, with the numbers of passes left out.
 pub record Course : Type 0 where
   pub fed : List ℕ
   pub drawn : List Draw
+  pub looked : List ℕ
   pub written : List ℕ
   pub items : List Item
   pub own : List Event
@@ -32,7 +33,7 @@ pub record Course : Type 0 where
 
 -- the course of a connection that begins
 abbrev pub no_course : Course
-no_course = record { fed = []; drawn = []; written = []; items = []; own = []; marks = [] }
+no_course = record { fed = []; drawn = []; looked = []; written = []; items = []; own = []; marks = [] }
 
 -- a link has counted no less than this
 pub record HaveRisen (counts later : LinkCounts) : Type 0 where

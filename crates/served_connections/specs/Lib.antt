@@ -2,5 +2,6 @@ pub mod Behind
 pub mod Courses
 pub mod Resting
 pub mod Serving
+pub mod Spent
 pub mod Stopping
 pub mod Telling

@@ -1,5 +1,5 @@
 -- A connection that is served, whatever others do meanwhile in the container, in the windows and over the link.
-use Rattle.std.specs.Prelude.{◌≡◌, ◌⊎◌, ℕ, false, List, ◌++◌, length, map, None}
+use Rattle.std.specs.Prelude.{◌≡◌, ◌⊎◌, ℕ, false, List, ◌++◌, length, map, Option, None, option_to_list, IfSome}
 use Rattle.auction_calls.specs.declared.action.ActionCall.{ActionCall}
 use Rattle.boot_core.specs.declared.boot.Start.{Start}
 use Rattle.call_ticket.specs.declared.next.Answer.{Answer}
@@ -28,6 +28,7 @@ use Rattle.shepherd.specs.Standing.{Standing}
 use Rattle.shepherd.specs.declared.shepherd.Shepherd.{Shepherd}
 use Rattle.served_connections.specs.Behind.{Beginning}
 use Rattle.served_connections.specs.Courses.{Begun, Course}
+use Rattle.served_connections.specs.Spent.{FindsSpent, IsFoundSpent}
 
 -- A connection goes on in a container of this start whose events are this history, and whose journal is their entries.
 pub record GoesOnBehind {P L : Type 0} (accepts : P → Parts → Type 0) (asks : P → List Answer → Next) (calls : L → LinkEvent → L → Type 0) (start : Start) (history : List Event) (s : Shepherd P) : Type 0 where
@@ -42,7 +43,7 @@ pub record GoesOnBehind {P L : Type 0} (accepts : P → Parts → Type 0) (asks 
 -- and what it put out are the responses to them. What it added to the history of the container and left in that of the
 -- windows is what they tell, and what the request that is open has done. Each item goes back to its own request. None
 -- is older than what the connection had seen, and none began behind fewer entries than it had seen; each follows on the
--- one before, and the link's counts rise with them.
+-- one before, and the link's counts rise with them. Each serial number that was found spent is one that they tell of.
 pub record Serves {P L M R S : Type 0} (accepts : P → Parts → Type 0) (asks : P → List Answer → Next) (calls : L → LinkEvent → L → Type 0) (makes : M → ActionCall → List ℕ → P → Type 0) (gives : Gives R) (looks : Looks S) (service : Service M) (start : Start) (begun : Begun) (history : List Event) (counts : LinkCounts) (now : ℕ) (c : Course) (s : Shepherd P) : Type 0 where
   pub heads : List Head
   pub stands : Standing c.fed heads c.written c.items s
@@ -54,17 +55,20 @@ pub record Serves {P L M R S : Type 0} (accepts : P → Parts → Type 0) (asks 
   pub follow : FollowOn (record { 0 = 0 }) c.items
   pub keep : KeepFront (record { 0 = 0 }) c.items
   pub begin : Beginning begun.entries (length (entries_in history)) c.items s
+  pub finds : FindsSpent c.looked c.items s.stage
   pub remembers : s.wants_memory ≡ false
   pub goes : GoesOnBehind accepts asks calls start history s
 
 -- A connection is served that took the next request off its bytes, or none: it drew these numbers, one after another,
--- and looked at a serial number last where that is spent.
+-- and looked at a serial number last where that is spent. Where the request is told so, it is told what was seen then.
 pub record ServesNext {P L M R S : Type 0} (accepts : P → Parts → Type 0) (asks : P → List Answer → Next) (calls : L → LinkEvent → L → Type 0) (makes : M → ActionCall → List ℕ → P → Type 0) (gives : Gives R) (looks : Looks S) (service : Service M) (start : Start) (begun : Begun) (history : List Event) (counts : LinkCounts) (now : ℕ) (c : Course) (s : Shepherd P) (random random_after : R) (serials serials_after : S) : Type 0 where
   pub more : List Draw
   pub mid : S
   pub drew : HasDrawn looks gives serials random more mid random_after
   pub looked : (serials_after ≡ mid) ⊎ ((seen : ℕ) × looks mid seen None serials_after)
-  pub serves : Serves accepts asks calls makes gives looks service start begun history counts now (record c { drawn = c.drawn ++ more }) s
+  pub spent : Option ℕ
+  pub found : IfSome spent (λ seen. IsFoundSpent gives looks random serials seen random_after serials_after)
+  pub serves : Serves accepts asks calls makes gives looks service start begun history counts now (record c { drawn = c.drawn ++ more; looked = c.looked ++ option_to_list spent }) s
 
 -- A step in the container added these events, and the connection is served with them.
 pub record ServesAdding {P L M R S : Type 0} (accepts : P → Parts → Type 0) (asks : P → List Answer → Next) (calls : L → LinkEvent → L → Type 0) (makes : M → ActionCall → List ℕ → P → Type 0) (gives : Gives R) (looks : Looks S) (service : Service M) (start : Start) (begun : Begun) (before after : ContainerValue) (counts : LinkCounts) (now : ℕ) (c : Course) (s : Shepherd P) : Type 0 where

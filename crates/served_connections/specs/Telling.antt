@@ -1,5 +1,5 @@
 -- What the course of a connection tells of what was served over it, once it has ended.
-use Rattle.std.specs.Prelude.{◌≡◌, ◌↔◌, ◌⊎◌, ◌≢◌, ◌≤◌, ◌<◌, ℕ, true, List, [], ◌∷◌, ◌++◌, All, length, take, Option, Some}
+use Rattle.std.specs.Prelude.{◌≡◌, ◌↔◌, ◌⊎◌, ◌≢◌, ◌≤◌, ◌<◌, ℕ, true, List, [], ◌∷◌, ◌++◌, All, length, take, Option, Some, option_map}
 use Rattle.auction_calls.specs.declared.action.ActionCall.{ActionCall}
 use Rattle.boot_core.specs.declared.boot.Start.{Start}
 use Rattle.call_ticket.specs.declared.next.Answer.{Answer}
@@ -13,15 +13,20 @@ use Rattle.outcome_items.specs.Traces.{is_outside}
 use Rattle.outcome_items.specs.declared.item.Holds.{Holds}
 use Rattle.outcome_items.specs.declared.item.Item.{Item}
 use Rattle.outside.specs.declared.link.LinkEvent.{LinkEvent}
+use Rattle.request_decisions.specs.declared.draws.Draw.{Draw}
 use Rattle.request_intake.specs.Intakes.{Gives, Looks}
 use Rattle.request_intake.specs.declared.intake.Admission.{Admission}
+use Rattle.request_intake.specs.declared.intake.Arrival.TheVariants.{Admitted}
 use Rattle.request_tries.specs.Ends.{Errand}
 use Rattle.request_tries.specs.declared.outcome.RequestOutcome.{RequestOutcome}
 use Rattle.request_visit.specs.Accounts.{EndsWith}
+use Rattle.request_visit.specs.Advancing.{value_of}
+use Rattle.request_visit.specs.Sessions.{IsKnown}
 use Rattle.request_visit.specs.declared.facts.VisitFacts.{VisitFacts}
 use Rattle.send_windows.specs.declared.history.WindowMark.{WindowMark}
 use Rattle.send_windows.specs.declared.history.WindowMark.TheVariants as mark
-use Rattle.served_items.specs.Attributing.{IsErrandOf, Service}
+use Rattle.served_items.specs.Attributing.{IsErrandOf, Service, TakenIn, WasTakenIn, facts_by, read_by}
+use Rattle.session_way.specs.declared.lease.SessionLease.{SessionLease}
 use Rattle.served_items.specs.Counting.{CountOn}
 use Rattle.served_items.specs.Following.{FollowOn, KeepFront}
 use Rattle.served_items.specs.Holding.{HoldOn, furthest}
@@ -33,6 +38,7 @@ use Rattle.shepherd.specs.Stopping.{AreOfOne}
 use Rattle.shepherd.specs.declared.shepherd.EndKind.{EndKind}
 use Rattle.served_connections.specs.Behind.{ItemBehind}
 use Rattle.served_connections.specs.Courses.{Begun, Course}
+use Rattle.served_connections.specs.Spent.{AreSpentFor}
 
 -- An item tells how far the history had come when the container was last held for its request: it was held for those
 -- requests alone that came to it; the journal had so many entries then as the item's front says; and the entry that the
@@ -47,7 +53,7 @@ pub record TellsHolds (history : List Event) (i : Item) : Type 0 where
 -- its own request. What it put out are the responses to its items, in order, and then `last`. What it added and left is
 -- what its items tell, in order, and then `open_own` and `open_marks`. No item is older than what the connection had
 -- seen when it began, or than the item before, and none began behind fewer entries than there were then; and the link's
--- counts rise from item to item.
+-- counts rise from item to item. The serial numbers that were found spent are those that its items tell of, in order.
 pub record HasServed {P L M R S : Type 0} (asks : P → List Answer → Next) (calls : L → LinkEvent → L → Type 0) (makes : M → ActionCall → List ℕ → P → Type 0) (gives : Gives R) (looks : Looks S) (service : Service M) (start : Start) (begun : Begun) (history : List Event) (now : ℕ) (c : Course) (opened : List Head) (last : List ℕ) (open_own : List Event) (open_marks : List WindowMark) : Type 0 where
   pub heads : List Head
   pub requests_are : (more : List ℕ) → (behind : Requests) × (requests (c.fed ++ more) ≡ all_before heads behind)
@@ -58,6 +64,7 @@ pub record HasServed {P L M R S : Type 0} (asks : P → List Answer → Next) (c
   pub within : furthest begun.events c.items ≤ length history
   pub holds : All (TellsHolds history) c.items
   pub begin : All (ItemBehind begun.entries) c.items
+  pub looked : AreSpentFor c.looked c.items opened
   pub count_on : CountOn begun.counts c.items
   pub follow : FollowOn (record { 0 = 0 }) c.items
   pub keep : KeepFront (record { 0 = 0 }) c.items
@@ -74,14 +81,30 @@ pub record HasEnded {P L M R S : Type 0} (asks : P → List Answer → Next) (ca
   pub whole : HasServedWhole asks calls makes gives looks service start begun history now c (last_of end)
   pub all : requests c.fed ≡ record { heads = whole.heads; ending = ending_of end }
 
--- What one more request has added, whose item is not told: what its end in the container adds, by an errand that was
--- made of its own call.
-pub record HasAddedMore {P : Type 0} (asks : P → List Answer → Next) (makes : ActionCall → List ℕ → P → Type 0) (start : Start) (history own : List Event) : Type 0 where
+-- A connection has served all requests of the bytes that came so far, and put out just the responses to its items.
+pub record HasServedToHere {P L M R S : Type 0} (asks : P → List Answer → Next) (calls : L → LinkEvent → L → Type 0) (makes : M → ActionCall → List ℕ → P → Type 0) (gives : Gives R) (looks : Looks S) (service : Service M) (start : Start) (begun : Begun) (history : List Event) (now : ℕ) (c : Course) : Type 0 where
+  pub whole : HasServedWhole asks calls makes gives looks service start begun history now c []
+  pub all : (requests c.fed).heads ≡ whole.heads
+
+-- What one more request has added, whose item is not told: it was taken in and admitted, and is the one of these heads,
+-- for which numbers were drawn last; and this is what its end in the container adds, by an errand that was made of its
+-- own call, as the user of its own session asks for it.
+pub record HasAddedMore {P L : Type 0} (asks : P → List Answer → Next) (calls : L → LinkEvent → L → Type 0) (makes : ActionCall → List ℕ → P → Type 0) (taken_so : TakenIn → Type 0) (start : Start) (history : List Event) (opened : List Head) (drawn : List Draw) (own : List Event) : Type 0 where
+  pub came : TakenIn
+  pub came_so : taken_so came
+  pub opened_is : opened ≡ came.head ∷ []
+  pub before : List Draw
+  pub drawn_are : drawn ≡ before ++ came.intake.drawn
   pub admission : Admission
+  pub arrived : came.intake.arrival ≡ Admitted admission
+  pub lease : Option SessionLease
+  pub known : IsKnown calls (read_by came.intake.now came.intake.arrival) lease
   pub value : Option (List ℕ)
+  pub value_is : value ≡ option_map value_of lease
   pub errand : Errand
   pub own_call : IsErrandOf asks makes value errand admission
   pub facts : VisitFacts
+  pub facts_are : facts ≡ facts_by facts.front came.head came.intake.now came.intake.arrival
   pub holds : Holds
   pub end : RequestOutcome
   pub ends : EndsWith start history errand facts holds end own
@@ -95,6 +118,6 @@ pub record HasStopped {P L M R S : Type 0} (asks : P → List Answer → Next) (
   pub open_marks : List WindowMark
   pub served : HasServed asks calls makes gives looks service start begun history now c opened [] open_own open_marks
   pub few : length open_own ≤ 1
-  pub more : (open_own ≡ []) ⊎ HasAddedMore asks (makes service.maker) start history open_own
+  pub more : (open_own ≡ []) ⊎ HasAddedMore asks calls (makes service.maker) (WasTakenIn gives looks service.key service.home) start history opened c.drawn open_own
   pub of_one : AreOfOne open_marks
   pub spent : open_marks ≢ mark.Taken 0 ∷ []

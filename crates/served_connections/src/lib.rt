@@ -8,19 +8,21 @@
 //!                 that the clock told last
 //! ServesSoFar     the same where memory was wanted: what was served by then
 //! HasEnded        it has ended, and has served all requests of its bytes
+//! HasServedToHere it waits for more bytes, and has served all requests of those that came
 //! HasServedWhole  it was left between two requests: it has served the first requests of its bytes
 //! HasStopped      memory was wanted: it has served the first requests, and may have done something for one more
 //! ```
 //!
 //! A `Course` is what was done over a connection, from its begin on: the bytes that were fed to it, what was drawn for
-//! its requests, what it put out, its items, the events that it added to the history of its container, and the marks
-//! that it left in that of the windows. `Begun` is where it began.
+//! its requests, the serial numbers that were found spent, what it put out, its items, the events that it added to the
+//! history of its container, and the marks that it left in that of the windows. `Begun` is where it began.
 //!
 //! `connections_are_served_from_their_begin`, `connections_are_served_behind_their_steps` and
 //! `requests_join_their_connections` have a clause for each call of a shepherd; `meanwhile` is for all that others do.
 //! `connections_stop_where_memory_is_wanted` has one for each call that may want memory, and for what may follow it.
 //! `courses_tell_what_was_served` says what follows at an end, and `connections_come_to_rest` when one is reached.
-//! `items_are_no_older_than_their_connection` says where a connection begins, and what its items have seen since.
+//! `items_are_no_older_than_their_connection` says where a connection begins, and what its items have seen since;
+//! `spent_serials_were_looked_at`, that a serial number that an item tells of as spent was looked at for it.
 //!
 //! Where an item is to be told of each response that was put out, memory for it is to be had before the response
 //! leaves.
@@ -40,5 +42,5 @@ pub use stopping::connections_stop_where_memory_is_wanted;
 pub use taking::requests_join_their_connections;
 pub use telling::{
     connections_come_to_rest, courses_tell_what_was_served,
-    items_are_no_older_than_their_connection,
+    items_are_no_older_than_their_connection, spent_serials_were_looked_at,
 };

@@ -1,7 +1,7 @@
 //! Laws of what is told at the end of a connection. Each is the contract of a function that does nothing: a caller that
 //! needs the law calls the function.
 
-ghost use Rattle.std.specs.Prelude.{◌≡◌, ◌≢◌, ◌↔◌, ◌≤◌, ◌<◌, false, true, ℕ, List, [], All, length, take, Some};
+ghost use Rattle.std.specs.Prelude.{◌≡◌, ◌≢◌, ◌↔◌, ◌⊎◌, ◌≤◌, ◌<◌, false, true, ℕ, List, [], ◌∷◌, ◌++◌, All, length, take, Some};
 ghost use Rattle.boot_core.specs.declared.boot.Start.{Start};
 ghost use Rattle.container_core.specs.History.{entries_in};
 ghost use Rattle.container_core.specs.declared.history.Event.{Event};
@@ -9,6 +9,7 @@ ghost use Rattle.crash_base.specs.declared.numbers.Place.{Place};
 ghost use Rattle.http_wire.specs.declared.taken.Head.{Head};
 ghost use Rattle.outcome_items.specs.Traces.{is_outside};
 ghost use Rattle.outcome_items.specs.declared.item.Item.{Item};
+ghost use Rattle.outcome_items.specs.declared.outcome.ItemOutcome.TheVariants as item;
 ghost use Rattle.outside.specs.declared.link.LinkCounts.{LinkCounts};
 ghost use Rattle.send_windows.specs.Windows.{WindowsValue};
 ghost use Rattle.send_windows.specs.declared.history.WindowMark.{WindowMark};
@@ -19,11 +20,12 @@ ghost use Rattle.shepherd.specs.Steps.{GivesBack, HasLeftIfOpen, PutsOut, TakesI
 ghost use Rattle.shepherd.specs.declared.shepherd.EndKind.{EndKind};
 ghost use Rattle.shepherd.specs.declared.shepherd.Shepherd.{Shepherd};
 ghost use Rattle.shepherd.specs.declared.shepherd.Stage.{Stage};
+ghost use Rattle.site_responses.specs.declared.answer.Untaken.{Untaken};
 ghost use Rattle.served_connections.specs.Courses.{Begun, Course, HaveRisen, begun_behind};
 ghost use Rattle.served_connections.specs.Resting.{HasLeftAll, Rests, last_at};
 ghost use Rattle.served_connections.specs.Serving.{Serves};
 ghost use Rattle.served_connections.specs.Stopping.{HoldsNothing, ServesSoFar};
-ghost use Rattle.served_connections.specs.Telling.{HasEnded, HasServed, HasServedWhole, HasStopped};
+ghost use Rattle.served_connections.specs.Telling.{HasEnded, HasServed, HasServedToHere, HasServedWhole, HasStopped};
 
 use call_ticket::Program;
 use outside::{Link, Random, Serials};
@@ -34,9 +36,11 @@ use shepherd::{
 };
 
 /// What was served over a connection, at an end. Where no request is open and nothing is to leave, it has served the
-/// first requests of its bytes whole (`rested`); and where it has ended, all of them (`ended`). Where memory was
-/// wanted, and what it held was given back, it has served the first requests, and may have done something for one more,
-/// whose item is not left (`stopped`); so it has where it did nothing for another one (`nothing_more`).
+/// first requests of its bytes whole (`rested`); where bytes are to come, all of those that came (`waits`); and where it
+/// has ended, all of them (`ended`). So nothing stands behind its responses where it rests but the last one of what is
+/// refused, where it has ended there (`behind`). Where memory was wanted, and what it held was given back, it has served
+/// the first requests, and may have done something for one more, whose item is not left (`stopped`); so it has where it
+/// did nothing for another one (`nothing_more`).
 pub fn courses_tell_what_was_served<
     P: Program,
     L: Link,
@@ -53,6 +57,16 @@ pub fn courses_tell_what_was_served<
         → turn s ≡ ShepherdTurn.Ended end
         → Serves P.accepts P.asks L.makes M.makes R.gives S.looks service start begun history counts now c s
         → HasEnded P.asks L.makes M.makes R.gives S.looks service start begun history now c end }
+    ensures waits { (service : Service M) (start : Start) (begun : Begun) (history : List Event) (counts : LinkCounts)
+        (now : ℕ) (c : Course) (s : Shepherd P) → turn s ≡ ShepherdTurn.Bytes
+        → Serves P.accepts P.asks L.makes M.makes R.gives S.looks service start begun history counts now c s
+        → HasServedToHere P.asks L.makes M.makes R.gives S.looks service start begun history now c }
+    ensures behind { (service : Service M) (start : Start) (begun : Begun) (history : List Event)
+        (counts : LinkCounts) (now : ℕ) (c : Course) (s : Shepherd P) → Rests s.stage
+        → Serves P.accepts P.asks L.makes M.makes R.gives S.looks service start begun history counts now c s
+        → HasServedWhole P.asks L.makes M.makes R.gives S.looks service start begun history now c []
+        ⊎ ((why : Untaken) × HasEnded P.asks L.makes M.makes R.gives S.looks service start begun history now c
+        (EndKind.Refused why)) }
     ensures stopped { (service : Service M) (start : Start) (begun : Begun) (history : List Event)
         (counts : LinkCounts) (now : ℕ) (c : Course) (s : Shepherd P) → HoldsNothing s.stage
         → has_item s.stage ≡ false
@@ -106,6 +120,22 @@ pub fn items_are_no_older_than_their_connection<
         → HasServed P.asks L.makes M.makes R.gives S.looks service start begun history now c opened last own marks
         → All (λ (i : Item). (place : Place) → committed_at i.outcome ≡ Some place → place.0 < i.holds.front.0)
         c.items }
+{}
+
+/// Each serial number that an item of a connection tells of as spent was looked at for it: it is one of those that its
+/// course tells of.
+pub fn spent_serials_were_looked_at<
+    P: Program,
+    L: Link,
+    M: ProgramMaker<P>,
+    R: Random,
+    S: Serials,
+>()
+    ensures { (service : Service M) (start : Start) (begun : Begun) (history : List Event) (now : ℕ) (c : Course)
+        (opened : List Head) (last : List ℕ) (own : List Event) (marks : List WindowMark)
+        → HasServed P.asks L.makes M.makes R.gives S.looks service start begun history now c opened last own marks
+        → All (λ (i : Item). (seen : ℕ) → i.outcome ≡ item.SerialsSpent seen
+        → (before : List ℕ) × (behind : List ℕ) × (c.looked ≡ before ++ seen ∷ behind)) c.items }
 {}
 
 /// A connection comes to rest. The response of its open request has left, if one is open, and nothing else is to leave:

@@ -9,6 +9,7 @@ use Rattle.served_connections.specs.Serving.{Serves}
 use Rattle.served_connections.proofs.Behind.{begun_behind_all, given_back_behind, given_up_behind, grown_behind, item_behind, out_behind, still_behind}
 use Rattle.served_connections.proofs.Growing.{goes_on_longer, longer_entries}
 use Rattle.served_connections.proofs.Leaving.{may_go_on}
+use Rattle.served_connections.proofs.Spent.{given_back_spent, given_up_spent, item_spent, out_spent}
 use Rattle.served_connections.proofs.beginning.connections_are_served_from_their_begin.Goals as goal
 
 pub returns-clause-begins : goal.returns-clause-begins
@@ -25,6 +26,7 @@ returns-clause-begins g c = λ service history container counts now is journal.
       follow = c.items_follow_one_another.ensures.begins;
       keep = c.items_follow_one_another.ensures.begins_kept;
       begin = begun_behind_all (length (entries_in (events_of container))) fresh tt;
+      finds = refl;
       remembers = refl;
       goes = record { container = container; start_is = refl; events_are = refl; journal = journal; goes_on = c.connections_go_on.ensures.begins container };
     })
@@ -43,6 +45,7 @@ returns-clause-meanwhile g c = λ service start begun history after counts later
       follow = h.follow;
       keep = h.keep;
       begin = grown_behind begun.entries (length (entries_in history)) (length (entries_in (history ++ prefix.0))) course.items s (longer_entries history prefix.0) h.begin;
+      finds = h.finds;
       remembers = h.remembers;
       goes = goes_on_longer g.P.Program.accepts g.P.Program.asks g.L.Link.makes c.connections_go_on.ensures.meanwhile start history prefix.0 s h.goes;
     })
@@ -60,6 +63,7 @@ returns-clause-fed g c = λ service start begun history counts now more course s
       follow = h.follow;
       keep = h.keep;
       begin = still_behind begun.entries (length (entries_in history)) course.items s (record s { received = s.received ++ more }) refl h.begin;
+      finds = h.finds;
       remembers = h.remembers;
       goes = record {
         container = h.goes.container;
@@ -83,6 +87,7 @@ returns-clause-ended g c = λ service start begun history counts now course s h.
       follow = h.follow;
       keep = h.keep;
       begin = still_behind begun.entries (length (entries_in history)) course.items s (record s { ended = true }) refl h.begin;
+      finds = h.finds;
       remembers = h.remembers;
       goes = record {
         container = h.goes.container;
@@ -106,6 +111,7 @@ returns-clause-out g c = λ service start begun history counts now bytes course 
       follow = h.follow;
       keep = h.keep;
       begin = out_behind begun.entries (length (entries_in history)) course.items bytes s stage puts h.begin;
+      finds = out_spent course.looked course.items bytes s.stage stage puts h.finds;
       remembers = h.remembers;
       goes = record {
         container = h.goes.container;
@@ -130,6 +136,7 @@ returns-clause-item g c = λ service start begun history counts now i course s s
           (may_go_on g.P.Program.accepts g.P.Program.asks g.L.Link.makes h.goes.container s.stage i stage takes (h.goes.goes_on h.remembers).opened) h.stands h.follow;
       keep = c.items_follow_one_another.ensures.keeps start history course.own course.marks course.fed h.heads course.written course.items i s stage takes h.accounts h.stands h.keep;
       begin = item_behind begun.entries (length (entries_in history)) course.items i s stage takes h.begin;
+      finds = item_spent course.looked course.items i s.stage stage takes h.finds;
       remembers = h.remembers;
       goes = record {
         container = h.goes.container;
@@ -153,6 +160,7 @@ returns-clause-given_up g c = λ service start begun history counts now course s
       follow = h.follow;
       keep = h.keep;
       begin = given_up_behind begun.entries (length (entries_in history)) course.items s h.begin;
+      finds = given_up_spent course.looked course.items s.stage h.finds;
       remembers = h.remembers;
       goes = record {
         container = h.goes.container;
@@ -181,6 +189,7 @@ returns-clause-given_back g c = λ service start begun history counts now course
         follow = h.follow;
         keep = h.keep;
         begin = given_back_behind begun.entries (length (entries_in history)) course.items s stage windows after back h.begin;
+        finds = given_back_spent course.looked course.items s.stage stage windows after back h.finds;
         remembers = h.remembers;
         goes = record {
           container = h.goes.container;

@@ -17,6 +17,7 @@ use Rattle.served_connections.specs.Behind.{Beginning}
 use Rattle.served_connections.proofs.Behind.{advance_behind, grown_behind, inside_behind, opens_behind, outside_behind, steps_behind, windows_behind}
 use Rattle.served_connections.proofs.Growing.{grown_from, longer_entries}
 use Rattle.served_connections.proofs.Leaving.{remembering}
+use Rattle.served_connections.proofs.Spent.{advance_spent, inside_spent, is_program, open_spent, outside_spent, step_spent, windows_spent}
 use Rattle.served_connections.proofs.stepping.connections_are_served_behind_their_steps.Goals as goal
 
 pub returns-clause-outside : goal.returns-clause-outside
@@ -33,6 +34,7 @@ returns-clause-outside g c = λ service start begun history counts now course ol
       follow = h.follow;
       keep = h.keep;
       begin = steps_behind (λ v w. VisitsOutside g.L.Link.makes g.L.Link.tally v link w after) begun.entries (length (entries_in history)) (length (entries_in history)) course.items old new h.begin.least_is (λ v w visits. outside_behind begun.entries (length (entries_in history)) v w (counted (g.L.Link.tally after)) visits.rest) steps.steps h.begin;
+      finds = step_spent (λ v w. VisitsOutside g.L.Link.makes g.L.Link.tally v link w after) course.looked course.items old.stage new.stage (λ v w visits. outside_spent v w (counted (g.L.Link.tally after)) visits.rest) steps.steps h.finds;
       remembers = remembering old new steps.rest h.remembers;
       goes = record {
         container = h.goes.container;
@@ -60,6 +62,7 @@ returns-clause-windows g c = λ service start begun history counts now course ol
         follow = h.follow;
         keep = h.keep;
         begin = steps_behind (λ v w. VisitsWindows v windows w after) begun.entries (length (entries_in history)) (length (entries_in history)) course.items old new h.begin.least_is (λ v w visits. windows_behind begun.entries (length (entries_in history)) v w windows after visits) steps.steps h.begin;
+        finds = step_spent (λ v w. VisitsWindows v windows w after) course.looked course.items old.stage new.stage (λ v w visits. windows_spent v w windows after visits) steps.steps h.finds;
         remembers = remembering old new steps.rest h.remembers;
         goes = record {
           container = h.goes.container;
@@ -120,6 +123,7 @@ returns-clause-inside g c = λ service start begun history counts now course old
         follow = h.follow;
         keep = h.keep;
         begin = begin_after;
+        finds = step_spent (λ v w. VisitsInside g.P.Program.asks v before w after) course.looked course.items old.stage new.stage (λ v w visits. inside_spent g.P.Program.asks v w before after visits) steps.steps h.finds;
         remembers = remembering old new steps.rest h.remembers;
         goes = record {
           container = after;
@@ -144,6 +148,7 @@ returns-clause-open g c = λ service start begun history counts now course s sta
       follow = h.follow;
       keep = h.keep;
       begin = opens_behind g.M.ProgramMaker.makes service.maker worker begun.entries (length (entries_in history)) course.items s stage opens h.begin;
+      finds = open_spent g.M.ProgramMaker.makes service.maker worker course.looked course.items s stage (ap is_program turn_is) opens h.finds;
       remembers = h.remembers;
       goes = record {
         container = h.goes.container;
@@ -168,6 +173,7 @@ returns-clause-advance g c = λ service start begun history counts now course ol
       follow = h.follow;
       keep = h.keep;
       begin = steps_behind (λ v w. Advances service.key v v.work w) begun.entries (length (entries_in history)) (length (entries_in history)) course.items old new h.begin.least_is (λ v w advances. advance_behind begun.entries (length (entries_in history)) service.key v w advances) steps.steps h.begin;
+      finds = step_spent (λ v w. Advances service.key v v.work w) course.looked course.items old.stage new.stage (λ v w advances. advance_spent service.key v w advances) steps.steps h.finds;
       remembers = remembering old new steps.rest h.remembers;
       goes = record {
         container = h.goes.container;

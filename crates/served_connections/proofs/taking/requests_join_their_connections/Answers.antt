@@ -1,9 +1,11 @@
-use Rattle.std.proofs.Common.{◌++◌, length, ◌∙◌}
+use Rattle.std.proofs.Common.{◌++◌, length, ap, ◌∙◌}
 use Rattle.container_core.specs.History.{entries_in}
 use Rattle.http_wire.specs.Taking.{taken_of}
 use Rattle.shepherd.specs.Answering.{heads_in}
+use Rattle.served_connections.specs.Spent.{spent_at}
 use Rattle.served_connections.proofs.Behind.{taken_behind}
 use Rattle.served_connections.proofs.Remembering.{takes_remembering}
+use Rattle.served_connections.proofs.Spent.{taken_found, taken_spent, takes_next}
 use Rattle.served_connections.proofs.taking.requests_join_their_connections.Goals as goal
 
 pub returns : goal.returns
@@ -14,6 +16,8 @@ returns g c = λ service start begun history counts later now course s new clock
       mid = next.mid;
       drew = next.drew;
       looked = next.looked;
+      spent = spent_at new.stage;
+      found = taken_found g.C.Clock.told g.R.Random.gives g.S.Serials.looks service.key service.home later s clock random serials new clock_after random_after serials_after (taken_of s.received) takes;
       serves = record {
         heads = h.heads ++ heads_in (taken_of s.received);
         stands = c.connections_stand.ensures.taken service.key service.home later course.fed h.heads course.written course.items s new clock clock_after random random_after serials serials_after turn_is takes h.stands;
@@ -25,6 +29,7 @@ returns g c = λ service start begun history counts later now course s new clock
         follow = h.follow;
         keep = h.keep;
         begin = taken_behind g.C.Clock.told g.R.Random.gives g.S.Serials.looks service.key service.home later (taken_of s.received) s clock random serials new clock_after random_after serials_after begun.entries (length (entries_in history)) course.items takes h.begin;
+        finds = taken_spent course.looked course.items s new.stage (ap takes_next turn_is) h.finds;
         remembers = takes_remembering g.C.Clock.told g.R.Random.gives g.S.Serials.looks service.key service.home later (taken_of s.received) s clock random serials new clock_after random_after serials_after takes ∙ h.remembers;
         goes = record {
           container = h.goes.container;

@@ -1,7 +1,8 @@
-use Rattle.std.proofs.Common.{◌⊎◌, ◌∙◌, arith, ◌≡◌, ℕ, inl, List, [], ◌++◌, All, refl, sym, ap, subst}
+use Rattle.std.proofs.Common.{◌⊎◌, ◌∙◌, arith, ◌≡◌, ℕ, inl, inr, true, List, [], ◌++◌, All, refl, sym, ap, subst}
 use Rattle.std.proofs.lemmas.List.{append_cancel_left}
 use Rattle.std.proofs.lemmas.List.Elements.{All-weaker}
 use Rattle.container_core.specs.declared.history.Event.{Event}
+use Rattle.http_wire.specs.Requests.{requests}
 use Rattle.http_wire.specs.declared.taken.Head.{Head}
 use Rattle.outcome_items.specs.declared.item.Item.{Item}
 use Rattle.send_windows.specs.declared.history.WindowMark.{WindowMark}
@@ -11,12 +12,15 @@ use Rattle.shepherd.specs.Accounting.{IsAccountedFor, trace_in, traces_in}
 use Rattle.shepherd.specs.Answering.{AreResponses}
 use Rattle.shepherd.specs.Standing.{coming}
 use Rattle.served_connections.specs.Resting.{Rests, last_at}
+use Rattle.shepherd.specs.declared.shepherd.EndKind.TheVariants as ends
+use Rattle.served_connections.specs.Spent.{AreSpentFor}
 use Rattle.served_connections.specs.Stopping.{IsUnsent}
-use Rattle.served_connections.specs.Telling.{HasAddedMore, TellsHolds}
-use Rattle.served_connections.proofs.Adding.{stage_added}
-use Rattle.served_connections.proofs.Leaving.{by_cases, unsent_without_item}
-use Rattle.served_connections.proofs.Resting.{is_rest, rests_at}
-use Rattle.served_connections.proofs.Told.{all_items, all_taken, last_ended, marks_spent, says_rest, says_unsent, tells_holds, tells_rest}
+use Rattle.served_connections.specs.Telling.{HasAddedMore, HasServedWhole, TellsHolds}
+use Rattle.served_connections.proofs.Adding.{came_last, stage_added}
+use Rattle.served_connections.proofs.Leaving.{by_cases, is_end, unended, unsent_without_item}
+use Rattle.served_connections.proofs.Resting.{bytes_remember, is_rest, rests_at}
+use Rattle.served_connections.proofs.Spent.{told_spent_for}
+use Rattle.served_connections.proofs.Told.{all_came, all_items, all_taken, last_or_refused, last_ended, marks_spent, says_rest, says_unsent, tells_holds, tells_rest}
 use Rattle.served_connections.proofs.telling.courses_tell_what_was_served.Goals as goal
 
 pub returns-clause-rested : goal.returns-clause-rested
@@ -36,6 +40,8 @@ returns-clause-rested g c = λ service start begun history counts now course s r
       served = served;
       hold_on = h.holds.hold_on;
       begin = h.begin.each;
+      looked = subst (λ (opened : List Head). AreSpentFor course.looked course.items opened) said.0
+          (told_spent_for service.key history responses.0 responses.1 course.looked course.items s.stage responses.3 h.finds);
       within = h.holds.within;
       holds = subst (λ (items : List Item). All (TellsHolds history) items) (sym served.items_are)
           (all_items (TellsHolds history) served.served
@@ -63,6 +69,7 @@ returns-clause-ended g c = λ service start begun history counts now course s en
         served = rested.served;
         hold_on = rested.hold_on;
         begin = rested.begin;
+        looked = rested.looked;
         within = rested.within;
         holds = rested.holds;
         count_on = rested.count_on;
@@ -72,6 +79,24 @@ returns-clause-ended g c = λ service start begun history counts now course s en
       all = all_taken course.fed h.heads course.written course.items s end rests h.remembers is
           (λ other. c.items_are_for_requests_in_order.ensures.all course.fed h.heads course.written course.items s end is other h.stands) h.stands;
     }
+
+pub returns-clause-waits : goal.returns-clause-waits
+unfolding returns-clause-rested
+returns-clause-waits g c = λ service start begun history counts now course s is h.
+    let rested = returns-clause-rested g c service start begun history counts now course s (rests_at s (bytes_remember s is) (ap is_rest is)) h in
+    let all : (requests course.fed).heads ≡ rested.heads =
+    all_came course.fed h.heads course.written course.items s is (λ end ends other over. c.items_are_for_requests_in_order.ensures.all course.fed h.heads course.written course.items (record s { ended = true }) end ends other over) h.stands in
+    let there =
+    subst (λ (last : List ℕ). (whole : HasServedWhole g.P.Program.asks g.L.Link.makes g.M.ProgramMaker.makes g.R.Random.gives g.S.Serials.looks service start begun history now course last) × ((requests course.fed).heads ≡ whole.heads))
+    (unended s (ap is_end is)) (rested, all) in
+    record { whole = there.0; all = there.1 }
+
+pub returns-clause-behind : goal.returns-clause-behind
+returns-clause-behind g c = λ service start begun history counts now course s rests h.
+    by_cases (last_or_refused s rests h.remembers)
+    (λ none. inl (subst (λ (last : List ℕ). HasServedWhole g.P.Program.asks g.L.Link.makes g.M.ProgramMaker.makes g.R.Random.gives g.S.Serials.looks service start begun history now course last) none
+    (returns-clause-rested g c service start begun history counts now course s rests h)))
+    (λ refused. inr (refused.0, returns-clause-ended g c service start begun history counts now course s (ends.Refused refused.0) refused.1 h))
 
 pub returns-clause-stopped : goal.returns-clause-stopped
 returns-clause-stopped g c = λ service start begun history counts now course s holds none h.
@@ -94,6 +119,7 @@ returns-clause-stopped g c = λ service start begun history counts now course s 
         served = served;
         hold_on = was.holds.hold_on;
         begin = was.begin.each;
+        looked = told_spent_for service.key history responses.0 responses.1 course.looked course.items h.was.stage responses.3 was.finds;
         within = was.holds.within;
         holds = subst (λ (items : List Item). All (TellsHolds history) items) (sym served.items_are)
             (all_items (TellsHolds history) served.served
@@ -107,10 +133,13 @@ returns-clause-stopped g c = λ service start begun history counts now course s 
         keep = was.keep;
       };
       few = added.3;
-      more = subst (λ (own : List Event). (own ≡ []) ⊎ HasAddedMore g.P.Program.asks (g.M.ProgramMaker.makes service.maker) start history own)
+      more =
+          subst (λ (own : List Event). (own ≡ []) ⊎ HasAddedMore g.P.Program.asks g.L.Link.makes (g.M.ProgramMaker.makes service.maker) (WasTakenIn g.R.Random.gives g.S.Serials.looks service.key service.home) start history responses.0 course.drawn own)
           (append_cancel_left (traces_in history course.items) then.0 added.0 (sym then.2.events ∙ added.2.events))
-          (stage_added g.P.Program.asks g.L.Link.makes (g.M.ProgramMaker.makes service.maker) (WasTakenIn g.R.Random.gives g.S.Serials.looks service.key service.home) start history then.0 then.1 was.attributes.opened h.was.stage then.3
-          was.attributes.is_open);
+          (stage_added g.P.Program.asks g.L.Link.makes (g.M.ProgramMaker.makes service.maker) (WasTakenIn g.R.Random.gives g.S.Serials.looks service.key service.home) start history then.0 then.1 was.attributes.opened
+          responses.0 course.drawn h.was.stage
+          (came_last service.key history was.heads course.drawn course.written course.items responses.0 responses.1 was.attributes.served was.attributes.opened responses.2 was.attributes.heads_are was.attributes.items_are was.attributes.drawn_are)
+          then.3 was.attributes.is_open);
       of_one = added.4;
       spent = marks_spent added.1 s.stage holds added.5;
     }

@@ -1,4 +1,4 @@
-use Rattle.std.proofs.Common.{◌≡◌, ◌≢◌, ◌≤◌, ◌<◌, ℕ, true, length, take, Some, refl}
+use Rattle.std.proofs.Common.{◌≡◌, ◌≢◌, ◌<◌, true, length, take, Some, refl}
 use Rattle.std.specs.Prelude.{◌↔◌}
 use Rattle.std.proofs.lemmas.List.Elements.{All-weaker}
 use Rattle.container_core.specs.History.{entries_in}
@@ -6,7 +6,6 @@ use Rattle.crash_base.specs.declared.numbers.Place.{Place}
 use Rattle.outcome_items.specs.Traces.{is_outside}
 use Rattle.outcome_items.specs.declared.item.Item.{Item}
 use Rattle.served_items.specs.Served.{committed_at}
-use Rattle.served_connections.specs.Behind.{ItemBehind}
 use Rattle.served_connections.specs.Telling.{TellsHolds}
 use Rattle.served_connections.proofs.telling.items_are_no_older_than_their_connection.Goals as goal
 
