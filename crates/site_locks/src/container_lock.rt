@@ -211,14 +211,13 @@ impl<K: Keeper + Drop> ContainerLock<K> {
         self.lock.join(seat, other);
     }
 
-    /// The container, where a seat has all parts. Its history begins with all that the seat has seen. It takes no
-    /// memory, and waits for nobody.
+    /// The container, where a seat has all parts. Its history is what the seat has seen. It takes no memory, and waits
+    /// for nobody.
     pub fn close(self, seat: ContainerSeat<K>) -> Container<K>
         requires seat { seat.lock ≡ self.id }
         requires home { seat.holds ≡ false }
         requires whole { seat.parts ≡ self.parts }
-        ensures seen { IsPrefix seat.seen (events_of result) }
-        ensures told { Tells (events_of result) result }
+        ensures told { Tells seat.seen result }
     {
         let container = self.lock.close(seat).inner;
         // The entries of its history are its journal.

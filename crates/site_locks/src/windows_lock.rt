@@ -161,13 +161,13 @@ impl WindowsLock {
         self.lock.join(seat, other);
     }
 
-    /// The windows, where a seat has all parts. Their history begins with all that the seat has seen. It takes no
-    /// memory, and waits for nobody.
+    /// The windows, where a seat has all parts. Their history is what the seat has seen. It takes no memory, and waits
+    /// for nobody.
     pub fn close(self, seat: WindowsSeat) -> Windows
         requires seat { seat.lock ≡ self.id }
         requires home { seat.holds ≡ false }
         requires whole { seat.parts ≡ self.parts }
-        ensures seen { IsPrefix seat.seen result.history }
+        ensures seen { result.history ≡ seat.seen }
         ensures limits { KeepLimits result }
     {
         let windows = self.lock.close(seat).inner;

@@ -1,7 +1,8 @@
 -- The steps keep the rule.
 use Rattle.std.proofs.Common.{◌≡◌, ◌≢◌, ◌⊎◌, inl, inr, ℕ, zero, suc, ◌+◌, ◌-◌, ◌%◌, ◌^◌, ◌<◌, ◌≤◌, List, [], ◌∷◌, ◌++◌, length, set, Option, Some, arith, refl, sym, ap, ◌∙◌, ⊎_elim, subst, append-nil, get_or, Bool, true, false, nat_lt, if◌then◌else◌, take, drop}
-use Rattle.std.proofs.lemmas.List.{length-set, append_assoc, take-append-le, take-append-drop}
+use Rattle.std.proofs.lemmas.List.{length-set, length-append, append_assoc, take-append-le, take-append-drop}
 use Rattle.std.proofs.Math.Seq.{take-append_seam}
+use Rattle.std.proofs.lemmas.Bool.{ltb-true, ltb-false}
 use Rattle.std.proofs.lemmas.Bool.Decides.{nat_tests}
 use mathlib.Core.Option.{some, none, some-injective, some-ne-none}
 use mathlib.Core.List.{IsPrefix}
@@ -13,7 +14,7 @@ use Rattle.atomic_table.specs.Table.{State, opening, Splits, Joins, Final, Seen,
 use Rattle.turn_lock.specs.declared.view.View.{View}
 use Rattle.turn_lock.specs.declared.view.Stage.{Stage}
 use Rattle.turn_lock.specs.declared.view.Stage.TheVariants.{Idle, Waiting, Holding}
-use Rattle.turn_lock.specs.Turns.{Kept, total, weight, queued, Knows, Stands, NoneHolds, Draws, Looks, Compares, Goes, MeOf, longer, shorter}
+use Rattle.turn_lock.specs.Turns.{Kept, total, weight, queued, Knows, Stands, NoneHolds, SeesAll, Draws, Looks, Compares, Goes, MeOf, longer, shorter}
 use Rattle.std.specs.List.{range_with_len}
 
 -- the total after a change of one
@@ -21,6 +22,11 @@ total_set : {X : Type 0} (f : X → ℕ) (xs : List X) (i : ℕ) (v w : X) → g
 total_set f [] i v w e = absurd (some-ne-none v (sym e))
 total_set f (x ∷ xs) zero v w e = let same : f x ≡ f v = ap f (some-injective x v e) in omega arith
 total_set f (x ∷ xs) (suc i) v w e = let h = total_set f xs i v w e in omega arith
+
+one_le : {X : Type 0} (f : X → ℕ) (xs : List X) (i : ℕ) (v : X) → get_elem? xs i ≡ some v → f v ≤ total f xs
+one_le f [] i v e = absurd (some-ne-none v (sym e))
+one_le f (x ∷ xs) zero v e = let same : f x ≡ f v = ap f (some-injective x v e) in omega arith
+one_le f (x ∷ xs) (suc i) v e = let h = one_le f xs i v e in omega arith
 
 total_append : {X : Type 0} (f : X → ℕ) (xs ys : List X) → total f (xs ++ ys) ≡ total f xs + total f ys
 total_append f [] ys = omega arith
@@ -62,6 +68,38 @@ ordered xs ys false is = grind (arith, nat_tests)
 -- what is beside a joined seat is no longer than what it has seen
 pub joined_order : {X : Type 0} (xs ys : List X) → length (shorter xs ys) ≤ length (longer xs ys)
 joined_order xs ys = ordered xs ys (nat_lt (length xs) (length ys)) refl
+
+-- a beginning that is no shorter is the whole
+whole_prefix : {X : Type 0} (xs log : List X) → IsPrefix xs log → length log ≤ length xs → xs ≡ log
+whole_prefix {X} xs log begins long = sym (append-nil xs) ∙ (ap (λ (more : List X). xs ++ more) (sym (none begins.0 (let e = ap length begins.1 in let l = length-append xs begins.0 in omega arith))) ∙ begins.1) where
+  none : (more : List X) → length more ≤ 0 → more ≡ []
+  none [] h = refl
+  none (x ∷ more) h = absurd (omega arith)
+
+-- of two beginnings, one of them the whole, the longer is the whole
+longest : {X : Type 0} (xs ys log : List X) → IsPrefix xs log → IsPrefix ys log → (xs ≡ log) ⊎ (ys ≡ log) → longer xs ys ≡ log
+longest xs ys log a b one = go (nat_lt (length xs) (length ys)) refl where
+  go : (shorter_first : Bool) → nat_lt (length xs) (length ys) ≡ shorter_first → (if shorter_first then ys else xs) ≡ log
+  go true is = ⊎_elim (λ e. whole_prefix ys log b (let l : length xs ≡ length log = ap length e in let m : length xs < length ys = ltb-true (length xs) (length ys) is in omega arith)) (λ e. e) one
+  go false is = ⊎_elim (λ e. e) (λ e. whole_prefix xs log a (let l : length ys ≡ length log = ap length e in let m : length ys ≤ length xs = ltb-false (length xs) (length ys) is in omega arith)) one
+
+-- who has seen all goes on to do so where a seat changes that has a part still, and has seen all if it had
+sees_on : {E : Type 0} (log : List E) (views : List (View E)) (id : ℕ) (v w : View E) → get_elem? views id ≡ some v → (0 < v.parts → 0 < w.parts) → (v.seen ≡ log → w.seen ≡ log) → SeesAll log views → SeesAll log (set views id w)
+sees_on {E} log views id v w at has sees latest = dite (ℕ_discrete latest.by id)
+    (λ e. let same : latest.view ≡ v = some-injective latest.view v (sym latest.here ∙ ap (get_elem? views) e ∙ at) in record {
+      by = id;
+      view = w;
+      here = set_here views id w (there views id v at);
+      some_part = has (subst (λ (u : View E). 0 < u.parts) same latest.some_part);
+      whole = sees (ap (λ (u : View E). u.seen) (sym same) ∙ latest.whole);
+    })
+    (λ ne. record {
+      by = latest.by;
+      view = latest.view;
+      here = set_else views id latest.by w ne ∙ latest.here;
+      some_part = latest.some_part;
+      whole = latest.whole;
+    })
 
 -- stages differ
 not_idle : (s : Stage) → s ≡ Idle → s ≡ Holding → ⊥
@@ -111,6 +149,7 @@ module _ {T E : Type 0} (events : T → List E) where
               (λ h. subst (Knows kept.log kept.served (kept.drawn + 1)) h.1 (mine.0, omega arith, (omega (arith, kept.behind), omega arith), mine.3))
               (λ h. let k = kept.knows by u h.1 in (k.0, k.1, stands_on kept.log kept.served kept.drawn u u.stage k.2, k.3))
               (at_set s.views id by w u there));
+          latest = sees_on kept.log s.views id v w at (λ h. h) (λ e. e) kept.latest;
           apart = (λ i j a b ai bj one two same. ⊎_elim
               (λ h. ⊎_elim
               (λ g. h.0 ∙ sym g.0)
@@ -177,6 +216,7 @@ module _ {T E : Type 0} (events : T → List E) where
               (λ h. subst (Knows kept.log kept.served kept.drawn) h.1 (prefix_refl kept.log, omega (arith, mine.1), (sym turn, stands.1, refl), mine.3))
               (λ h. kept.knows by u h.1)
               (at_set s.views id by w u there));
+          latest = sees_on kept.log s.views id v w at (λ h. h) (λ e. refl) kept.latest;
           apart = (λ i j a b ai bj first second same. ⊎_elim
               (λ h. ⊎_elim
               (λ g. h.0 ∙ sym g.0)
@@ -241,6 +281,7 @@ module _ {T E : Type 0} (events : T → List E) where
                 prefix_trans u.beside kept.log (events x) k.3 longer_now,
               ))
               (at_set s.views id by w u there));
+          latest = record { by = id; view = w; here = set_here s.views id w (there s.views id v at); some_part = omega (arith, mine.1); whole = refl };
           apart = (λ i j a b ai bj first second same. ⊎_elim
               (λ h. absurd (let e : 0 ≡ weight a = ap weight h.1 in omega arith))
               (λ h. ⊎_elim
@@ -255,9 +296,9 @@ module _ {T E : Type 0} (events : T → List E) where
       )
 
   -- a new lock
-  pub starts : (all : ℕ) (x : T) (told : List E) → all < 2 ^ 32 → told ≡ events x
+  pub starts : (all : ℕ) (x : T) (told : List E) → 0 < all → all < 2 ^ 32 → told ≡ events x
       → Kept events all (opening (0 ∷ 0 ∷ []) (Some x ∷ []) record { parts = all; stage = Idle; ticket = 0; seen = told; beside = []; own = [] })
-  starts all x told small same =
+  starts all x told some_part small same =
       let first : View E = record { parts = all; stage = Idle; ticket = 0; seen = told; beside = []; own = [] } in
       let only : (by : ℕ) (u : View E) → get_elem? (first ∷ []) by ≡ some u → (by ≡ 0) × (first ≡ u) = alone first in
       record {
@@ -270,6 +311,7 @@ module _ {T E : Type 0} (events : T → List E) where
         counted = refl;
         parts = omega arith;
         knows = (λ by u there. subst (Knows (events x) 0 0) (only by u there).1 (subst (λ l. IsPrefix l (events x)) (sym same) (prefix_refl (events x)), omega arith, tt, (events x, refl)));
+        latest = record { by = 0; view = first; here = refl; some_part = some_part; whole = same };
         apart = (λ i j a b ai bj one two ticket. (only i a ai).0 ∙ sym (only j b bj).0);
         slots = refl;
         home = (λ none. (x, refl, refl));
@@ -290,11 +332,6 @@ module _ {T E : Type 0} (events : T → List E) where
       let mine = one_le (λ (x : View E). x.parts) (set s.views id blank) i u there' in
       let heavy : weight u ≡ 1 = ap queued held in
       omega (arith, (kept.knows i u ui).1, kept.parts))
-    where
-      one_le : {X : Type 0} (f : X → ℕ) (xs : List X) (i : ℕ) (v : X) → get_elem? xs i ≡ some v → f v ≤ total f xs
-      one_le f [] i v e = absurd (some-ne-none v (sym e))
-      one_le f (x ∷ xs) zero v e = let same : f x ≡ f v = ap f (some-injective x v e) in omega arith
-      one_le f (x ∷ xs) (suc i) v e = let h = one_le f xs i v e in omega arith
 
   -- a seat is cut in two
   pub splits : (all id n : ℕ) (v : View E) → v.stage ≡ Idle → n < v.parts
@@ -328,6 +365,7 @@ module _ {T E : Type 0} (events : T → List E) where
             (λ old. ⊎_elim (λ h. subst (Knows kept.log kept.served kept.drawn) h.1 (knew left idle refl refl)) (λ h. kept.knows by u h.1) (at_set s.views id by left u old))
             (λ new. subst (Knows kept.log kept.served kept.drawn) new (knew right idle refl refl))
             (at_snoc (set s.views id left) right u by found));
+        latest = longer_on right (sees_on kept.log s.views id v left at (λ h. omega (arith, some_parts)) (λ e. e) kept.latest);
         apart = (λ i j a b ai bj one two same. ⊎_elim
             (λ x. ⊎_elim (λ y. kept.apart i j a b x y one two same) (λ z. absurd (omega arith)) (old_or j b bj))
             (λ z. absurd (omega arith))
@@ -337,15 +375,35 @@ module _ {T E : Type 0} (events : T → List E) where
             (λ e. not_idle u.stage (ap (λ (x : View E). x.stage) (some-injective u v (sym ui ∙ ap (get_elem? s.views) e ∙ at)) ∙ idle) held)
             (λ ne. none_now i u (at_longer (set s.views id left) (right ∷ []) i u (set_else s.views id i left ne ∙ ui)) held)));
       }
+    where
+      longer_on : {log : List E} {views : List (View E)} (more : View E) → SeesAll log views → SeesAll log (views ++ more ∷ [])
+      longer_on {log} {views} more latest = record {
+        by = latest.by;
+        view = latest.view;
+        here = at_longer views (more ∷ []) latest.by latest.view latest.here;
+        some_part = latest.some_part;
+        whole = latest.whole;
+      }
 
-  -- at the end the slot has a value, whose history begins with all that the seat saw
+  -- a seat that has all parts has seen the whole history
+  sees_whole : (all id : ℕ) (s : State (Option T) (View E)) (v : View E) (kept : Kept events all s) → get_elem? s.views id ≡ some v → v.parts ≡ all → v.seen ≡ kept.log
+  sees_whole all id s v kept at whole = dite (ℕ_discrete kept.latest.by id)
+      (λ e. ap (λ (x : View E). x.seen) (some-injective v kept.latest.view (sym at ∙ ap (get_elem? s.views) (sym e) ∙ kept.latest.here)) ∙ kept.latest.whole)
+      (λ ne. absurd
+      (let blank : View E = record v { parts = 0 } in
+      let less = total_set (λ (x : View E). x.parts) s.views id v blank at in
+      let beside : get_elem? (set s.views id blank) kept.latest.by ≡ some kept.latest.view = set_else s.views id kept.latest.by blank ne ∙ kept.latest.here in
+      let theirs = one_le (λ (x : View E). x.parts) (set s.views id blank) kept.latest.by kept.latest.view beside in
+      omega (arith, kept.latest.some_part, kept.parts)))
+
+  -- at the end the slot has a value, whose history is what the seat saw
   pub ends : (all id : ℕ) (v : View E) (words : List ℕ) (slots : List (Option T)) → v.stage ≡ Idle → v.parts ≡ all
-      → Final (Seen (Kept events all) id v) words slots → (x : T) × (get_elem? slots 0 ≡ some (Some x)) × IsPrefix v.seen (events x)
+      → Final (Seen (Kept events all) id v) words slots → (x : T) × (get_elem? slots 0 ≡ some (Some x)) × (events x ≡ v.seen)
   ends all id v words slots idle whole final =
       let kept = final.1.0 in
       let at = final.1.1 in
       let it = kept.home (rests all id final.0 v kept at idle whole) in
-      (it.0, final.4 0 (Some it.0) it.1, subst (IsPrefix v.seen) (sym it.2) (kept.knows id v at).0)
+      (it.0, final.4 0 (Some it.0) it.1, it.2 ∙ sym (sees_whole all id final.0 v kept at whole))
 
   -- a load without a ticket: what was seen begins with what is beside it
   pub compares : (all id : ℕ) (me : MeOf events) (st : Step (Option T)) → length me.0.beside ≤ length me.0.seen
@@ -389,6 +447,23 @@ module _ {T E : Type 0} (events : T → List E) where
         subst (Stands kept.log kept.served kept.drawn both) (sym idle) tt,
         chosen (λ l. IsPrefix l kept.log) w.seen v.seen b theirs.0 mine.0,
       ) in
+      let here_both : get_elem? (set (set s.views id both) other spent) id ≡ some both = set_else (set s.views id both) other id spent (λ e. differ (sym e)) ∙ set_here s.views id both (there s.views id v at) in
+      let by_both : 0 < both.parts → (v.seen ≡ kept.log) ⊎ (w.seen ≡ kept.log) → SeesAll kept.log (set (set s.views id both) other spent) =
+      (λ some_part one. record { by = id; view = both; here = here_both; some_part = some_part; whole = longest v.seen w.seen kept.log mine.0 theirs.0 one }) in
+      let was = kept.latest in
+      let latest : SeesAll kept.log (set (set s.views id both) other spent) = dite (ℕ_discrete was.by id)
+      (λ e. let same : was.view ≡ v = some-injective was.view v (sym was.here ∙ ap (get_elem? s.views) e ∙ at) in
+      by_both (let p : 0 < v.parts = subst (λ (u : View E). 0 < u.parts) same was.some_part in omega arith) (inl (ap (λ (u : View E). u.seen) (sym same) ∙ was.whole)))
+      (λ ne. dite (ℕ_discrete was.by other)
+      (λ e. let same : was.view ≡ w = some-injective was.view w (sym was.here ∙ ap (get_elem? s.views) e ∙ there') in
+      by_both (let p : 0 < w.parts = subst (λ (u : View E). 0 < u.parts) same was.some_part in omega arith) (inr (ap (λ (u : View E). u.seen) (sym same) ∙ was.whole)))
+      (λ ne'. record {
+        by = was.by;
+        view = was.view;
+        here = set_else (set s.views id both) other was.by spent ne' ∙ set_else s.views id was.by both ne ∙ was.here;
+        some_part = was.some_part;
+        whole = was.whole;
+      })) in
       let old_or : (by : ℕ) (u : View E) → get_elem? (set (set s.views id both) other spent) by ≡ some u → (get_elem? s.views by ≡ some u) ⊎ (weight u ≡ 0) =
       (λ by u found. ⊎_elim
       (λ h. inr (ap weight (sym h.1)))
@@ -407,6 +482,7 @@ module _ {T E : Type 0} (events : T → List E) where
             (λ h. subst (Knows kept.log kept.served kept.drawn) h.1 ((kept.log, refl), omega arith, tt, (kept.log, refl)))
             (λ h. ⊎_elim (λ g. subst (Knows kept.log kept.served kept.drawn) g.1 knew) (λ g. kept.knows by u g.1) (at_set s.views id by both u h.1))
             (at_set (set s.views id both) other by spent u found));
+        latest = latest;
         apart = (λ i j a b ai bj one two same. ⊎_elim
             (λ x. ⊎_elim (λ y. kept.apart i j a b x y one two same) (λ z. absurd (omega arith)) (old_or j b bj))
             (λ z. absurd (omega arith))

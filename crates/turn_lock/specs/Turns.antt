@@ -53,10 +53,18 @@ Apart {E} views = (i j : ℕ) (v w : View E) → get_elem? views i ≡ some v �
 abbrev pub NoneHolds : {E : Type 0} → List (View E) → Type 0
 NoneHolds {E} views = (i : ℕ) (v : View E) → get_elem? views i ≡ some v → v.stage ≢ Holding
 
+-- A seat that has a part has seen the whole history.
+pub record SeesAll {E : Type 0} (log : List E) (views : List (View E)) : Type 0 where
+  pub by : ℕ
+  pub view : View E
+  pub here : get_elem? views by ≡ some view
+  pub some_part : 0 < view.parts
+  pub whole : view.seen ≡ log
+
 module _ {T E : Type 0} (events : T → List E) where
   -- The rule of a lock with so many parts. There is one history; all tickets that were drawn are served or out, each
-  -- with a seat of its own; the parts of all seats sum up to the lock's; what each seat knows stands; and where the
-  -- value is out with no seat, it is at home and has the history.
+  -- with a seat of its own; the parts of all seats sum up to the lock's; what each seat knows stands, and one knows the
+  -- whole history; and where the value is out with no seat, it is at home and has the history.
   pub record Kept (all : ℕ) (s : State (Option T) (View E)) : Type 0 where
     pub few : all < 2 ^ 32
     pub log : List E
@@ -67,6 +75,7 @@ module _ {T E : Type 0} (events : T → List E) where
     pub counted : served + total weight s.views ≡ drawn
     pub parts : total (λ (v : View E). v.parts) s.views ≡ all
     pub knows : (by : ℕ) (v : View E) → get_elem? s.views by ≡ some v → Knows log served drawn v
+    pub latest : SeesAll log s.views
     pub apart : Apart s.views
     pub slots : length s.homes ≡ 1
     pub home : NoneHolds s.views → (x : T) × (get_elem? s.homes 0 ≡ some (some (Some x))) × (events x ≡ log)

@@ -170,13 +170,13 @@ impl<T: Chronicle + Drop> TurnLock<T> {
         join_seats(&self.table, &mut seat.inner, inner);
     }
 
-    /// The value, where a seat has all parts. Its history begins with all that the seat has seen. It takes no memory,
-    /// and waits for nobody.
+    /// The value, where a seat has all parts. Its history is what the seat has seen. It takes no memory, and waits for
+    /// nobody.
     pub fn close(self, seat: Seat<T>) -> T
         requires seat { seat.lock ≡ self.id }
         requires home { seat.holds ≡ false }
         requires whole { seat.parts ≡ self.parts }
-        ensures { IsPrefix seat.seen (T.events result) }
+        ensures { T.events result ≡ seat.seen }
     {
         let TurnLock {
             table,

@@ -1,6 +1,6 @@
 //! The steps of the table, each with what it tells.
 
-ghost use Rattle.std.specs.Prelude.{◌≡◌, ℕ, ◌+◌, ◌-◌, ◌%◌, ◌^◌, ◌<◌, List, [], ◌∷◌, ◌++◌, IfOk, IfErr, Some, None, IsTrue, false, length};
+ghost use Rattle.std.specs.Prelude.{◌≡◌, ℕ, ◌+◌, ◌-◌, ◌%◌, ◌^◌, ◌<◌, ◌≤◌, List, [], ◌∷◌, ◌++◌, IfOk, IfErr, Some, None, IsTrue, false, length};
 ghost use mathlib.Core.List.{IsPrefix};
 ghost use Rattle.turn_lock.specs.Turns.{Comes, longer, shorter};
 ghost use Rattle.turn_lock.specs.Seats.{new_places};
@@ -86,6 +86,7 @@ pub fn hand_in<T: Chronicle>(table: &Turns<T>, seat: &mut TurnSeat<T>, value: T)
 
 /// A new table round a value. Its first seat has all parts, and has seen the value's events.
 pub fn make<T: Chronicle>(alloc: Global, value: T, parts: u32) -> Result<(Turns<T>, TurnSeat<T>), T>
+    requires { 1 ≤ parts }
     ensures table { IfOk result (λ t. (t.1.table_id ≡ t.0.shared.table_id) × (t.0.shared.table_id.words ≡ 2)
         × (t.0.shared.table_id.slots ≡ 1) × (t.0.shared.key.parts ≡ parts)) }
     ensures seat { IfOk result (λ t. (t.1.me.0.parts ≡ parts) × (t.1.me.0.stage ≡ Stage.Idle)
@@ -183,7 +184,7 @@ pub fn close<T: Chronicle>(table: Turns<T>, seat: TurnSeat<T>) -> T
     requires table { (seat.table_id ≡ table.shared.table_id) × (table.shared.table_id.words ≡ 2)
         × (table.shared.table_id.slots ≡ 1) }
     requires whole { (seat.me.0.stage ≡ Stage.Idle) × (seat.me.0.parts ≡ table.shared.key.parts) }
-    ensures { IsPrefix seat.me.0.seen (T.events result) }
+    ensures { T.events result ≡ seat.me.0.seen }
 {
     let mut closed = table.close_with(seat);
     let last = closed.take(0);
