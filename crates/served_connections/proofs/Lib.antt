@@ -4,5 +4,6 @@ pub mod Growing
 pub mod Leaving
 pub mod Remembering
 pub mod Resting
+pub mod Shown
 pub mod Spent
 pub mod Told

@@ -20,7 +20,8 @@
 //! `connections_are_served_from_their_begin`, `connections_are_served_behind_their_steps` and
 //! `requests_join_their_connections` have a clause for each call of a shepherd; `meanwhile` is for all that others do.
 //! `connections_stop_where_memory_is_wanted` has one for each call that may want memory, and for what may follow it.
-//! `courses_tell_what_was_served` says what follows at an end, and `connections_come_to_rest` when one is reached.
+//! `courses_tell_what_was_served` says what follows at an end, and `connections_come_to_rest` when one is reached;
+//! `courses_show_what_was_served` takes that apart, item by item.
 //! `items_are_no_older_than_their_connection` says where a connection begins, and what its items have seen since;
 //! `spent_serials_were_looked_at`, that a serial number that an item tells of as spent was looked at for it.
 //!
@@ -31,12 +32,14 @@
 #![tactic(auto)]
 
 mod beginning;
+mod showing;
 mod stepping;
 mod stopping;
 mod taking;
 mod telling;
 
 pub use beginning::connections_are_served_from_their_begin;
+pub use showing::courses_show_what_was_served;
 pub use stepping::connections_are_served_behind_their_steps;
 pub use stopping::connections_stop_where_memory_is_wanted;
 pub use taking::requests_join_their_connections;
