@@ -46,8 +46,8 @@ use shepherd::ProgramMaker;
 /// before the begin and its last one (`moment`); and the link's counts rise by the causes that an item tells (`first`,
 /// `next`). What was added and left are the events and the marks that the items tell (`told`), and where memory was
 /// wanted those of one request more at most (`stopped`): the next one of its bytes, for which numbers were drawn last;
-/// what it has added is what its end adds, by its own number and a program that was made of its own call, as the user of
-/// the session that was read asks for it (`more`). Where it has ended, there is an item for each request (`ended`).
+/// what it has added is what its end adds, by its own number and a program that was made of its own call, as the user
+/// of the session that was read asks for it (`more`). Where it has ended, there is an item for each request (`ended`).
 pub fn courses_show_what_was_served<
     P: Program,
     L: Link,

@@ -36,11 +36,11 @@ use shepherd::{
 };
 
 /// What was served over a connection, at an end. Where no request is open and nothing is to leave, it has served the
-/// first requests of its bytes whole (`rested`); where bytes are to come, all of those that came (`waits`); and where it
-/// has ended, all of them (`ended`). So nothing stands behind its responses where it rests but the last one of what is
-/// refused, where it has ended there (`behind`). Where memory was wanted, and what it held was given back, it has served
-/// the first requests, and may have done something for one more, whose item is not left (`stopped`); so it has where it
-/// did nothing for another one (`nothing_more`).
+/// first requests of its bytes whole (`rested`); where bytes are to come, all of those that came (`waits`); and where
+/// it has ended, all of them (`ended`). So nothing stands behind its responses where it rests but the last one of what
+/// is refused, where it has ended there (`behind`). Where memory was wanted, and what it held was given back, it has
+/// served the first requests, and may have done something for one more, whose item is not left (`stopped`); so it has
+/// where it did nothing for another one (`nothing_more`).
 pub fn courses_tell_what_was_served<
     P: Program,
     L: Link,
@@ -84,11 +84,11 @@ pub fn courses_tell_what_was_served<
     stopped_connections_account_for_what_they_left::<P, L>();
 }
 
-/// Nothing that a connection tells is older than its begin. It begins behind all events of the history so far, all their
-/// entries, the moment, and what its link has counted (`begun`); a link counts on where neither count falls (`risen`). A
-/// request for which the container was held met at least the entries that there were when the connection began (`seen`).
-/// It was held for exactly those that were decided in it (`held`); the journal had as many entries at the last hold as
-/// the item's front says (`front`), and the entry that an item names is one of them (`named`).
+/// Nothing that a connection tells is older than its begin. It begins behind all events of the history so far, all
+/// their entries, the moment, and what its link has counted (`begun`); a link counts on where neither count falls
+/// (`risen`). A request for which the container was held met at least the entries that there were when the connection
+/// began (`seen`). It was held for exactly those that were decided in it (`held`); the journal had as many entries at
+/// the last hold as the item's front says (`front`), and the entry that an item names is one of them (`named`).
 pub fn items_are_no_older_than_their_connection<
     P: Program,
     L: Link,
