@@ -20,7 +20,7 @@ use Rattle.outside.specs.Link.{Made}
 use Rattle.link_lanes.specs.Lanes.{LanesValue, lane_of, on_lane, more_unknown, hushed_with, IsFirst}
 use Rattle.link_lanes.specs.Tallies.{own_lane, other_lane}
 use Rattle.brick_house.specs.Houses.{HouseValue, HouseSeatsValue, IsBrickOf, IsReplyOf}
-use Rattle.brick_house.specs.HouseLinks.{HouseLinkValue, LaneValue, HouseMakes, empty_lane, new_link, with_reply, asked, given, silent, Gives}
+use Rattle.brick_house.specs.HouseLinks.{HouseLinkValue, LaneValue, HouseMakes, empty_lane, new_link, with_reply, asked, given, silent, with_bricks, Gives, IsQuiet}
 use Rattle.brick_house.specs.InOrder.{Bears, BearsBrick, request_if, request_to, frame_from, IsDecodedTo, ComeInOrder, waiting, AllBear}
 
 eqb-different : (a b : ℕ) → (a ≡ b → ⊥) → (a == b) ≡ false
@@ -302,3 +302,55 @@ none_waits seats brick = go (nat_lt 0 brick) where
 
 pub new_bear : (seats : HouseSeatsValue) → AllBear (new_link seats)
 new_bear seats brick = All-same (Bears brick seats.house.incarnation) (waiting (new_link seats) brick.0) [] (none_waits seats brick.0) (All-nil (Bears brick seats.house.incarnation))
+
+longer_than_none : (queue : List Frame) (answer : Frame) → queue ++ answer ∷ [] ≡ [] → ⊥
+longer_than_none [] answer is = absurd (cc)
+longer_than_none (x ∷ queue) answer is = absurd (cc)
+
+-- the lane of a brick after bytes were sent to it
+sent_lane : (old mid : HouseLinkValue) (brick : BrickNo) (request : List ℕ) (b : BrickValue) (lane : LaneValue) → mid ≡ with_bricks old (on_lane brick (asked b request) old.bricks) → lane_of old.bricks brick.0 ≡ Some lane → lane_of mid.bricks brick.0 ≡ Some (asked b request lane)
+sent_lane old mid brick request b lane made at = ap (λ (l : HouseLinkValue). lane_of l.bricks brick.0) made ∙ (own_lane old.bricks brick (asked b request) ∙ ap (option_map (asked b request)) at)
+
+-- Behind a request its brick is not silent.
+pub no_silence_behind : (old mid new : HouseLinkValue) (brick : BrickNo) (request : List ℕ) (question : Frame) → decode_of request ≡ Some question → is_request question ≡ true → HouseMakes old (Sends brick request) mid → HouseMakes mid (HearsSilence brick) new → ⊥
+no_silence_behind old mid new brick request question is asks (there, (b, of, made)) hears = by (lane_of old.bricks brick.0) refl there where
+  told : (lane : LaneValue) → (asked b request lane).queue ≡ [] → ((is_request question ≡ true) × ((answer : Frame) × (reply b question ≡ Some answer))) ⊎ ((is_request question ≡ false) × (reply b question ≡ None)) → ⊥
+  told lane none (inl (asked_so, (answer, so))) =
+      longer_than_none lane.queue answer (sym (ap (λ (found : Option Frame). (with_reply (option_and_then (reply b) found) lane).queue) is ∙ ap (λ (found : Option Frame). (with_reply found lane).queue) so) ∙ none)
+  told lane none (inr (unasked, so)) = absurd (cc)
+
+  by : (found : Option LaneValue) → lane_of old.bricks brick.0 ≡ found → IsSome found → ⊥
+  by None at some = absurd (cc)
+  by (Some lane) at some = told lane (subst IsQuiet (sent_lane old mid brick request b lane made at) hears.0) (replied_or_none b question)
+
+-- What comes behind one request is the reply to it.
+pub heard_behind : (old mid new : HouseLinkValue) (brick : BrickNo) (request frame : List ℕ) → waiting old brick.0 ≡ [] → HouseMakes old (Sends brick request) mid → HouseMakes mid (Gets brick frame) new
+    → (b : BrickValue) × (question : Frame) × (b.number ≡ brick) × (b.incarnation ≡ old.seats.house.incarnation) × (decode_of request ≡ Some question) × (decode_of frame ≡ reply b question)
+heard_behind old mid new brick request frame none (there, (b, of, made)) gets = by (lane_of old.bricks brick.0) refl there where
+  Told : Type 0
+  Told = (b : BrickValue) × (question : Frame) × (b.number ≡ brick) × (b.incarnation ≡ old.seats.house.incarnation) × (decode_of request ≡ Some question) × (decode_of frame ≡ reply b question)
+
+  by_reply : (lane : LaneValue) → lane.queue ≡ [] → (found : Option Frame) → option_and_then (reply b) (decode_of request) ≡ found → IsFirst frame (with_reply found lane).queue → (question : Option Frame) → decode_of request ≡ question → Told
+  by_reply lane empty None so is question at = absurd (subst (IsFirst frame) empty is)
+  by_reply lane empty (Some answer) so is None at = absurd (let none_is : None ≡ Some answer = ap (option_and_then (reply b)) (sym at) ∙ so in cc)
+  by_reply lane empty (Some answer) so is (Some question) at =
+      let here : IsFirst frame (answer ∷ []) = subst (λ (queue : List Frame). IsFirst frame (queue ++ answer ∷ [])) empty is in
+      let replied : reply b question ≡ Some answer = ap (option_and_then (reply b)) (sym at) ∙ so in
+      (b, question, of.number_is, of.incarnation_is, at, here.1 ∙ sym replied)
+
+  by : (found : Option LaneValue) → lane_of old.bricks brick.0 ≡ found → IsSome found → Told
+  by None at some = absurd (cc)
+  by (Some lane) at some =
+      let gives : Gives frame (Some (asked b request lane)) = subst (Gives frame) (sent_lane old mid brick request b lane made at) gets.0 in
+      by_reply lane (sym (ap queue_of at) ∙ none) (option_and_then (reply b) (decode_of request)) refl gives (decode_of request) refl
+
+All-among : {X : Type 0} (P : X → Type 0) (before behind : List X) (x : X) → All P (before ++ x ∷ behind) → P x
+All-among P [] behind x all = All-head P x behind all
+All-among P (b ∷ before) behind x all = All-among P before behind x (All-tail P b (before ++ x ∷ behind) all)
+
+-- What a frame that came is decoded to bears its brick.
+pub came_bears : (old new : HouseLinkValue) (before behind : List LinkEvent) (from : BrickNo) (bytes : List ℕ) (answer : Frame) → AllBear old → Made HouseMakes old (before ++ Gets from bytes ∷ behind) new → decode_of bytes ≡ Some answer → Bears from old.seats.house.incarnation answer
+came_bears old new before behind from bytes answer all made is =
+    let spelled = All-among (BearsBrick old.seats.house.incarnation) before behind (Gets from bytes) (events_bear old new (before ++ Gets from bytes ∷ behind) all made) in
+    let same : spelled.0 ≡ answer = cc in
+    subst (Bears from old.seats.house.incarnation) same spelled.2

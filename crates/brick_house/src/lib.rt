@@ -15,11 +15,11 @@
 //! let theirs = link.into_seats();
 //! ```
 //!
-//! Each brick stands in a `TurnLock`, and a send is one hold of it. Its history is one event, which brick it is, so
-//! whoever takes a brick knows its number and incarnation, and nothing of what others stored there. So a link tells of
-//! each reply that some brick of this number and incarnation gave it to the request (`HouseMakes` of
-//! `specs/HouseLinks`). The laws say what follows: `houses_answer_for_their_bricks`, `houses_answer_in_order`, and
-//! `house_links_count_their_events`.
+//! Each brick stands in a `TurnLock`, and a request that is sent to it is one hold; other bytes make none. Its history
+//! is one event, its number and incarnation, so whoever takes a brick knows these, and nothing of what others stored
+//! there. So a link tells of each reply that some brick of this number and incarnation gave it to the request
+//! (`HouseMakes` of `specs/HouseLinks`). The laws say what follows: `houses_answer_for_their_bricks`,
+//! `houses_answer_in_order`, and `house_links_count_their_events`.
 //!
 //! Replies wait in the link, as frames, and are spelled as bytes when they are received. The queue of a brick grows by
 //! one with each request that is sent to it, until its replies are received: who gives up a call hears its replies
