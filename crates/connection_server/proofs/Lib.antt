@@ -1,0 +1,11 @@
+mod Beginning
+mod Converting
+mod Drawn
+mod Growing
+mod Heeding
+mod Kept
+mod Leaving
+mod Moving
+mod Reading
+mod Spending
+mod Turned

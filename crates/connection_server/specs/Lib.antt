@@ -1,0 +1,8 @@
+pub mod Closing
+pub mod Ending
+pub mod Heeding
+pub mod Seats
+pub mod Serving
+pub mod Spending
+pub mod Stands
+pub mod Turning

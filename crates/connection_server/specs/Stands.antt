@@ -1,0 +1,85 @@
+-- Where a call stands with all that it serves a connection over.
+use Rattle.std.specs.Prelude.{◌≡◌, ◌≤◌, ℕ, false, List, [], ◌++◌, map, Option, None}
+use Rattle.atomic_table.specs.Seated.{TableId}
+use Rattle.container_core.specs.declared.history.Event.{Event}
+use Rattle.outcome_items.specs.Traces.{uncounted}
+use Rattle.outside.specs.Link.{Tally}
+use Rattle.outside.specs.declared.link.LinkCounts.{LinkCounts}
+use Rattle.request_decisions.specs.declared.draws.Draw.{Draw}
+use Rattle.request_intake.specs.Intakes.{serials_in}
+use Rattle.request_visit.specs.Stepping.{counted}
+use Rattle.send_windows.specs.declared.history.WindowMark.{WindowMark}
+use Rattle.served_connections.specs.Courses.{Begun, Course, begun_behind}
+use Rattle.shared_words.specs.Words.{WordSeatValue}
+use Rattle.turn_lock.specs.Seats.{SeatValue}
+use Rattle.seat_serials.specs.Drawing.{HasDrawnOn}
+use Rattle.connection_server.specs.Seats.{HasAdded}
+
+-- Where a call stands: its seats of the container, of the windows and of the words; what its source has left, where it
+-- tells, and how often it has failed; what was written to its sink, where that tells, and how often it has failed; what
+-- its link has counted; and the last moment of its clock.
+pub record Stand : Type 0 where
+  pub container : SeatValue Event
+  pub windows : SeatValue WindowMark
+  pub words : WordSeatValue
+  pub left : Option (List ℕ)
+  pub read_faults : ℕ
+  pub written : Option (List ℕ)
+  pub write_faults : ℕ
+  pub counts : LinkCounts
+  pub moment : ℕ
+
+-- the stand of these
+abbrev pub stand_of : SeatValue Event → SeatValue WindowMark → WordSeatValue → Option (List ℕ) → ℕ → Option (List ℕ) → ℕ → Tally → ℕ → Stand
+stand_of container windows words left read_faults written write_faults tally moment = record {
+  container = container;
+  windows = windows;
+  words = words;
+  left = left;
+  read_faults = read_faults;
+  written = written;
+  write_faults = write_faults;
+  counts = counted tally;
+  moment = moment;
+}
+
+-- where a connection begins that is served from a stand on
+abbrev pub began_at : Stand → Begun
+began_at begun = begun_behind begun.container.seen begun.moment begun.counts
+
+-- a seat of words with which the serial numbers among these were drawn
+abbrev pub with_drawn : WordSeatValue → List Draw → ℕ → WordSeatValue
+with_drawn seat drawn seen = record seat { drawn = seat.drawn ++ serials_in drawn; seen = seen }
+
+-- A call has come from one stand to another on the course of its connection: it has added the events of the course to
+-- the history of the container, and left its marks in that of the windows; and it has done no more with its seat of
+-- words than to draw.
+pub record HasCome (begun now : Stand) (c : Course) : Type 0 where
+  pub container : HasAdded begun.container now.container c.own
+  pub marks : List WindowMark
+  pub marks_are : c.marks ≡ map uncounted marks
+  pub windows : HasAdded begun.windows now.windows marks
+  pub words : HasDrawnOn begun.words now.words
+  pub read_faults : begun.read_faults ≤ now.read_faults
+  pub write_faults : begun.write_faults ≤ now.write_faults
+  pub moment : begun.moment ≤ now.moment
+
+-- a seat of no lock, and of no words, and the stand of such a call
+abbrev pub no_table : TableId
+no_table = record { words = 0; slots = 0; views_name = 0; atom = 0; block = 0; offset = 0; slot_names = [] }
+
+abbrev pub no_seat : {E : Type 0} → SeatValue E
+no_seat = record { lock = no_table; parts = 0; holds = false; seen = []; own = [] }
+
+abbrev pub nowhere : Stand
+nowhere = record {
+  container = no_seat;
+  windows = no_seat;
+  words = record { words = no_table; parts = 0; drawn = []; seen = 0; sights = [] };
+  left = None;
+  read_faults = 0;
+  written = None;
+  write_faults = 0;
+  counts = record { hushed = 0; got = 0 };
+  moment = 0;
+}
