@@ -1,2 +1,4 @@
 mod Growing
+mod Rebooting
+mod Seeing
 mod Stopping

@@ -1,11 +1,14 @@
 //! A container under a lock.
 
-ghost use Rattle.std.specs.Prelude.{◌≡◌, ◌-◌, ◌<◌, ◌≤◌, ◌+◌, [], ◌++◌, false, true, IfErr, IfOk};
+ghost use Rattle.std.specs.Prelude.{◌≡◌, ◌-◌, ◌<◌, ◌≤◌, ◌+◌, [], ◌++◌, false, true, IfErr, IfOk, Some, slice_get};
 ghost use mathlib.Core.List.{IsPrefix};
 ghost use Rattle.commit_journal.specs.Journal.{IsScope};
 ghost use Rattle.container_core.specs.Container.{ContainerValue, HasGrownBy, events_of};
-ghost use Rattle.container_core.specs.History.{is_stopped};
+ghost use Rattle.container_core.specs.History.{entries_in, is_stopped};
 ghost use Rattle.container_core.specs.declared.history.Event.{Event};
+ghost use Rattle.crash_base.specs.declared.scope.Scope.{Scope};
+ghost use Rattle.journal_model.specs.Reboots.{IsUndone};
+ghost use Rattle.journal_model.specs.declared.entry.Entry.TheVariants.{Down};
 ghost use Rattle.shepherd.specs.Shepherds.{turn};
 ghost use Rattle.shepherd.specs.Steps.{dropped_stage};
 ghost use Rattle.site_locks.specs.Holds.{GoesOnIn, Holds, InHold, Takes, Tells};
@@ -115,6 +118,8 @@ impl<K: Keeper + Drop> ContainerLock<K> {
         ensures held { InHold seat.old seat.new (λ before after.
             StepsInside P.asks shepherd.old before result shepherd.new after) }
         ensures goes { GoesOnIn P.accepts P.asks L.makes seat.new.seen shepherd.new }
+        ensures stopped { IfOk result (λ stopped. stopped ≡ is_stopped seat.new.seen) }
+        ensures seen { IsPrefix seat.old.seen seat.new.seen }
     {
         histories_tell_their_containers();
         connections_go_on::<P, L, NoMaker>();
@@ -135,6 +140,7 @@ impl<K: Keeper + Drop> ContainerLock<K> {
         requires home { seat.old.holds ≡ false }
         ensures held { InHold seat.old seat.new (λ before after. after ≡ before) }
         ensures stage { shepherd.new ≡ record shepherd.old { stage = dropped_stage shepherd.old.stage } }
+        ensures seen { IsPrefix seat.old.seen seat.new.seen }
     {
         let mut container = self.take(rt, seat);
         shepherd.drop_call(&mut container);
@@ -155,6 +161,8 @@ impl<K: Keeper + Drop> ContainerLock<K> {
         requires home { seat.old.holds ≡ false }
         requires scope { IsScope scope }
         ensures held { InHold seat.old seat.new (λ before after. GoesDown scope before result after) }
+        ensures down { IfOk result (λ place. slice_get (entries_in seat.new.seen) place.0 ≡ Some (Down scope)) }
+        ensures seen { IsPrefix seat.old.seen seat.new.seen }
     {
         let mut container = self.take(rt, seat);
         let answer = container.begin_reboot(scope);
@@ -167,6 +175,8 @@ impl<K: Keeper + Drop> ContainerLock<K> {
         requires seat { seat.old.lock ≡ self.now.id }
         requires home { seat.old.holds ≡ false }
         ensures held { InHold seat.old seat.new (λ before after. ComesUp down before result after) }
+        ensures over { (s : Scope) → IsUndone (entries_in seat.new.seen) down.0 s → ⊥ }
+        ensures seen { IsPrefix seat.old.seen seat.new.seen }
     {
         let mut container = self.take(rt, seat);
         let did = come_up(&mut container, down);
@@ -180,6 +190,7 @@ impl<K: Keeper + Drop> ContainerLock<K> {
         requires home { seat.old.holds ≡ false }
         ensures held { InHold seat.old seat.new (λ before after. after ≡ after_stop before) }
         ensures stopped { is_stopped seat.new.seen ≡ true }
+        ensures seen { IsPrefix seat.old.seen seat.new.seen }
     {
         let mut container = self.take(rt, seat);
         container.stop();

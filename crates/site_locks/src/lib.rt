@@ -37,5 +37,5 @@ mod windows_lock;
 
 pub use cells::{ContainerCell, ContainerSeat, WindowsCell, WindowsSeat};
 pub use container_lock::ContainerLock;
-pub use laws::histories_tell_their_containers;
+pub use laws::{connections_go_on_in_histories, histories_tell_their_containers};
 pub use windows_lock::WindowsLock;

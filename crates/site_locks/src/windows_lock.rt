@@ -110,6 +110,7 @@ impl WindowsLock {
             StepsWindows shepherd.old before result shepherd.new after) }
         ensures goes { (history : List Event) → GoesOnIn P.accepts P.asks L.makes history shepherd.old
             → GoesOnIn P.accepts P.asks L.makes history shepherd.new }
+        ensures seen { IsPrefix seat.old.seen seat.new.seen }
     {
         let mut windows = self.take(rt, seat);
         let answer = step_windows::<P, L>(alloc, &mut windows, shepherd);
@@ -130,6 +131,7 @@ impl WindowsLock {
         ensures held { InWindowsHold seat.old seat.new (λ before after.
             GivesBack shepherd.old.stage before shepherd.new.stage after) }
         ensures rest { shepherd.new ≡ record shepherd.old { stage = shepherd.new.stage } }
+        ensures seen { IsPrefix seat.old.seen seat.new.seen }
     {
         let mut windows = self.take(rt, seat);
         shepherd.drop_passes(&mut windows);

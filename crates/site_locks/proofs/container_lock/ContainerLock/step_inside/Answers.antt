@@ -1,8 +1,10 @@
-use Rattle.std.proofs.Common.{List, sym, ap, subst}
+use Rattle.std.proofs.Common.{◌≡◌, Bool, IfOk, List, sym, ap, subst}
 use Rattle.container_core.specs.Container.{events_of}
+use Rattle.container_core.specs.History.{is_stopped}
 use Rattle.container_core.specs.declared.history.Event.{Event}
 use Rattle.turn_lock.specs.Seats.{SeatValue}
 use Rattle.site_locks.specs.Holds.{Holds, Tells}
+use Rattle.site_locks.proofs.Seeing.{seen_begins}
 use Rattle.site_locks.proofs.container_lock.ContainerLock.step_inside.Goals as goal
 
 pub step_inside-answer-requires-clause-goes : goal.step_inside-answer-requires-clause-goes
@@ -30,3 +32,15 @@ returns-clause-goes g c =
       tells = subst (λ (history : List Event). Tells history after) (sym (ap (λ (s : SeatValue Event). s.seen) holds.hold.seat)) holds.left;
       goes_on = c.step_inside-answer.ensures.goes;
     }
+
+pub returns-clause-stopped : goal.returns-clause-stopped
+returns-clause-stopped g c =
+    let holds : Holds c.args.seat.now c.give.new.seat c.take-container.result c.step_inside-answer.new.container =
+    c.give.ensures c.args.seat.now c.take-container.result c.take-container.ensures c.step_inside-answer.ensures.grown in
+    subst (λ (history : List Event). IfOk c.step_inside-answer.result (λ (stopped : Bool). stopped ≡ is_stopped history)) (sym (ap (λ (s : SeatValue Event). s.seen) holds.hold.seat)) c.step_inside-answer.ensures.step.stopped
+
+pub returns-clause-seen : goal.returns-clause-seen
+returns-clause-seen g c =
+    let found = c.take-container.result in
+    let after = c.step_inside-answer.new.container in
+    seen_begins c.args.seat.now c.give.new.seat (events_of found) (events_of after) (c.give.ensures c.args.seat.now found c.take-container.ensures c.step_inside-answer.ensures.grown).hold
