@@ -1,6 +1,6 @@
 //! Serial numbers that are drawn with a seat of words.
 
-ghost use Rattle.std.specs.Prelude.{◌≡◌, IfOk, IfErr, None, Some};
+ghost use Rattle.std.specs.Prelude.{◌≡◌, ◌≤◌, IfOk, IfErr, None, Some, length, take};
 ghost use Rattle.outside.specs.declared.serials.TheConstants.{SERIALS_END};
 ghost use Rattle.seat_serials.specs.Drawing.{HasDrawnOn, SeatLooks};
 
@@ -37,11 +37,15 @@ impl<'a, B: Loan> SeatSerials<'a, B> {
         }
     }
 
-    /// The seat: nothing but draws was done with it.
+    /// The seat: nothing but draws was done with it. It has seen no less than when it was lent, and what it had drawn
+    /// then begins what it has drawn (`since`); its words, its parts and its sights are as they were (`same`).
     pub fn into_lent(self) -> Lent<'a>
         ensures loan { result.seat.ghost_name ≡ B.loan }
         ensures seat { result.seat.now ≡ self.entry.seat.now }
-        ensures since { HasDrawnOn B.lent result.seat.now }
+        ensures since { (B.lent.seen ≤ result.seat.now.seen)
+            × (take (length B.lent.drawn) result.seat.now.drawn ≡ B.lent.drawn) }
+        ensures same { (result.seat.now.words ≡ B.lent.words) × (result.seat.now.parts ≡ B.lent.parts)
+            × (result.seat.now.sights ≡ B.lent.sights) }
     {
         let SeatSerials {
             words,

@@ -1,12 +1,11 @@
 -- What a seat has seen behind a reboot that began, and behind one that ended.
-use Rattle.std.proofs.Common.{◌≡◌, ◌∙◌, ℕ, zero, suc, ◌+◌, ◌||◌, Bool, true, false, List, [], ◌∷◌, ◌++◌, drop, length, slice_get, Option, Some, None, Result, Ok, Err, IfOk, IsTrue, arith, refl, sym, ap, subst}
+use Rattle.std.proofs.Common.{◌≡◌, ◌∙◌, ℕ, zero, suc, ◌+◌, ◌||◌, Bool, true, false, List, [], ◌∷◌, ◌++◌, drop, length, slice_get, Some, Result, Ok, Err, IfOk, arith, refl, sym, ap, subst}
 use Rattle.std.specs.List.{list_any}
 use Rattle.std.proofs.lemmas.List.Folds.{list_any-append}
 use Rattle.boot_core.specs.declared.refusals.RebootRefusal.{RebootRefusal}
-use Rattle.container_core.specs.Container.{ContainerValue, events_of}
+use Rattle.container_core.specs.Container.{ContainerValue}
 use Rattle.container_core.specs.History.{entries_in}
 use Rattle.container_core.specs.declared.history.Event.{Event}
-use Rattle.crash_base.specs.Scope.{same_scope}
 use Rattle.crash_base.specs.declared.numbers.Place.{Place}
 use Rattle.crash_base.specs.declared.scope.Scope.{Scope}
 use Rattle.journal_model.specs.Reboots.{IsUndone, is_up_of}

@@ -1,5 +1,5 @@
 -- What a seat has seen behind a hold begins with what it had seen before.
-use Rattle.std.proofs.Common.{◌≡◌, ◌∙◌, ◌++◌, List, sym, ap}
+use Rattle.std.proofs.Common.{◌∙◌, ◌++◌, List, sym, ap}
 use Rattle.std.proofs.lemmas.List.{append_assoc}
 use mathlib.Core.List.{IsPrefix}
 use Rattle.turn_lock.specs.Seats.{SeatValue}
