@@ -73,7 +73,7 @@ impl<'a, W: Wait> Points for Stopper<'a, W> {
                     watch.step(self.rt, self.at);
                 }
             }
-            Point::Answered => {}
+            Point::Answered | Point::Rebooted(_) => {}
         }
     }
 }
