@@ -1,15 +1,16 @@
 -- What a seat of words has drawn, for the requests of a connection.
-use Rattle.std.specs.Prelude.{filter, map}
+use Rattle.std.specs.Prelude.{All, drop, filter, length, map, option_to_list, take, IfSome, Option, Some}
 use Rattle.std.proofs.Common.{◌≡◌, ◌⊎◌, inl, inr, ℕ, Bool, true, false, if◌then◌else◌, List, [], ◌∷◌, ◌++◌, None, ◌≤◌, arith, refl, sym, ap, ◌∙◌, subst, append-nil}
-use Rattle.std.proofs.lemmas.List.{append_assoc, map-append}
-use Rattle.std.proofs.lemmas.List.Elements.{filter-append}
+use Rattle.std.proofs.lemmas.List.{append_assoc, length-append, map-append, take-append-drop, take-append-le, take_all}
+use Rattle.std.proofs.lemmas.List.Elements.{All-push, All-weaker, filter-append}
 use Rattle.request_decisions.specs.Drawing.{DrawsOne, HasDrawn}
 use Rattle.request_decisions.specs.Draws.{is_serial}
 use Rattle.request_decisions.specs.declared.draws.Draw.{Draw}
-use Rattle.request_intake.specs.Intakes.{Gives, Looks, serials_in}
+use Rattle.request_intake.specs.Intakes.{Gives, serials_in}
+use Rattle.served_connections.specs.Spent.{IsFoundSpent}
 use Rattle.shared_words.specs.Words.{WordSeatValue}
-use Rattle.seat_serials.specs.Drawing.{SeatLooks}
-use Rattle.connection_server.specs.Stands.{with_drawn}
+use Rattle.seat_serials.specs.Drawing.{HasDrawnOn, SeatLooks}
+use Rattle.connection_server.specs.Stands.{DrewAtLeast, with_drawn}
 
 serials_append : (xs ys : List Draw) → serials_in (xs ++ ys) ≡ serials_in xs ++ serials_in ys
 serials_append xs ys =
@@ -26,64 +27,78 @@ drawn_behind seat mid drawn more seen is =
 pub drew_none : (seat : WordSeatValue) → seat ≡ with_drawn seat [] seat.seen
 drew_none seat = ap (λ (l : List ℕ). record seat { drawn = l }) (sym (append-nil seat.drawn))
 
-module _ {S R : Type 0} (seat_of : S → WordSeatValue) (gives : Gives R) where
-  abbrev looks_at : Looks S
-  looks_at s looked drawn t = SeatLooks (seat_of s) looked drawn (seat_of t)
+-- a seat with which nothing was drawn
+pub drawn_none : (seat : WordSeatValue) → HasDrawnOn seat seat
+drawn_none seat = (refl, refl, refl, omega arith, take_all (length seat.drawn) seat.drawn (omega arith))
 
+-- what was drawn with a seat begins what it has drawn
+drawn_is : (old new : WordSeatValue) → HasDrawnOn old new → new.drawn ≡ old.drawn ++ drop (length old.drawn) new.drawn
+drawn_is old new on = sym (take-append-drop (length old.drawn) new.drawn) ∙ ap (λ (l : List ℕ). l ++ drop (length old.drawn) new.drawn) on.4
+
+-- a seat with which numbers were drawn, and then more
+pub drawn_on : (first mid last : WordSeatValue) → HasDrawnOn first mid → HasDrawnOn mid last → HasDrawnOn first last
+drawn_on first mid last before on = (on.0 ∙ before.0, on.1 ∙ before.1, on.2 ∙ before.2, omega (arith, before.3, on.3), begins) where
+  longer : length first.drawn ≤ length mid.drawn
+  longer =
+      let is = ap length (drawn_is first mid before) ∙ length-append first.drawn (drop (length first.drawn) mid.drawn) in
+      omega (arith, is)
+
+  begins : take (length first.drawn) last.drawn ≡ first.drawn
+  begins =
+      ap (take (length first.drawn)) (drawn_is mid last on) ∙ take-append-le (length first.drawn) mid.drawn (drop (length mid.drawn) last.drawn) longer
+      ∙ before.4
+
+-- the serial numbers of a course were drawn, and no more
+pub drew_just : (begun now : WordSeatValue) (drawn : List Draw) → now ≡ with_drawn begun drawn now.seen → DrewAtLeast begun drawn now
+drew_just begun now drawn is =
+    ([], ap (λ (w : WordSeatValue). w.drawn) is ∙ ap (λ (l : List ℕ). begun.drawn ++ l) (sym (append-nil (serials_in drawn))))
+
+-- they were drawn, and then more
+pub drew_on : (begun now next : WordSeatValue) (drawn : List Draw) → now ≡ with_drawn begun drawn now.seen → HasDrawnOn now next → DrewAtLeast begun drawn next
+drew_on begun now next drawn is on = (
+  drop (length now.drawn) next.drawn,
+  drawn_is now next on ∙ ap (λ (w : WordSeatValue). w.drawn ++ drop (length now.drawn) next.drawn) is
+      ∙ append_assoc begun.drawn (serials_in drawn) (drop (length now.drawn) next.drawn),
+)
+
+-- what was seen is seen by who has seen more
+pub seen_on : (old new : ℕ) (looked : List ℕ) → old ≤ new → All (λ (serial : ℕ). serial ≤ old) looked → All (λ (serial : ℕ). serial ≤ new) looked
+seen_on old new looked on seen = All-weaker (λ (serial : ℕ). serial ≤ old) (λ (serial : ℕ). serial ≤ new) (λ serial s. omega (arith, on, s)) looked seen
+
+module _ {R : Type 0} (gives : Gives R) where
   -- one number is drawn
-  one : (serial : Bool) (d : Draw) → is_serial d.kind ≡ serial → (s : S) (r : R) (t : S) (q : R) → DrawsOne looks_at gives serial s r d.number t q → seat_of t ≡ with_drawn (seat_of s) (d ∷ []) (seat_of t).seen
+  one : (serial : Bool) (d : Draw) → is_serial d.kind ≡ serial → (s : WordSeatValue) (r : R) (t : WordSeatValue) (q : R) → DrawsOne SeatLooks gives serial s r d.number t q → t ≡ with_drawn s (d ∷ []) t.seen
   one true d kind s r t q drew =
-      subst (λ (x : WordSeatValue). x ≡ with_drawn (seat_of s) (d ∷ []) x.seen) (sym drew.2.3)
-      (ap (λ (l : List ℕ). record (seat_of s) { drawn = (seat_of s).drawn ++ l; seen = d.number }) (sym (counted d kind)))
+      subst (λ (x : WordSeatValue). x ≡ with_drawn s (d ∷ []) x.seen) (sym drew.2.3)
+      (ap (λ (l : List ℕ). record s { drawn = s.drawn ++ l; seen = d.number }) (sym (counted d kind)))
     where
       counted : (x : Draw) → is_serial x.kind ≡ true → serials_in (x ∷ []) ≡ x.number ∷ []
       counted x is = ap (λ (b : Bool). map (λ (y : Draw). y.number) (if b then x ∷ [] else [])) is
   one false d kind s r t q drew =
-      subst (λ (x : S). seat_of x ≡ with_drawn (seat_of s) (d ∷ []) (seat_of x).seen) (sym drew.1)
-      (drew_none (seat_of s) ∙ ap (λ (l : List ℕ). record (seat_of s) { drawn = (seat_of s).drawn ++ l }) (sym (left_out d kind)))
+      subst (λ (x : WordSeatValue). x ≡ with_drawn s (d ∷ []) x.seen) (sym drew.1)
+      (drew_none s ∙ ap (λ (l : List ℕ). record s { drawn = s.drawn ++ l }) (sym (left_out d kind)))
     where
       left_out : (x : Draw) → is_serial x.kind ≡ false → serials_in (x ∷ []) ≡ []
       left_out x is = ap (λ (b : Bool). map (λ (y : Draw). y.number) (if b then x ∷ [] else [])) is
 
-  pub drew : (s : S) (r : R) (drawn : List Draw) (t : S) (q : R) → HasDrawn looks_at gives s r drawn t q → seat_of t ≡ with_drawn (seat_of s) drawn (seat_of t).seen
-  drew s r [] t q h = subst (λ (x : S). seat_of x ≡ with_drawn (seat_of s) [] (seat_of x).seen) (sym h.0) (drew_none (seat_of s))
-  drew s r (d ∷ ds) t q h =
-      drew h.0 h.1 ds t q h.3 ∙ drawn_behind (seat_of s) (seat_of h.0) (d ∷ []) ds (seat_of t).seen (one (is_serial d.kind) d refl s r h.0 h.1 h.2)
+  drew : (s : WordSeatValue) (r : R) (drawn : List Draw) (t : WordSeatValue) (q : R) → HasDrawn SeatLooks gives s r drawn t q → t ≡ with_drawn s drawn t.seen
+  drew s r [] t q h = subst (λ (x : WordSeatValue). x ≡ with_drawn s [] x.seen) (sym h.0) (drew_none s)
+  drew s r (d ∷ ds) t q h = drew h.0 h.1 ds t q h.3 ∙ drawn_behind s h.0 (d ∷ []) ds t.seen (one (is_serial d.kind) d refl s r h.0 h.1 h.2)
 
   -- and a number that is spent may be looked at behind them
-  pub drew_at_last : (seat : WordSeatValue) (before more : List Draw) (s : S) (r : R) (mid : S) (q : R) (t : S) → seat_of s ≡ with_drawn seat before (seat_of s).seen → HasDrawn looks_at gives s r more mid q
-      → (t ≡ mid) ⊎ ((seen : ℕ) × looks_at mid seen None t) → seat_of t ≡ with_drawn seat (before ++ more) (seat_of t).seen
+  pub drew_at_last : (seat : WordSeatValue) (before more : List Draw) (s : WordSeatValue) (r : R) (mid : WordSeatValue) (q : R) (t : WordSeatValue) → s ≡ with_drawn seat before s.seen → HasDrawn SeatLooks gives s r more mid q
+      → (t ≡ mid) ⊎ ((seen : ℕ) × SeatLooks mid seen None t) → t ≡ with_drawn seat (before ++ more) t.seen
   drew_at_last seat before more s r mid q t was h (inl same) =
-      subst (λ (x : S). seat_of x ≡ with_drawn seat (before ++ more) (seat_of x).seen) (sym same)
-      (drew s r more mid q h ∙ drawn_behind seat (seat_of s) before more (seat_of mid).seen was)
+      subst (λ (x : WordSeatValue). x ≡ with_drawn seat (before ++ more) x.seen) (sym same)
+      (drew s r more mid q h ∙ drawn_behind seat s before more mid.seen was)
   drew_at_last seat before more s r mid q t was h (inr looked) =
       subst (λ (x : WordSeatValue). x ≡ with_drawn seat (before ++ more) x.seen) (sym looked.1.1)
-      (ap (λ (x : WordSeatValue). record x { seen = looked.0 }) (drew s r more mid q h ∙ drawn_behind seat (seat_of s) before more (seat_of mid).seen was))
+      (ap (λ (x : WordSeatValue). record x { seen = looked.0 }) (drew s r more mid q h ∙ drawn_behind seat s before more mid.seen was))
 
-  -- what a seat has seen rises
-  one_rises : (serial : Bool) (n : ℕ) (s : S) (r : R) (t : S) (q : R) → DrawsOne looks_at gives serial s r n t q → (seat_of s).seen ≤ (seat_of t).seen
-  one_rises true n s r t q drew =
-      let is : (seat_of t).seen ≡ n = ap (λ (w : WordSeatValue). w.seen) drew.2.3 in
-      omega (arith, is, drew.2.0, drew.2.1)
-  one_rises false n s r t q drew =
-      let is : (seat_of t).seen ≡ (seat_of s).seen = ap (λ (x : S). (seat_of x).seen) drew.1 in
-      omega (arith, is)
-
-  rises : (s : S) (r : R) (drawn : List Draw) (t : S) (q : R) → HasDrawn looks_at gives s r drawn t q → (seat_of s).seen ≤ (seat_of t).seen
-  rises s r [] t q h =
-      let is : (seat_of t).seen ≡ (seat_of s).seen = ap (λ (x : S). (seat_of x).seen) h.0 in
-      omega (arith, is)
-  rises s r (d ∷ ds) t q h =
-      let first = one_rises (is_serial d.kind) d.number s r h.0 h.1 h.2 in
-      let rest = rises h.0 h.1 ds t q h.3 in
-      omega (arith, first, rest)
-
-  pub rises_at_last : (s : S) (r : R) (more : List Draw) (mid : S) (q : R) (t : S) → HasDrawn looks_at gives s r more mid q → (t ≡ mid) ⊎ ((seen : ℕ) × looks_at mid seen None t) → (seat_of s).seen ≤ (seat_of t).seen
-  rises_at_last s r more mid q t h (inl same) =
-      let is : (seat_of t).seen ≡ (seat_of mid).seen = ap (λ (x : S). (seat_of x).seen) same in
-      let before = rises s r more mid q h in
-      omega (arith, is, before)
-  rises_at_last s r more mid q t h (inr looked) =
-      let is : (seat_of t).seen ≡ looked.0 = ap (λ (w : WordSeatValue). w.seen) looked.1.1 in
-      let before = rises s r more mid q h in
-      omega (arith, is, before, looked.1.0)
+  -- a seat has seen the number that was found spent
+  pub spent_seen : (s : WordSeatValue) (r : R) (looked : List ℕ) (spent : Option ℕ) (q : R) (t : WordSeatValue) → s.seen ≤ t.seen → IfSome spent (λ seen. IsFoundSpent gives SeatLooks r s seen q t)
+      → All (λ (serial : ℕ). serial ≤ s.seen) looked → All (λ (serial : ℕ). serial ≤ t.seen) (looked ++ option_to_list spent)
+  spent_seen s r looked None q t on found seen = subst (λ (l : List ℕ). All (λ (serial : ℕ). serial ≤ t.seen) l) (sym (append-nil looked)) (seen_on s.seen t.seen looked on seen)
+  spent_seen s r looked (Some serial) q t on found seen =
+      let is : t.seen ≡ serial = ap (λ (w : WordSeatValue). w.seen) found.looked.1 in
+      All-push (λ (n : ℕ). n ≤ t.seen) looked serial (seen_on s.seen t.seen looked on seen) (omega (arith, is))

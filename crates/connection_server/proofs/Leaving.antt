@@ -16,16 +16,16 @@ use Rattle.outcome_items.specs.declared.item.Item.{Item}
 use Rattle.outside.specs.Sink.{appended}
 use Rattle.outside.specs.declared.link.LinkCounts.{LinkCounts}
 use Rattle.outside.specs.declared.link.LinkEvent.{LinkEvent}
-use Rattle.request_intake.specs.Intakes.{Gives, Looks}
+use Rattle.request_intake.specs.Intakes.{Gives}
 use Rattle.send_windows.specs.Windows.{WindowsValue}
 use Rattle.send_windows.specs.declared.history.WindowMark.{WindowMark}
 use Rattle.served_connections.specs.Courses.{Course}
 use Rattle.served_connections.specs.Resting.{HasLeftAll, Rests, last_at}
 use Rattle.served_connections.specs.Serving.{Serves, ServesLeaving}
-use Rattle.served_connections.specs.Stopping.{HoldsNothing, ServesSoFar, StopsLeaving}
+use Rattle.served_connections.specs.Stopping.{HoldsNothing, IsAsBefore, IsUnsent, ServesSoFar, StopsLeaving}
 use Rattle.served_connections.specs.Telling.{HasEnded, HasServedWhole, HasStopped}
 use Rattle.served_items.specs.Attributing.{Service}
-use Rattle.served_items.specs.Counting.{AreReached, Counting, StageCounts, last_counts}
+use Rattle.served_items.specs.Counting.{StageCounts, last_counts}
 use Rattle.request_visit.specs.declared.visit.Visit.{Visit}
 use Rattle.shepherd.specs.Shepherds.{has_item, stage_turn, turn}
 use Rattle.shepherd.specs.Standing.{IsOpen, IsOpenFor, Served, Standing, coming, heads_of}
@@ -42,13 +42,13 @@ use Rattle.site_programs.specs.Errands.{IsMadeOf}
 use Rattle.site_programs.specs.declared.maker.SiteMaker.{SiteMaker}
 use Rattle.site_responses.specs.declared.answer.Untaken.{Untaken}
 use Rattle.turn_lock.specs.Seats.{SeatValue}
+use Rattle.seat_serials.specs.Drawing.{SeatLooks}
 use Rattle.connection_server.specs.Closing.{EndsBy, LastStaysOpen}
 use Rattle.connection_server.specs.Ending.{AllServed, FirstServed, HasServedAllOf, HasServedItems, HasTakenAll, ServedBy}
 use Rattle.connection_server.specs.Heeding.{AtMostLastStopped, Heeds, LastStopped, NoneStopped, WasFound}
 use Rattle.connection_server.specs.Seats.{BeginsWith}
 use Rattle.connection_server.specs.Serving.{BreaksOff, ComesToEnd, Ends, IsAccepted, IsServed, IsWritten, KeepsServing, Waits, WantsMemory}
-use Rattle.connection_server.specs.Spending.{AreSeen, Sees}
-use Rattle.connection_server.specs.Stands.{HasCome, Stand, began_at}
+use Rattle.connection_server.specs.Stands.{HasCome, HasSeen, Stand, began_at}
 use Rattle.connection_server.specs.Turning.{stopped_so}
 use Rattle.connection_server.specs.declared.connection.Connection.{Connection}
 use Rattle.connection_server.specs.declared.served.ServedEnd.{ServedEnd}
@@ -56,7 +56,7 @@ use Rattle.connection_server.specs.declared.served.ServedEnd.TheVariants.{Closed
 use Rattle.connection_server.proofs.Growing.{held_on, held_seen, held_still, prefix_trans}
 use Rattle.connection_server.proofs.Heeding.{ends_stay, given_back as back_heeds, given_up as up_heeds, item as item_heeds, item_found, last_stays, meanwhile, none_stopped_stays, rests as rests_behind}
 use Rattle.connection_server.proofs.Moving.{came, starts_with}
-use Rattle.connection_server.proofs.Spending.{given_back as back_sees, given_up as up_sees, item_taken, items_seen}
+use Rattle.connection_server.proofs.Seen.{reached_here, saw_item, unsent_no_item}
 use Rattle.connection_server.proofs.Turned.{all_come, bytes_end}
 
 ended_turn : (s : Shepherd ActionCall) (end : EndKind) → s.wants_memory ≡ false → s.stage ≡ stages.Over end → turn s ≡ turns.Ended end
@@ -83,15 +83,6 @@ stays_open fed heads written items s v call i stands at stays =
       stays = sym opens.close_is ∙ stays;
     }
 
--- where no request is open, the link has counted as much as the items tell
-reached : (begin counts : LinkCounts) (items : List Item) (s : Shepherd ActionCall) → Rests s.stage → Counting begin counts items s → AreReached (last_counts begin items) counts
-reached begin counts items s rests counting = by s.stage rests counting.is_open where
-  by : (x : Stage ActionCall) → Rests x → StageCounts (last_counts begin items) counts x → AreReached (last_counts begin items) counts
-  by stages.Resting r h = h
-  by (stages.Serving v call) r h = absurd r
-  by (stages.Refusing why bytes) r h = absurd r
-  by (stages.Over end) r h = h
-
 -- behind an item none is left
 none_behind : (x after : Stage ActionCall) (i : Item) → TakesItem x i after → has_item after ≡ false
 none_behind stages.Resting after i t = absurd t
@@ -102,12 +93,12 @@ none_behind (stages.Serving v call) after i t = ap has_item t.1 ∙ at_rest v.fa
 none_behind (stages.Refusing why bytes) after i t = absurd t
 none_behind (stages.Over end) after i t = absurd t
 
-module _ {L R S : Type 0} (calls : L → LinkEvent → L → Type 0) (gives : Gives R) (looks : Looks S) (service : Service SiteMaker) (begun : Stand) where
+module _ {L R : Type 0} (calls : L → LinkEvent → L → Type 0) (gives : Gives R) (service : Service SiteMaker) (begun : Stand) where
   abbrev Keeps : Stand → Connection → Type 0
-  Keeps now conn = KeepsServing calls gives looks service begun now conn
+  Keeps now conn = KeepsServing calls gives service begun now conn
 
   abbrev SiteServes : Start → Stand → Course → Shepherd ActionCall → Type 0
-  SiteServes start now c s = Serves IsAccepted steps_of calls (λ (maker : SiteMaker). IsMadeOf) gives looks service start (began_at begun) now.container.seen now.counts now.moment c s
+  SiteServes start now c s = Serves IsAccepted steps_of calls (λ (maker : SiteMaker). IsMadeOf) gives SeatLooks service start (began_at begun) now.container.seen now.counts now.moment c s
 
   -- an item was taken
   module _ (now : Stand) (old new : Connection) (i : Item) (items : new.items.items ≡ old.items.items ++ i ∷ []) (stopped : new.stopped ≡ old.stopped) (over : new.shepherd.ended ≡ old.shepherd.ended) (takes : TakesItem old.shepherd.stage i new.shepherd.stage)
@@ -115,19 +106,20 @@ module _ {L R S : Type 0} (calls : L → LinkEvent → L → Type 0) (gives : Gi
     abbrev later : Course
     later = record (k.course) { items = k.course.items ++ i ∷ [] }
 
-    served : IsServed calls gives looks service begun now later new.shepherd
+    served : IsServed calls gives service begun now later new.shepherd
     served = record {
       start = k.served.start;
       parts_are = k.served.parts_are;
       boot_is = k.served.boot_is;
       come = came begun now now k.course later k.served.come refl refl refl refl k.served.come.words (omega arith) (omega arith) (omega arith);
       drew = k.served.drew;
+      saw = saw_item begun now k.course i (last_counts begun.counts k.course.items) now.counts old.shepherd.stage new.shepherd.stage takes k.served.serves.counted.is_open (reached_here now.counts) k.served.saw;
       read = k.served.read;
       ended = λ is. k.served.ended (sym over ∙ is);
       serves = on k.served.start k.course k.served.serves;
     }
 
-    writes : IsWritten calls gives looks service begun now later new
+    writes : IsWritten calls gives service begun now later new
     writes = record { written = k.writes.written; items_are = ap (λ (l : List Item). l ++ i ∷ []) k.writes.items_are ∙ sym items }
 
     found : (b : Bool) → old.stopped ≡ b → AtMostLastStopped now.container.seen new.items.items
@@ -147,11 +139,7 @@ module _ {L R S : Type 0} (calls : L → LinkEvent → L → Type 0) (gives : Gi
             (subst (λ (x : Bool). WasFound now.container.seen i.holds x) is (item_heeds now.container.seen old.items.items old.stopped old.shepherd.stage new.shepherd.stage i takes k.heeds)));
         is_open = rests_behind now.container.seen new.items.items new.stopped old.shepherd.stage new.shepherd.stage i takes;
       };
-      sees = subst (λ (l : List Item). Sees now.words.seen l new.shepherd.stage) (sym items) (item_taken now.words.seen old.items.items old.shepherd.stage new.shepherd.stage i takes k.sees);
     }
-
-    all_seen : AreSeen now.words.seen new.items.items
-    all_seen = subst (λ (l : List Item). AreSeen now.words.seen l) (sym items) (items_seen now.words.seen old.items.items old.shepherd.stage new.shepherd.stage i takes k.sees)
 
     last_found : old.stopped ≡ true → LastStopped now.container.seen new.items.items
     last_found is = record {
@@ -162,22 +150,21 @@ module _ {L R S : Type 0} (calls : L → LinkEvent → L → Type 0) (gives : Gi
       stopped = subst (λ (x : Bool). WasFound now.container.seen i.holds x) is (item_heeds now.container.seen old.items.items old.stopped old.shepherd.stage new.shepherd.stage i takes k.heeds);
     }
 
-    pub item_last : old.stopped ≡ true → Ends calls gives looks service begun (stopped_so new.shepherd.stage) now new
+    pub item_last : old.stopped ≡ true → Ends calls gives service begun (stopped_so new.shepherd.stage) now new
     item_last is = by old.shepherd.stage refl takes where
       by_close : (v : Visit ActionCall) (call : Option AskedCall) (close : Bool) → old.shepherd.stage ≡ stages.Serving v call → v.facts.close ≡ close → new.shepherd.stage ≡ rested close
-          → Ends calls gives looks service begun (stopped_so new.shepherd.stage) now new
+          → Ends calls gives service begun (stopped_so new.shepherd.stage) now new
       by_close v call true opens closes at =
-          subst (λ (e : ServedEnd). Ends calls gives looks service begun e now new) (sym (ap stopped_so at))
+          subst (λ (e : ServedEnd). Ends calls gives service begun e now new) (sym (ap stopped_so at))
           (record {
             course = later;
             served = served;
             writes = writes;
             ended = ended_turn new.shepherd ends.Closed served.serves.remembers at;
             heeds = inr (all_come later.fed served.serves.heads later.written later.items new.shepherd ends.Closed served.serves.stands at, inr (last_found is));
-            seen = all_seen;
           })
       by_close v call false opens closes at =
-          subst (λ (e : ServedEnd). Ends calls gives looks service begun e now new) (sym (ap stopped_so at))
+          subst (λ (e : ServedEnd). Ends calls gives service begun e now new) (sym (ap stopped_so at))
           (record {
             course = later;
             served = served;
@@ -187,10 +174,9 @@ module _ {L R S : Type 0} (calls : L → LinkEvent → L → Type 0) (gives : Gi
             heeds = last_found is;
             stays = subst (λ (l : List Item). LastStaysOpen k.course.fed l) writes.items_are
                 (stays_open k.course.fed k.served.serves.heads k.course.written k.course.items old.shepherd v call i k.served.serves.stands opens closes);
-            seen = all_seen;
           })
 
-      by : (x : Stage ActionCall) → old.shepherd.stage ≡ x → TakesItem x i new.shepherd.stage → Ends calls gives looks service begun (stopped_so new.shepherd.stage) now new
+      by : (x : Stage ActionCall) → old.shepherd.stage ≡ x → TakesItem x i new.shepherd.stage → Ends calls gives service begun (stopped_so new.shepherd.stage) now new
       by stages.Resting opens t = absurd t
       by (stages.Serving v call) opens t = by_close v call v.facts.close opens refl t.1
       by (stages.Refusing why bytes) opens t = absurd t
@@ -200,7 +186,7 @@ module _ {L R S : Type 0} (calls : L → LinkEvent → L → Type 0) (gives : Gi
   pub stays_served : (now : Stand) (seat : SeatValue Event) (windows : SeatValue WindowMark) (before after : ContainerValue) (before_windows after_windows : WindowsValue) (c : Course) (s : Shepherd ActionCall)
       → Holds now.container seat before after → after ≡ before → HoldsWindows now.windows windows before_windows after_windows → after_windows ≡ before_windows
       → ((start : Start) → IsPrefix now.container.seen seat.seen → SiteServes start now c s → SiteServes start (record now { container = seat; windows = windows }) c s)
-      → IsServed calls gives looks service begun now c s → IsServed calls gives looks service begun (record now { container = seat; windows = windows }) c s
+      → IsServed calls gives service begun now c s → IsServed calls gives service begun (record now { container = seat; windows = windows }) c s
   stays_served now seat windows before after before_windows after_windows c s hold same hold_windows same_windows on h =
       let seen : seat.seen ≡ events_of after = held_seen now.container seat (events_of before) (events_of after) hold.hold in
       let longer : IsPrefix now.container.seen (events_of after) = prefix_trans now.container.seen (events_of before) (events_of after) hold.hold.begun hold.hold.grown in
@@ -219,26 +205,27 @@ module _ {L R S : Type 0} (calls : L → LinkEvent → L → Type 0) (gives : Gi
           moment = h.come.moment;
         };
         drew = h.drew;
+        saw = record { spent = h.saw.spent; counted = h.saw.counted };
         read = h.read;
         ended = h.ended;
         serves = on h.start (subst (λ (es : List Event). IsPrefix now.container.seen es) (sym seen) longer) h.serves;
       }
 
-module _ {L R S : Type 0} (calls : L → LinkEvent → L → Type 0) (gives : Gives R) (looks : Looks S) (service : Service SiteMaker) (begun now : Stand) (conn : Connection) where
+module _ {L R : Type 0} (calls : L → LinkEvent → L → Type 0) (gives : Gives R) (service : Service SiteMaker) (begun now : Stand) (conn : Connection) where
   abbrev ServesBehind : Start → List Event → Course → Shepherd ActionCall → Type 0
-  ServesBehind start history c s = Serves IsAccepted steps_of calls (λ (maker : SiteMaker). IsMadeOf) gives looks service start (began_at begun) history now.counts now.moment c s
+  ServesBehind start history c s = Serves IsAccepted steps_of calls (λ (maker : SiteMaker). IsMadeOf) gives SeatLooks service start (began_at begun) history now.counts now.moment c s
 
   abbrev LeavesBehind : Start → List Event → Course → Shepherd ActionCall → WindowsValue → WindowsValue → Type 0
-  LeavesBehind start history c s windows after = ServesLeaving IsAccepted steps_of calls (λ (maker : SiteMaker). IsMadeOf) gives looks service start (began_at begun) history now.counts now.moment c s windows after
+  LeavesBehind start history c s windows after = ServesLeaving IsAccepted steps_of calls (λ (maker : SiteMaker). IsMadeOf) gives SeatLooks service start (began_at begun) history now.counts now.moment c s windows after
 
   abbrev SoFarBehind : Start → List Event → LinkCounts → Course → Shepherd ActionCall → Type 0
-  SoFarBehind start history counts c s = ServesSoFar IsAccepted steps_of calls (λ (maker : SiteMaker). IsMadeOf) gives looks service start (began_at begun) history counts now.moment c s
+  SoFarBehind start history counts c s = ServesSoFar IsAccepted steps_of calls (λ (maker : SiteMaker). IsMadeOf) gives SeatLooks service start (began_at begun) history counts now.moment c s
 
   abbrev StopsBehind : Start → List Event → LinkCounts → Course → Shepherd ActionCall → WindowsValue → WindowsValue → Type 0
-  StopsBehind start history counts c s windows after = StopsLeaving IsAccepted steps_of calls (λ (maker : SiteMaker). IsMadeOf) gives looks service start (began_at begun) history counts now.moment c s windows after
+  StopsBehind start history counts c s windows after = StopsLeaving IsAccepted steps_of calls (λ (maker : SiteMaker). IsMadeOf) gives SeatLooks service start (began_at begun) history counts now.moment c s windows after
 
   abbrev WholeBehind : Start → List Event → Course → List ℕ → Type 0
-  WholeBehind start history c last = HasServedWhole steps_of calls (λ (maker : SiteMaker). IsMadeOf) gives looks service start (began_at begun) history now.moment c last
+  WholeBehind start history c last = HasServedWhole steps_of calls (λ (maker : SiteMaker). IsMadeOf) gives SeatLooks service start (began_at begun) history now.moment c last
 
   -- what the laws of connections that are served say, of this one
   pub record Laws : Type 0 where
@@ -251,7 +238,7 @@ module _ {L R S : Type 0} (calls : L → LinkEvent → L → Type 0) (gives : Gi
         → ServesBehind start history c s → ServesBehind start history (record c { items = c.items ++ i ∷ [] }) (record s { front = i.holds.front; stage = stage })
     pub rested : (start : Start) (history : List Event) (c : Course) (s : Shepherd ActionCall) → Rests s.stage → ServesBehind start history c s → WholeBehind start history c (last_at s.stage)
     pub ended : (start : Start) (history : List Event) (c : Course) (s : Shepherd ActionCall) (end : EndKind) → turn s ≡ turns.Ended end → ServesBehind start history c s
-        → HasEnded steps_of calls (λ (maker : SiteMaker). IsMadeOf) gives looks service start (began_at begun) history now.moment c end
+        → HasEnded steps_of calls (λ (maker : SiteMaker). IsMadeOf) gives SeatLooks service start (began_at begun) history now.moment c end
     pub rests_at_bytes : (s : Shepherd ActionCall) → turn s ≡ turns.Bytes → Rests s.stage
     pub rests_at_end : (s : Shepherd ActionCall) (end : EndKind) → turn s ≡ turns.Ended end → s.wants_memory ≡ false → Rests s.stage
     pub still : (stage : Stage ActionCall) → Rests stage → dropped_stage stage ≡ stage
@@ -269,7 +256,7 @@ module _ {L R S : Type 0} (calls : L → LinkEvent → L → Type 0) (gives : Gi
     pub nothing_held : (s : Shepherd ActionCall) (stage : Stage ActionCall) (windows after : WindowsValue) → GivesBack s.stage windows stage after → HoldsNothing stage
     pub item_held : (i : Item) (stage after : Stage ActionCall) → TakesItem stage i after → HoldsNothing after
     pub stopped : (start : Start) (history : List Event) (counts : LinkCounts) (c : Course) (s : Shepherd ActionCall) → HoldsNothing s.stage → has_item s.stage ≡ false → SoFarBehind start history counts c s
-        → HasStopped steps_of calls (λ (maker : SiteMaker). IsMadeOf) gives looks service start (began_at begun) history now.moment c
+        → HasStopped steps_of calls (λ (maker : SiteMaker). IsMadeOf) gives SeatLooks service start (began_at begun) history now.moment c
 
   -- the holds in which its call and its passes were given up, and the items that it left
   pub record Leaves (seat : SeatValue Event) (windows : SeatValue WindowMark) (items : List Item) : Type 0 where
@@ -304,10 +291,10 @@ module _ {L R S : Type 0} (calls : L → LinkEvent → L → Type 0) (gives : Gi
     starts_there start b = (b.0 ++ longer.0, sym longer.1 ∙ ap (λ (es : List Event). es ++ longer.0) b.1)
 
     abbrev Items : ServedEnd → Type 0
-    Items end = HasServedItems calls gives looks service begun next items end
+    Items end = HasServedItems calls gives service begun next items end
 
     -- it rests
-    module _ (c : Course) (h : IsServed calls gives looks service begun now c conn.shepherd) (rests : Rests conn.shepherd.stage) (items_are : c.items ≡ conn.items.items) (seen_all : AreSeen now.words.seen conn.items.items) where
+    module _ (c : Course) (h : IsServed calls gives service begun now c conn.shepherd) (rests : Rests conn.shepherd.stage) (items_are : c.items ≡ conn.items.items) where
       stage_is : l.dropped.stage ≡ conn.shepherd.stage
       stage_is = ap (λ (s : Shepherd ActionCall). s.stage) l.dropped_is ∙ laws.still conn.shepherd.stage rests
 
@@ -325,16 +312,16 @@ module _ {L R S : Type 0} (calls : L → LinkEvent → L → Type 0) (gives : Gi
       pub items_same : items ≡ c.items
       items_same = l.none (ap has_item kept_so.0 ∙ no_item conn.shepherd.stage rests) ∙ sym items_are
 
-      pub served_there : IsServed calls gives looks service begun next c conn.shepherd
+      pub served_there : IsServed calls gives service begun next c conn.shepherd
       served_there =
-          stays_served calls gives looks service begun now seat windows l.before l.after l.before_windows l.after_windows c conn.shepherd l.held l.same l.held_windows kept_so.1
+          stays_served calls gives service begun now seat windows l.before l.after l.before_windows l.after_windows c conn.shepherd l.held l.same l.held_windows kept_so.1
           (λ start on serves. laws.later start now.container.seen seat.seen c conn.shepherd on serves) h
 
-      pub items_told : (end : ServedEnd) → ServedBy calls gives looks service begun next h.start c end → Items end
+      pub items_told : (end : ServedEnd) → ServedBy calls gives service begun next h.start c end → Items end
       items_told end told = record {
         course = c;
         start = h.start;
-        starts = starts_there h.start (starts_with calls gives looks service begun h.start now c conn.shepherd h.serves);
+        starts = starts_there h.start (starts_with calls gives service begun h.start now c conn.shepherd h.serves);
         parts_are = h.parts_are;
         boot_is = h.boot_is;
         come = served_there.come;
@@ -342,13 +329,13 @@ module _ {L R S : Type 0} (calls : L → LinkEvent → L → Type 0) (gives : Gi
         served = told;
       }
 
-      took : HasTakenAll calls gives looks service begun next c
-      took = record { read = served_there.read; drew = served_there.drew; seen = subst (λ (is : List Item). AreSeen now.words.seen is) (sym items_are) seen_all; counted = reached begun.counts now.counts c.items conn.shepherd rests h.serves.counted }
+      took : HasTakenAll calls gives service begun next c
+      took = record { read = served_there.read; drew = served_there.drew; saw = served_there.saw }
 
-      pub all_told : (end : EndKind) (s : Shepherd ActionCall) → turn s ≡ turns.Ended end → next.written ≡ appended begun.written c.written → ServesBehind h.start seat.seen c s → HasServedAllOf calls gives looks service begun next h.start c end
+      pub all_told : (end : EndKind) (s : Shepherd ActionCall) → turn s ≡ turns.Ended end → next.written ≡ appended begun.written c.written → ServesBehind h.start seat.seen c s → HasServedAllOf calls gives service begun next h.start c end
       all_told end s ends wrote serves = record { ended = laws.ended h.start seat.seen c s end ends serves; wrote = wrote; took = took }
 
-      pub first_told : last_at conn.shepherd.stage ≡ [] → FirstServed calls gives looks service begun next h.start c
+      pub first_told : last_at conn.shepherd.stage ≡ [] → FirstServed calls gives service begun next h.start c
       unfolding served_there stays_served
       first_told nothing = subst (λ (bytes : List ℕ). WholeBehind h.start seat.seen c bytes) nothing (laws.rested h.start seat.seen c conn.shepherd rests served_there.serves)
 
@@ -356,18 +343,18 @@ module _ {L R S : Type 0} (calls : L → LinkEvent → L → Type 0) (gives : Gi
       unfolding served_there stays_served
       serves_there = served_there.serves
 
-    at_end : (end : EndKind) (e : ServedEnd) (k : ComesToEnd calls gives looks service begun end now conn)
-        → ((start : Start) → HasServedAllOf calls gives looks service begun next start k.course end → EndsBy end next.left k.course.fed seat.seen k.course.items → ServedBy calls gives looks service begun next start k.course e) → Items e
+    at_end : (end : EndKind) (e : ServedEnd) (k : ComesToEnd calls gives service begun end now conn)
+        → ((start : Start) → HasServedAllOf calls gives service begun next start k.course end → EndsBy end next.left k.course.fed seat.seen k.course.items → ServedBy calls gives service begun next start k.course e) → Items e
     at_end end e k so =
         let rests = laws.rests_at_end conn.shepherd end k.ended k.served.serves.remembers in
         let items_are = k.writes.items_are in
-        items_told k.course k.served rests items_are k.seen e
+        items_told k.course k.served rests items_are e
         (so k.served.start
-        (all_told k.course k.served rests items_are k.seen end conn.shepherd k.ended k.writes.written (serves_there k.course k.served rests items_are k.seen))
+        (all_told k.course k.served rests items_are end conn.shepherd k.ended k.writes.written (serves_there k.course k.served rests items_are))
         (subst (λ (is : List Item). EndsBy end now.left k.course.fed seat.seen is) (sym items_are) (ends_stay end now.left k.course.fed now.container.seen seat.seen conn.items.items longer k.heeds)))
 
     -- all that came was served
-    module _ (k : Waits calls gives looks service begun now conn) where
+    module _ (k : Waits calls gives service begun now conn) where
       abbrev waited : Shepherd ActionCall
       waited = record (conn.shepherd) { ended = true }
 
@@ -375,16 +362,16 @@ module _ {L R S : Type 0} (calls : L → LinkEvent → L → Type 0) (gives : Gi
       waited_rests = laws.rests_at_bytes conn.shepherd k.waits
 
       waited_serves : ServesBehind k.served.start seat.seen k.course waited
-      waited_serves = laws.no_more k.served.start seat.seen k.course conn.shepherd (serves_there k.course k.served waited_rests k.writes.items_are k.seen)
+      waited_serves = laws.no_more k.served.start seat.seen k.course conn.shepherd (serves_there k.course k.served waited_rests k.writes.items_are)
 
       came_all : (turn waited ≡ turns.Ended ends.Closed) ⊎ (turn waited ≡ turns.Ended ends.Cut)
-          → HasServedAllOf calls gives looks service begun next k.served.start k.course ends.Closed ⊎ HasServedAllOf calls gives looks service begun next k.served.start k.course ends.Cut
-      came_all (inl closed) = inl (all_told k.course k.served waited_rests k.writes.items_are k.seen ends.Closed waited closed k.writes.written waited_serves)
-      came_all (inr cut) = inr (all_told k.course k.served waited_rests k.writes.items_are k.seen ends.Cut waited cut k.writes.written waited_serves)
+          → HasServedAllOf calls gives service begun next k.served.start k.course ends.Closed ⊎ HasServedAllOf calls gives service begun next k.served.start k.course ends.Cut
+      came_all (inl closed) = inl (all_told k.course k.served waited_rests k.writes.items_are ends.Closed waited closed k.writes.written waited_serves)
+      came_all (inr cut) = inr (all_told k.course k.served waited_rests k.writes.items_are ends.Cut waited cut k.writes.written waited_serves)
 
       read_all : Items ReadFault
       read_all =
-          items_told k.course k.served waited_rests k.writes.items_are k.seen ReadFault
+          items_told k.course k.served waited_rests k.writes.items_are ReadFault
           (record {
             all = came_all (bytes_end conn.shepherd k.served.serves.remembers k.waits);
             failed = k.failed;
@@ -393,13 +380,13 @@ module _ {L R S : Type 0} (calls : L → LinkEvent → L → Type 0) (gives : Gi
 
     -- the first requests were served, or all of them, and what followed is refused
     answered : (start : Start) (c : Course) (s : Shepherd ActionCall) → Rests s.stage → ServesBehind start seat.seen c s
-        → FirstServed calls gives looks service begun next start c ⊎ ((why : Untaken) × AllServed calls gives looks service begun next start c (ends.Refused why))
+        → FirstServed calls gives service begun next start c ⊎ ((why : Untaken) × AllServed calls gives service begun next start c (ends.Refused why))
     answered start c s rests serves = by s.stage refl rests where
       told : (x : Stage ActionCall) → s.stage ≡ x → WholeBehind start seat.seen c (last_at x)
       told x at = subst (λ (y : Stage ActionCall). WholeBehind start seat.seen c (last_at y)) at (laws.rested start seat.seen c s rests serves)
 
       by : (x : Stage ActionCall) → s.stage ≡ x → Rests x
-          → FirstServed calls gives looks service begun next start c ⊎ ((why : Untaken) × AllServed calls gives looks service begun next start c (ends.Refused why))
+          → FirstServed calls gives service begun next start c ⊎ ((why : Untaken) × AllServed calls gives service begun next start c (ends.Refused why))
       by stages.Resting at r = inl (told stages.Resting at)
       by (stages.Serving v call) at r = absurd r
       by (stages.Refusing why bytes) at r = absurd r
@@ -424,15 +411,6 @@ module _ {L R S : Type 0} (calls : L → LinkEvent → L → Type 0) (gives : Gi
         subst (λ (is : List Item). AtMostLastStopped seat.seen is) (sym same)
         (item_found seat.seen conn.items.items i conn.stopped there.running (item_heeds seat.seen conn.items.items conn.stopped l.last.stage stage i takes there))
 
-    sees_there : Sees now.words.seen conn.items.items conn.shepherd.stage → Sees now.words.seen conn.items.items l.last.stage
-    sees_there sees =
-        back_sees now.words.seen conn.items.items l.dropped.stage l.last.stage l.before_windows l.after_windows l.gives_back
-        (subst (λ (x : Stage ActionCall). Sees now.words.seen conn.items.items x) (sym (ap (λ (s : Shepherd ActionCall). s.stage) l.dropped_is)) (up_sees now.words.seen conn.items.items conn.shepherd.stage sees))
-
-    seen_item : Sees now.words.seen conn.items.items conn.shepherd.stage → (i : Item) (stage : Stage ActionCall) → TakesItem l.last.stage i stage → items ≡ conn.items.items ++ i ∷ [] → AreSeen now.words.seen items
-    seen_item sees i stage takes same =
-        subst (λ (is : List Item). AreSeen now.words.seen is) (sym same) (items_seen now.words.seen conn.items.items l.last.stage stage i takes (sees_there sees))
-
     -- how far the call has come then
     come_there : (c : Course) (added : List WindowMark) → HasCome begun now c → l.after_windows.history ≡ l.before_windows.history ++ added → HasCome begun next (record c { marks = c.marks ++ map uncounted added })
     come_there c added come grown = record {
@@ -450,7 +428,7 @@ module _ {L R S : Type 0} (calls : L → LinkEvent → L → Type 0) (gives : Gi
     come_item c i come = came begun next next c (record c { items = c.items ++ i ∷ [] }) come refl refl refl refl come.words (omega arith) (omega arith) (omega arith)
 
     -- a part of a response was written
-    module _ (k : BreaksOff calls gives looks service begun now conn) where
+    module _ (k : BreaksOff calls gives service begun now conn) where
       abbrev broken_start : Start
       broken_start = k.served.start
 
@@ -471,15 +449,10 @@ module _ {L R S : Type 0} (calls : L → LinkEvent → L → Type 0) (gives : Gi
       broken_serves = subst (λ (s : Shepherd ActionCall). ServesBehind broken_start seat.seen broken_later s) (sym l.last_is) broken_leaves.serves
 
       broken_starts : BeginsWith broken_start seat.seen
-      broken_starts = starts_there broken_start (starts_with calls gives looks service begun broken_start now k.course conn.shepherd k.served.serves)
+      broken_starts = starts_there broken_start (starts_with calls gives service begun broken_start now k.course conn.shepherd k.served.serves)
 
-      broken_took_all : Rests l.last.stage → HasTakenAll calls gives looks service begun next broken_later
-      broken_took_all rests = record {
-        read = k.served.read;
-        drew = k.served.drew;
-        seen = subst (λ (is : List Item). AreSeen now.words.seen is) (sym k.items_are) k.sees.each;
-        counted = reached begun.counts now.counts k.course.items l.last rests broken_serves.counted;
-      }
+      broken_saw : HasSeen begun next broken_later
+      broken_saw = record { spent = k.served.saw.spent; counted = k.served.saw.counted }
 
       broken_by : (b : Bool) → has_item l.last.stage ≡ b → Items WriteFault
       broken_by false without =
@@ -497,7 +470,7 @@ module _ {L R S : Type 0} (calls : L → LinkEvent → L → Type 0) (gives : Gi
               served = answered broken_start broken_later l.last rests broken_serves;
               wrote = k.written;
               failed = k.failed;
-              took = broken_took_all rests;
+              took = record { read = k.served.read; drew = k.served.drew; saw = broken_saw };
               heeds = subst (λ (is : List Item). AtMostLastStopped seat.seen is) (same ∙ sym k.items_are) (heeds_none k.heeds same);
             };
           }
@@ -523,8 +496,7 @@ module _ {L R S : Type 0} (calls : L → LinkEvent → L → Type 0) (gives : Gi
               took = record {
                 read = k.served.read;
                 drew = k.served.drew;
-                seen = subst (λ (is : List Item). AreSeen now.words.seen is) all (seen_item k.sees i left.1 left.2 left.3);
-                counted = reached begun.counts now.counts (k.course.items ++ i ∷ []) last rests serves.counted;
+                saw = saw_item begun next broken_later i (last_counts begun.counts k.course.items) now.counts l.last.stage left.1 left.2 broken_serves.counted.is_open (reached_here now.counts) broken_saw;
               };
               heeds = subst (λ (is : List Item). AtMostLastStopped seat.seen is) all (heeds_item k.heeds i left.1 left.2 left.3);
             };
@@ -534,7 +506,7 @@ module _ {L R S : Type 0} (calls : L → LinkEvent → L → Type 0) (gives : Gi
       broken = broken_by (has_item l.last.stage) refl
 
     -- memory was wanted
-    module _ (k : WantsMemory calls gives looks service begun now conn) where
+    module _ (k : WantsMemory calls gives service begun now conn) where
       abbrev unfinished_start : Start
       unfinished_start = k.start
 
@@ -551,6 +523,17 @@ module _ {L R S : Type 0} (calls : L → LinkEvent → L → Type 0) (gives : Gi
       unfinished_serves : SoFarBehind unfinished_start seat.seen k.counts unfinished_later l.last
       unfinished_serves = subst (λ (s : Shepherd ActionCall). SoFarBehind unfinished_start seat.seen k.counts unfinished_later s) (sym l.last_is) unfinished_leaves.so_far
 
+      unfinished_saw : HasSeen begun next unfinished_later
+      unfinished_saw = record { spent = k.saw.spent; counted = k.saw.counted }
+
+      -- where its item is left, all of its request is as it was
+      unfinished_counted : (i : Item) (after : Stage ActionCall) → TakesItem l.last.stage i after → StageCounts (last_counts begun.counts k.course.items) k.counts l.last.stage
+      unfinished_counted i after takes = by unfinished_serves.open_so where
+        by : (IsUnsent unfinished_serves.was.stage × IsUnsent l.last.stage) ⊎ IsAsBefore unfinished_serves.was l.last unfinished_serves.before unfinished_later.marks
+            → StageCounts (last_counts begun.counts k.course.items) k.counts l.last.stage
+        by (inl unsent) = absurd (unsent_no_item l.last.stage after i takes unsent.1)
+        by (inr same) = subst (λ (y : Stage ActionCall). StageCounts (last_counts begun.counts k.course.items) k.counts y) (sym same.stage_is) unfinished_serves.served.counted.is_open
+
       unfinished_by : (b : Bool) → has_item l.last.stage ≡ b → Items OutOfMemory
       unfinished_by false without =
           let same = l.none without in
@@ -565,6 +548,8 @@ module _ {L R S : Type 0} (calls : L → LinkEvent → L → Type 0) (gives : Gi
             served = record {
               lost = k.lost;
               read = k.read;
+              drew = k.drew;
+              saw = unfinished_saw;
               stopped = laws.stopped unfinished_start seat.seen k.counts unfinished_later l.last (laws.nothing_held l.dropped l.last.stage l.before_windows l.after_windows l.gives_back) without unfinished_serves;
               wrote = k.writes.written;
               heeds = subst (λ (is : List Item). AtMostLastStopped seat.seen is) (same ∙ sym k.writes.items_are) (heeds_none k.heeds same);
@@ -586,6 +571,8 @@ module _ {L R S : Type 0} (calls : L → LinkEvent → L → Type 0) (gives : Gi
             served = record {
               lost = k.lost;
               read = k.read;
+              drew = k.drew;
+              saw = saw_item begun next unfinished_later i (last_counts begun.counts k.course.items) k.counts l.last.stage left.1 left.2 (unfinished_counted i left.1 left.2) k.count_on unfinished_saw;
               stopped = laws.stopped unfinished_start seat.seen k.counts (record unfinished_later { items = k.course.items ++ i ∷ [] }) last (laws.item_held i l.last.stage left.1 left.2) (none_behind l.last.stage left.1 i left.2)
                   (laws.item_so_far unfinished_start seat.seen k.counts unfinished_later i l.last left.1 there left.2 unfinished_serves);
               wrote = k.writes.written;
@@ -597,16 +584,16 @@ module _ {L R S : Type 0} (calls : L → LinkEvent → L → Type 0) (gives : Gi
       unfinished = unfinished_by (has_item l.last.stage) refl
 
     -- what was served, by how the connection came to its end
-    pub left_so : (end : ServedEnd) → Ends calls gives looks service begun end now conn → Items end
+    pub left_so : (end : ServedEnd) → Ends calls gives service begun end now conn → Items end
     left_so Closed k = at_end ends.Closed Closed k (λ start all by. record { all = all; by = by })
     left_so Cut k = at_end ends.Cut Cut k (λ start all by. record { all = all; by = by })
     left_so (Refused why) k = at_end (ends.Refused why) (Refused why) k (λ start all by. record { all = all; by = by })
     left_so Stopped k =
-        items_told k.course k.served k.rests k.writes.items_are k.seen Stopped
+        items_told k.course k.served k.rests k.writes.items_are Stopped
         (record {
-          first = first_told k.course k.served k.rests k.writes.items_are k.seen k.nothing;
+          first = first_told k.course k.served k.rests k.writes.items_are k.nothing;
           wrote = k.writes.written;
-          took = took k.course k.served k.rests k.writes.items_are k.seen;
+          took = took k.course k.served k.rests k.writes.items_are;
           stopped = subst (λ (is : List Item). LastStopped seat.seen is) (sym k.writes.items_are) (last_stays now.container.seen seat.seen conn.items.items longer k.heeds);
           stays = subst (λ (is : List Item). LastStaysOpen k.course.fed is) (sym k.writes.items_are) k.stays;
         })

@@ -1,5 +1,4 @@
 mod Beginning
-mod Converting
 mod Drawn
 mod Growing
 mod Heeding
@@ -7,5 +6,5 @@ mod Kept
 mod Leaving
 mod Moving
 mod Reading
-mod Spending
+mod Seen
 mod Turned

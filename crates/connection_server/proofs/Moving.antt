@@ -1,5 +1,5 @@
 -- A connection that a call serves, behind each of its turns.
-use Rattle.std.specs.Prelude.{map, option_to_list}
+use Rattle.std.specs.Prelude.{All, map, option_to_list}
 use Rattle.std.proofs.Common.{◌≡◌, inl, inr, ℕ, ◌≤◌, Bool, true, false, List, [], ◌∷◌, ◌++◌, arith, refl, sym, ap, ◌∙◌, subst, Option, append-nil, true≢false}
 use Rattle.std.proofs.lemmas.List.{map-append}
 use mathlib.Core.List.{IsPrefix}
@@ -18,7 +18,7 @@ use Rattle.outside.specs.Source.{HasEnded, prepended}
 use Rattle.outside.specs.declared.link.LinkCounts.{LinkCounts}
 use Rattle.outside.specs.declared.link.LinkEvent.{LinkEvent}
 use Rattle.request_decisions.specs.declared.draws.Draw.{Draw}
-use Rattle.request_intake.specs.Intakes.{Gives, Looks}
+use Rattle.request_intake.specs.Intakes.{Gives}
 use Rattle.send_windows.specs.Windows.{WindowsValue}
 use Rattle.send_windows.specs.declared.history.WindowMark.{WindowMark}
 use Rattle.served_connections.specs.Courses.{Course}
@@ -26,6 +26,7 @@ use Rattle.served_connections.specs.Resting.{HasLeftAll}
 use Rattle.served_connections.specs.Serving.{Serves, ServesAdding, ServesLeaving}
 use Rattle.served_connections.specs.Stopping.{ServesSoFar, StopsLeaving}
 use Rattle.served_items.specs.Attributing.{Service}
+use Rattle.served_items.specs.Counting.{AreReached, last_counts}
 use Rattle.shared_words.specs.Words.{WordSeatValue}
 use Rattle.shepherd.specs.Shepherds.{turn}
 use Rattle.shepherd.specs.declared.shepherd.Shepherd.{Shepherd}
@@ -35,17 +36,17 @@ use Rattle.site_locks.specs.Holds.{Holds, HoldsWindows}
 use Rattle.site_programs.specs.Errands.{IsMadeOf}
 use Rattle.site_programs.specs.declared.maker.SiteMaker.{SiteMaker}
 use Rattle.turn_lock.specs.Seats.{SeatValue}
-use Rattle.seat_serials.specs.Drawing.{HasDrawnOn}
+use Rattle.seat_serials.specs.Drawing.{HasDrawnOn, SeatLooks}
 use Rattle.connection_server.specs.Heeding.{Heeds}
 use Rattle.connection_server.specs.Seats.{BeginsWith, HasAdded}
 use Rattle.connection_server.specs.Serving.{BreaksOff, IsAccepted, KeepsServing, Waits, WantsMemory}
-use Rattle.connection_server.specs.Spending.{Sees}
 use Rattle.connection_server.specs.Stands.{HasCome, Stand, began_at, with_drawn}
 use Rattle.connection_server.specs.declared.connection.Connection.{Connection}
+use Rattle.connection_server.proofs.Drawn.{drawn_on, drew_just, drew_on, seen_on}
 use Rattle.connection_server.proofs.Growing.{held_on, held_seen, held_still, prefix_trans}
 use Rattle.connection_server.proofs.Heeding.{meanwhile, still}
 use Rattle.connection_server.proofs.Reading.{part_on, prepended_none, read_on, written_on}
-use Rattle.connection_server.proofs.Spending.{still as still_sees}
+use Rattle.connection_server.proofs.Seen.{reached_here, reached_on}
 
 pub rose_on : (begun now later : ℕ) → begun ≤ now → Rose now later → Rose begun later
 rose_on begun now later least (inl more) = inl (omega (arith, least, more))
@@ -105,18 +106,15 @@ pub heeds_to : (history : List Event) (old new : Connection) (stage : Stage Acti
 heeds_to history old new stage same h =
     subst (λ (l : List Item). Heeds history l new.stopped stage) (sym same.items) (subst (λ (b : Bool). Heeds history old.items.items b stage) (sym same.stopped) h)
 
-pub sees_to : (seen : ℕ) (old new : Connection) (stage : Stage ActionCall) → SameItems old new → Sees seen old.items.items stage → Sees seen new.items.items stage
-sees_to seen old new stage same h = subst (λ (l : List Item). Sees seen l stage) (sym same.items) h
-
-module _ {L R S : Type 0} (calls : L → LinkEvent → L → Type 0) (gives : Gives R) (looks : Looks S) (service : Service SiteMaker) (begun : Stand) where
+module _ {L R : Type 0} (calls : L → LinkEvent → L → Type 0) (gives : Gives R) (service : Service SiteMaker) (begun : Stand) where
   abbrev Keeps : Stand → Connection → Type 0
-  Keeps now conn = KeepsServing calls gives looks service begun now conn
+  Keeps now conn = KeepsServing calls gives service begun now conn
 
   abbrev SiteServes : Start → Stand → Course → Shepherd ActionCall → Type 0
-  SiteServes start now c s = Serves IsAccepted steps_of calls (λ (maker : SiteMaker). IsMadeOf) gives looks service start (began_at begun) now.container.seen now.counts now.moment c s
+  SiteServes start now c s = Serves IsAccepted steps_of calls (λ (maker : SiteMaker). IsMadeOf) gives SeatLooks service start (began_at begun) now.container.seen now.counts now.moment c s
 
   abbrev SiteServesSoFar : Start → LinkCounts → Stand → Course → Shepherd ActionCall → Type 0
-  SiteServesSoFar start counts now c s = ServesSoFar IsAccepted steps_of calls (λ (maker : SiteMaker). IsMadeOf) gives looks service start (began_at begun) now.container.seen counts now.moment c s
+  SiteServesSoFar start counts now c s = ServesSoFar IsAccepted steps_of calls (λ (maker : SiteMaker). IsMadeOf) gives SeatLooks service start (began_at begun) now.container.seen counts now.moment c s
 
   -- the history of a container that a connection is served in begins with its start
   pub starts_with : (start : Start) (now : Stand) (c : Course) (s : Shepherd ActionCall) → SiteServes start now c s → BeginsWith start now.container.seen
@@ -142,6 +140,7 @@ module _ {L R S : Type 0} (calls : L → LinkEvent → L → Type 0) (gives : Gi
           boot_is = k.served.boot_is;
           come = came begun now next c later k.served.come refl refl refl refl k.served.come.words count (omega arith) (omega arith);
           drew = k.served.drew;
+          saw = record { spent = k.served.saw.spent; counted = k.served.saw.counted };
           read = read_on begun.left now.left left c.fed more k.served.read read;
           ended = λ over. absurd (true≢false (sym over ∙ ap (λ (s : Shepherd ActionCall). s.ended) is ∙ unended));
           serves = subst (λ (s : Shepherd ActionCall). SiteServes start next later s) (sym is) (on start c k.served.serves);
@@ -149,8 +148,6 @@ module _ {L R S : Type 0} (calls : L → LinkEvent → L → Type 0) (gives : Gi
         writes = record { written = k.writes.written; items_are = k.writes.items_are ∙ sym same.items };
         heeds = heeds_to now.container.seen old new new.shepherd.stage same
             (still now.container.seen old.items.items old.stopped old.shepherd.stage new.shepherd.stage (ap (λ (s : Shepherd ActionCall). s.stage) is) k.heeds);
-        sees = sees_to now.words.seen old new new.shepherd.stage same
-            (still_sees now.words.seen old.items.items old.shepherd.stage new.shepherd.stage (ap (λ (s : Shepherd ActionCall). s.stage) is) k.sees);
       }
 
   -- no more bytes come
@@ -170,6 +167,7 @@ module _ {L R S : Type 0} (calls : L → LinkEvent → L → Type 0) (gives : Gi
           boot_is = k.served.boot_is;
           come = came begun now next c c k.served.come refl refl refl refl k.served.come.words count (omega arith) (omega arith);
           drew = k.served.drew;
+          saw = record { spent = k.served.saw.spent; counted = k.served.saw.counted };
           read = k.served.read ∙ ap (prepended c.fed) (read ∙ prepended_none left);
           ended = λ is. over;
           serves = subst (λ (s : Shepherd ActionCall). SiteServes start next c s) (sym is) (on start c k.served.serves);
@@ -177,18 +175,15 @@ module _ {L R S : Type 0} (calls : L → LinkEvent → L → Type 0) (gives : Gi
         writes = record { written = k.writes.written; items_are = k.writes.items_are ∙ sym same.items };
         heeds = heeds_to now.container.seen old new new.shepherd.stage same
             (still now.container.seen old.items.items old.stopped old.shepherd.stage new.shepherd.stage (ap (λ (s : Shepherd ActionCall). s.stage) is) k.heeds);
-        sees = sees_to now.words.seen old new new.shepherd.stage same
-            (still_sees now.words.seen old.items.items old.shepherd.stage new.shepherd.stage (ap (λ (s : Shepherd ActionCall). s.stage) is) k.sees);
       }
 
   -- a stand with another left of the source, and another count of its faults, and nothing else done
-  pub went_on : (now next : Stand) (old new : Connection) → SameItems old new → new.shepherd.ended ≡ old.shepherd.ended → next.container ≡ now.container → next.windows ≡ now.windows → next.words ≡ now.words → now.left ≡ next.left
+  pub went_on : (now next : Stand) (old new : Connection) → SameItems old new → new.shepherd.ended ≡ old.shepherd.ended → next.container ≡ now.container → next.windows ≡ now.windows → next.words ≡ now.words → AreReached now.counts next.counts → now.left ≡ next.left
       → now.read_faults ≤ next.read_faults → now.write_faults ≤ next.write_faults → next.written ≡ now.written → now.moment ≤ next.moment
       → ((start : Start) (c : Course) → start.deployment ≡ site_parts → SiteServes start now c old.shepherd → SiteServes start next c new.shepherd)
       → (Heeds now.container.seen old.items.items old.stopped old.shepherd.stage → Heeds now.container.seen old.items.items old.stopped new.shepherd.stage)
-      → (Sees now.words.seen old.items.items old.shepherd.stage → Sees next.words.seen old.items.items new.shepherd.stage)
       → Keeps now old → Keeps next new
-  went_on now next old new same over container windows words left reads writes written moment on heeds sees k =
+  went_on now next old new same over container windows words counts left reads writes written moment on heeds k =
       let c = k.course in
       let start = k.served.start in
       record {
@@ -199,18 +194,21 @@ module _ {L R S : Type 0} (calls : L → LinkEvent → L → Type 0) (gives : Gi
           boot_is = k.served.boot_is;
           come = came begun now next c c k.served.come container refl windows refl (subst (λ (w : WordSeatValue). HasDrawnOn begun.words w) (sym words) k.served.come.words) reads writes moment;
           drew = subst (λ (w : WordSeatValue). w ≡ with_drawn begun.words c.drawn w.seen) (sym words) k.served.drew;
+          saw = record {
+            spent = subst (λ (w : WordSeatValue). All (λ (serial : ℕ). serial ≤ w.seen) c.looked) (sym words) k.served.saw.spent;
+            counted = reached_on (last_counts begun.counts c.items) now.counts next.counts k.served.saw.counted counts;
+          };
           read = k.served.read ∙ ap (prepended c.fed) left;
           ended = λ is. subst (λ (l : Option (List ℕ)). HasEnded l) left (k.served.ended (sym over ∙ is));
           serves = on start c k.served.parts_are k.served.serves;
         };
         writes = record { written = written ∙ k.writes.written; items_are = k.writes.items_are ∙ sym same.items };
         heeds = subst (λ (s : SeatValue Event). Heeds s.seen new.items.items new.stopped new.shepherd.stage) (sym container) (heeds_to now.container.seen old new new.shepherd.stage same (heeds k.heeds));
-        sees = sees_to next.words.seen old new new.shepherd.stage same (sees k.sees);
       }
 
   -- the source failed
   pub read_failed : (now : Stand) (left : Option (List ℕ)) (faults : ℕ) (conn : Connection) → left ≡ now.left → Rose now.read_faults faults → now.read_faults ≤ faults → turn conn.shepherd ≡ turns.Bytes
-      → Keeps now conn → Waits calls gives looks service begun (record now { left = left; read_faults = faults }) conn
+      → Keeps now conn → Waits calls gives service begun (record now { left = left; read_faults = faults }) conn
   read_failed now left faults conn same rose count waits k =
       let c = k.course in
       let next : Stand = record now { left = left; read_faults = faults } in
@@ -222,6 +220,7 @@ module _ {L R S : Type 0} (calls : L → LinkEvent → L → Type 0) (gives : Gi
           boot_is = k.served.boot_is;
           come = came begun now next c c k.served.come refl refl refl refl k.served.come.words count (omega arith) (omega arith);
           drew = k.served.drew;
+          saw = record { spent = k.served.saw.spent; counted = k.served.saw.counted };
           read = k.served.read ∙ ap (prepended c.fed) (sym same);
           ended = λ is. subst (λ (l : Option (List ℕ)). HasEnded l) (sym same) (k.served.ended is);
           serves = k.served.serves;
@@ -230,16 +229,15 @@ module _ {L R S : Type 0} (calls : L → LinkEvent → L → Type 0) (gives : Gi
         waits = waits;
         failed = rose_on begun.read_faults now.read_faults faults k.served.come.read_faults rose;
         heeds = k.heeds.running;
-        seen = k.sees.each;
       }
 
   -- memory was wanted, and the stand is another
-  pub wanted : (now next : Stand) (lost : List ℕ) (old new : Connection) → SameItems old new → next.container ≡ now.container → next.windows ≡ now.windows → HasDrawnOn begun.words next.words → now.left ≡ prepended lost next.left
+  pub wanted : (now next : Stand) (lost : List ℕ) (old new : Connection) → SameItems old new → next.container ≡ now.container → next.windows ≡ now.windows → HasDrawnOn now.words next.words → AreReached now.counts next.counts → now.left ≡ prepended lost next.left
       → now.read_faults ≤ next.read_faults → now.write_faults ≤ next.write_faults → next.written ≡ now.written → now.moment ≤ next.moment
       → ((start : Start) (c : Course) → SiteServes start now c old.shepherd → SiteServesSoFar start now.counts next c new.shepherd)
       → (Heeds now.container.seen old.items.items old.stopped old.shepherd.stage → Heeds now.container.seen old.items.items old.stopped new.shepherd.stage)
-      → Keeps now old → WantsMemory calls gives looks service begun next new
-  wanted now next lost old new same container windows words left reads writes written moment on heeds k =
+      → Keeps now old → WantsMemory calls gives service begun next new
+  wanted now next lost old new same container windows words counts left reads writes written moment on heeds k =
       let c = k.course in
       let start = k.served.start in
       record {
@@ -249,7 +247,13 @@ module _ {L R S : Type 0} (calls : L → LinkEvent → L → Type 0) (gives : Gi
         parts_are = k.served.parts_are;
         boot_is = k.served.boot_is;
         counts = now.counts;
-        come = came begun now next c c k.served.come container refl windows refl words reads writes moment;
+        count_on = counts;
+        come = came begun now next c c k.served.come container refl windows refl (drawn_on begun.words now.words next.words k.served.come.words words) reads writes moment;
+        drew = drew_on begun.words now.words next.words c.drawn k.served.drew words;
+        saw = record {
+          spent = seen_on now.words.seen next.words.seen c.looked words.3 k.served.saw.spent;
+          counted = reached_on (last_counts begun.counts c.items) now.counts next.counts k.served.saw.counted counts;
+        };
         lost = lost;
         read = read_on begun.left now.left next.left c.fed lost k.served.read left;
         serves = on start c k.served.serves;
@@ -258,41 +262,39 @@ module _ {L R S : Type 0} (calls : L → LinkEvent → L → Type 0) (gives : Gi
       }
 
   -- a request was taken off the bytes
-  pub took : (now : Stand) (words : WordSeatValue) (counts : LinkCounts) (moment : ℕ) (old new : Connection) (k : Keeps now old) (more : List Draw) (spent : Option ℕ) → new.items.items ≡ old.items.items → new.shepherd.ended ≡ old.shepherd.ended → HasDrawnOn begun.words words
-      → words ≡ with_drawn begun.words (k.course.drawn ++ more) words.seen → now.moment ≤ moment
-      → SiteServes k.served.start (record now { counts = counts; moment = moment }) (record (k.course) { drawn = k.course.drawn ++ more; looked = k.course.looked ++ option_to_list spent }) new.shepherd
+  pub took : (now : Stand) (words : WordSeatValue) (moment : ℕ) (old new : Connection) (k : Keeps now old) (more : List Draw) (spent : Option ℕ) → new.items.items ≡ old.items.items → new.shepherd.ended ≡ old.shepherd.ended → HasDrawnOn now.words words
+      → words ≡ with_drawn begun.words (k.course.drawn ++ more) words.seen → All (λ (serial : ℕ). serial ≤ words.seen) (k.course.looked ++ option_to_list spent) → now.moment ≤ moment
+      → SiteServes k.served.start (record now { moment = moment }) (record (k.course) { drawn = k.course.drawn ++ more; looked = k.course.looked ++ option_to_list spent }) new.shepherd
       → (Heeds now.container.seen old.items.items old.stopped old.shepherd.stage → Heeds now.container.seen old.items.items new.stopped new.shepherd.stage)
-      → (Sees now.words.seen old.items.items old.shepherd.stage → Sees words.seen old.items.items new.shepherd.stage)
-      → Keeps (record now { words = words; counts = counts; moment = moment }) new
-  took now words counts moment old new k more spent items over since drew rises serves heeds sees =
+      → Keeps (record now { words = words; moment = moment }) new
+  took now words moment old new k more spent items over since drew seen rises serves heeds =
       let c = k.course in
       let start = k.served.start in
       let later : Course = record c { drawn = c.drawn ++ more; looked = c.looked ++ option_to_list spent } in
-      let next : Stand = record now { words = words; counts = counts; moment = moment } in
+      let next : Stand = record now { words = words; moment = moment } in
       record {
         course = later;
         served = record {
           start = start;
           parts_are = k.served.parts_are;
           boot_is = k.served.boot_is;
-          come = came begun now next c later k.served.come refl refl refl refl since (omega arith) (omega arith) rises;
+          come = came begun now next c later k.served.come refl refl refl refl (drawn_on begun.words now.words words k.served.come.words since) (omega arith) (omega arith) rises;
           drew = drew;
+          saw = record { spent = seen; counted = k.served.saw.counted };
           read = k.served.read;
           ended = λ is. k.served.ended (sym over ∙ is);
           serves = serves;
         };
         writes = record { written = k.writes.written; items_are = k.writes.items_are ∙ sym items };
         heeds = subst (λ (l : List Item). Heeds now.container.seen l new.stopped new.shepherd.stage) (sym items) (heeds k.heeds);
-        sees = subst (λ (l : List Item). Sees words.seen l new.shepherd.stage) (sym items) (sees k.sees);
       }
 
   -- one hold of the windows
   pub windows_held : (now : Stand) (seat : SeatValue WindowMark) (before after : WindowsValue) (old new : Connection) → SameItems old new → new.shepherd.ended ≡ old.shepherd.ended → HoldsWindows now.windows seat before after
-      → ((start : Start) (c : Course) → SiteServes start now c old.shepherd → ServesLeaving IsAccepted steps_of calls (λ (maker : SiteMaker). IsMadeOf) gives looks service start (began_at begun) now.container.seen now.counts now.moment c new.shepherd before after)
+      → ((start : Start) (c : Course) → SiteServes start now c old.shepherd → ServesLeaving IsAccepted steps_of calls (λ (maker : SiteMaker). IsMadeOf) gives SeatLooks service start (began_at begun) now.container.seen now.counts now.moment c new.shepherd before after)
       → (Heeds now.container.seen old.items.items old.stopped old.shepherd.stage → Heeds now.container.seen old.items.items old.stopped new.shepherd.stage)
-      → (Sees now.words.seen old.items.items old.shepherd.stage → Sees now.words.seen old.items.items new.shepherd.stage)
       → Keeps now old → Keeps (record now { windows = seat }) new
-  windows_held now seat before after old new same over hold on heeds sees k =
+  windows_held now seat before after old new same over hold on heeds k =
       let c = k.course in
       let start = k.served.start in
       let leaves = on start c k.served.serves in
@@ -304,19 +306,19 @@ module _ {L R S : Type 0} (calls : L → LinkEvent → L → Type 0) (gives : Gi
           boot_is = k.served.boot_is;
           come = windows_came begun now c seat leaves.added k.served.come (held_on begun.windows now.windows seat k.served.come.marks before.history after.history leaves.added k.served.come.windows hold.hold leaves.grown);
           drew = k.served.drew;
+          saw = record { spent = k.served.saw.spent; counted = k.served.saw.counted };
           read = k.served.read;
           ended = λ is. k.served.ended (sym over ∙ is);
           serves = leaves.serves;
         };
         writes = record { written = k.writes.written; items_are = k.writes.items_are ∙ sym same.items };
         heeds = heeds_to now.container.seen old new new.shepherd.stage same (heeds k.heeds);
-        sees = sees_to now.words.seen old new new.shepherd.stage same (sees k.sees);
       }
 
   pub windows_wanted : (now : Stand) (seat : SeatValue WindowMark) (before after : WindowsValue) (old new : Connection) → SameItems old new → HoldsWindows now.windows seat before after
-      → ((start : Start) (c : Course) → SiteServes start now c old.shepherd → StopsLeaving IsAccepted steps_of calls (λ (maker : SiteMaker). IsMadeOf) gives looks service start (began_at begun) now.container.seen now.counts now.moment c new.shepherd before after)
+      → ((start : Start) (c : Course) → SiteServes start now c old.shepherd → StopsLeaving IsAccepted steps_of calls (λ (maker : SiteMaker). IsMadeOf) gives SeatLooks service start (began_at begun) now.container.seen now.counts now.moment c new.shepherd before after)
       → (Heeds now.container.seen old.items.items old.stopped old.shepherd.stage → Heeds now.container.seen old.items.items old.stopped new.shepherd.stage)
-      → Keeps now old → WantsMemory calls gives looks service begun (record now { windows = seat }) new
+      → Keeps now old → WantsMemory calls gives service begun (record now { windows = seat }) new
   windows_wanted now seat before after old new same hold on heeds k =
       let c = k.course in
       let start = k.served.start in
@@ -328,7 +330,10 @@ module _ {L R S : Type 0} (calls : L → LinkEvent → L → Type 0) (gives : Gi
         parts_are = k.served.parts_are;
         boot_is = k.served.boot_is;
         counts = now.counts;
+        count_on = reached_here now.counts;
         come = windows_came begun now c seat leaves.added k.served.come (held_on begun.windows now.windows seat k.served.come.marks before.history after.history leaves.added k.served.come.windows hold.hold leaves.grown);
+        drew = drew_just begun.words now.words c.drawn k.served.drew;
+        saw = record { spent = k.served.saw.spent; counted = k.served.saw.counted };
         lost = [];
         read = subst (λ (l : List ℕ). begun.left ≡ prepended l now.left) (sym (append-nil c.fed)) k.served.read;
         serves = leaves.so_far;
@@ -338,11 +343,10 @@ module _ {L R S : Type 0} (calls : L → LinkEvent → L → Type 0) (gives : Gi
 
   -- one hold of the container
   pub container_held : (now : Stand) (seat : SeatValue Event) (before after : ContainerValue) (old new : Connection) → new.items.items ≡ old.items.items → new.shepherd.ended ≡ old.shepherd.ended → Holds now.container seat before after
-      → ((start : Start) (c : Course) → SiteServes start now c old.shepherd → ServesAdding IsAccepted steps_of calls (λ (maker : SiteMaker). IsMadeOf) gives looks service start (began_at begun) before after now.counts now.moment c new.shepherd)
+      → ((start : Start) (c : Course) → SiteServes start now c old.shepherd → ServesAdding IsAccepted steps_of calls (λ (maker : SiteMaker). IsMadeOf) gives SeatLooks service start (began_at begun) before after now.counts now.moment c new.shepherd)
       → (Heeds (events_of after) old.items.items old.stopped old.shepherd.stage → Heeds (events_of after) old.items.items new.stopped new.shepherd.stage)
-      → (Sees now.words.seen old.items.items old.shepherd.stage → Sees now.words.seen old.items.items new.shepherd.stage)
       → Keeps now old → Keeps (record now { container = seat }) new
-  container_held now seat before after old new items over hold on heeds sees k =
+  container_held now seat before after old new items over hold on heeds k =
       let c = k.course in
       let start = k.served.start in
       let adds = on start c k.served.serves in
@@ -357,22 +361,22 @@ module _ {L R S : Type 0} (calls : L → LinkEvent → L → Type 0) (gives : Gi
           boot_is = k.served.boot_is;
           come = container_came begun now c seat adds.added k.served.come (held_on begun.container now.container seat c.own (events_of before) (events_of after) adds.added k.served.come.container hold.hold adds.grown);
           drew = k.served.drew;
+          saw = record { spent = k.served.saw.spent; counted = k.served.saw.counted };
           read = k.served.read;
           ended = λ is. k.served.ended (sym over ∙ is);
-          serves = subst (λ (es : List Event). Serves IsAccepted steps_of calls (λ (maker : SiteMaker). IsMadeOf) gives looks service start (began_at begun) es now.counts now.moment later new.shepherd) (sym seen) adds.serves;
+          serves = subst (λ (es : List Event). Serves IsAccepted steps_of calls (λ (maker : SiteMaker). IsMadeOf) gives SeatLooks service start (began_at begun) es now.counts now.moment later new.shepherd) (sym seen) adds.serves;
         };
         writes = record { written = k.writes.written; items_are = k.writes.items_are ∙ sym items };
         heeds = subst (λ (es : List Event). Heeds es new.items.items new.stopped new.shepherd.stage) (sym seen)
             (subst (λ (l : List Item). Heeds (events_of after) l new.stopped new.shepherd.stage) (sym items)
             (heeds (meanwhile now.container.seen (events_of after) old.items.items old.stopped old.shepherd.stage longer k.heeds)));
-        sees = subst (λ (l : List Item). Sees now.words.seen l new.shepherd.stage) (sym items) (sees k.sees);
       }
 
   pub container_wanted : (now : Stand) (seat : SeatValue Event) (before after : ContainerValue) (old new : Connection) → SameItems old new → Holds now.container seat before after → after.since ≡ before.since
       → ((start : Start) (history : List Event) → IsPrefix now.container.seen history → (c : Course) → SiteServes start now c old.shepherd
-      → ServesSoFar IsAccepted steps_of calls (λ (maker : SiteMaker). IsMadeOf) gives looks service start (began_at begun) history now.counts now.moment c new.shepherd)
+      → ServesSoFar IsAccepted steps_of calls (λ (maker : SiteMaker). IsMadeOf) gives SeatLooks service start (began_at begun) history now.counts now.moment c new.shepherd)
       → (Heeds (events_of after) old.items.items old.stopped old.shepherd.stage → Heeds (events_of after) old.items.items old.stopped new.shepherd.stage)
-      → Keeps now old → WantsMemory calls gives looks service begun (record now { container = seat }) new
+      → Keeps now old → WantsMemory calls gives service begun (record now { container = seat }) new
   container_wanted now seat before after old new same hold nothing on heeds k =
       let c = k.course in
       let start = k.served.start in
@@ -388,6 +392,7 @@ module _ {L R S : Type 0} (calls : L → LinkEvent → L → Type 0) (gives : Gi
         parts_are = k.served.parts_are;
         boot_is = k.served.boot_is;
         counts = now.counts;
+        count_on = reached_here now.counts;
         come = record {
           container = held_still begun.container now.container seat c.own (events_of before) (events_of after) k.served.come.container hold.hold still;
           marks = k.served.come.marks;
@@ -398,6 +403,8 @@ module _ {L R S : Type 0} (calls : L → LinkEvent → L → Type 0) (gives : Gi
           write_faults = k.served.come.write_faults;
           moment = k.served.come.moment;
         };
+        drew = drew_just begun.words now.words c.drawn k.served.drew;
+        saw = record { spent = k.served.saw.spent; counted = k.served.saw.counted };
         lost = [];
         read = subst (λ (l : List ℕ). begun.left ≡ prepended l now.left) (sym (append-nil c.fed)) k.served.read;
         serves = on start seat.seen to_seen c k.served.serves;
@@ -411,9 +418,8 @@ module _ {L R S : Type 0} (calls : L → LinkEvent → L → Type 0) (gives : Gi
   pub put : (now : Stand) (written : Option (List ℕ)) (faults : ℕ) (bytes : List ℕ) (old new : Connection) → SameItems old new → new.shepherd.ended ≡ old.shepherd.ended → written ≡ appended now.written bytes → now.write_faults ≤ faults
       → ((start : Start) (c : Course) → SiteServes start now c old.shepherd → SiteServes start now (record c { written = c.written ++ bytes }) new.shepherd)
       → (Heeds now.container.seen old.items.items old.stopped old.shepherd.stage → Heeds now.container.seen old.items.items old.stopped new.shepherd.stage)
-      → (Sees now.words.seen old.items.items old.shepherd.stage → Sees now.words.seen old.items.items new.shepherd.stage)
       → Keeps now old → Keeps (record now { written = written; write_faults = faults }) new
-  put now written faults bytes old new same over is count on heeds sees k =
+  put now written faults bytes old new same over is count on heeds k =
       let c = k.course in
       let start = k.served.start in
       let later : Course = record c { written = c.written ++ bytes } in
@@ -426,13 +432,13 @@ module _ {L R S : Type 0} (calls : L → LinkEvent → L → Type 0) (gives : Gi
           boot_is = k.served.boot_is;
           come = came begun now next c later k.served.come refl refl refl refl k.served.come.words (omega arith) count (omega arith);
           drew = k.served.drew;
+          saw = record { spent = k.served.saw.spent; counted = k.served.saw.counted };
           read = k.served.read;
           ended = λ is. k.served.ended (sym over ∙ is);
           serves = on start c k.served.serves;
         };
         writes = record { written = written_on begun.written now.written written c.written bytes k.writes.written is; items_are = k.writes.items_are ∙ sym same.items };
         heeds = heeds_to now.container.seen old new new.shepherd.stage same (heeds k.heeds);
-        sees = sees_to now.words.seen old new new.shepherd.stage same (sees k.sees);
       }
 
   -- a part of it was written
@@ -440,9 +446,8 @@ module _ {L R S : Type 0} (calls : L → LinkEvent → L → Type 0) (gives : Gi
       → HasLeftAll new.shepherd.stage
       → ((start : Start) (c : Course) → SiteServes start now c old.shepherd → SiteServes start now (record c { written = c.written ++ bytes }) new.shepherd)
       → (Heeds now.container.seen old.items.items old.stopped old.shepherd.stage → Heeds now.container.seen old.items.items old.stopped new.shepherd.stage)
-      → (Sees now.words.seen old.items.items old.shepherd.stage → Sees now.words.seen old.items.items new.shepherd.stage)
-      → Keeps now old → BreaksOff calls gives looks service begun (record now { written = written; write_faults = faults }) new
-  broke now written faults bytes old new same over part rose count left on heeds sees k =
+      → Keeps now old → BreaksOff calls gives service begun (record now { written = written; write_faults = faults }) new
+  broke now written faults bytes old new same over part rose count left on heeds k =
       let c = k.course in
       let start = k.served.start in
       let later : Course = record c { written = c.written ++ bytes } in
@@ -455,6 +460,7 @@ module _ {L R S : Type 0} (calls : L → LinkEvent → L → Type 0) (gives : Gi
           boot_is = k.served.boot_is;
           come = came begun now next c later k.served.come refl refl refl refl k.served.come.words (omega arith) count (omega arith);
           drew = k.served.drew;
+          saw = record { spent = k.served.saw.spent; counted = k.served.saw.counted };
           read = k.served.read;
           ended = λ is. k.served.ended (sym over ∙ is);
           serves = on start c k.served.serves;
@@ -464,5 +470,4 @@ module _ {L R S : Type 0} (calls : L → LinkEvent → L → Type 0) (gives : Gi
         items_are = k.writes.items_are ∙ sym same.items;
         left = left;
         heeds = heeds_to now.container.seen old new new.shepherd.stage same (heeds k.heeds);
-        sees = sees_to now.words.seen old new new.shepherd.stage same (sees k.sees);
       }

@@ -7,7 +7,7 @@ use Rattle.http_wire.specs.Taking.{settles, taken_of}
 use Rattle.outcome_items.specs.declared.item.Item.{Item}
 use Rattle.outside.specs.Source.{HasEnded}
 use Rattle.outside.specs.declared.link.LinkEvent.{LinkEvent}
-use Rattle.request_intake.specs.Intakes.{Gives, Looks}
+use Rattle.request_intake.specs.Intakes.{Gives}
 use Rattle.request_tries.specs.Serving.{TriesValue}
 use Rattle.request_visit.specs.Stepping.{OnServing}
 use Rattle.request_visit.specs.Visits.{turn as visit_turn}
@@ -244,7 +244,7 @@ still_holds v w still = by v.work still where
   by (Answered fate bytes) s = absurd s
   by (Left fate) s = absurd s
 
-module _ {L R S : Type 0} (calls : L → LinkEvent → L → Type 0) (gives : Gives R) (looks : Looks S) (service : Service SiteMaker) (begun now : Stand) (conn : Connection) (k : KeepsServing calls gives looks service begun now conn) where
+module _ {L R : Type 0} (calls : L → LinkEvent → L → Type 0) (gives : Gives R) (service : Service SiteMaker) (begun now : Stand) (conn : Connection) (k : KeepsServing calls gives service begun now conn) where
   no_want : (x : Stage ActionCall) → conn.shepherd.stage ≡ x → stage_turn x conn.shepherd.received conn.shepherd.ended ≡ turns.Ended ends.OutOfMemory → ⊥
   unfolding wants way_of
   no_want stages.Resting at is = true≢false (sym (ap (λ (t : ShepherdTurn). wants (way_of t)) is) ∙ never (settles (taken_of conn.shepherd.received)) conn.shepherd.ended) where
@@ -274,14 +274,13 @@ module _ {L R S : Type 0} (calls : L → LinkEvent → L → Type 0) (gives : Gi
   cut_by (inr over) = absurd (subst (λ (x : Stage ActionCall). StageHeeds now.container.seen conn.stopped x) over k.heeds.is_open)
 
   -- a connection that has ended
-  pub ended_comes : (end : EndKind) → turn conn.shepherd ≡ turns.Ended end → Ends calls gives looks service begun (ended_so end) now conn
+  pub ended_comes : (end : EndKind) → turn conn.shepherd ≡ turns.Ended end → Ends calls gives service begun (ended_so end) now conn
   ended_comes ends.Closed is = record {
     course = k.course;
     served = k.served;
     writes = k.writes;
     ended = is;
     heeds = closed_by (ended_by conn.shepherd ends.Closed k.served.serves.remembers is);
-    seen = k.sees.each;
   }
   ended_comes ends.Cut is = record {
     course = k.course;
@@ -289,7 +288,6 @@ module _ {L R S : Type 0} (calls : L → LinkEvent → L → Type 0) (gives : Gi
     writes = k.writes;
     ended = is;
     heeds = (cut_by (ended_by conn.shepherd ends.Cut k.served.serves.remembers is), k.heeds.running);
-    seen = k.sees.each;
   }
-  ended_comes (ends.Refused why) is = record { course = k.course; served = k.served; writes = k.writes; ended = is; heeds = k.heeds.running; seen = k.sees.each }
+  ended_comes (ends.Refused why) is = record { course = k.course; served = k.served; writes = k.writes; ended = is; heeds = k.heeds.running }
   ended_comes ends.OutOfMemory is = absurd (no_want conn.shepherd.stage refl (sym (stage_of conn.shepherd k.served.serves.remembers) ∙ is))

@@ -8,11 +8,10 @@ use Rattle.outside.specs.Faults.{Rose}
 use Rattle.outside.specs.Sink.{AppendsPrefix, appended}
 use Rattle.outside.specs.Source.{prepended}
 use Rattle.outside.specs.declared.link.LinkEvent.{LinkEvent}
-use Rattle.request_intake.specs.Intakes.{Gives, Looks}
+use Rattle.request_intake.specs.Intakes.{Gives}
 use Rattle.served_connections.specs.Courses.{Course}
 use Rattle.served_connections.specs.Telling.{HasEnded, HasServedWhole, HasStopped}
 use Rattle.served_items.specs.Attributing.{Service}
-use Rattle.served_items.specs.Counting.{AreReached, last_counts}
 use Rattle.shepherd.specs.Standing.{last_front}
 use Rattle.shepherd.specs.declared.shepherd.EndKind.{EndKind}
 use Rattle.shepherd.specs.declared.shepherd.EndKind.TheVariants as ends
@@ -23,33 +22,30 @@ use Rattle.seat_serials.specs.Drawing.{SeatLooks}
 use Rattle.connection_server.specs.Closing.{EndsBy, LastStaysOpen}
 use Rattle.connection_server.specs.Heeding.{AtMostLastStopped, LastStopped, NoneStopped}
 use Rattle.connection_server.specs.Seats.{BeginsWith}
-use Rattle.connection_server.specs.Spending.{AreSeen}
-use Rattle.connection_server.specs.Stands.{HasCome, Stand, began_at, with_drawn}
+use Rattle.connection_server.specs.Stands.{DrewAtLeast, HasCome, HasSeen, Stand, began_at, with_drawn}
 use Rattle.connection_server.specs.declared.served.Served.{Served}
 use Rattle.connection_server.specs.declared.served.ServedEnd.{ServedEnd}
 use Rattle.connection_server.specs.declared.served.ServedEnd.TheVariants.{Closed, Cut, Refused, Stopped, ReadFault, WriteFault, OutOfMemory}
 
-module _ {L R S : Type 0} (calls : L → LinkEvent → L → Type 0) (gives : Gives R) (looks : Looks S) (service : Service SiteMaker) (begun now : Stand) where
+module _ {L R : Type 0} (calls : L → LinkEvent → L → Type 0) (gives : Gives R) (service : Service SiteMaker) (begun now : Stand) where
   -- All that a course put out was written.
   abbrev pub WroteAll : Course → Type 0
   WroteAll c = now.written ≡ appended begun.written c.written
 
-  -- Just the bytes of a course were read, and just its numbers were drawn. Each spent number that an item tells of was
-  -- seen, and the link has counted as much as the items tell.
+  -- Just the bytes of a course were read, just its numbers were drawn, and what it tells of was seen.
   pub record HasTakenAll (c : Course) : Type 0 where
     pub read : begun.left ≡ prepended c.fed now.left
     pub drew : now.words ≡ with_drawn begun.words c.drawn now.words.seen
-    pub seen : AreSeen now.words.seen c.items
-    pub counted : AreReached (last_counts begun.counts c.items) now.counts
+    pub saw : HasSeen begun now c
 
   module _ (start : Start) (c : Course) where
     -- the first requests of the bytes were served
     abbrev pub FirstServed : Type 0
-    FirstServed = HasServedWhole steps_of calls (λ (maker : SiteMaker). IsMadeOf) gives looks service start (began_at begun) now.container.seen now.moment c []
+    FirstServed = HasServedWhole steps_of calls (λ (maker : SiteMaker). IsMadeOf) gives SeatLooks service start (began_at begun) now.container.seen now.moment c []
 
     -- all requests of the bytes were served, and the bytes ended so
     abbrev pub AllServed : EndKind → Type 0
-    AllServed end = HasEnded steps_of calls (λ (maker : SiteMaker). IsMadeOf) gives looks service start (began_at begun) now.container.seen now.moment c end
+    AllServed end = HasEnded steps_of calls (λ (maker : SiteMaker). IsMadeOf) gives SeatLooks service start (began_at begun) now.container.seen now.moment c end
 
     -- All requests of the bytes were served, which ended so, and all was written.
     pub record HasServedAllOf (end : EndKind) : Type 0 where
@@ -86,11 +82,13 @@ module _ {L R S : Type 0} (calls : L → LinkEvent → L → Type 0) (gives : Gi
       pub heeds : AtMostLastStopped now.container.seen c.items
 
     -- Memory was wanted: the first requests of the bytes were served, and something may have been done for one more;
-    -- and bytes that were read may be lost.
+    -- and bytes that were read and numbers that were drawn may be lost.
     pub record HasWantedMemory : Type 0 where
       pub lost : List ℕ
       pub read : begun.left ≡ prepended (c.fed ++ lost) now.left
-      pub stopped : HasStopped steps_of calls (λ (maker : SiteMaker). IsMadeOf) gives looks service start (began_at begun) now.container.seen now.moment c
+      pub drew : DrewAtLeast begun.words c.drawn now.words
+      pub saw : HasSeen begun now c
+      pub stopped : HasStopped steps_of calls (λ (maker : SiteMaker). IsMadeOf) gives SeatLooks service start (began_at begun) now.container.seen now.moment c
       pub wrote : WroteAll c
       pub heeds : AtMostLastStopped now.container.seen c.items
 
@@ -105,7 +103,7 @@ module _ {L R S : Type 0} (calls : L → LinkEvent → L → Type 0) (gives : Gi
     ServedBy OutOfMemory = HasWantedMemory
 
   -- These items were served on a course, over which a call has come from where it began to where it stands now, in a
-  -- container of the site.
+  -- container of the site. What its serial numbers were drawn with is its seat of words.
   pub record HasServedItems (items : List Item) (end : ServedEnd) : Type 0 where
     pub course : Course
     pub start : Start
@@ -116,7 +114,7 @@ module _ {L R S : Type 0} (calls : L → LinkEvent → L → Type 0) (gives : Gi
     pub items_are : items ≡ course.items
     pub served : ServedBy start course end
 
--- A call has served its connection. What its serial numbers were drawn with is its seat of words.
+-- A call has served its connection.
 pub record HasServedConnection {L R : Type 0} (calls : L → LinkEvent → L → Type 0) (gives : Gives R) (service : Service SiteMaker) (begun now : Stand) (told : Served) : Type 0 where
-  pub served : HasServedItems calls gives SeatLooks service begun now told.items told.ended
+  pub served : HasServedItems calls gives service begun now told.items told.ended
   pub front_is : told.front ≡ last_front (record { 0 = 0 }) told.items

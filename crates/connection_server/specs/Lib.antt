@@ -3,6 +3,5 @@ pub mod Ending
 pub mod Heeding
 pub mod Seats
 pub mod Serving
-pub mod Spending
 pub mod Stands
 pub mod Turning

@@ -1,5 +1,5 @@
 -- Where a call stands with all that it serves a connection over.
-use Rattle.std.specs.Prelude.{◌≡◌, ◌≤◌, ℕ, false, List, [], ◌++◌, map, Option, None}
+use Rattle.std.specs.Prelude.{◌≡◌, ◌≤◌, ℕ, false, List, [], ◌++◌, All, map, Option, None}
 use Rattle.atomic_table.specs.Seated.{TableId}
 use Rattle.container_core.specs.declared.history.Event.{Event}
 use Rattle.outcome_items.specs.Traces.{uncounted}
@@ -10,6 +10,7 @@ use Rattle.request_intake.specs.Intakes.{serials_in}
 use Rattle.request_visit.specs.Stepping.{counted}
 use Rattle.send_windows.specs.declared.history.WindowMark.{WindowMark}
 use Rattle.served_connections.specs.Courses.{Begun, Course, begun_behind}
+use Rattle.served_items.specs.Counting.{AreReached, last_counts}
 use Rattle.shared_words.specs.Words.{WordSeatValue}
 use Rattle.turn_lock.specs.Seats.{SeatValue}
 use Rattle.seat_serials.specs.Drawing.{HasDrawnOn}
@@ -63,6 +64,16 @@ pub record HasCome (begun now : Stand) (c : Course) : Type 0 where
   pub read_faults : begun.read_faults ≤ now.read_faults
   pub write_faults : begun.write_faults ≤ now.write_faults
   pub moment : begun.moment ≤ now.moment
+
+-- A call has seen what its course tells of: its seat of words each serial number that was found spent, and its link has
+-- counted as much as the items tell.
+pub record HasSeen (begun now : Stand) (c : Course) : Type 0 where
+  pub spent : All (λ (serial : ℕ). serial ≤ now.words.seen) c.looked
+  pub counted : AreReached (last_counts begun.counts c.items) now.counts
+
+-- The serial numbers of a course were drawn with a seat of words, and perhaps more behind them.
+abbrev pub DrewAtLeast : WordSeatValue → List Draw → WordSeatValue → Type 0
+DrewAtLeast begun drawn now = (more : List ℕ) × (now.drawn ≡ begun.drawn ++ (serials_in drawn ++ more))
 
 -- a seat of no lock, and of no words, and the stand of such a call
 abbrev pub no_table : TableId

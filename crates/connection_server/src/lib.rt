@@ -24,8 +24,8 @@
 //! queue is full, or where there is no memory for it.
 #![tactic(auto)]
 
-mod call;
 mod connection;
+mod outset;
 mod points;
 mod served;
 mod serving;

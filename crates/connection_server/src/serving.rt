@@ -9,8 +9,8 @@ ghost use Rattle.connection_server.specs.Seats.{AreSeatsOf, IsOfSite, ids_of};
 ghost use Rattle.connection_server.specs.Serving.{ComesTo, Ends, KeepsServing, service_of};
 ghost use Rattle.connection_server.specs.Stands.{Stand, stand_of};
 
-use crate::call::Call;
 use crate::connection::Connection;
+use crate::outset::Outset;
 use crate::points::{NoPoints, Points};
 use crate::served::{Served, ServedEnd};
 use crate::shared::{Shared, WorkerSeat};
@@ -21,13 +21,14 @@ use crate::steps::{
 use auction_actions::ActionProgram;
 use crash_base::{Items, OutOfMemory, Place, WorkerNo};
 use outcome_items::{Item, ItemList};
-use outside::{Clock, Keeper, Link, Random, Serials, Sink, Source};
+use outside::{Clock, Keeper, Link, Random, Sink, Source};
 use report_queue::ReportPass;
-use seat_serials::{Lent, Loan, SeatSerials};
+use seat_serials::SeatSerials;
 use served_connections::{
     connections_are_served_from_their_begin, connections_come_to_rest,
     connections_stop_where_memory_is_wanted, courses_tell_what_was_served,
 };
+use shared_words::WordSeat;
 use shepherd::ShepherdTurn;
 use site_locks::{ContainerSeat, WindowsSeat};
 use site_programs::SiteMaker;
@@ -37,8 +38,7 @@ use std::sync::Wait;
 
 /// Makes one turn of a connection. How it came to an end, where it did.
 fn turn_once<
-    'a,
-    B: Call + Loan,
+    B: Outset,
     W: Wait,
     K: Keeper + Drop,
     S: Source,
@@ -54,7 +54,7 @@ fn turn_once<
     worker: WorkerNo,
     container: &mut ContainerSeat<K>,
     windows: &mut WindowsSeat,
-    serials: &mut SeatSerials<'a, B>,
+    words: &mut WordSeat,
     pass: &mut ReportPass,
     source: &mut S,
     sink: &mut T,
@@ -65,22 +65,21 @@ fn turn_once<
     connection: &mut Connection,
 ) -> Option<ServedEnd>
     requires service { B.service ≡ service_of shared.now.key shared.now.home }
-    requires lent { B.lent ≡ B.begun.words }
     requires seats { AreSeatsOf (ids_of shared.now.container shared.now.windows shared.now.words shared.now.reports)
-        container.old windows.old serials.old.seat.now pass.old }
-    requires serving { KeepsServing L.makes R.gives ⟦<SeatSerials<'static, B> as Serials>⟧.looks B.service B.begun
-        (stand_of container.old windows.old serials.old.seat.now (S.left source.old) (S.faults source.old)
+        container.old windows.old words.old pass.old }
+    requires serving { KeepsServing L.makes R.gives B.service B.begun
+        (stand_of container.old windows.old words.old (S.left source.old) (S.faults source.old)
         (T.written sink.old) (T.faults sink.old) (L.tally link.old) (C.told clock.old)) connection.old }
     ensures seats { AreSeatsOf (ids_of shared.now.container shared.now.windows shared.now.words shared.now.reports)
-        container.new windows.new serials.new.seat.now pass.new }
-    ensures comes { ComesTo L.makes R.gives ⟦<SeatSerials<'static, B> as Serials>⟧.looks B.service B.begun result
-        (stand_of container.new windows.new serials.new.seat.now (S.left source.new) (S.faults source.new)
+        container.new windows.new words.new pass.new }
+    ensures comes { ComesTo L.makes R.gives B.service B.begun result
+        (stand_of container.new windows.new words.new (S.left source.new) (S.faults source.new)
         (T.written sink.new) (T.faults sink.new) (L.tally link.new) (C.told clock.new)) connection.new }
 {
     match connection.shepherd.turn() {
         ShepherdTurn::Bytes => read::<B, S, L, C, R>(alloc, connection, source),
         ShepherdTurn::Request => take_request::<B, K, L, C, R>(
-            alloc, shared, connection, serials, link, clock, random,
+            alloc, shared, connection, words, link, clock, random,
         ),
         ShepherdTurn::Outside => call_link::<B, L, C, R>(alloc, connection, link),
         ShepherdTurn::Windows => {
@@ -107,8 +106,7 @@ fn turn_once<
 
 /// Turns until the end.
 fn turn_all<
-    'a,
-    B: Call + Loan,
+    B: Outset,
     W: Wait,
     K: Keeper + Drop,
     S: Source,
@@ -124,7 +122,7 @@ fn turn_all<
     worker: WorkerNo,
     container: &mut ContainerSeat<K>,
     windows: &mut WindowsSeat,
-    serials: &mut SeatSerials<'a, B>,
+    words: &mut WordSeat,
     pass: &mut ReportPass,
     source: &mut S,
     sink: &mut T,
@@ -135,22 +133,21 @@ fn turn_all<
     connection: &mut Connection,
 ) -> ServedEnd
     requires service { B.service ≡ service_of shared.now.key shared.now.home }
-    requires lent { B.lent ≡ B.begun.words }
     requires seats { AreSeatsOf (ids_of shared.now.container shared.now.windows shared.now.words shared.now.reports)
-        container.old windows.old serials.old.seat.now pass.old }
-    requires serving { KeepsServing L.makes R.gives ⟦<SeatSerials<'static, B> as Serials>⟧.looks B.service B.begun
-        (stand_of container.old windows.old serials.old.seat.now (S.left source.old) (S.faults source.old)
+        container.old windows.old words.old pass.old }
+    requires serving { KeepsServing L.makes R.gives B.service B.begun
+        (stand_of container.old windows.old words.old (S.left source.old) (S.faults source.old)
         (T.written sink.old) (T.faults sink.old) (L.tally link.old) (C.told clock.old)) connection.old }
     ensures seats { AreSeatsOf (ids_of shared.now.container shared.now.windows shared.now.words shared.now.reports)
-        container.new windows.new serials.new.seat.now pass.new }
-    ensures ends { Ends L.makes R.gives ⟦<SeatSerials<'static, B> as Serials>⟧.looks B.service B.begun result
-        (stand_of container.new windows.new serials.new.seat.now (S.left source.new) (S.faults source.new)
+        container.new windows.new words.new pass.new }
+    ensures ends { Ends L.makes R.gives B.service B.begun result
+        (stand_of container.new windows.new words.new (S.left source.new) (S.faults source.new)
         (T.written sink.new) (T.faults sink.new) (L.tally link.new) (C.told clock.new)) connection.new }
 {
     for _ in rt.forever() {
         if let Some(end) = turn_once::<B, W, K, S, T, L, C, R, G>(
-            rt, alloc, shared, worker, container, windows, serials, pass, source, sink, link,
-            clock, random, gate, connection,
+            rt, alloc, shared, worker, container, windows, words, pass, source, sink, link, clock,
+            random, gate, connection,
         ) {
             return end;
         }
@@ -159,7 +156,7 @@ fn turn_all<
 }
 
 /// Gives up the call and the passes that a connection holds, in a hold each, and takes the item that is left, if any.
-fn leave<B: Call + Loan, W: Wait, K: Keeper + Drop, L: Link, C: Clock, R: Random>(
+fn leave<B: Outset, W: Wait, K: Keeper + Drop, L: Link, C: Clock, R: Random>(
     rt: &W,
     shared: &Shared<K>,
     container: &mut ContainerSeat<K>,
@@ -171,9 +168,9 @@ fn leave<B: Call + Loan, W: Wait, K: Keeper + Drop, L: Link, C: Clock, R: Random
     requires windows { (windows.old.lock ≡ shared.now.windows.id) × (windows.old.holds ≡ false) }
     ensures container { (container.new.lock ≡ shared.now.container.id) × (container.new.holds ≡ false) }
     ensures windows { (windows.new.lock ≡ shared.now.windows.id) × (windows.new.holds ≡ false) }
-    ensures served { (rest : Stand) → Ends L.makes R.gives ⟦<SeatSerials<'static, B> as Serials>⟧.looks B.service B.begun
+    ensures served { (rest : Stand) → Ends L.makes R.gives B.service B.begun
         end (record rest { container = container.old; windows = windows.old }) connection
-        → HasServedItems L.makes R.gives ⟦<SeatSerials<'static, B> as Serials>⟧.looks B.service B.begun
+        → HasServedItems L.makes R.gives B.service B.begun
         (record rest { container = container.new; windows = windows.new }) result end
         × IsOfSite B.service.home container.new.seen }
 {
@@ -184,7 +181,7 @@ fn leave<B: Call + Loan, W: Wait, K: Keeper + Drop, L: Link, C: Clock, R: Random
         SiteMaker,
         C,
         R,
-        SeatSerials<'static, B>,
+        SeatSerials<'static, Brand>,
     >();
     connections_come_to_rest::<ActionProgram>();
     connections_stop_where_memory_is_wanted::<
@@ -193,9 +190,9 @@ fn leave<B: Call + Loan, W: Wait, K: Keeper + Drop, L: Link, C: Clock, R: Random
         SiteMaker,
         C,
         R,
-        SeatSerials<'static, B>,
+        SeatSerials<'static, Brand>,
     >();
-    courses_tell_what_was_served::<ActionProgram, L, SiteMaker, R, SeatSerials<'static, B>>();
+    courses_tell_what_was_served::<ActionProgram, L, SiteMaker, R, SeatSerials<'static, Brand>>();
     shared
         .container
         .drop_call(rt, container, &mut connection.shepherd);
@@ -233,10 +230,9 @@ fn unbegun(alloc: Global) -> Served
     }
 }
 
-/// Serves a connection, with what the call began with, and tells what was served. The loan is handed back.
+/// Serves a connection, with what the call began with, and tells what was served.
 fn serve_with<
-    'a,
-    B: Call + Loan,
+    B: Outset,
     W: Wait,
     K: Keeper + Drop,
     S: Source,
@@ -252,7 +248,7 @@ fn serve_with<
     worker: WorkerNo,
     container: &mut ContainerSeat<K>,
     windows: &mut WindowsSeat,
-    lent: Lent<'a>,
+    words: &mut WordSeat,
     pass: &mut ReportPass,
     source: &mut S,
     sink: &mut T,
@@ -260,28 +256,19 @@ fn serve_with<
     clock: &mut C,
     random: &mut R,
     gate: &G,
-    served: &mut Served,
-) -> Lent<'a>
+) -> Served
     requires service { B.service ≡ service_of shared.now.key shared.now.home }
-    requires loan { (B.loan ≡ lent.seat.ghost_name) × (B.lent ≡ lent.seat.now) }
-    requires begun { B.begun ≡ stand_of container.old windows.old lent.seat.now (S.left source.old) (S.faults source.old)
+    requires begun { B.begun ≡ stand_of container.old windows.old words.old (S.left source.old) (S.faults source.old)
         (T.written sink.old) (T.faults sink.old) (L.tally link.old) (C.told clock.old) }
-    requires words { lent.words.now ≡ shared.now.words }
     requires seats { AreSeatsOf (ids_of shared.now.container shared.now.windows shared.now.words shared.now.reports)
-        container.old windows.old lent.seat.now pass.old }
+        container.old windows.old words.old pass.old }
     requires site { IsOfSite shared.now.home container.old.seen }
-    requires served { served.old ≡ record {
-      items = [];
-      front = record { 0 = 0 };
-      ended = ServedEnd.OutOfMemory;
-    } }
     ensures seats { AreSeatsOf (ids_of shared.now.container shared.now.windows shared.now.words shared.now.reports)
-        container.new windows.new result.seat.now pass.new }
-    ensures loan { result.seat.ghost_name ≡ lent.entry.seat.ghost_name }
+        container.new windows.new words.new pass.new }
     ensures site { IsOfSite shared.now.home container.new.seen }
     ensures served { HasServedConnection L.makes R.gives B.service B.begun (stand_of container.new windows.new
-        result.seat.now (S.left source.new) (S.faults source.new) (T.written sink.new) (T.faults sink.new)
-        (L.tally link.new) (C.told clock.new)) served.new }
+        words.new (S.left source.new) (S.faults source.new) (T.written sink.new) (T.faults sink.new)
+        (L.tally link.new) (C.told clock.new)) result }
 {
     connections_are_served_from_their_begin::<
         ActionProgram,
@@ -289,14 +276,13 @@ fn serve_with<
         SiteMaker,
         C,
         R,
-        SeatSerials<'static, B>,
+        SeatSerials<'static, Brand>,
     >();
-    courses_tell_what_was_served::<ActionProgram, L, SiteMaker, R, SeatSerials<'static, B>>();
+    courses_tell_what_was_served::<ActionProgram, L, SiteMaker, R, SeatSerials<'static, Brand>>();
     let mut connection = match Connection::new(alloc) {
         Ok(connection) => connection,
-        Err(OutOfMemory) => return lent,
+        Err(OutOfMemory) => return unbegun(alloc),
     };
-    let mut serials = SeatSerials::<'a, B>::new(lent);
     let ended = turn_all::<B, W, K, S, T, L, C, R, G>(
         rt,
         alloc,
@@ -304,7 +290,7 @@ fn serve_with<
         worker,
         container,
         windows,
-        &mut serials,
+        words,
         pass,
         source,
         sink,
@@ -316,12 +302,11 @@ fn serve_with<
     );
     let items = leave::<B, W, K, L, C, R>(rt, shared, container, windows, connection, ended);
     let front = last_front(items.as_slice());
-    *served = Served {
+    Served {
         items,
         front,
         ended,
-    };
-    serials.into_lent()
+    }
 }
 
 /// Serves a connection to its end, and tells what was served over it. At each point the gate is told of it.
@@ -373,19 +358,14 @@ pub fn serve_gated<
         (T.written sink.new) (T.faults sink.new) (L.tally link.new) (C.told clock.new)) result }
 {
     let worker = seat.worker;
-    let lent = Lent {
-        words: &shared.words,
-        seat: &mut seat.words,
-    };
-    let mut served = unbegun(alloc);
-    let lent = serve_with::<Brand, W, K, S, T, L, C, R, G>(
+    serve_with::<Brand, W, K, S, T, L, C, R, G>(
         rt,
         alloc,
         shared,
         worker,
         &mut seat.container,
         &mut seat.windows,
-        lent,
+        &mut seat.words,
         &mut seat.pass,
         source,
         sink,
@@ -393,10 +373,7 @@ pub fn serve_gated<
         clock,
         random,
         gate,
-        &mut served,
-    );
-    let Lent { words: _, seat: _ } = lent;
-    served
+    )
 }
 
 /// Serves a connection to its end, as `serve_gated` says, and waits at no point.

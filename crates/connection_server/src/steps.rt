@@ -1,51 +1,54 @@
 //! One turn of a connection: each call makes one step of its shepherd, in one hold at most.
 
-ghost use Rattle.std.specs.Prelude.{◌≡◌, ◌++◌, ◌∷◌, [], false, true, IfOk, OnErr, OnOk};
+ghost use Rattle.std.specs.Prelude.{◌≡◌, ◌≤◌, ◌++◌, ◌∷◌, [], false, true, IfOk, OnErr, OnOk};
 ghost use Rattle.auction_site.specs.Actions.{steps_of};
 ghost use Rattle.request_visit.specs.Stepping.{counted};
+ghost use Rattle.seat_serials.specs.Drawing.{HasDrawnOn, SeatLooks};
 ghost use Rattle.served_connections.specs.Resting.{HasLeftAll};
 ghost use Rattle.shepherd.specs.Shepherds.{has_item, turn};
-ghost use Rattle.shepherd.specs.Steps.{TakesItem};
+ghost use Rattle.shepherd.specs.Steps.{TakesItem, TakesRequest};
 ghost use Rattle.connection_server.specs.Serving.{ComesTo, IsAccepted, KeepsServing, service_of};
 ghost use Rattle.connection_server.specs.Stands.{Stand};
 ghost use Rattle.connection_server.specs.Turning.{ended_so, stopped_so};
 
-use crate::call::Call;
 use crate::connection::Connection;
+use crate::outset::Outset;
 use crate::points::{Point, Points};
 use crate::served::ServedEnd;
 use crate::shared::Shared;
 use auction_actions::ActionProgram;
 use crash_base::{OutOfMemory, WorkerNo};
-use outside::{Clock, Failed, Keeper, Link, Random, Serials, Sink, Source, write_all};
+use outside::{Clock, Failed, Keeper, Link, Random, Sink, Source, write_all};
 use report_queue::{Free, ReportPass, ReportQueue};
-use seat_serials::{Loan, SeatSerials};
+use seat_serials::{Lent, Loan, SeatSerials};
 use served_connections::{
     connections_are_served_behind_their_steps, connections_are_served_from_their_begin,
     connections_come_to_rest, connections_stop_where_memory_is_wanted,
     requests_join_their_connections,
 };
+use shared_words::WordSeat;
 use shepherd::{
     EndKind, Shepherd, ShepherdTurn, Stage, connections_go_on, items_are_for_requests_in_order,
 };
 use site_locks::{ContainerLock, ContainerSeat, WindowsLock, WindowsSeat};
 use site_programs::{SiteMaker, site_programs_are_accepted};
 use std::alloc::Global;
+use std::marker::Brand;
 use std::sync::Wait;
 
 /// How many bytes are read at once.
 const READ_BYTES: usize = 4096;
 
 /// Reads what comes, once; or no more comes.
-pub(crate) fn read<B: Call + Loan, S: Source, L: Link, C: Clock, R: Random>(
+pub(crate) fn read<B: Outset, S: Source, L: Link, C: Clock, R: Random>(
     alloc: Global,
     connection: &mut Connection,
     source: &mut S,
 ) -> Option<ServedEnd>
     requires { turn connection.old.shepherd ≡ ShepherdTurn.Bytes }
-    ensures { (rest : Stand) → KeepsServing L.makes R.gives ⟦<SeatSerials<'static, B> as Serials>⟧.looks B.service B.begun
+    ensures { (rest : Stand) → KeepsServing L.makes R.gives B.service B.begun
         (record rest { left = S.left source.old; read_faults = S.faults source.old }) connection.old
-        → ComesTo L.makes R.gives ⟦<SeatSerials<'static, B> as Serials>⟧.looks B.service B.begun result
+        → ComesTo L.makes R.gives B.service B.begun result
         (record rest { left = S.left source.new; read_faults = S.faults source.new }) connection.new }
 {
     connections_are_served_from_their_begin::<
@@ -54,7 +57,7 @@ pub(crate) fn read<B: Call + Loan, S: Source, L: Link, C: Clock, R: Random>(
         SiteMaker,
         C,
         R,
-        SeatSerials<'static, B>,
+        SeatSerials<'static, Brand>,
     >();
     connections_stop_where_memory_is_wanted::<
         ActionProgram,
@@ -62,7 +65,7 @@ pub(crate) fn read<B: Call + Loan, S: Source, L: Link, C: Clock, R: Random>(
         SiteMaker,
         C,
         R,
-        SeatSerials<'static, B>,
+        SeatSerials<'static, Brand>,
     >();
     connections_come_to_rest::<ActionProgram>();
     let mut room = [0u8; READ_BYTES];
@@ -79,43 +82,32 @@ pub(crate) fn read<B: Call + Loan, S: Source, L: Link, C: Clock, R: Random>(
     }
 }
 
-/// Takes the next request off the bytes. What it draws is drawn with the call's seat of words.
-pub(crate) fn take_request<'a, B: Call + Loan, K: Keeper + Drop, L: Link, C: Clock, R: Random>(
+/// Takes the next request off the bytes, and hands back the seat of words that was lent for it. Nothing but draws was
+/// done with that, whatever came of the request, which `taken` tells.
+fn take_lent<'a, B: Loan, K: Keeper + Drop, L: Link, C: Clock, R: Random>(
     alloc: Global,
     shared: &Shared<K>,
-    connection: &mut Connection,
-    serials: &mut SeatSerials<'a, B>,
+    lent: Lent<'a>,
+    shepherd: &mut Shepherd<ActionProgram>,
     link: &L,
     clock: &mut C,
     random: &mut R,
-) -> Option<ServedEnd>
-    requires turn { turn connection.old.shepherd ≡ ShepherdTurn.Request }
-    requires service { B.service ≡ service_of shared.now.key shared.now.home }
-    requires lent { B.lent ≡ B.begun.words }
-    ensures { (rest : Stand) → KeepsServing L.makes R.gives ⟦<SeatSerials<'static, B> as Serials>⟧.looks B.service B.begun
-        (record rest {
-          words = serials.old.seat.now;
-          counts = counted (L.tally link.now);
-          moment = C.told clock.old;
-        }) connection.old
-        → ComesTo L.makes R.gives ⟦<SeatSerials<'static, B> as Serials>⟧.looks B.service B.begun result
-        (record rest {
-          words = serials.new.seat.now;
-          counts = counted (L.tally link.now);
-          moment = C.told clock.new;
-        }) connection.new }
+    taken: &mut Result<(), OutOfMemory>,
+) -> Lent<'a>
+    requires turn { turn shepherd.old ≡ ShepherdTurn.Request }
+    requires words { lent.seat.now.words ≡ lent.words.now.id }
+    requires loan { (B.loan ≡ lent.seat.ghost_name) × (B.lent ≡ lent.seat.now) }
+    ensures taken { OnOk taken.new (TakesRequest C.told R.gives SeatLooks shared.now.key shared.now.home
+        (counted (L.tally link.now)) shepherd.old clock.old random.old lent.entry.seat.now shepherd.new clock.new
+        random.new result.seat.now) }
+    ensures same { OnErr taken.new (shepherd.new.stage ≡ shepherd.old.stage) }
+    ensures rises { C.told clock.old ≤ C.told clock.new }
+    ensures loan { result.seat.ghost_name ≡ lent.entry.seat.ghost_name }
+    ensures drawn { HasDrawnOn lent.entry.seat.now result.seat.now }
 {
-    requests_join_their_connections::<ActionProgram, L, SiteMaker, C, R, SeatSerials<'static, B>>();
-    connections_stop_where_memory_is_wanted::<
-        ActionProgram,
-        L,
-        SiteMaker,
-        C,
-        R,
-        SeatSerials<'static, B>,
-    >();
     let key = shared.key.as_slice();
-    match connection.shepherd.take_request(
+    let mut serials = SeatSerials::<'a, B>::new(lent);
+    *taken = shepherd.take_request(
         alloc,
         &shared.router,
         key,
@@ -123,8 +115,69 @@ pub(crate) fn take_request<'a, B: Call + Loan, K: Keeper + Drop, L: Link, C: Clo
         link,
         clock,
         random,
-        serials,
-    ) {
+        &mut serials,
+    );
+    serials.into_lent()
+}
+
+/// Takes the next request off the bytes. What it draws is drawn with the call's seat of words.
+pub(crate) fn take_request<B: Outset, K: Keeper + Drop, L: Link, C: Clock, R: Random>(
+    alloc: Global,
+    shared: &Shared<K>,
+    connection: &mut Connection,
+    words: &mut WordSeat,
+    link: &L,
+    clock: &mut C,
+    random: &mut R,
+) -> Option<ServedEnd>
+    requires turn { turn connection.old.shepherd ≡ ShepherdTurn.Request }
+    requires service { B.service ≡ service_of shared.now.key shared.now.home }
+    requires words { words.old.words ≡ shared.now.words.id }
+    ensures words { words.new.words ≡ shared.now.words.id }
+    ensures on { (rest : Stand) → KeepsServing L.makes R.gives B.service B.begun (record rest {
+      words = words.old;
+      counts = counted (L.tally link.now);
+      moment = C.told clock.old;
+    }) connection.old
+        → ComesTo L.makes R.gives B.service B.begun result (record rest {
+          words = words.new;
+          counts = counted (L.tally link.now);
+          moment = C.told clock.new;
+        }) connection.new }
+{
+    requests_join_their_connections::<
+        ActionProgram,
+        L,
+        SiteMaker,
+        C,
+        R,
+        SeatSerials<'static, Brand>,
+    >();
+    connections_stop_where_memory_is_wanted::<
+        ActionProgram,
+        L,
+        SiteMaker,
+        C,
+        R,
+        SeatSerials<'static, Brand>,
+    >();
+    let lent = Lent {
+        words: &shared.words,
+        seat: &mut *words,
+    };
+    let mut taken = Ok(());
+    let lent = take_lent::<Brand, K, L, C, R>(
+        alloc,
+        shared,
+        lent,
+        &mut connection.shepherd,
+        link,
+        clock,
+        random,
+        &mut taken,
+    );
+    let Lent { words: _, seat: _ } = lent;
+    match taken {
         Ok(()) => {
             connection.stopped = false;
             None
@@ -134,15 +187,15 @@ pub(crate) fn take_request<'a, B: Call + Loan, K: Keeper + Drop, L: Link, C: Clo
 }
 
 /// Makes one call of the link.
-pub(crate) fn call_link<B: Call + Loan, L: Link, C: Clock, R: Random>(
+pub(crate) fn call_link<B: Outset, L: Link, C: Clock, R: Random>(
     alloc: Global,
     connection: &mut Connection,
     link: &mut L,
 ) -> Option<ServedEnd>
     requires { turn connection.old.shepherd ≡ ShepherdTurn.Outside }
-    ensures { (rest : Stand) → KeepsServing L.makes R.gives ⟦<SeatSerials<'static, B> as Serials>⟧.looks B.service B.begun
+    ensures { (rest : Stand) → KeepsServing L.makes R.gives B.service B.begun
         (record rest { counts = counted (L.tally link.old) }) connection.old
-        → ComesTo L.makes R.gives ⟦<SeatSerials<'static, B> as Serials>⟧.looks B.service B.begun result
+        → ComesTo L.makes R.gives B.service B.begun result
         (record rest { counts = counted (L.tally link.new) }) connection.new }
 {
     connections_are_served_behind_their_steps::<
@@ -151,7 +204,7 @@ pub(crate) fn call_link<B: Call + Loan, L: Link, C: Clock, R: Random>(
         SiteMaker,
         C,
         R,
-        SeatSerials<'static, B>,
+        SeatSerials<'static, Brand>,
     >();
     connections_stop_where_memory_is_wanted::<
         ActionProgram,
@@ -159,7 +212,7 @@ pub(crate) fn call_link<B: Call + Loan, L: Link, C: Clock, R: Random>(
         SiteMaker,
         C,
         R,
-        SeatSerials<'static, B>,
+        SeatSerials<'static, Brand>,
     >();
     match connection.shepherd.step_outside(alloc, link) {
         Ok(()) => None,
@@ -168,7 +221,7 @@ pub(crate) fn call_link<B: Call + Loan, L: Link, C: Clock, R: Random>(
 }
 
 /// Makes one call of the windows, in one hold.
-pub(crate) fn call_windows<B: Call + Loan, W: Wait, L: Link, C: Clock, R: Random>(
+pub(crate) fn call_windows<B: Outset, W: Wait, L: Link, C: Clock, R: Random>(
     rt: &W,
     alloc: Global,
     lock: &WindowsLock,
@@ -178,9 +231,9 @@ pub(crate) fn call_windows<B: Call + Loan, W: Wait, L: Link, C: Clock, R: Random
     requires turn { turn connection.old.shepherd ≡ ShepherdTurn.Windows }
     requires seat { (seat.old.lock ≡ lock.now.id) × (seat.old.holds ≡ false) }
     ensures seat { (seat.new.lock ≡ lock.now.id) × (seat.new.holds ≡ false) }
-    ensures on { (rest : Stand) → KeepsServing L.makes R.gives ⟦<SeatSerials<'static, B> as Serials>⟧.looks B.service B.begun
+    ensures on { (rest : Stand) → KeepsServing L.makes R.gives B.service B.begun
         (record rest { windows = seat.old }) connection.old
-        → ComesTo L.makes R.gives ⟦<SeatSerials<'static, B> as Serials>⟧.looks B.service B.begun result
+        → ComesTo L.makes R.gives B.service B.begun result
         (record rest { windows = seat.new }) connection.new }
 {
     connections_are_served_behind_their_steps::<
@@ -189,7 +242,7 @@ pub(crate) fn call_windows<B: Call + Loan, W: Wait, L: Link, C: Clock, R: Random
         SiteMaker,
         C,
         R,
-        SeatSerials<'static, B>,
+        SeatSerials<'static, Brand>,
     >();
     connections_stop_where_memory_is_wanted::<
         ActionProgram,
@@ -197,7 +250,7 @@ pub(crate) fn call_windows<B: Call + Loan, W: Wait, L: Link, C: Clock, R: Random
         SiteMaker,
         C,
         R,
-        SeatSerials<'static, B>,
+        SeatSerials<'static, Brand>,
     >();
     match lock.step::<W, ActionProgram, L>(rt, alloc, seat, &mut connection.shepherd) {
         Ok(()) => None,
@@ -236,7 +289,7 @@ fn pass_step<G: Points>(worker: WorkerNo, gate: &G, shepherd: &Shepherd<ActionPr
 
 /// Makes one step in the container, in one hold; and behind it reports the request, where it has failed.
 pub(crate) fn call_container<
-    B: Call + Loan,
+    B: Outset,
     K: Keeper + Drop,
     W: Wait,
     G: Points,
@@ -257,13 +310,13 @@ pub(crate) fn call_container<
     requires turn { turn connection.old.shepherd ≡ ShepherdTurn.Inside }
     requires seat { (seat.old.lock ≡ lock.now.id) × (seat.old.holds ≡ false) }
     requires pass { pass.old.queue ≡ reports.now }
-    requires serving { (rest : Stand) × KeepsServing L.makes R.gives ⟦<SeatSerials<'static, B> as Serials>⟧.looks B.service
+    requires serving { (rest : Stand) × KeepsServing L.makes R.gives B.service
         B.begun (record rest { container = seat.old }) connection.old }
     ensures seat { (seat.new.lock ≡ lock.now.id) × (seat.new.holds ≡ false) }
     ensures pass { pass.new.queue ≡ reports.now }
-    ensures on { (rest : Stand) → KeepsServing L.makes R.gives ⟦<SeatSerials<'static, B> as Serials>⟧.looks B.service B.begun
+    ensures on { (rest : Stand) → KeepsServing L.makes R.gives B.service B.begun
         (record rest { container = seat.old }) connection.old
-        → ComesTo L.makes R.gives ⟦<SeatSerials<'static, B> as Serials>⟧.looks B.service B.begun result
+        → ComesTo L.makes R.gives B.service B.begun result
         (record rest { container = seat.new }) connection.new }
 {
     connections_are_served_behind_their_steps::<
@@ -272,7 +325,7 @@ pub(crate) fn call_container<
         SiteMaker,
         C,
         R,
-        SeatSerials<'static, B>,
+        SeatSerials<'static, Brand>,
     >();
     connections_are_served_from_their_begin::<
         ActionProgram,
@@ -280,7 +333,7 @@ pub(crate) fn call_container<
         SiteMaker,
         C,
         R,
-        SeatSerials<'static, B>,
+        SeatSerials<'static, Brand>,
     >();
     connections_stop_where_memory_is_wanted::<
         ActionProgram,
@@ -288,7 +341,7 @@ pub(crate) fn call_container<
         SiteMaker,
         C,
         R,
-        SeatSerials<'static, B>,
+        SeatSerials<'static, Brand>,
     >();
     match lock.step_inside::<W, ActionProgram, L>(rt, alloc, seat, &mut connection.shepherd) {
         Ok(stopped) => {
@@ -302,17 +355,17 @@ pub(crate) fn call_container<
 }
 
 /// Makes the program of the request that is open.
-pub(crate) fn make_program<B: Call + Loan, L: Link, C: Clock, R: Random>(
+pub(crate) fn make_program<B: Outset, L: Link, C: Clock, R: Random>(
     alloc: Global,
     worker: WorkerNo,
     connection: &mut Connection,
 ) -> Option<ServedEnd>
     requires turn { turn connection.old.shepherd ≡ ShepherdTurn.Program }
-    requires serving { (now : Stand) × KeepsServing L.makes R.gives ⟦<SeatSerials<'static, B> as Serials>⟧.looks B.service
+    requires serving { (now : Stand) × KeepsServing L.makes R.gives B.service
         B.begun now connection.old }
-    ensures { (now : Stand) → KeepsServing L.makes R.gives ⟦<SeatSerials<'static, B> as Serials>⟧.looks B.service B.begun
+    ensures { (now : Stand) → KeepsServing L.makes R.gives B.service B.begun
         now connection.old
-        → ComesTo L.makes R.gives ⟦<SeatSerials<'static, B> as Serials>⟧.looks B.service B.begun result now connection.new }
+        → ComesTo L.makes R.gives B.service B.begun result now connection.new }
 {
     connections_are_served_behind_their_steps::<
         ActionProgram,
@@ -320,7 +373,7 @@ pub(crate) fn make_program<B: Call + Loan, L: Link, C: Clock, R: Random>(
         SiteMaker,
         C,
         R,
-        SeatSerials<'static, B>,
+        SeatSerials<'static, Brand>,
     >();
     connections_go_on::<ActionProgram, L, SiteMaker>();
     connections_stop_where_memory_is_wanted::<
@@ -329,7 +382,7 @@ pub(crate) fn make_program<B: Call + Loan, L: Link, C: Clock, R: Random>(
         SiteMaker,
         C,
         R,
-        SeatSerials<'static, B>,
+        SeatSerials<'static, Brand>,
     >();
     site_programs_are_accepted();
     match connection.shepherd.open(alloc, worker, &SiteMaker) {
@@ -339,18 +392,18 @@ pub(crate) fn make_program<B: Call + Loan, L: Link, C: Clock, R: Random>(
 }
 
 /// Lets the request that is open do what it does by itself.
-pub(crate) fn advance<B: Call + Loan, K: Keeper + Drop, L: Link, C: Clock, R: Random>(
+pub(crate) fn advance<B: Outset, K: Keeper + Drop, L: Link, C: Clock, R: Random>(
     alloc: Global,
     shared: &Shared<K>,
     connection: &mut Connection,
 ) -> Option<ServedEnd>
     requires turn { turn connection.old.shepherd ≡ ShepherdTurn.Own }
     requires service { B.service ≡ service_of shared.now.key shared.now.home }
-    requires serving { (now : Stand) × KeepsServing L.makes R.gives ⟦<SeatSerials<'static, B> as Serials>⟧.looks B.service
+    requires serving { (now : Stand) × KeepsServing L.makes R.gives B.service
         B.begun now connection.old }
-    ensures { (now : Stand) → KeepsServing L.makes R.gives ⟦<SeatSerials<'static, B> as Serials>⟧.looks B.service B.begun
+    ensures { (now : Stand) → KeepsServing L.makes R.gives B.service B.begun
         now connection.old
-        → ComesTo L.makes R.gives ⟦<SeatSerials<'static, B> as Serials>⟧.looks B.service B.begun result now connection.new }
+        → ComesTo L.makes R.gives B.service B.begun result now connection.new }
 {
     connections_are_served_behind_their_steps::<
         ActionProgram,
@@ -358,7 +411,7 @@ pub(crate) fn advance<B: Call + Loan, K: Keeper + Drop, L: Link, C: Clock, R: Ra
         SiteMaker,
         C,
         R,
-        SeatSerials<'static, B>,
+        SeatSerials<'static, Brand>,
     >();
     connections_go_on::<ActionProgram, L, SiteMaker>();
     connections_stop_where_memory_is_wanted::<
@@ -367,7 +420,7 @@ pub(crate) fn advance<B: Call + Loan, K: Keeper + Drop, L: Link, C: Clock, R: Ra
         SiteMaker,
         C,
         R,
-        SeatSerials<'static, B>,
+        SeatSerials<'static, Brand>,
     >();
     match connection.shepherd.advance(alloc, shared.key.as_slice()) {
         Ok(()) => None,
@@ -376,16 +429,16 @@ pub(crate) fn advance<B: Call + Loan, K: Keeper + Drop, L: Link, C: Clock, R: Ra
 }
 
 /// Puts out a response, and writes it whole.
-pub(crate) fn put_out<B: Call + Loan, T: Sink, G: Points, L: Link, C: Clock, R: Random>(
+pub(crate) fn put_out<B: Outset, T: Sink, G: Points, L: Link, C: Clock, R: Random>(
     worker: WorkerNo,
     gate: &G,
     connection: &mut Connection,
     sink: &mut T,
 ) -> Option<ServedEnd>
     requires { turn connection.old.shepherd ≡ ShepherdTurn.Output }
-    ensures { (rest : Stand) → KeepsServing L.makes R.gives ⟦<SeatSerials<'static, B> as Serials>⟧.looks B.service B.begun
+    ensures { (rest : Stand) → KeepsServing L.makes R.gives B.service B.begun
         (record rest { written = T.written sink.old; write_faults = T.faults sink.old }) connection.old
-        → ComesTo L.makes R.gives ⟦<SeatSerials<'static, B> as Serials>⟧.looks B.service B.begun result
+        → ComesTo L.makes R.gives B.service B.begun result
         (record rest { written = T.written sink.new; write_faults = T.faults sink.new }) connection.new }
 {
     connections_are_served_from_their_begin::<
@@ -394,7 +447,7 @@ pub(crate) fn put_out<B: Call + Loan, T: Sink, G: Points, L: Link, C: Clock, R: 
         SiteMaker,
         C,
         R,
-        SeatSerials<'static, B>,
+        SeatSerials<'static, Brand>,
     >();
     connections_come_to_rest::<ActionProgram>();
     let response = connection.shepherd.output();
@@ -433,13 +486,13 @@ fn stopped_so<P>(stage: &Stage<P>) -> ServedEnd
 }
 
 /// Takes the item of the request.
-pub(crate) fn take_item<B: Call + Loan, L: Link, C: Clock, R: Random>(
+pub(crate) fn take_item<B: Outset, L: Link, C: Clock, R: Random>(
     connection: &mut Connection,
 ) -> Option<ServedEnd>
     requires { turn connection.old.shepherd ≡ ShepherdTurn.Item }
-    ensures { (now : Stand) → KeepsServing L.makes R.gives ⟦<SeatSerials<'static, B> as Serials>⟧.looks B.service B.begun
+    ensures { (now : Stand) → KeepsServing L.makes R.gives B.service B.begun
         now connection.old
-        → ComesTo L.makes R.gives ⟦<SeatSerials<'static, B> as Serials>⟧.looks B.service B.begun result now connection.new }
+        → ComesTo L.makes R.gives B.service B.begun result now connection.new }
 {
     connections_are_served_from_their_begin::<
         ActionProgram,
@@ -447,7 +500,7 @@ pub(crate) fn take_item<B: Call + Loan, L: Link, C: Clock, R: Random>(
         SiteMaker,
         C,
         R,
-        SeatSerials<'static, B>,
+        SeatSerials<'static, Brand>,
     >();
     connections_come_to_rest::<ActionProgram>();
     connections_stop_where_memory_is_wanted::<
@@ -456,7 +509,7 @@ pub(crate) fn take_item<B: Call + Loan, L: Link, C: Clock, R: Random>(
         SiteMaker,
         C,
         R,
-        SeatSerials<'static, B>,
+        SeatSerials<'static, Brand>,
     >();
     items_are_for_requests_in_order::<ActionProgram>();
     match connection.reserve() {

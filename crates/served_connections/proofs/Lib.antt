@@ -7,3 +7,4 @@ pub mod Resting
 pub mod Shown
 pub mod Spent
 pub mod Told
+pub mod Unhindered

@@ -1,5 +1,5 @@
 -- What has been done over a connection, from its begin on.
-use Rattle.std.specs.Prelude.{◌≤◌, ℕ, List, [], length}
+use Rattle.std.specs.Prelude.{ℕ, List, [], length}
 use Rattle.container_core.specs.History.{entries_in}
 use Rattle.container_core.specs.declared.history.Event.{Event}
 use Rattle.outcome_items.specs.declared.item.Item.{Item}
@@ -34,8 +34,3 @@ pub record Course : Type 0 where
 -- the course of a connection that begins
 abbrev pub no_course : Course
 no_course = record { fed = []; drawn = []; looked = []; written = []; items = []; own = []; marks = [] }
-
--- a link has counted no less than this
-pub record HaveRisen (counts later : LinkCounts) : Type 0 where
-  pub hushed : counts.hushed ≤ later.hushed
-  pub got : counts.got ≤ later.got

@@ -5,3 +5,4 @@ pub mod Serving
 pub mod Spent
 pub mod Stopping
 pub mod Telling
+pub mod Unhindered

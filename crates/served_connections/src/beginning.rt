@@ -11,11 +11,12 @@ ghost use Rattle.outcome_items.specs.declared.item.Item.{Item};
 ghost use Rattle.outside.specs.declared.link.LinkCounts.{LinkCounts};
 ghost use Rattle.send_windows.specs.Windows.{WindowsValue};
 ghost use Rattle.served_items.specs.Attributing.{Service};
+ghost use Rattle.served_items.specs.Counting.{AreReached};
 ghost use Rattle.shepherd.specs.Shepherds.{fresh, has_item, turn};
 ghost use Rattle.shepherd.specs.Steps.{GivesBack, HasLeftIfOpen, PutsOut, TakesItem, dropped_stage};
 ghost use Rattle.shepherd.specs.declared.shepherd.Shepherd.{Shepherd};
 ghost use Rattle.shepherd.specs.declared.shepherd.Stage.{Stage};
-ghost use Rattle.served_connections.specs.Courses.{Begun, Course, HaveRisen, begun_behind, no_course};
+ghost use Rattle.served_connections.specs.Courses.{Begun, Course, begun_behind, no_course};
 ghost use Rattle.served_connections.specs.Serving.{Serves, ServesLeaving};
 
 use call_ticket::Program;
@@ -48,7 +49,7 @@ pub fn connections_are_served_from_their_begin<
         (begun_behind history now counts) history counts now no_course fresh }
     ensures meanwhile { (service : Service M) (start : Start) (begun : Begun) (history after : List Event)
         (counts later : LinkCounts) (now late : ℕ) (c : Course) (s : Shepherd P) → IsPrefix history after
-        → HaveRisen counts later → now ≤ late
+        → AreReached counts later → now ≤ late
         → Serves P.accepts P.asks L.makes M.makes R.gives S.looks service start begun history counts now c s
         → Serves P.accepts P.asks L.makes M.makes R.gives S.looks service start begun after later late c s }
     ensures fed { (service : Service M) (start : Start) (begun : Begun) (history : List Event) (counts : LinkCounts)

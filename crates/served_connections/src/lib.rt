@@ -23,7 +23,8 @@
 //! `courses_tell_what_was_served` says what follows at an end, and `connections_come_to_rest` when one is reached;
 //! `courses_show_what_was_served` takes that apart, item by item.
 //! `items_are_no_older_than_their_connection` says where a connection begins, and what its items have seen since;
-//! `spent_serials_were_looked_at`, that a serial number that an item tells of as spent was looked at for it.
+//! `spent_serials_were_looked_at`, that a serial number that an item tells of as spent was looked at for it; and
+//! `unhindered_items_are_pages`, that the request of an item that is no page was hindered.
 //!
 //! Where an item is to be told of each response that was put out, memory for it is to be had before the response
 //! leaves.
@@ -32,6 +33,7 @@
 #![tactic(auto)]
 
 mod beginning;
+mod hindering;
 mod showing;
 mod stepping;
 mod stopping;
@@ -39,6 +41,7 @@ mod taking;
 mod telling;
 
 pub use beginning::connections_are_served_from_their_begin;
+pub use hindering::unhindered_items_are_pages;
 pub use showing::courses_show_what_was_served;
 pub use stepping::connections_are_served_behind_their_steps;
 pub use stopping::connections_stop_where_memory_is_wanted;

@@ -14,12 +14,13 @@ ghost use Rattle.request_visit.specs.Advancing.{Advances};
 ghost use Rattle.request_visit.specs.Stepping.{VisitsInside, VisitsWindows, counted};
 ghost use Rattle.send_windows.specs.Windows.{WindowsValue};
 ghost use Rattle.served_items.specs.Attributing.{Service};
+ghost use Rattle.served_items.specs.Counting.{AreReached};
 ghost use Rattle.session_cookie.specs.declared.cookie.TheConstants.{MAX_HOLDERS};
 ghost use Rattle.shepherd.specs.Shepherds.{turn};
 ghost use Rattle.shepherd.specs.Steps.{OpensStage, ShepherdSteps, VisitsOutside};
 ghost use Rattle.shepherd.specs.declared.shepherd.Shepherd.{Shepherd};
 ghost use Rattle.shepherd.specs.declared.shepherd.Stage.{Stage};
-ghost use Rattle.served_connections.specs.Courses.{Begun, Course, HaveRisen};
+ghost use Rattle.served_connections.specs.Courses.{Begun, Course};
 ghost use Rattle.served_connections.specs.Serving.{Serves, ServesAdding, ServesLeaving};
 
 use call_ticket::Program;
@@ -48,7 +49,7 @@ pub fn connections_are_served_behind_their_steps<
 >()
     ensures outside { (service : Service M) (start : Start) (begun : Begun) (history : List Event)
         (counts : LinkCounts) (now : ℕ) (c : Course) (old new : Shepherd P) (link after : L)
-        → turn old ≡ ShepherdTurn.Outside → HaveRisen counts (counted (L.tally link))
+        → turn old ≡ ShepherdTurn.Outside → AreReached counts (counted (L.tally link))
         → ShepherdSteps (λ v w. VisitsOutside L.makes L.tally v link w after) old new
         → Serves P.accepts P.asks L.makes M.makes R.gives S.looks service start begun history counts now c old
         → Serves P.accepts P.asks L.makes M.makes R.gives S.looks service start begun history

@@ -6,10 +6,11 @@ ghost use Rattle.boot_core.specs.declared.boot.Start.{Start};
 ghost use Rattle.container_core.specs.declared.history.Event.{Event};
 ghost use Rattle.outside.specs.declared.link.LinkCounts.{LinkCounts};
 ghost use Rattle.served_items.specs.Attributing.{Service};
+ghost use Rattle.served_items.specs.Counting.{AreReached};
 ghost use Rattle.shepherd.specs.Shepherds.{turn};
 ghost use Rattle.shepherd.specs.Steps.{TakesRequest};
 ghost use Rattle.shepherd.specs.declared.shepherd.Shepherd.{Shepherd};
-ghost use Rattle.served_connections.specs.Courses.{Begun, Course, HaveRisen};
+ghost use Rattle.served_connections.specs.Courses.{Begun, Course};
 ghost use Rattle.served_connections.specs.Serving.{Serves, ServesNext};
 
 use call_ticket::Program;
@@ -36,7 +37,7 @@ pub fn requests_join_their_connections<
     ensures { (service : Service M) (start : Start) (begun : Begun) (history : List Event)
         (counts later : LinkCounts) (now : ℕ) (c : Course) (s new : Shepherd P) (clock clock_after : C)
         (random random_after : R) (serials serials_after : S) → turn s ≡ ShepherdTurn.Request
-        → now ≤ C.told clock → HaveRisen counts later
+        → now ≤ C.told clock → AreReached counts later
         → TakesRequest C.told R.gives S.looks service.key service.home later s clock random serials new clock_after
         random_after serials_after
         → Serves P.accepts P.asks L.makes M.makes R.gives S.looks service start begun history counts now c s

@@ -14,6 +14,7 @@ ghost use Rattle.outside.specs.declared.link.LinkCounts.{LinkCounts};
 ghost use Rattle.send_windows.specs.Windows.{WindowsValue};
 ghost use Rattle.send_windows.specs.declared.history.WindowMark.{WindowMark};
 ghost use Rattle.served_items.specs.Attributing.{Service};
+ghost use Rattle.served_items.specs.Counting.{AreReached};
 ghost use Rattle.served_items.specs.Served.{committed_at};
 ghost use Rattle.shepherd.specs.Shepherds.{has_item, turn};
 ghost use Rattle.shepherd.specs.Steps.{GivesBack, HasLeftIfOpen, PutsOut, TakesItem, dropped_stage};
@@ -21,7 +22,7 @@ ghost use Rattle.shepherd.specs.declared.shepherd.EndKind.{EndKind};
 ghost use Rattle.shepherd.specs.declared.shepherd.Shepherd.{Shepherd};
 ghost use Rattle.shepherd.specs.declared.shepherd.Stage.{Stage};
 ghost use Rattle.site_responses.specs.declared.answer.Untaken.{Untaken};
-ghost use Rattle.served_connections.specs.Courses.{Begun, Course, HaveRisen, begun_behind};
+ghost use Rattle.served_connections.specs.Courses.{Begun, Course, begun_behind};
 ghost use Rattle.served_connections.specs.Resting.{HasLeftAll, Rests, last_at};
 ghost use Rattle.served_connections.specs.Serving.{Serves};
 ghost use Rattle.served_connections.specs.Stopping.{HoldsNothing, ServesSoFar};
@@ -101,7 +102,7 @@ pub fn items_are_no_older_than_their_connection<
         × ((begun_behind history now counts).entries ≡ length (entries_in history))
         × ((begun_behind history now counts).moment ≡ now) × ((begun_behind history now counts).counts ≡ counts) }
     ensures risen { (counts later : LinkCounts)
-        → HaveRisen counts later ↔ ((counts.hushed ≤ later.hushed) × (counts.got ≤ later.got)) }
+        → AreReached counts later ↔ ((counts.hushed ≤ later.hushed) × (counts.got ≤ later.got)) }
     ensures seen { (service : Service M) (start : Start) (begun : Begun) (history : List Event) (now : ℕ) (c : Course)
         (opened : List Head) (last : List ℕ) (own : List Event) (marks : List WindowMark)
         → HasServed P.asks L.makes M.makes R.gives S.looks service start begun history now c opened last own marks

@@ -22,12 +22,12 @@ returns-clause-windows g c =
 
 pub returns-clause-served : goal.returns-clause-served
 returns-clause-served g c = λ rest ends.
-    let service = g.B.Call.service in
-    let begun = g.B.Call.begun in
+    let service = g.B.Outset.service in
+    let begun = g.B.Outset.begun in
     let now : Stand = record rest { container = c.args.container.now; windows = c.args.windows.now } in
     let inside = c.drop_call.ensures.held in
     let outside = c.drop_passes.ensures.held in
-    let laws : Laws g.L.Link.makes g.R.Random.gives _ service begun now c.args.connection = record {
+    let laws : Laws g.L.Link.makes g.R.Random.gives service begun now c.args.connection = record {
       later = λ start history after course s on serves. c.connections_are_served_from_their_begin.ensures.meanwhile service start (began_at begun) history after rest.counts rest.counts rest.moment rest.moment course s on
           (record { hushed = omega arith; got = omega arith }) (omega arith) serves;
       no_more = λ start history course s serves. c.connections_are_served_from_their_begin.ensures.ended service start (began_at begun) history rest.counts rest.moment course s serves;
@@ -52,7 +52,7 @@ returns-clause-served g c = λ rest ends.
       item_held = c.connections_stop_where_memory_is_wanted.ensures.item_held;
       stopped = λ start history counts course s nothing none so. c.courses_tell_what_was_served.ensures.stopped service start (began_at begun) history counts rest.moment course s nothing none so;
     } in
-    let leaves : Leaves g.L.Link.makes g.R.Random.gives _ service begun now c.args.connection c.drop_call.new.seat c.drop_passes.new.seat c.into_items.result = record {
+    let leaves : Leaves g.L.Link.makes g.R.Random.gives service begun now c.args.connection c.drop_call.new.seat c.drop_passes.new.seat c.into_items.result = record {
       before = inside.0;
       after = inside.1;
       held = inside.2;
@@ -68,7 +68,7 @@ returns-clause-served g c = λ rest ends.
       none = c.into_items.ensures.none;
       item = c.into_items.ensures.left;
     } in
-    let served = left_so g.L.Link.makes g.R.Random.gives _ service begun now c.args.connection laws c.drop_call.new.seat c.drop_passes.new.seat c.into_items.result leaves c.args.end ends in (
+    let served = left_so g.L.Link.makes g.R.Random.gives service begun now c.args.connection laws c.drop_call.new.seat c.drop_passes.new.seat c.into_items.result leaves c.args.end ends in (
       served,
       of_site service.home c.drop_call.new.seat.seen inside.1 served.start inside.2.left (held_seen c.args.container.now c.drop_call.new.seat (events_of inside.0) (events_of inside.1) inside.2.hold) served.starts served.parts_are served.boot_is,
     )

@@ -10,7 +10,6 @@ use Rattle.connection_server.specs.Turning.{heeded}
 use Rattle.connection_server.proofs.Growing.{held_home, held_lock}
 use Rattle.connection_server.proofs.Heeding.{inside, stepped}
 use Rattle.connection_server.proofs.Moving.{container_held, container_wanted}
-use Rattle.connection_server.proofs.Spending.{inside as inside_sees}
 use Rattle.connection_server.proofs.Turned.{heeded_before, heeded_found, still_holds}
 use Rattle.connection_server.proofs.steps.call_container.Goals as goal
 
@@ -42,15 +41,14 @@ returns-in-Ok-clause-on g c = λ rest k.
     let after = held.1 in
     let step = held.3.step in
     let new = c.step_inside.new.shepherd in
-    container_held g.L.Link.makes g.R.Random.gives _ g.B.Call.service g.B.Call.begun now c.step_inside.new.seat before after old c.heed.new.self (c.heed.ensures.rest.0) (ap (λ (s : Shepherd ActionCall). s.ended) (c.heed.ensures.rest.1 ∙ step.rest)) held.2
-    (λ start course serves. rw c.heed.ensures.rest.1 (c.connections_are_served_behind_their_steps.ensures.inside g.B.Call.service start (began_at g.B.Call.begun) now.container.seen rest.counts rest.moment course old.shepherd new
+    container_held g.L.Link.makes g.R.Random.gives g.B.Outset.service g.B.Outset.begun now c.step_inside.new.seat before after old c.heed.new.self (c.heed.ensures.rest.0) (ap (λ (s : Shepherd ActionCall). s.ended) (c.heed.ensures.rest.1 ∙ step.rest)) held.2
+    (λ start course serves. rw c.heed.ensures.rest.1 (c.connections_are_served_behind_their_steps.ensures.inside g.B.Outset.service start (began_at g.B.Outset.begun) now.container.seen rest.counts rest.moment course old.shepherd new
     before after held.2.hold.begun held.2.found.journal held.2.left.journal held.2.grown step serves))
     (λ heeds. rw (c.heed.ensures.rest.1, c.heed.ensures.stopped)
     (inside steps_of old.items.items old.stopped (heeded (turn new) old.stopped c.in-Ok.stopped) c.in-Ok.stopped old.shepherd.stage new.stage before after step.steps held.3.stopped
     (λ v call at within. heeded_before new v call c.in-Ok.stopped old.stopped (ap (λ (s : Shepherd ActionCall). s.wants_memory) step.rest ∙ k.served.serves.remembers) at within)
     (λ v call at within. heeded_found new v call c.in-Ok.stopped old.stopped (ap (λ (s : Shepherd ActionCall). s.wants_memory) step.rest ∙ k.served.serves.remembers) at within)
     heeds))
-    (λ sees. rw c.heed.ensures.rest.1 (inside_sees rest.words.seen old.items.items steps_of before after old.shepherd.stage new.stage step.steps sees))
     k
 
 pub returns-in-Err-clause-on : goal.returns-in-Err-clause-on
@@ -61,9 +59,9 @@ returns-in-Err-clause-on g c = λ rest k.
     let before = held.0 in
     let after = held.1 in
     let new = c.step_inside.new.shepherd in
-    container_wanted g.L.Link.makes g.R.Random.gives _ g.B.Call.service g.B.Call.begun now c.step_inside.new.seat before after old _ (record { items = refl; stopped = refl }) held.2 held.3.nothing
-    (λ start history on course serves. c.connections_stop_where_memory_is_wanted.ensures.inside g.B.Call.service start (began_at g.B.Call.begun) history rest.counts rest.moment course old.shepherd new held.3.still
-    (c.connections_are_served_from_their_begin.ensures.meanwhile g.B.Call.service start (began_at g.B.Call.begun) now.container.seen history rest.counts rest.counts rest.moment rest.moment course old.shepherd on
+    container_wanted g.L.Link.makes g.R.Random.gives g.B.Outset.service g.B.Outset.begun now c.step_inside.new.seat before after old _ (record { items = refl; stopped = refl }) held.2 held.3.nothing
+    (λ start history on course serves. c.connections_stop_where_memory_is_wanted.ensures.inside g.B.Outset.service start (began_at g.B.Outset.begun) history rest.counts rest.moment course old.shepherd new held.3.still
+    (c.connections_are_served_from_their_begin.ensures.meanwhile g.B.Outset.service start (began_at g.B.Outset.begun) now.container.seen history rest.counts rest.counts rest.moment rest.moment course old.shepherd on
     (record { hushed = omega arith; got = omega arith }) (omega arith) serves))
     (λ heeds. stepped (events_of after) old.items.items old.stopped IsServedStill old.shepherd.stage new.stage still_holds held.3.still heeds)
     k

@@ -8,7 +8,6 @@ use Rattle.connection_server.proofs.Growing.{held_home, held_lock}
 use Rattle.connection_server.proofs.Heeding.{stepped}
 use Rattle.connection_server.proofs.Kept.{windows_keep}
 use Rattle.connection_server.proofs.Moving.{windows_held, windows_wanted}
-use Rattle.connection_server.proofs.Spending.{stepped as stepped_sees, windows_see}
 use Rattle.connection_server.proofs.steps.call_windows.Goals as goal
 
 pub returns-in-Ok-clause-on : goal.returns-in-Ok-clause-on
@@ -17,13 +16,11 @@ returns-in-Ok-clause-on g c = λ rest k.
     let now : Stand = record rest { windows = c.args.seat.now } in
     let held = c.in-Ok.ensures.held in
     let limits = held.2.found in
-    windows_held g.L.Link.makes g.R.Random.gives _ g.B.Call.service g.B.Call.begun now c.step.new.seat held.0 held.1 old _ (record { items = refl; stopped = refl }) (ap (λ (s : Shepherd ActionCall). s.ended) held.3.step.rest) held.2
-    (λ start course serves. c.connections_are_served_behind_their_steps.ensures.windows g.B.Call.service start (began_at g.B.Call.begun) rest.container.seen rest.counts rest.moment course old.shepherd c.step.new.shepherd
+    windows_held g.L.Link.makes g.R.Random.gives g.B.Outset.service g.B.Outset.begun now c.step.new.seat held.0 held.1 old _ (record { items = refl; stopped = refl }) (ap (λ (s : Shepherd ActionCall). s.ended) held.3.step.rest) held.2
+    (λ start course serves. c.connections_are_served_behind_their_steps.ensures.windows g.B.Outset.service start (began_at g.B.Outset.begun) rest.container.seen rest.counts rest.moment course old.shepherd c.step.new.shepherd
     held.0 held.1 c.requires.turn limits.some (omega (arith, limits.enough, limits.within, limits.few)) held.3.step serves)
     (λ heeds. stepped rest.container.seen old.items.items old.stopped (λ (v : Visit ActionCall) w. VisitsWindows v held.0 w held.1) old.shepherd.stage c.step.new.shepherd.stage
     (λ v w so. windows_keep v held.0 w held.1 so) held.3.step.steps heeds)
-    (λ sees. stepped_sees rest.words.seen old.items.items (λ (v : Visit ActionCall) w. VisitsWindows v held.0 w held.1) old.shepherd.stage c.step.new.shepherd.stage
-    (λ v w so h. windows_see rest.words.seen v held.0 w held.1 so h) held.3.step.steps sees)
     k
 
 pub returns-in-Err-clause-on : goal.returns-in-Err-clause-on
@@ -31,8 +28,8 @@ returns-in-Err-clause-on g c = λ rest k.
     let old = c.args.connection.now in
     let now : Stand = record rest { windows = c.args.seat.now } in
     let held = c.in-Err.ensures.held in
-    windows_wanted g.L.Link.makes g.R.Random.gives _ g.B.Call.service g.B.Call.begun now c.step.new.seat held.0 held.1 old _ (record { items = refl; stopped = refl }) held.2
-    (λ start course serves. c.connections_stop_where_memory_is_wanted.ensures.windows g.B.Call.service start (began_at g.B.Call.begun) rest.container.seen rest.counts rest.moment course old.shepherd c.step.new.shepherd
+    windows_wanted g.L.Link.makes g.R.Random.gives g.B.Outset.service g.B.Outset.begun now c.step.new.seat held.0 held.1 old _ (record { items = refl; stopped = refl }) held.2
+    (λ start course serves. c.connections_stop_where_memory_is_wanted.ensures.windows g.B.Outset.service start (began_at g.B.Outset.begun) rest.container.seen rest.counts rest.moment course old.shepherd c.step.new.shepherd
     held.0 held.1 held.3.held held.3.rest serves)
     (λ heeds. stepped rest.container.seen old.items.items old.stopped (λ (v : Visit ActionCall) w. w ≡ record v { way = w.way }) old.shepherd.stage c.step.new.shepherd.stage
     (λ v w so. ap (λ (x : Visit ActionCall). x.holds) so) held.3.rest heeds)

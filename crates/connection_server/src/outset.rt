@@ -1,4 +1,4 @@
-//! What a call began with. It is picked where the call begins.
+//! The outset of a call that serves a connection. It is picked where the call begins.
 
 ghost use Rattle.std.specs.Prelude.{[]};
 ghost use Rattle.served_items.specs.Attributing.{Service};
@@ -8,8 +8,8 @@ ghost use Rattle.connection_server.specs.Stands.{Stand, nowhere};
 
 use std::marker::Brand;
 
-/// A call that serves a connection.
-pub(crate) trait Call {
+/// What a call that serves a connection began with.
+pub(crate) trait Outset {
     /// What its requests are served by.
     ghost service: { Service SiteMaker };
 
@@ -17,7 +17,7 @@ pub(crate) trait Call {
     ghost begun: { Stand };
 }
 
-impl Call for Brand {
+impl Outset for Brand {
     ghost service = { service_of [] (record { node = 0; boot = 0 }) };
 
     ghost begun = { nowhere };
