@@ -145,7 +145,7 @@ module _ {P L : Type 0} (asks : P → List Answer → Next) (calls : L → LinkE
   in_container (Conflict tries) is mine so =
       let behind = tried start.deployment h.errand.asks es i.holds.from.0 tries WasInConflict so.0 so.1 in
       absurd (tried_alone behind.0 behind.1 behind.2 (ap committed_at is))
-  in_container (JournalFull full) is mine so = absurd (let none = (free mine).room so.0.entry so.0.done so.0.made in let some = so.1 in cc)
+  in_container (JournalFull full) is mine so = absurd (let none = (free mine).room so.0.entry so.0.done so.0.within so.0.made in let some = so.1 in cc)
   in_container KeeperFailed is mine so = absurd (n.kept so.0 h.errand.request so.1)
 
   pub ends_as_page : IsPage i.outcome
@@ -158,4 +158,4 @@ module _ {P L : Type 0} (asks : P → List Answer → Next) (calls : L → LinkE
     by (item.Lost causes) is became whence told = absurd (not_gone (read_refusal.Lost causes) told.2)
     by (item.Ended end) is became whence told = in_container end is (own whence) (stands end became)
     by (item.Overload place again full) is became whence told = absurd (n.passes (ap (marks_of_outcome i.cookie) is))
-    by (item.Missed place again causes) is became whence told = absurd (n.session.stored told.2.order (write_refusal.Missed causes) told.2.writes_to)
+    by (item.Missed place again causes) is became whence told = absurd (n.session.stored h.facts h.session.lease place (write_refusal.Missed causes) h.facts_are h.session.value_is (ap committed_at is) told.2)
