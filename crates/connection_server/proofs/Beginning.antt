@@ -1,5 +1,5 @@
 -- A connection that a call begins to serve.
-use Rattle.std.proofs.Common.{◌≡◌, inl, ℕ, ◌≤◌, false, List, [], ◌∷◌, arith, refl, sym, ap, ◌∙◌, subst, true≢false}
+use Rattle.std.proofs.Common.{◌≡◌, append-nil, inl, ℕ, ◌≤◌, false, List, [], ◌∷◌, arith, refl, sym, ap, ◌∙◌, subst, true≢false}
 use Rattle.std.proofs.lemmas.List.Elements.{All-nil}
 use Rattle.std.specs.Prelude.{length}
 use Rattle.auction_calls.specs.declared.action.ActionCall.{ActionCall}
@@ -13,6 +13,7 @@ use Rattle.outcome_items.specs.declared.item.Item.{Item}
 use Rattle.outside.specs.declared.link.LinkEvent.{LinkEvent}
 use Rattle.request_intake.specs.Intakes.{Gives}
 use Rattle.request_intake.specs.declared.intake.HomeBoot.{HomeBoot}
+use Rattle.send_windows.specs.declared.fact.WindowFact.{WindowFact}
 use Rattle.send_windows.specs.declared.history.WindowMark.{WindowMark}
 use Rattle.send_windows.specs.declared.history.WindowMark.TheVariants as mark
 use Rattle.served_connections.specs.Courses.{no_course}
@@ -27,6 +28,7 @@ use Rattle.site_programs.specs.declared.maker.SiteMaker.{SiteMaker}
 use Rattle.seat_serials.specs.Drawing.{SeatLooks}
 use Rattle.connection_server.specs.Ending.{HasServedItems}
 use Rattle.connection_server.specs.Heeding.{NoneStopped, StageHeeds, WasFound}
+use Rattle.connection_server.specs.Refusing.{WereRefused}
 use Rattle.connection_server.specs.Seats.{BeginsWith, IsOfSite}
 use Rattle.site_locks.specs.Holds.{Tells}
 use Rattle.connection_server.specs.Serving.{IsAccepted, KeepsServing, service_of}
@@ -45,6 +47,7 @@ come_none begun home windows_home = record {
   marks_are = refl;
   windows = added_none begun.windows windows_home;
   words = drawn_none begun.words;
+  heard = sym (append-nil begun.heard);
   read_faults = omega arith;
   write_faults = omega arith;
   moment = omega arith;
@@ -53,7 +56,7 @@ come_none begun home windows_home = record {
 module _ {L R : Type 0} (calls : L → LinkEvent → L → Type 0) (gives : Gives R) (service : Service SiteMaker) (begun : Stand) (home : begun.container.holds ≡ false) (windows_home : begun.windows.holds ≡ false)
     (site : IsOfSite service.home begun.container.seen) where
   saw_none : HasSeen begun begun no_course
-  saw_none = record { spent = All-nil (λ (serial : ℕ). serial ≤ begun.words.seen); counted = reached_here begun.counts }
+  saw_none = record { spent = All-nil (λ (serial : ℕ). serial ≤ begun.words.seen); full = All-nil (λ (full : List WindowFact). WereRefused begun.windows.seen full); counted = reached_here begun.counts }
 
   pub begins : (conn : Connection) → conn.shepherd ≡ fresh → conn.items.items ≡ [] → conn.stopped ≡ false
       → Serves IsAccepted steps_of calls (λ (maker : SiteMaker). IsMadeOf) gives SeatLooks service site.container.boot.start (began_at begun) begun.container.seen begun.counts begun.moment no_course fresh

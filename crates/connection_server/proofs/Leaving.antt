@@ -56,6 +56,7 @@ use Rattle.connection_server.specs.declared.served.ServedEnd.TheVariants.{Closed
 use Rattle.connection_server.proofs.Growing.{held_on, held_seen, held_still, prefix_trans}
 use Rattle.connection_server.proofs.Heeding.{ends_stay, given_back as back_heeds, given_up as up_heeds, item as item_heeds, item_found, last_stays, meanwhile, none_stopped_stays, rests as rests_behind}
 use Rattle.connection_server.proofs.Moving.{came, starts_with}
+use Rattle.connection_server.proofs.Refusing.{hold_refused}
 use Rattle.connection_server.proofs.Seen.{reached_here, saw_item, unsent_no_item}
 use Rattle.connection_server.proofs.Turned.{all_come, bytes_end}
 
@@ -111,7 +112,7 @@ module _ {L R : Type 0} (calls : L → LinkEvent → L → Type 0) (gives : Give
       start = k.served.start;
       parts_are = k.served.parts_are;
       boot_is = k.served.boot_is;
-      come = came begun now now k.course later k.served.come refl refl refl refl k.served.come.words (omega arith) (omega arith) (omega arith);
+      come = came begun now now k.course later k.served.come refl refl refl refl refl refl k.served.come.words (omega arith) (omega arith) (omega arith);
       drew = k.served.drew;
       saw = saw_item begun now k.course i (last_counts begun.counts k.course.items) now.counts old.shepherd.stage new.shepherd.stage takes k.served.serves.counted.is_open (reached_here now.counts) k.served.saw;
       read = k.served.read;
@@ -200,12 +201,13 @@ module _ {L R : Type 0} (calls : L → LinkEvent → L → Type 0) (gives : Give
           marks_are = h.come.marks_are;
           windows = held_still begun.windows now.windows windows h.come.marks before_windows.history after_windows.history h.come.windows hold_windows.hold (ap (λ (x : WindowsValue). x.history) same_windows);
           words = h.come.words;
+          heard = h.come.heard;
           read_faults = h.come.read_faults;
           write_faults = h.come.write_faults;
           moment = h.come.moment;
         };
         drew = h.drew;
-        saw = record { spent = h.saw.spent; counted = h.saw.counted };
+        saw = record { spent = h.saw.spent; full = hold_refused now.windows windows before_windows after_windows hold_windows c.full h.saw.full; counted = h.saw.counted };
         read = h.read;
         ended = h.ended;
         serves = on h.start (subst (λ (es : List Event). IsPrefix now.container.seen es) (sym seen) longer) h.serves;
@@ -419,13 +421,14 @@ module _ {L R : Type 0} (calls : L → LinkEvent → L → Type 0) (gives : Give
       marks_are = ap (λ (ms : List WindowMark). ms ++ map uncounted added) come.marks_are ∙ sym (map-append uncounted come.marks added);
       windows = held_on begun.windows now.windows windows come.marks l.before_windows.history l.after_windows.history added come.windows l.held_windows.hold grown;
       words = come.words;
+      heard = come.heard;
       read_faults = come.read_faults;
       write_faults = come.write_faults;
       moment = come.moment;
     }
 
     come_item : (c : Course) (i : Item) → HasCome begun next c → HasCome begun next (record c { items = c.items ++ i ∷ [] })
-    come_item c i come = came begun next next c (record c { items = c.items ++ i ∷ [] }) come refl refl refl refl come.words (omega arith) (omega arith) (omega arith)
+    come_item c i come = came begun next next c (record c { items = c.items ++ i ∷ [] }) come refl refl refl refl refl refl come.words (omega arith) (omega arith) (omega arith)
 
     -- a part of a response was written
     module _ (k : BreaksOff calls gives service begun now conn) where
@@ -452,7 +455,7 @@ module _ {L R : Type 0} (calls : L → LinkEvent → L → Type 0) (gives : Give
       broken_starts = starts_there broken_start (starts_with calls gives service begun broken_start now k.course conn.shepherd k.served.serves)
 
       broken_saw : HasSeen begun next broken_later
-      broken_saw = record { spent = k.served.saw.spent; counted = k.served.saw.counted }
+      broken_saw = record { spent = k.served.saw.spent; full = hold_refused now.windows windows l.before_windows l.after_windows l.held_windows k.course.full k.served.saw.full; counted = k.served.saw.counted }
 
       broken_by : (b : Bool) → has_item l.last.stage ≡ b → Items WriteFault
       broken_by false without =
@@ -524,7 +527,7 @@ module _ {L R : Type 0} (calls : L → LinkEvent → L → Type 0) (gives : Give
       unfinished_serves = subst (λ (s : Shepherd ActionCall). SoFarBehind unfinished_start seat.seen k.counts unfinished_later s) (sym l.last_is) unfinished_leaves.so_far
 
       unfinished_saw : HasSeen begun next unfinished_later
-      unfinished_saw = record { spent = k.saw.spent; counted = k.saw.counted }
+      unfinished_saw = record { spent = k.saw.spent; full = hold_refused now.windows windows l.before_windows l.after_windows l.held_windows k.course.full k.saw.full; counted = k.saw.counted }
 
       -- where its item is left, all of its request is as it was
       unfinished_counted : (i : Item) (after : Stage ActionCall) → TakesItem l.last.stage i after → StageCounts (last_counts begun.counts k.course.items) k.counts l.last.stage

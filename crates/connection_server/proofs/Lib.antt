@@ -6,5 +6,6 @@ mod Kept
 mod Leaving
 mod Moving
 mod Reading
+mod Refusing
 mod Seen
 mod Turned

@@ -108,6 +108,7 @@ pub saw_item : (begun now : Stand) (c : Course) (i : Item) (last counts : LinkCo
     → HasSeen begun now c → HasSeen begun now (record c { items = c.items ++ i ∷ [] })
 saw_item begun now c i last counts stage after takes stands on saw = record {
   spent = saw.spent;
+  full = saw.full;
   counted = subst (λ (least : LinkCounts). AreReached least now.counts) (sym (last_is begun.counts c.items i))
       (reached_on i.counts counts now.counts (counted_for last counts i stage after takes stands) on);
 }

@@ -22,7 +22,7 @@ use Rattle.seat_serials.specs.Drawing.{SeatLooks}
 use Rattle.connection_server.specs.Closing.{EndsBy, LastStaysOpen}
 use Rattle.connection_server.specs.Heeding.{AtMostLastStopped, LastStopped, NoneStopped}
 use Rattle.connection_server.specs.Seats.{BeginsWith}
-use Rattle.connection_server.specs.Stands.{DrewAtLeast, HasCome, HasSeen, Stand, began_at, with_drawn}
+use Rattle.connection_server.specs.Stands.{DrewAtLeast, HasCalled, HasCome, HasSeen, Stand, began_at, with_drawn}
 use Rattle.connection_server.specs.declared.served.Served.{Served}
 use Rattle.connection_server.specs.declared.served.ServedEnd.{ServedEnd}
 use Rattle.connection_server.specs.declared.served.ServedEnd.TheVariants.{Closed, Cut, Refused, Stopped, ReadFault, WriteFault, OutOfMemory}
@@ -114,7 +114,7 @@ module _ {L R : Type 0} (calls : L → LinkEvent → L → Type 0) (gives : Give
     pub items_are : items ≡ course.items
     pub served : ServedBy start course end
 
--- A call has served its connection.
-pub record HasServedConnection {L R : Type 0} (calls : L → LinkEvent → L → Type 0) (gives : Gives R) (service : Service SiteMaker) (begun now : Stand) (told : Served) : Type 0 where
-  pub served : HasServedItems calls gives service begun now told.items told.ended
+-- A call has served its connection, and made the calls of its link that lead from where that was to where it is.
+pub record HasServedConnection {L R : Type 0} (calls : L → LinkEvent → L → Type 0) (from to : L) (gives : Gives R) (service : Service SiteMaker) (begun now : Stand) (told : Served) : Type 0 where
+  pub served : HasCalled calls from to (λ heard. HasServedItems calls gives service begun (record now { heard = heard }) told.items told.ended)
   pub front_is : told.front ≡ last_front (record { 0 = 0 }) told.items

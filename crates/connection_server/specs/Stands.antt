@@ -3,8 +3,9 @@ use Rattle.std.specs.Prelude.{◌≡◌, ◌≤◌, ℕ, false, List, [], ◌++�
 use Rattle.atomic_table.specs.Seated.{TableId}
 use Rattle.container_core.specs.declared.history.Event.{Event}
 use Rattle.outcome_items.specs.Traces.{uncounted}
-use Rattle.outside.specs.Link.{Tally}
+use Rattle.outside.specs.Link.{Made, Tally}
 use Rattle.outside.specs.declared.link.LinkCounts.{LinkCounts}
+use Rattle.outside.specs.declared.link.LinkEvent.{LinkEvent}
 use Rattle.request_decisions.specs.declared.draws.Draw.{Draw}
 use Rattle.request_intake.specs.Intakes.{serials_in}
 use Rattle.request_visit.specs.Stepping.{counted}
@@ -14,11 +15,12 @@ use Rattle.served_items.specs.Counting.{AreReached, last_counts}
 use Rattle.shared_words.specs.Words.{WordSeatValue}
 use Rattle.turn_lock.specs.Seats.{SeatValue}
 use Rattle.seat_serials.specs.Drawing.{HasDrawnOn}
+use Rattle.connection_server.specs.Refusing.{AllRefused}
 use Rattle.connection_server.specs.Seats.{HasAdded}
 
 -- Where a call stands: its seats of the container, of the windows and of the words; what its source has left, where it
 -- tells, and how often it has failed; what was written to its sink, where that tells, and how often it has failed; what
--- its link has counted; and the last moment of its clock.
+-- its link has counted, and which calls of it were made since the call began; and the last moment of its clock.
 pub record Stand : Type 0 where
   pub container : SeatValue Event
   pub windows : SeatValue WindowMark
@@ -28,9 +30,10 @@ pub record Stand : Type 0 where
   pub written : Option (List ℕ)
   pub write_faults : ℕ
   pub counts : LinkCounts
+  pub heard : List LinkEvent
   pub moment : ℕ
 
--- the stand of these
+-- the stand of these, where no call of the link was made
 abbrev pub stand_of : SeatValue Event → SeatValue WindowMark → WordSeatValue → Option (List ℕ) → ℕ → Option (List ℕ) → ℕ → Tally → ℕ → Stand
 stand_of container windows words left read_faults written write_faults tally moment = record {
   container = container;
@@ -41,6 +44,7 @@ stand_of container windows words left read_faults written write_faults tally mom
   written = written;
   write_faults = write_faults;
   counts = counted tally;
+  heard = [];
   moment = moment;
 }
 
@@ -54,26 +58,34 @@ with_drawn seat drawn seen = record seat { drawn = seat.drawn ++ serials_in draw
 
 -- A call has come from one stand to another on the course of its connection: it has added the events of the course to
 -- the history of the container, and left its marks in that of the windows; and it has done no more with its seat of
--- words than to draw.
+-- words than to draw, and has made the calls of the course.
 pub record HasCome (begun now : Stand) (c : Course) : Type 0 where
   pub container : HasAdded begun.container now.container c.own
   pub marks : List WindowMark
   pub marks_are : c.marks ≡ map uncounted marks
   pub windows : HasAdded begun.windows now.windows marks
   pub words : HasDrawnOn begun.words now.words
+  pub heard : now.heard ≡ begun.heard ++ c.heard
   pub read_faults : begun.read_faults ≤ now.read_faults
   pub write_faults : begun.write_faults ≤ now.write_faults
   pub moment : begun.moment ≤ now.moment
 
--- A call has seen what its course tells of: its seat of words each serial number that was found spent, and its link has
--- counted as much as the items tell.
+-- A call has seen what its course tells of: its seat of words each serial number that was found spent, its seat of the
+-- windows each refusal, and its link has counted as much as the items tell.
 pub record HasSeen (begun now : Stand) (c : Course) : Type 0 where
   pub spent : All (λ (serial : ℕ). serial ≤ now.words.seen) c.looked
+  pub full : AllRefused now.windows.seen c.full
   pub counted : AreReached (last_counts begun.counts c.items) now.counts
 
 -- The serial numbers of a course were drawn with a seat of words, and perhaps more behind them.
 abbrev pub DrewAtLeast : WordSeatValue → List Draw → WordSeatValue → Type 0
 DrewAtLeast begun drawn now = (more : List ℕ) × (now.drawn ≡ begun.drawn ++ (serials_in drawn ++ more))
+
+-- These calls of a link lead from where it was to where it is, and this is so with them.
+pub record HasCalled {L : Type 0} (calls : L → LinkEvent → L → Type 0) (from to : L) (So : List LinkEvent → Type 0) : Type 0 where
+  pub heard : List LinkEvent
+  pub leads : Made calls from heard to
+  pub so : So heard
 
 -- a seat of no lock, and of no words, and the stand of such a call
 abbrev pub no_table : TableId
@@ -92,5 +104,6 @@ nowhere = record {
   written = None;
   write_faults = 0;
   counts = record { hushed = 0; got = 0 };
+  heard = [];
   moment = 0;
 }

@@ -18,7 +18,8 @@
 //! What is promised is `HasServedConnection` of `specs/Ending`, over the laws of `served_connections`: what was put out
 //! are the responses to the items, the items are for the requests of the bytes, each tells what was served of its own
 //! request, and what the seats added to the histories of the container and of the windows is what the items tell of.
-//! It holds where the call returns, whatever other threads do meanwhile.
+//! What an item tells of its session is so over the calls of the link that were made. It holds where the call returns,
+//! whatever other threads do meanwhile.
 //!
 //! Requests that failed are reported to whoever decides on reboots, by `ReportQueue`. A report is dropped where the
 //! queue is full, or where there is no memory for it.

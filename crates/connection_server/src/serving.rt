@@ -7,7 +7,7 @@ ghost use Rattle.shepherd.specs.Standing.{last_front};
 ghost use Rattle.connection_server.specs.Ending.{HasServedConnection, HasServedItems};
 ghost use Rattle.connection_server.specs.Seats.{AreSeatsOf, IsOfSite, ids_of};
 ghost use Rattle.connection_server.specs.Serving.{ComesTo, Ends, KeepsServing, service_of};
-ghost use Rattle.connection_server.specs.Stands.{Stand, stand_of};
+ghost use Rattle.connection_server.specs.Stands.{HasCalled, Stand, stand_of};
 
 use crate::connection::Connection;
 use crate::outset::Outset;
@@ -67,14 +67,18 @@ fn turn_once<
     requires service { B.service ≡ service_of shared.now.key shared.now.home }
     requires seats { AreSeatsOf (ids_of shared.now.container shared.now.windows shared.now.words shared.now.reports)
         container.old windows.old words.old pass.old }
-    requires serving { KeepsServing L.makes R.gives B.service B.begun
-        (stand_of container.old windows.old words.old (S.left source.old) (S.faults source.old)
-        (T.written sink.old) (T.faults sink.old) (L.tally link.old) (C.told clock.old)) connection.old }
+    requires serving { (from : L) × HasCalled L.makes from link.old (λ heard. KeepsServing L.makes R.gives B.service B.begun
+        (record (stand_of container.old windows.old words.old (S.left source.old) (S.faults source.old)
+        (T.written sink.old) (T.faults sink.old) (L.tally link.old) (C.told clock.old)) { heard = heard }) connection.old) }
     ensures seats { AreSeatsOf (ids_of shared.now.container shared.now.windows shared.now.words shared.now.reports)
         container.new windows.new words.new pass.new }
-    ensures comes { ComesTo L.makes R.gives B.service B.begun result
-        (stand_of container.new windows.new words.new (S.left source.new) (S.faults source.new)
-        (T.written sink.new) (T.faults sink.new) (L.tally link.new) (C.told clock.new)) connection.new }
+    ensures comes { (from : L)
+        → HasCalled L.makes from link.old (λ heard. KeepsServing L.makes R.gives B.service B.begun
+        (record (stand_of container.old windows.old words.old (S.left source.old) (S.faults source.old)
+        (T.written sink.old) (T.faults sink.old) (L.tally link.old) (C.told clock.old)) { heard = heard }) connection.old)
+        → HasCalled L.makes from link.new (λ heard. ComesTo L.makes R.gives B.service B.begun result
+        (record (stand_of container.new windows.new words.new (S.left source.new) (S.faults source.new)
+        (T.written sink.new) (T.faults sink.new) (L.tally link.new) (C.told clock.new)) { heard = heard }) connection.new) }
 {
     match connection.shepherd.turn() {
         ShepherdTurn::Bytes => read::<B, S, L, C, R>(alloc, connection, source),
@@ -140,9 +144,9 @@ fn turn_all<
         (T.written sink.old) (T.faults sink.old) (L.tally link.old) (C.told clock.old)) connection.old }
     ensures seats { AreSeatsOf (ids_of shared.now.container shared.now.windows shared.now.words shared.now.reports)
         container.new windows.new words.new pass.new }
-    ensures ends { Ends L.makes R.gives B.service B.begun result
-        (stand_of container.new windows.new words.new (S.left source.new) (S.faults source.new)
-        (T.written sink.new) (T.faults sink.new) (L.tally link.new) (C.told clock.new)) connection.new }
+    ensures ends { HasCalled L.makes link.old link.new (λ heard. Ends L.makes R.gives B.service B.begun result
+        (record (stand_of container.new windows.new words.new (S.left source.new) (S.faults source.new)
+        (T.written sink.new) (T.faults sink.new) (L.tally link.new) (C.told clock.new)) { heard = heard }) connection.new) }
 {
     for _ in rt.forever() {
         if let Some(end) = turn_once::<B, W, K, S, T, L, C, R, G>(
@@ -266,7 +270,7 @@ fn serve_with<
     ensures seats { AreSeatsOf (ids_of shared.now.container shared.now.windows shared.now.words shared.now.reports)
         container.new windows.new words.new pass.new }
     ensures site { IsOfSite shared.now.home container.new.seen }
-    ensures served { HasServedConnection L.makes R.gives B.service B.begun (stand_of container.new windows.new
+    ensures served { HasServedConnection L.makes link.old link.new R.gives B.service B.begun (stand_of container.new windows.new
         words.new (S.left source.new) (S.faults source.new) (T.written sink.new) (T.faults sink.new)
         (L.tally link.new) (C.told clock.new)) result }
 {
@@ -351,7 +355,7 @@ pub fn serve_gated<
     ensures seats { AreSeatsOf (ids_of shared.now.container shared.now.windows shared.now.words shared.now.reports)
         seat.new.container seat.new.windows seat.new.words seat.new.pass }
     ensures site { IsOfSite shared.now.home seat.new.container.seen }
-    ensures served { HasServedConnection L.makes R.gives (service_of shared.now.key shared.now.home)
+    ensures served { HasServedConnection L.makes link.old link.new R.gives (service_of shared.now.key shared.now.home)
         (stand_of seat.old.container seat.old.windows seat.old.words (S.left source.old) (S.faults source.old)
         (T.written sink.old) (T.faults sink.old) (L.tally link.old) (C.told clock.old))
         (stand_of seat.new.container seat.new.windows seat.new.words (S.left source.new) (S.faults source.new)
@@ -403,7 +407,7 @@ pub fn serve_connection<
     ensures seats { AreSeatsOf (ids_of shared.now.container shared.now.windows shared.now.words shared.now.reports)
         seat.new.container seat.new.windows seat.new.words seat.new.pass }
     ensures site { IsOfSite shared.now.home seat.new.container.seen }
-    ensures served { HasServedConnection L.makes R.gives (service_of shared.now.key shared.now.home)
+    ensures served { HasServedConnection L.makes link.old link.new R.gives (service_of shared.now.key shared.now.home)
         (stand_of seat.old.container seat.old.windows seat.old.words (S.left source.old) (S.faults source.old)
         (T.written sink.old) (T.faults sink.old) (L.tally link.old) (C.told clock.old))
         (stand_of seat.new.container seat.new.windows seat.new.words (S.left source.new) (S.faults source.new)

@@ -2,13 +2,14 @@
 
 ghost use Rattle.std.specs.Prelude.{◌≡◌, ◌≤◌, ◌++◌, ◌∷◌, [], false, true, IfOk, OnErr, OnOk};
 ghost use Rattle.auction_site.specs.Actions.{steps_of};
+ghost use Rattle.outside.specs.Link.{Made};
 ghost use Rattle.request_visit.specs.Stepping.{counted};
 ghost use Rattle.seat_serials.specs.Drawing.{HasDrawnOn, SeatLooks};
 ghost use Rattle.served_connections.specs.Resting.{HasLeftAll};
 ghost use Rattle.shepherd.specs.Shepherds.{has_item, turn};
 ghost use Rattle.shepherd.specs.Steps.{TakesItem, TakesRequest};
 ghost use Rattle.connection_server.specs.Serving.{ComesTo, IsAccepted, KeepsServing, service_of};
-ghost use Rattle.connection_server.specs.Stands.{Stand};
+ghost use Rattle.connection_server.specs.Stands.{HasCalled, Stand};
 ghost use Rattle.connection_server.specs.Turning.{ended_so, stopped_so};
 
 use crate::connection::Connection;
@@ -193,10 +194,11 @@ pub(crate) fn call_link<B: Outset, L: Link, C: Clock, R: Random>(
     link: &mut L,
 ) -> Option<ServedEnd>
     requires { turn connection.old.shepherd ≡ ShepherdTurn.Outside }
-    ensures { (rest : Stand) → KeepsServing L.makes R.gives B.service B.begun
+    ensures { (rest : Stand) (from : L) → Made L.makes from rest.heard link.old
+        → KeepsServing L.makes R.gives B.service B.begun
         (record rest { counts = counted (L.tally link.old) }) connection.old
-        → ComesTo L.makes R.gives B.service B.begun result
-        (record rest { counts = counted (L.tally link.new) }) connection.new }
+        → HasCalled L.makes from link.new (λ heard. ComesTo L.makes R.gives B.service B.begun result
+        (record rest { counts = counted (L.tally link.new); heard = heard }) connection.new) }
 {
     connections_are_served_behind_their_steps::<
         ActionProgram,

@@ -1,6 +1,10 @@
 pub mod Adding
+pub mod Among
 pub mod Behind
+pub mod Findings
+pub mod Full
 pub mod Growing
+pub mod Heard
 pub mod Leaving
 pub mod Remembering
 pub mod Resting

@@ -4,7 +4,9 @@ use Rattle.container_core.specs.History.{entries_in}
 use Rattle.container_core.specs.declared.history.Event.{Event}
 use Rattle.outcome_items.specs.declared.item.Item.{Item}
 use Rattle.outside.specs.declared.link.LinkCounts.{LinkCounts}
+use Rattle.outside.specs.declared.link.LinkEvent.{LinkEvent}
 use Rattle.request_decisions.specs.declared.draws.Draw.{Draw}
+use Rattle.send_windows.specs.declared.fact.WindowFact.{WindowFact}
 use Rattle.send_windows.specs.declared.history.WindowMark.{WindowMark}
 
 -- Where a connection began: behind so many events of the history of its container, so many of them entries, at the
@@ -21,7 +23,8 @@ begun_behind history now counts = record { events = length history; entries = le
 
 -- The course of a connection, each in order: the bytes that were fed to it, what was drawn for its requests, the serial
 -- numbers that were looked at for them and found spent, what it put out, its items, the events that it added to the
--- history of the container, and the marks that it left in that of the windows, with the numbers of passes left out.
+-- history of the container, the marks that it left in that of the windows, with the numbers of passes left out, the
+-- windows that were full where passes were refused, and the calls of its link.
 pub record Course : Type 0 where
   pub fed : List ℕ
   pub drawn : List Draw
@@ -30,7 +33,9 @@ pub record Course : Type 0 where
   pub items : List Item
   pub own : List Event
   pub marks : List WindowMark
+  pub full : List (List WindowFact)
+  pub heard : List LinkEvent
 
 -- the course of a connection that begins
 abbrev pub no_course : Course
-no_course = record { fed = []; drawn = []; looked = []; written = []; items = []; own = []; marks = [] }
+no_course = record { fed = []; drawn = []; looked = []; written = []; items = []; own = []; marks = []; full = []; heard = [] }

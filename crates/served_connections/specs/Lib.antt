@@ -1,5 +1,8 @@
 pub mod Behind
 pub mod Courses
+pub mod Findings
+pub mod Full
+pub mod Heard
 pub mod Resting
 pub mod Serving
 pub mod Spent

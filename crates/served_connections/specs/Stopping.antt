@@ -7,6 +7,7 @@ use Rattle.call_ticket.specs.declared.next.Next.{Next}
 use Rattle.container_core.specs.declared.history.Event.{Event}
 use Rattle.deployment.specs.declared.parts.Parts.{Parts}
 use Rattle.outcome_items.specs.Traces.{uncounted}
+use Rattle.outside.specs.Link.{Made}
 use Rattle.outside.specs.declared.link.LinkCounts.{LinkCounts}
 use Rattle.outside.specs.declared.link.LinkEvent.{LinkEvent}
 use Rattle.request_intake.specs.Intakes.{Gives, Looks}
@@ -51,3 +52,9 @@ pub record StopsLeaving {P L M R S : Type 0} (accepts : P → Parts → Type 0) 
   pub added : List WindowMark
   pub grown : after.history ≡ windows.history ++ added
   pub so_far : ServesSoFar accepts asks calls makes gives looks service start begun history counts now (record c { marks = c.marks ++ map uncounted added }) s
+
+-- A step of the link made these calls before memory was wanted, and the connection was served so far with them.
+pub record StopsCalling {P L M R S : Type 0} (accepts : P → Parts → Type 0) (asks : P → List Answer → Next) (calls : L → LinkEvent → L → Type 0) (makes : M → ActionCall → List ℕ → P → Type 0) (gives : Gives R) (looks : Looks S) (service : Service M) (start : Start) (begun : Begun) (history : List Event) (counts : LinkCounts) (now : ℕ) (c : Course) (s : Shepherd P) (link after : L) : Type 0 where
+  pub made : List LinkEvent
+  pub leads : Made calls link made after
+  pub so_far : ServesSoFar accepts asks calls makes gives looks service start begun history counts now (record c { heard = c.heard ++ made }) s

@@ -38,7 +38,10 @@ use Rattle.shepherd.specs.Stopping.{AreOfOne}
 use Rattle.shepherd.specs.declared.shepherd.EndKind.{EndKind}
 use Rattle.served_connections.specs.Behind.{ItemBehind}
 use Rattle.served_connections.specs.Courses.{Begun, Course}
-use Rattle.served_connections.specs.Spent.{AreSpentFor}
+use Rattle.served_connections.specs.Heard.{AreCallsOf, HeardIn}
+use Rattle.served_connections.specs.Findings.{AreFoundFor}
+use Rattle.served_connections.specs.Full.{full_in}
+use Rattle.served_connections.specs.Spent.{spent_in}
 
 -- An item tells how far the history had come when the container was last held for its request: it was held for those
 -- requests alone that came to it; the journal had so many entries then as the item's front says; and the entry that the
@@ -53,18 +56,22 @@ pub record TellsHolds (history : List Event) (i : Item) : Type 0 where
 -- its own request. What it put out are the responses to its items, in order, and then `last`. What it added and left is
 -- what its items tell, in order, and then `open_own` and `open_marks`. No item is older than what the connection had
 -- seen when it began, or than the item before, and none began behind fewer entries than there were then; and the link's
--- counts rise from item to item. The serial numbers that were found spent are those that its items tell of, in order.
+-- counts rise from item to item. The serial numbers that were found spent are those that its items tell of, in order,
+-- and so are the windows that were full where passes were refused.
+-- What its items tell of their sessions is so over the calls of the link that it made.
 pub record HasServed {P L M R S : Type 0} (asks : P → List Answer → Next) (calls : L → LinkEvent → L → Type 0) (makes : M → ActionCall → List ℕ → P → Type 0) (gives : Gives R) (looks : Looks S) (service : Service M) (start : Start) (begun : Begun) (history : List Event) (now : ℕ) (c : Course) (opened : List Head) (last : List ℕ) (open_own : List Event) (open_marks : List WindowMark) : Type 0 where
   pub heads : List Head
   pub requests_are : (more : List ℕ) → (behind : Requests) × (requests (c.fed ++ more) ≡ all_before heads behind)
   pub responses : AreResponses service.key history heads c.written c.items opened last
   pub accounted : IsAccountedFor start history c.own c.marks c.items open_own open_marks
-  pub served : AreServed asks calls makes gives looks service start history heads c.drawn begun.moment now c.items
+  pub served : AreServed asks (HeardIn c.heard) makes gives looks service start history heads c.drawn begun.moment now c.items
   pub hold_on : HoldOn begun.events c.items
   pub within : furthest begun.events c.items ≤ length history
   pub holds : All (TellsHolds history) c.items
   pub begin : All (ItemBehind begun.entries) c.items
-  pub looked : AreSpentFor c.looked c.items opened
+  pub looked : AreFoundFor spent_in c.looked c.items opened
+  pub full : AreFoundFor full_in c.full c.items opened
+  pub called : AreCallsOf calls c.heard
   pub count_on : CountOn begun.counts c.items
   pub follow : FollowOn (record { 0 = 0 }) c.items
   pub keep : KeepFront (record { 0 = 0 }) c.items
@@ -118,6 +125,6 @@ pub record HasStopped {P L M R S : Type 0} (asks : P → List Answer → Next) (
   pub open_marks : List WindowMark
   pub served : HasServed asks calls makes gives looks service start begun history now c opened [] open_own open_marks
   pub few : length open_own ≤ 1
-  pub more : (open_own ≡ []) ⊎ HasAddedMore asks calls (makes service.maker) (WasTakenIn gives looks service.key service.home) start history opened c.drawn open_own
+  pub more : (open_own ≡ []) ⊎ HasAddedMore asks (HeardIn c.heard) (makes service.maker) (WasTakenIn gives looks service.key service.home) start history opened c.drawn open_own
   pub of_one : AreOfOne open_marks
   pub spent : open_marks ≢ mark.Taken 0 ∷ []

@@ -21,9 +21,9 @@ ghost use Rattle.served_connections.specs.Serving.{Serves, ServesLeaving};
 
 use call_ticket::Program;
 use outside::{Clock, Link, Random, Serials};
+use request_visit::requests_account_for_their_events;
 use served_items::{
     items_account_for_their_causes, items_are_held_in_order, items_follow_one_another,
-    items_go_back_to_their_requests,
 };
 use shepherd::{
     ProgramMaker, ShepherdTurn, connections_account_for_what_they_add,
@@ -94,5 +94,5 @@ pub fn connections_are_served_from_their_begin<
     items_account_for_their_causes::<P, L, M, C, R, S>();
     items_are_held_in_order::<P, L, M, C, R, S>();
     items_follow_one_another::<P>();
-    items_go_back_to_their_requests::<P, L, M, R, S>();
+    requests_account_for_their_events::<P>();
 }

@@ -14,6 +14,7 @@ ghost use Rattle.outcome_items.specs.declared.item.Holds.{Holds};
 ghost use Rattle.outcome_items.specs.declared.item.Item.{Item};
 ghost use Rattle.outcome_items.specs.declared.outcome.ItemOutcome.TheVariants as item;
 ghost use Rattle.outside.specs.declared.link.LinkCounts.{LinkCounts};
+ghost use Rattle.outside.specs.declared.link.LinkEvent.{LinkEvent};
 ghost use Rattle.request_decisions.specs.Calls.{call_by};
 ghost use Rattle.request_decisions.specs.declared.draws.Draw.{Draw};
 ghost use Rattle.request_intake.specs.declared.intake.Admission.{Admission};
@@ -30,6 +31,7 @@ ghost use Rattle.shepherd.specs.declared.shepherd.EndKind.{EndKind};
 ghost use Rattle.ssm_stub.specs.Counted.{is_silent, is_strayed};
 ghost use Rattle.ssm_stub.specs.declared.cause.BrickCause.{BrickCause};
 ghost use Rattle.served_connections.specs.Courses.{Begun, Course};
+ghost use Rattle.served_connections.specs.Heard.{HeardIn};
 ghost use Rattle.served_connections.specs.Telling.{HasEnded, HasServed, HasStopped};
 
 use call_ticket::Program;
@@ -41,13 +43,15 @@ use shepherd::ProgramMaker;
 
 /// What the course of a connection shows. Each item is for the request in its place of all its bytes, whatever follows;
 /// what was drawn for that stands among all that was drawn, and the response to the item among all that was put out
-/// (`request`, `response`). The container was held for no item when its history had fewer events than at the begin
-/// (`since`), or than for the item before (`later`, `follows`); the moment of each lies between the clock's last answer
-/// before the begin and its last one (`moment`); and the link's counts rise by the causes that an item tells (`first`,
-/// `next`). What was added and left are the events and the marks that the items tell (`told`), and where memory was
-/// wanted those of one request more at most (`stopped`): the next one of its bytes, for which numbers were drawn last;
-/// what it has added is what its end adds, by its own number and a program that was made of its own call, as the user
-/// of the session that was read asks for it (`more`). Where it has ended, there is an item for each request (`ended`).
+/// (`request`, `response`). What the item tells of its session is so over the calls of the link that the connection
+/// made (`heard`), and each of these is one that the link makes (`called`). The container was held for no item when its
+/// history had fewer events than at the begin (`since`), or than for the item before (`later`, `follows`); the moment
+/// of each lies between the clock's last answer before the begin and its last one (`moment`); and the link's counts
+/// rise by the causes that an item tells (`first`, `next`). What was added and left are the events and the marks that
+/// the items tell (`told`), and where memory was wanted those of one request more at most (`stopped`): the next one of
+/// its bytes, for which numbers were drawn last; what it has added is what its end adds, by its own number and a
+/// program that was made of its own call, as the user of the session that was read asks for it (`more`). Where it has
+/// ended, there is an item for each request (`ended`).
 pub fn courses_show_what_was_served<
     P: Program,
     L: Link,
@@ -64,6 +68,19 @@ pub fn courses_show_what_was_served<
         → (t : TakenIn) × (slice_get (requests (c.fed ++ more)).heads (length before) ≡ Some t.head)
         × IsServedFor P.asks L.makes M.makes R.gives S.looks service start history t i
         × ((earlier : List Draw) × (later : List Draw) × (c.drawn ≡ earlier ++ (t.intake.drawn ++ later))) }
+    ensures heard { (service : Service M) (start : Start) (begun : Begun) (history : List Event) (now : ℕ)
+        (c : Course) (opened : List Head) (last : List ℕ) (own : List Event) (marks : List WindowMark)
+        (before behind : List Item) (i : Item) (more : List ℕ)
+        → HasServed P.asks L.makes M.makes R.gives S.looks service start begun history now c opened last own marks
+        → c.items ≡ before ++ i ∷ behind
+        → (t : TakenIn) × (slice_get (requests (c.fed ++ more)).heads (length before) ≡ Some t.head)
+        × IsServedFor P.asks (HeardIn c.heard) M.makes R.gives S.looks service start history t i
+        × ((earlier : List Draw) × (later : List Draw) × (c.drawn ≡ earlier ++ (t.intake.drawn ++ later))) }
+    ensures called { (service : Service M) (start : Start) (begun : Begun) (history : List Event) (now : ℕ)
+        (c : Course) (opened : List Head) (last : List ℕ) (own : List Event) (marks : List WindowMark)
+        (before behind : List LinkEvent) (call : LinkEvent)
+        → HasServed P.asks L.makes M.makes R.gives S.looks service start begun history now c opened last own marks
+        → c.heard ≡ before ++ call ∷ behind → (link : L) × (after : L) × L.makes link call after }
     ensures response { (service : Service M) (start : Start) (begun : Begun) (history : List Event) (now : ℕ)
         (c : Course) (opened : List Head) (last : List ℕ) (own : List Event) (marks : List WindowMark)
         (before behind : List Item) (i : Item) (more : List ℕ)

@@ -21,24 +21,25 @@ ghost use Rattle.shepherd.specs.Steps.{OpensStage, ShepherdSteps, VisitsOutside}
 ghost use Rattle.shepherd.specs.declared.shepherd.Shepherd.{Shepherd};
 ghost use Rattle.shepherd.specs.declared.shepherd.Stage.{Stage};
 ghost use Rattle.served_connections.specs.Courses.{Begun, Course};
-ghost use Rattle.served_connections.specs.Serving.{Serves, ServesAdding, ServesLeaving};
+ghost use Rattle.served_connections.specs.Serving.{Serves, ServesAdding, ServesAtWindows, ServesCalling};
 
 use call_ticket::Program;
 use container_core::histories_grow;
 use outside::{Clock, Link, Random, Serials};
 use request_tries::ends_begin_with_the_first_try;
-use served_items::{
-    items_account_for_their_causes, items_are_held_in_order, items_go_back_to_their_requests,
-};
+use request_visit::requests_account_for_their_events;
+use served_items::{items_account_for_their_causes, items_are_held_in_order};
+use session_way::ways_have_answers;
 use shepherd::{
     ProgramMaker, ShepherdTurn, connections_account_for_what_they_add,
     connections_answer_their_requests, connections_go_on, connections_stand_with_their_requests,
 };
+use ssm_stub::answers_stay;
 
 /// A connection is served behind each step of the request that is open: a call of the link, which has counted no less
-/// than the connection saw last; a call of the windows, which leaves marks; a call of the container, whose history is
-/// the one that the connection saw last, or longer, and which adds events; the making of its program, which the
-/// container's deployment accepts; and what it does by itself.
+/// than the connection saw last, and which its course then tells of; a call of the windows, which leaves marks; a call
+/// of the container, whose history is the one that the connection saw last, or longer, and which adds events; the
+/// making of its program, which the container's deployment accepts; and what it does by itself.
 pub fn connections_are_served_behind_their_steps<
     P: Program,
     L: Link,
@@ -52,14 +53,14 @@ pub fn connections_are_served_behind_their_steps<
         → turn old ≡ ShepherdTurn.Outside → AreReached counts (counted (L.tally link))
         → ShepherdSteps (λ v w. VisitsOutside L.makes L.tally v link w after) old new
         → Serves P.accepts P.asks L.makes M.makes R.gives S.looks service start begun history counts now c old
-        → Serves P.accepts P.asks L.makes M.makes R.gives S.looks service start begun history
-        (counted (L.tally after)) now c new }
+        → ServesCalling P.accepts P.asks L.makes M.makes R.gives S.looks service start begun history
+        (counted (L.tally after)) now c new link after }
     ensures windows { (service : Service M) (start : Start) (begun : Begun) (history : List Event)
         (counts : LinkCounts) (now : ℕ) (c : Course) (old new : Shepherd P) (windows after : WindowsValue)
         → turn old ≡ ShepherdTurn.Windows → 1 ≤ windows.wq → windows.wq ≤ MAX_HOLDERS
         → ShepherdSteps (λ v w. VisitsWindows v windows w after) old new
         → Serves P.accepts P.asks L.makes M.makes R.gives S.looks service start begun history counts now c old
-        → ServesLeaving P.accepts P.asks L.makes M.makes R.gives S.looks service start begun history counts now c new
+        → ServesAtWindows P.accepts P.asks L.makes M.makes R.gives S.looks service start begun history counts now c new
         windows after }
     ensures inside { (service : Service M) (start : Start) (begun : Begun) (history : List Event)
         (counts : LinkCounts) (now : ℕ) (c : Course) (old new : Shepherd P) (before after : ContainerValue)
@@ -83,6 +84,7 @@ pub fn connections_are_served_behind_their_steps<
         → Serves P.accepts P.asks L.makes M.makes R.gives S.looks service start begun history counts now c old
         → Serves P.accepts P.asks L.makes M.makes R.gives S.looks service start begun history counts now c new }
 {
+    answers_stay();
     connections_account_for_what_they_add::<P, L, M>();
     connections_answer_their_requests::<P, L, M>();
     connections_go_on::<P, L, M>();
@@ -91,5 +93,6 @@ pub fn connections_are_served_behind_their_steps<
     histories_grow();
     items_account_for_their_causes::<P, L, M, C, R, S>();
     items_are_held_in_order::<P, L, M, C, R, S>();
-    items_go_back_to_their_requests::<P, L, M, R, S>();
+    requests_account_for_their_events::<P>();
+    ways_have_answers();
 }

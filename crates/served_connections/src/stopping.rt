@@ -11,7 +11,7 @@ ghost use Rattle.request_visit.specs.declared.visit.Work.TheVariants.{Opening};
 ghost use Rattle.send_windows.specs.Windows.{WindowsValue};
 ghost use Rattle.send_windows.specs.declared.windows.TakeRefusal.TheVariants as refusal;
 ghost use Rattle.served_items.specs.Attributing.{Service};
-ghost use Rattle.session_way.specs.Way.{IsRefused};
+ghost use Rattle.session_way.specs.Way.{BreaksOffOutside, IsRefused};
 ghost use Rattle.shepherd.specs.Shepherds.{has_item, turn};
 ghost use Rattle.shepherd.specs.Steps.{GivesBack, IsServedStill, OnVisit, StepsVisit, TakesItem, dropped_stage};
 ghost use Rattle.shepherd.specs.declared.shepherd.Shepherd.{Shepherd};
@@ -19,7 +19,7 @@ ghost use Rattle.shepherd.specs.declared.shepherd.Stage.{Stage};
 ghost use Rattle.shepherd.specs.declared.shepherd.Stage.TheVariants.{Serving};
 ghost use Rattle.served_connections.specs.Courses.{Begun, Course};
 ghost use Rattle.served_connections.specs.Serving.{Serves};
-ghost use Rattle.served_connections.specs.Stopping.{HoldsNothing, ServesSoFar, StopsLeaving};
+ghost use Rattle.served_connections.specs.Stopping.{HoldsNothing, ServesSoFar, StopsCalling, StopsLeaving};
 
 use crate::beginning::connections_are_served_from_their_begin;
 use call_ticket::Program;
@@ -28,9 +28,9 @@ use shepherd::{ProgramMaker, ShepherdTurn, stopped_connections_account_for_what_
 
 /// A connection that was served has been served so far behind each call that wanted memory. `feed`, `take_request` and
 /// `step_outside` leave its stage as it was, and so does who wants memory before it makes a call (`bytes`, `request`,
-/// `outside`, `output`, `room`). `step_windows` was to take passes, and may hold them now (`windows`); `step_inside`
-/// has added nothing (`inside`); `open` has lost the call of its request (`open`), and `advance` what it had come to
-/// (`advance`).
+/// `outside`, `output`, `room`). The link may have made a call then, of which its course tells (`outside`).
+/// `step_windows` was to take passes, and may hold them now (`windows`); `step_inside` has added nothing (`inside`);
+/// `open` has lost the call of its request (`open`), and `advance` what it had come to (`advance`).
 ///
 /// It stays so whatever others add meanwhile, where its call is given up, and where its passes are given back: it holds
 /// none from then on (`nothing_held`). An item that is left then joins its course (`item`).
@@ -53,10 +53,12 @@ pub fn connections_stop_where_memory_is_wanted<
         → Serves P.accepts P.asks L.makes M.makes R.gives S.looks service start begun history counts now c s
         → ServesSoFar P.accepts P.asks L.makes M.makes R.gives S.looks service start begun history counts now c new }
     ensures outside { (service : Service M) (start : Start) (begun : Begun) (history : List Event)
-        (counts : LinkCounts) (now : ℕ) (c : Course) (s new : Shepherd P) → turn s ≡ ShepherdTurn.Outside
-        → new.stage ≡ s.stage
+        (counts : LinkCounts) (now : ℕ) (c : Course) (s new : Shepherd P) (link after : L)
+        → turn s ≡ ShepherdTurn.Outside → new.stage ≡ s.stage
+        → OnVisit s.stage (λ v call. BreaksOffOutside L.makes v.way link after)
         → Serves P.accepts P.asks L.makes M.makes R.gives S.looks service start begun history counts now c s
-        → ServesSoFar P.accepts P.asks L.makes M.makes R.gives S.looks service start begun history counts now c new }
+        → StopsCalling P.accepts P.asks L.makes M.makes R.gives S.looks service start begun history counts now c new link
+        after }
     ensures output { (service : Service M) (start : Start) (begun : Begun) (history : List Event)
         (counts : LinkCounts) (now : ℕ) (c : Course) (s new : Shepherd P) → turn s ≡ ShepherdTurn.Output
         → new.stage ≡ s.stage

@@ -15,9 +15,8 @@ ghost use Rattle.served_connections.specs.Serving.{Serves, ServesNext};
 
 use call_ticket::Program;
 use outside::{Clock, Link, Random, Serials};
-use served_items::{
-    items_account_for_their_causes, items_are_held_in_order, taken_requests_are_attributed,
-};
+use request_visit::requests_account_for_their_events;
+use served_items::{items_account_for_their_causes, items_are_held_in_order};
 use shepherd::{
     ProgramMaker, ShepherdTurn, connections_stand, taken_requests_add_nothing,
     taken_requests_are_answered, taken_requests_go_on,
@@ -47,8 +46,8 @@ pub fn requests_join_their_connections<
     connections_stand::<P, C, R, S>();
     items_account_for_their_causes::<P, L, M, C, R, S>();
     items_are_held_in_order::<P, L, M, C, R, S>();
+    requests_account_for_their_events::<P>();
     taken_requests_add_nothing::<P, C, R, S>();
     taken_requests_are_answered::<P, C, R, S>();
-    taken_requests_are_attributed::<P, L, M, C, R, S>();
     taken_requests_go_on::<P, L, C, R, S>();
 }

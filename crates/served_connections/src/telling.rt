@@ -1,7 +1,7 @@
 //! Laws of what is told at the end of a connection. Each is the contract of a function that does nothing: a caller that
 //! needs the law calls the function.
 
-ghost use Rattle.std.specs.Prelude.{◌≡◌, ◌≢◌, ◌↔◌, ◌⊎◌, ◌≤◌, ◌<◌, false, true, ℕ, List, [], ◌∷◌, ◌++◌, All, length, take, Some};
+ghost use Rattle.std.specs.Prelude.{◌≡◌, ◌≢◌, ◌↔◌, ◌⊎◌, ◌≤◌, ◌<◌, false, true, ℕ, Bool, List, [], ◌∷◌, ◌++◌, All, length, take, Some};
 ghost use Rattle.boot_core.specs.declared.boot.Start.{Start};
 ghost use Rattle.container_core.specs.History.{entries_in};
 ghost use Rattle.container_core.specs.declared.history.Event.{Event};
@@ -12,6 +12,7 @@ ghost use Rattle.outcome_items.specs.declared.item.Item.{Item};
 ghost use Rattle.outcome_items.specs.declared.outcome.ItemOutcome.TheVariants as item;
 ghost use Rattle.outside.specs.declared.link.LinkCounts.{LinkCounts};
 ghost use Rattle.send_windows.specs.Windows.{WindowsValue};
+ghost use Rattle.send_windows.specs.declared.fact.WindowFact.{WindowFact};
 ghost use Rattle.send_windows.specs.declared.history.WindowMark.{WindowMark};
 ghost use Rattle.served_items.specs.Attributing.{Service};
 ghost use Rattle.served_items.specs.Counting.{AreReached};
@@ -30,6 +31,7 @@ ghost use Rattle.served_connections.specs.Telling.{HasEnded, HasServed, HasServe
 
 use call_ticket::Program;
 use outside::{Link, Random, Serials};
+use request_visit::requests_account_for_their_events;
 use served_items::items_tell_what_was_served;
 use shepherd::{
     ProgramMaker, ShepherdTurn, items_are_for_requests_in_order, items_tell_what_was_added,
@@ -81,6 +83,7 @@ pub fn courses_tell_what_was_served<
     items_are_for_requests_in_order::<P>();
     items_tell_what_was_added::<P, L>();
     items_tell_what_was_served::<P, L, M, R, S>();
+    requests_account_for_their_events::<P>();
     responses_are_to_their_items::<P>();
     stopped_connections_account_for_what_they_left::<P, L>();
 }
@@ -137,6 +140,18 @@ pub fn spent_serials_were_looked_at<
         → HasServed P.asks L.makes M.makes R.gives S.looks service start begun history now c opened last own marks
         → All (λ (i : Item). (seen : ℕ) → i.outcome ≡ item.SerialsSpent seen
         → (before : List ℕ) × (behind : List ℕ) × (c.looked ≡ before ++ seen ∷ behind)) c.items }
+{}
+
+/// Each list of full windows that an item of a connection tells of was found so where passes were refused: it is one of
+/// those that its course tells of.
+pub fn full_windows_were_found<P: Program, L: Link, M: ProgramMaker<P>, R: Random, S: Serials>()
+    ensures { (service : Service M) (start : Start) (begun : Begun) (history : List Event) (now : ℕ) (c : Course)
+        (opened : List Head) (last : List ℕ) (own : List Event) (marks : List WindowMark)
+        → HasServed P.asks L.makes M.makes R.gives S.looks service start begun history now c opened last own marks
+        → All (λ (i : Item). (place : Place) (again : Bool) (full : List WindowFact)
+        → i.outcome ≡ item.Overload place again full
+        → (before : List (List WindowFact)) × (behind : List (List WindowFact))
+        × (c.full ≡ before ++ full ∷ behind)) c.items }
 {}
 
 /// A connection comes to rest. The response of its open request has left, if one is open, and nothing else is to leave:

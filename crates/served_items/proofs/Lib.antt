@@ -5,10 +5,10 @@ mod Numbered
 mod Placing
 mod Reaching
 mod Rising
-mod Serving
+pub mod Serving
 mod Shown
-mod Stepping
-mod Taking
+pub mod Stepping
+pub mod Taking
 mod Tallying
 mod Turning
 mod Unchanged

@@ -1,4 +1,4 @@
-use Rattle.std.proofs.Common.{List, ◌∙◌, ap, refl, subst}
+use Rattle.std.proofs.Common.{List, [], ◌∙◌, ap, refl, subst}
 use Rattle.outcome_items.specs.declared.item.Item.{Item}
 use Rattle.served_connections.specs.Courses.{no_course}
 use Rattle.served_items.specs.Attributing.{Service}
@@ -18,9 +18,13 @@ returns-in-Err-clause-served g c =
     let site = site_there service c.args.shared.now.key c.args.shared.now.home begun now c.requires.service c.requires.begun c.requires.site in
     rw c.unbegun.ensures
     (record {
-      served = (unbegun_there g.L.Link.makes g.R.Random.gives service begun now c.requires.begun c.requires.seats.container_home c.requires.seats.windows_home site
-          (c.courses_tell_what_was_served.ensures.rested service site.container.boot.start (began_at begun) begun.container.seen begun.counts begun.moment no_course fresh tt
-          (c.connections_are_served_from_their_begin.ensures.begins service begun.container.seen site.container begun.counts begun.moment site.tells.events site.tells.journal)));
+      served = record {
+        heard = [];
+        leads = refl;
+        so = unbegun_there g.L.Link.makes g.R.Random.gives service begun now c.requires.begun c.requires.seats.container_home c.requires.seats.windows_home site
+            (c.courses_tell_what_was_served.ensures.rested service site.container.boot.start (began_at begun) begun.container.seen begun.counts begun.moment no_course fresh tt
+            (c.connections_are_served_from_their_begin.ensures.begins service begun.container.seen site.container begun.counts begun.moment site.tells.events site.tells.journal));
+      };
       front_is = refl;
     })
 
@@ -37,15 +41,16 @@ turn_all-ended-requires-clause-serving g c κs within =
 pub returns-clause-site : goal.returns-clause-site
 returns-clause-site g c =
     let end = c.turn_all-ended.new in
-    let now : Stand = stand_of end.container end.windows end.words (g.S.Source.left end.source) (g.S.Source.faults end.source) (g.T.Sink.written end.sink) (g.T.Sink.faults end.sink) (g.L.Link.tally end.link) (g.C.Clock.told end.clock) in
-    subst (λ (x : Service SiteMaker). IsOfSite x.home c.leave-items.new.container.seen) c.requires.service (c.leave-items.ensures.served now c.turn_all-ended.ensures.ends).1
+    let called = c.turn_all-ended.ensures.ends in
+    let now : Stand = record (stand_of end.container end.windows end.words (g.S.Source.left end.source) (g.S.Source.faults end.source) (g.T.Sink.written end.sink) (g.T.Sink.faults end.sink) (g.L.Link.tally end.link) (g.C.Clock.told end.clock)) { heard = called.heard } in
+    subst (λ (x : Service SiteMaker). IsOfSite x.home c.leave-items.new.container.seen) c.requires.service (c.leave-items.ensures.served now called.so).1
 
 pub returns-clause-served : goal.returns-clause-served
 returns-clause-served g c =
     let end = c.turn_all-ended.new in
-    let now : Stand = stand_of end.container end.windows end.words (g.S.Source.left end.source) (g.S.Source.faults end.source) (g.T.Sink.written end.sink) (g.T.Sink.faults end.sink) (g.L.Link.tally end.link) (g.C.Clock.told end.clock) in
-    let next : Stand = record now { container = c.leave-items.new.container; windows = c.leave-items.new.windows } in
+    let called = c.turn_all-ended.ensures.ends in
+    let now : Stand = record (stand_of end.container end.windows end.words (g.S.Source.left end.source) (g.S.Source.faults end.source) (g.T.Sink.written end.sink) (g.T.Sink.faults end.sink) (g.L.Link.tally end.link) (g.C.Clock.told end.clock)) { heard = called.heard } in
     (record {
-      served = (c.leave-items.ensures.served now c.turn_all-ended.ensures.ends).0;
+      served = record { heard = called.heard; leads = called.leads; so = (c.leave-items.ensures.served now called.so).0 };
       front_is = c.last_front-front.ensures ∙ ap (λ (is : List Item). last_front (record { 0 = 0 }) is) c.as_slice.ensures;
     })

@@ -4,66 +4,66 @@ use Rattle.connection_server.proofs.Turned.{ended_comes}
 use Rattle.connection_server.proofs.serving.turn_once.Goals as goal
 
 pub returns-in-Bytes-clause-comes : goal.returns-in-Bytes-clause-comes
-returns-in-Bytes-clause-comes g c =
-    let now : Stand = stand_of c.args.container.now c.args.windows.now c.args.words.now (g.S.Source.left c.args.source.now) (g.S.Source.faults c.args.source.now) (g.T.Sink.written c.args.sink.now) (g.T.Sink.faults c.args.sink.now) (g.L.Link.tally c.args.link.now) (g.C.Clock.told c.args.clock.now) in
-    c.read.ensures now c.requires.serving
+returns-in-Bytes-clause-comes g c = λ from called.
+    let now : Stand = record (stand_of c.args.container.now c.args.windows.now c.args.words.now (g.S.Source.left c.args.source.now) (g.S.Source.faults c.args.source.now) (g.T.Sink.written c.args.sink.now) (g.T.Sink.faults c.args.sink.now) (g.L.Link.tally c.args.link.now) (g.C.Clock.told c.args.clock.now)) { heard = called.heard } in
+    record { heard = called.heard; leads = called.leads; so = c.read.ensures now called.so }
 
 pub returns-in-Request-clause-comes : goal.returns-in-Request-clause-comes
-returns-in-Request-clause-comes g c =
-    let now : Stand = stand_of c.args.container.now c.args.windows.now c.args.words.now (g.S.Source.left c.args.source.now) (g.S.Source.faults c.args.source.now) (g.T.Sink.written c.args.sink.now) (g.T.Sink.faults c.args.sink.now) (g.L.Link.tally c.args.link.now) (g.C.Clock.told c.args.clock.now) in
-    c.take_request.ensures.on now c.requires.serving
+returns-in-Request-clause-comes g c = λ from called.
+    let now : Stand = record (stand_of c.args.container.now c.args.windows.now c.args.words.now (g.S.Source.left c.args.source.now) (g.S.Source.faults c.args.source.now) (g.T.Sink.written c.args.sink.now) (g.T.Sink.faults c.args.sink.now) (g.L.Link.tally c.args.link.now) (g.C.Clock.told c.args.clock.now)) { heard = called.heard } in
+    record { heard = called.heard; leads = called.leads; so = c.take_request.ensures.on now called.so }
 
 pub returns-in-Outside-clause-comes : goal.returns-in-Outside-clause-comes
-returns-in-Outside-clause-comes g c =
-    let now : Stand = stand_of c.args.container.now c.args.windows.now c.args.words.now (g.S.Source.left c.args.source.now) (g.S.Source.faults c.args.source.now) (g.T.Sink.written c.args.sink.now) (g.T.Sink.faults c.args.sink.now) (g.L.Link.tally c.args.link.now) (g.C.Clock.told c.args.clock.now) in
-    c.call_link.ensures now c.requires.serving
+returns-in-Outside-clause-comes g c = λ from called.
+    let now : Stand = record (stand_of c.args.container.now c.args.windows.now c.args.words.now (g.S.Source.left c.args.source.now) (g.S.Source.faults c.args.source.now) (g.T.Sink.written c.args.sink.now) (g.T.Sink.faults c.args.sink.now) (g.L.Link.tally c.args.link.now) (g.C.Clock.told c.args.clock.now)) { heard = called.heard } in
+    c.call_link.ensures now from called.leads called.so
 
 pub returns-in-Windows-clause-comes : goal.returns-in-Windows-clause-comes
-returns-in-Windows-clause-comes g c =
-    let now : Stand = stand_of c.args.container.now c.args.windows.now c.args.words.now (g.S.Source.left c.args.source.now) (g.S.Source.faults c.args.source.now) (g.T.Sink.written c.args.sink.now) (g.T.Sink.faults c.args.sink.now) (g.L.Link.tally c.args.link.now) (g.C.Clock.told c.args.clock.now) in
-    c.call_windows.ensures.on now c.requires.serving
+returns-in-Windows-clause-comes g c = λ from called.
+    let now : Stand = record (stand_of c.args.container.now c.args.windows.now c.args.words.now (g.S.Source.left c.args.source.now) (g.S.Source.faults c.args.source.now) (g.T.Sink.written c.args.sink.now) (g.T.Sink.faults c.args.sink.now) (g.L.Link.tally c.args.link.now) (g.C.Clock.told c.args.clock.now)) { heard = called.heard } in
+    record { heard = called.heard; leads = called.leads; so = c.call_windows.ensures.on now called.so }
 
 pub returns-in-Inside-clause-comes : goal.returns-in-Inside-clause-comes
-returns-in-Inside-clause-comes g c =
-    let now : Stand = stand_of c.args.container.now c.args.windows.now c.args.words.now (g.S.Source.left c.args.source.now) (g.S.Source.faults c.args.source.now) (g.T.Sink.written c.args.sink.now) (g.T.Sink.faults c.args.sink.now) (g.L.Link.tally c.args.link.now) (g.C.Clock.told c.args.clock.now) in
-    c.call_container.ensures.on now c.requires.serving
+returns-in-Inside-clause-comes g c = λ from called.
+    let now : Stand = record (stand_of c.args.container.now c.args.windows.now c.args.words.now (g.S.Source.left c.args.source.now) (g.S.Source.faults c.args.source.now) (g.T.Sink.written c.args.sink.now) (g.T.Sink.faults c.args.sink.now) (g.L.Link.tally c.args.link.now) (g.C.Clock.told c.args.clock.now)) { heard = called.heard } in
+    record { heard = called.heard; leads = called.leads; so = c.call_container.ensures.on now called.so }
 
 pub call_container-requires-clause-serving : goal.call_container-requires-clause-serving
 call_container-requires-clause-serving g c κs within =
-    let now : Stand = stand_of c.args.container.now c.args.windows.now c.args.words.now (g.S.Source.left c.args.source.now) (g.S.Source.faults c.args.source.now) (g.T.Sink.written c.args.sink.now) (g.T.Sink.faults c.args.sink.now) (g.L.Link.tally c.args.link.now) (g.C.Clock.told c.args.clock.now) in
-    (now, c.requires.serving)
+    let called = c.requires.serving.1 in
+    (record (stand_of c.args.container.now c.args.windows.now c.args.words.now (g.S.Source.left c.args.source.now) (g.S.Source.faults c.args.source.now) (g.T.Sink.written c.args.sink.now) (g.T.Sink.faults c.args.sink.now) (g.L.Link.tally c.args.link.now) (g.C.Clock.told c.args.clock.now)) { heard = called.heard }, called.so)
 
 pub returns-in-Program-clause-comes : goal.returns-in-Program-clause-comes
-returns-in-Program-clause-comes g c =
-    let now : Stand = stand_of c.args.container.now c.args.windows.now c.args.words.now (g.S.Source.left c.args.source.now) (g.S.Source.faults c.args.source.now) (g.T.Sink.written c.args.sink.now) (g.T.Sink.faults c.args.sink.now) (g.L.Link.tally c.args.link.now) (g.C.Clock.told c.args.clock.now) in
-    c.make_program.ensures now c.requires.serving
+returns-in-Program-clause-comes g c = λ from called.
+    let now : Stand = record (stand_of c.args.container.now c.args.windows.now c.args.words.now (g.S.Source.left c.args.source.now) (g.S.Source.faults c.args.source.now) (g.T.Sink.written c.args.sink.now) (g.T.Sink.faults c.args.sink.now) (g.L.Link.tally c.args.link.now) (g.C.Clock.told c.args.clock.now)) { heard = called.heard } in
+    record { heard = called.heard; leads = called.leads; so = c.make_program.ensures now called.so }
 
 pub make_program-requires-clause-serving : goal.make_program-requires-clause-serving
 make_program-requires-clause-serving g c =
-    let now : Stand = stand_of c.args.container.now c.args.windows.now c.args.words.now (g.S.Source.left c.args.source.now) (g.S.Source.faults c.args.source.now) (g.T.Sink.written c.args.sink.now) (g.T.Sink.faults c.args.sink.now) (g.L.Link.tally c.args.link.now) (g.C.Clock.told c.args.clock.now) in
-    (now, c.requires.serving)
+    let called = c.requires.serving.1 in
+    (record (stand_of c.args.container.now c.args.windows.now c.args.words.now (g.S.Source.left c.args.source.now) (g.S.Source.faults c.args.source.now) (g.T.Sink.written c.args.sink.now) (g.T.Sink.faults c.args.sink.now) (g.L.Link.tally c.args.link.now) (g.C.Clock.told c.args.clock.now)) { heard = called.heard }, called.so)
 
 pub returns-in-Own-clause-comes : goal.returns-in-Own-clause-comes
-returns-in-Own-clause-comes g c =
-    let now : Stand = stand_of c.args.container.now c.args.windows.now c.args.words.now (g.S.Source.left c.args.source.now) (g.S.Source.faults c.args.source.now) (g.T.Sink.written c.args.sink.now) (g.T.Sink.faults c.args.sink.now) (g.L.Link.tally c.args.link.now) (g.C.Clock.told c.args.clock.now) in
-    c.advance.ensures now c.requires.serving
+returns-in-Own-clause-comes g c = λ from called.
+    let now : Stand = record (stand_of c.args.container.now c.args.windows.now c.args.words.now (g.S.Source.left c.args.source.now) (g.S.Source.faults c.args.source.now) (g.T.Sink.written c.args.sink.now) (g.T.Sink.faults c.args.sink.now) (g.L.Link.tally c.args.link.now) (g.C.Clock.told c.args.clock.now)) { heard = called.heard } in
+    record { heard = called.heard; leads = called.leads; so = c.advance.ensures now called.so }
 
 pub advance-requires-clause-serving : goal.advance-requires-clause-serving
 advance-requires-clause-serving g c κs within =
-    let now : Stand = stand_of c.args.container.now c.args.windows.now c.args.words.now (g.S.Source.left c.args.source.now) (g.S.Source.faults c.args.source.now) (g.T.Sink.written c.args.sink.now) (g.T.Sink.faults c.args.sink.now) (g.L.Link.tally c.args.link.now) (g.C.Clock.told c.args.clock.now) in
-    (now, c.requires.serving)
+    let called = c.requires.serving.1 in
+    (record (stand_of c.args.container.now c.args.windows.now c.args.words.now (g.S.Source.left c.args.source.now) (g.S.Source.faults c.args.source.now) (g.T.Sink.written c.args.sink.now) (g.T.Sink.faults c.args.sink.now) (g.L.Link.tally c.args.link.now) (g.C.Clock.told c.args.clock.now)) { heard = called.heard }, called.so)
 
 pub returns-in-Output-clause-comes : goal.returns-in-Output-clause-comes
-returns-in-Output-clause-comes g c =
-    let now : Stand = stand_of c.args.container.now c.args.windows.now c.args.words.now (g.S.Source.left c.args.source.now) (g.S.Source.faults c.args.source.now) (g.T.Sink.written c.args.sink.now) (g.T.Sink.faults c.args.sink.now) (g.L.Link.tally c.args.link.now) (g.C.Clock.told c.args.clock.now) in
-    c.put_out.ensures now c.requires.serving
+returns-in-Output-clause-comes g c = λ from called.
+    let now : Stand = record (stand_of c.args.container.now c.args.windows.now c.args.words.now (g.S.Source.left c.args.source.now) (g.S.Source.faults c.args.source.now) (g.T.Sink.written c.args.sink.now) (g.T.Sink.faults c.args.sink.now) (g.L.Link.tally c.args.link.now) (g.C.Clock.told c.args.clock.now)) { heard = called.heard } in
+    record { heard = called.heard; leads = called.leads; so = c.put_out.ensures now called.so }
 
 pub returns-in-Item-clause-comes : goal.returns-in-Item-clause-comes
-returns-in-Item-clause-comes g c =
-    let now : Stand = stand_of c.args.container.now c.args.windows.now c.args.words.now (g.S.Source.left c.args.source.now) (g.S.Source.faults c.args.source.now) (g.T.Sink.written c.args.sink.now) (g.T.Sink.faults c.args.sink.now) (g.L.Link.tally c.args.link.now) (g.C.Clock.told c.args.clock.now) in
-    c.take_item.ensures now c.requires.serving
+returns-in-Item-clause-comes g c = λ from called.
+    let now : Stand = record (stand_of c.args.container.now c.args.windows.now c.args.words.now (g.S.Source.left c.args.source.now) (g.S.Source.faults c.args.source.now) (g.T.Sink.written c.args.sink.now) (g.T.Sink.faults c.args.sink.now) (g.L.Link.tally c.args.link.now) (g.C.Clock.told c.args.clock.now)) { heard = called.heard } in
+    record { heard = called.heard; leads = called.leads; so = c.take_item.ensures now called.so }
 
 pub returns-in-Ended-clause-comes : goal.returns-in-Ended-clause-comes
-returns-in-Ended-clause-comes g c =
-    let now : Stand = stand_of c.args.container.now c.args.windows.now c.args.words.now (g.S.Source.left c.args.source.now) (g.S.Source.faults c.args.source.now) (g.T.Sink.written c.args.sink.now) (g.T.Sink.faults c.args.sink.now) (g.L.Link.tally c.args.link.now) (g.C.Clock.told c.args.clock.now) in
-    rw c.ended_so.ensures (ended_comes g.L.Link.makes g.R.Random.gives g.B.Outset.service g.B.Outset.begun now c.args.connection.now c.requires.serving c.in-Ended.end (sym c.turn.ensures ∙ c.in-Ended.is))
+returns-in-Ended-clause-comes g c = λ from called.
+    let now : Stand = record (stand_of c.args.container.now c.args.windows.now c.args.words.now (g.S.Source.left c.args.source.now) (g.S.Source.faults c.args.source.now) (g.T.Sink.written c.args.sink.now) (g.T.Sink.faults c.args.sink.now) (g.L.Link.tally c.args.link.now) (g.C.Clock.told c.args.clock.now)) { heard = called.heard } in
+    record { heard = called.heard; leads = called.leads; so = rw c.ended_so.ensures (ended_comes g.L.Link.makes g.R.Random.gives g.B.Outset.service g.B.Outset.begun now c.args.connection.now called.so c.in-Ended.end (sym c.turn.ensures ∙ c.in-Ended.is)) }

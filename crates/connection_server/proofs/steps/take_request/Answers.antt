@@ -44,7 +44,7 @@ returns-in-Err-clause-on g c = λ rest k. rw (c.words-1.given.1 (sym c.take_lent
     let next : Stand = record rest { words = words; counts = counts; moment = g.C.Clock.told c.take_lent-lent.new.clock } in
     let same = subst (λ (x : Result (Unit {0}) OutOfMemory). OnErr x (new.stage ≡ old.shepherd.stage)) c.in-Err.is c.take_lent-lent.ensures.same in
     wanted g.L.Link.makes g.R.Random.gives g.B.Outset.service g.B.Outset.begun now next [] old _ (record { items = refl; stopped = refl }) refl refl
-    c.take_lent-lent.ensures.drawn (reached_here counts) (sym (prepended_none rest.left)) (omega arith) (omega arith) refl c.take_lent-lent.ensures.rises
+    c.take_lent-lent.ensures.drawn refl (reached_here counts) (sym (prepended_none rest.left)) (omega arith) (omega arith) refl c.take_lent-lent.ensures.rises
     (λ start course serves. c.connections_stop_where_memory_is_wanted.ensures.meanwhile g.B.Outset.service start (began_at g.B.Outset.begun) rest.container.seen rest.container.seen counts now.moment next.moment course new
     ([], append-nil rest.container.seen) c.take_lent-lent.ensures.rises
     (c.connections_stop_where_memory_is_wanted.ensures.request g.B.Outset.service start (began_at g.B.Outset.begun) rest.container.seen counts now.moment course old.shepherd new c.requires.turn same serves))

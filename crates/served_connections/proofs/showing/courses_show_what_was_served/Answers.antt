@@ -9,20 +9,35 @@ use Rattle.request_tries.specs.Ends.{Errand}
 use Rattle.request_visit.specs.Accounts.{EndsWith}
 use Rattle.request_visit.specs.Sessions.{IsKnown}
 use Rattle.request_visit.specs.declared.facts.VisitFacts.{VisitFacts}
-use Rattle.served_items.specs.Attributing.{TakenIn, facts_by, moments_of, read_by}
+use Rattle.served_items.specs.Attributing.{TakenIn, WasTakenIn, facts_by, moments_of, read_by}
 use Rattle.served_items.specs.Counting.{CountOn, last_counts}
 use Rattle.served_items.specs.Following.{FollowOn, KeepFront}
 use Rattle.served_items.specs.Holding.{HoldOn, furthest}
 use Rattle.served_items.specs.Served.{IsServedFor, IsValueRead}
 use Rattle.shepherd.specs.Answering.{Response}
 use Rattle.shepherd.specs.Shepherds.{fresh}
+use Rattle.served_connections.specs.Heard.{HeardIn}
+use Rattle.served_connections.proofs.Among.{known_among}
+use Rattle.served_connections.proofs.Heard.{called_among, item_among}
 use Rattle.served_connections.proofs.Leaving.{by_cases}
 use Rattle.served_connections.proofs.Shown.{in_its_place, moments_between, next_there, none_unspent, responds_in_place, still_there, value_read}
 use Rattle.served_connections.proofs.showing.courses_show_what_was_served.Goals as goal
 
 pub returns-clause-request : goal.returns-clause-request
 returns-clause-request g c = λ service start begun history now course opened last own marks before behind i more h is.
-    let So : TakenIn → Item → Type 0 = λ t x. IsServedFor g.P.Program.asks g.L.Link.makes g.M.ProgramMaker.makes g.R.Random.gives g.S.Serials.looks service start history t x in
+    let So : TakenIn → Item → Type 0 = λ t x. IsServedFor g.P.Program.asks (HeardIn course.heard) g.M.ProgramMaker.makes g.R.Random.gives g.S.Serials.looks service start history t x in
+    let all = h.requests_are more in
+    let there = in_its_place So h.served.served h.served.opened before behind i (sym is ∙ h.served.items_are) h.served.each in
+    let here : slice_get h.heads (length before) ≡ Some there.0.head = ap (λ (hs : List Head). slice_get hs (length before)) h.served.heads_are ∙ there.1 in (
+      there.0,
+      ap (λ (r : Requests). slice_get r.heads (length before)) all.1 ∙ still_there h.heads all.0.heads (length before) there.0.head here,
+      item_among g.P.Program.asks (HeardIn course.heard) g.L.Link.makes (called_among g.L.Link.makes course.heard h.called) (g.M.ProgramMaker.makes service.maker) (WasTakenIn g.R.Random.gives g.S.Serials.looks service.key service.home) start history there.0 i there.2,
+      (there.3.0, there.3.1, h.served.drawn_are ∙ there.3.2),
+    )
+
+pub returns-clause-heard : goal.returns-clause-heard
+returns-clause-heard g c = λ service start begun history now course opened last own marks before behind i more h is.
+    let So : TakenIn → Item → Type 0 = λ t x. IsServedFor g.P.Program.asks (HeardIn course.heard) g.M.ProgramMaker.makes g.R.Random.gives g.S.Serials.looks service start history t x in
     let all = h.requests_are more in
     let there = in_its_place So h.served.served h.served.opened before behind i (sym is ∙ h.served.items_are) h.served.each in
     let here : slice_get h.heads (length before) ≡ Some there.0.head = ap (λ (hs : List Head). slice_get hs (length before)) h.served.heads_are ∙ there.1 in (
@@ -31,6 +46,10 @@ returns-clause-request g c = λ service start begun history now course opened la
       there.2,
       (there.3.0, there.3.1, h.served.drawn_are ∙ there.3.2),
     )
+
+pub returns-clause-called : goal.returns-clause-called
+returns-clause-called g c = λ service start begun history now course opened last own marks before behind call h is.
+    called_among g.L.Link.makes course.heard h.called call (tt, tt, (before, behind, is))
 
 pub returns-clause-response : goal.returns-clause-response
 returns-clause-response g c = λ service start begun history now course opened last own marks before behind i more h is.
@@ -138,7 +157,8 @@ returns-clause-more g c = λ service start begun history now course more h.
               (
                 a.value,
                 subst (λ (value : Option (List ℕ)). IsValueRead g.L.Link.makes a.came.intake.now a.admission.read a.admission.cookie value) (sym a.value_is)
-                    (value_read g.L.Link.makes a.came.intake.now a.admission.read a.admission.cookie a.lease (subst (λ (x : Arrival). IsKnown g.L.Link.makes (read_by a.came.intake.now x) a.lease) a.arrived a.known)),
+                    (value_read g.L.Link.makes a.came.intake.now a.admission.read a.admission.cookie a.lease (subst (λ (x : Arrival). IsKnown g.L.Link.makes (read_by a.came.intake.now x) a.lease) a.arrived
+                    (known_among (HeardIn course.heard) g.L.Link.makes (called_among g.L.Link.makes course.heard h.served.called) (read_by a.came.intake.now a.came.intake.arrival) a.lease a.known))),
                 (
                   a.own_call.text,
                   a.own_call.program,

@@ -8,6 +8,7 @@ use Rattle.session_way.specs.Way.{IsRefused}
 use Rattle.shepherd.specs.Steps.{GivesBack, HasLeftIfOpen, IsServedStill, TakesItem, dropped_stage}
 use Rattle.shepherd.specs.Stopping.{Stopped}
 use Rattle.served_connections.specs.Stopping.{IsUnsent}
+use Rattle.served_connections.proofs.Heard.{broke_off, served_longer}
 use Rattle.served_connections.proofs.Leaving.{by_cases, is_before, is_end, item_held, item_unended, last_back, last_dropped, last_open, left_or_unsent, nothing_held, unended, unsent_back, unsent_before, unsent_dropped, unsent_inside, unsent_no_item, unsent_windows}
 use Rattle.served_connections.proofs.stopping.connections_stop_where_memory_is_wanted.Goals as goal
 
@@ -34,15 +35,21 @@ returns-clause-request g c = λ service start begun history counts now course s 
 }
 
 pub returns-clause-outside : goal.returns-clause-outside
-returns-clause-outside g c = λ service start begun history counts now course s new is same h. record {
-  was = s;
-  before = course.marks;
-  served = h;
-  unended = unended s (ap is_end is);
-  stopped = c.stopped_connections_account_for_what_they_left.ensures.still start history course.own course.marks course.items s new same
-      (c.stopped_connections_account_for_what_they_left.ensures.stops start history course.own course.marks course.items s h.accounts);
-  open_so = inr (record { stage_is = same; marks_are = refl });
-}
+returns-clause-outside g c = λ service start begun history counts now course s new link after is same broke h.
+    let called = broke_off g.L.Link.makes s.stage link after broke in
+    record {
+      made = called.made;
+      leads = called.leads;
+      so_far = record {
+        was = s;
+        before = course.marks;
+        served = served_longer g.P.Program.accepts g.P.Program.asks g.L.Link.makes g.M.ProgramMaker.makes g.R.Random.gives g.S.Serials.looks service start begun history counts now course s link called.made after called.leads h;
+        unended = unended s (ap is_end is);
+        stopped = c.stopped_connections_account_for_what_they_left.ensures.still start history course.own course.marks course.items s new same
+            (c.stopped_connections_account_for_what_they_left.ensures.stops start history course.own course.marks course.items s h.accounts);
+        open_so = inr (record { stage_is = same; marks_are = refl });
+      };
+    }
 
 pub returns-clause-output : goal.returns-clause-output
 returns-clause-output g c = λ service start begun history counts now course s new is same h. record {

@@ -5,21 +5,29 @@ use Rattle.container_core.specs.declared.history.Event.{Event}
 use Rattle.http_wire.specs.Requests.{requests}
 use Rattle.http_wire.specs.declared.taken.Head.{Head}
 use Rattle.outcome_items.specs.declared.item.Item.{Item}
+use Rattle.request_visit.proofs.Standing.{item_stands}
 use Rattle.send_windows.specs.declared.history.WindowMark.{WindowMark}
 use Rattle.served_items.specs.Attributing.{WasTakenIn}
 use Rattle.served_items.specs.Served.{IsServedFor, ServedItem}
+use Rattle.served_items.proofs.Serving.{served as all_served}
 use Rattle.shepherd.specs.Accounting.{IsAccountedFor, trace_in, traces_in}
 use Rattle.shepherd.specs.Answering.{AreResponses}
 use Rattle.shepherd.specs.Standing.{coming}
+use Rattle.served_connections.specs.Heard.{HeardIn}
 use Rattle.served_connections.specs.Resting.{Rests, last_at}
 use Rattle.shepherd.specs.declared.shepherd.EndKind.TheVariants as ends
-use Rattle.served_connections.specs.Spent.{AreSpentFor}
+use Rattle.served_connections.specs.Findings.{AreFoundFor}
+use Rattle.served_connections.specs.Full.{full_in}
+use Rattle.served_connections.specs.Spent.{spent_in}
 use Rattle.served_connections.specs.Stopping.{IsUnsent}
 use Rattle.served_connections.specs.Telling.{HasAddedMore, HasServedWhole, TellsHolds}
 use Rattle.served_connections.proofs.Adding.{came_last, stage_added}
+use Rattle.served_connections.proofs.Heard.{called_among, item_among}
 use Rattle.served_connections.proofs.Leaving.{by_cases, is_end, unended, unsent_without_item}
 use Rattle.served_connections.proofs.Resting.{bytes_remember, is_rest, rests_at}
-use Rattle.served_connections.proofs.Spent.{told_spent_for}
+use Rattle.served_connections.proofs.Findings.{told_found_for}
+use Rattle.served_connections.proofs.Full.{full_elsewhere}
+use Rattle.served_connections.proofs.Spent.{spent_elsewhere}
 use Rattle.served_connections.proofs.Told.{all_came, all_items, all_taken, last_or_refused, last_ended, marks_spent, says_rest, says_unsent, tells_holds, tells_rest}
 use Rattle.served_connections.proofs.telling.courses_tell_what_was_served.Goals as goal
 
@@ -29,7 +37,8 @@ returns-clause-rested g c = λ service start begun history counts now course s r
     let said = says_rest service.key history responses.0 responses.1 s.stage rests responses.3 in
     let added = c.items_tell_what_was_added.ensures start history course.own course.marks course.items s h.accounts in
     let told = tells_rest g.P.Program.asks start history added.0 added.1 s.stage rests added.3 in
-    let served = c.items_tell_what_was_served.ensures.served service start history h.heads course.drawn begun.moment now course.items s h.attributes in
+    let linked = item_among g.P.Program.asks (HeardIn course.heard) g.L.Link.makes (called_among g.L.Link.makes course.heard h.called) (g.M.ProgramMaker.makes service.maker) (WasTakenIn g.R.Random.gives g.S.Serials.looks service.key service.home) start history in
+    let served = all_served g.P.Program.asks (HeardIn course.heard) g.M.ProgramMaker.makes g.R.Random.gives g.S.Serials.looks c.requests_account_for_their_events.ensures.item (λ first before v i is item_is so. item_stands (HeardIn course.heard) first before v i is item_is so) service start history h.heads course.drawn begun.moment now course.items s h.attributes in
     record {
       heads = h.heads;
       requests_are = λ more. (coming s.stage (s.received ++ more), c.items_are_for_requests_in_order.ensures.taken course.fed more h.heads course.written course.items s h.stands);
@@ -40,16 +49,19 @@ returns-clause-rested g c = λ service start begun history counts now course s r
       served = served;
       hold_on = h.holds.hold_on;
       begin = h.begin.each;
-      looked = subst (λ (opened : List Head). AreSpentFor course.looked course.items opened) said.0
-          (told_spent_for service.key history responses.0 responses.1 course.looked course.items s.stage responses.3 h.finds);
+      looked = subst (λ (opened : List Head). AreFoundFor spent_in course.looked course.items opened) said.0
+          (told_found_for spent_in spent_elsewhere service.key history responses.0 responses.1 course.looked course.items s.stage responses.3 h.finds);
+      full = subst (λ (opened : List Head). AreFoundFor full_in course.full course.items opened) said.0
+          (told_found_for full_in full_elsewhere service.key history responses.0 responses.1 course.full course.items s.stage responses.3 h.full);
       within = h.holds.within;
       holds = subst (λ (items : List Item). All (TellsHolds history) items) (sym served.items_are)
           (all_items (TellsHolds history) served.served
-          (All-weaker (λ (x : ServedItem). IsServedFor g.P.Program.asks g.L.Link.makes g.M.ProgramMaker.makes g.R.Random.gives g.S.Serials.looks service start history x.taken x.item) (λ (x : ServedItem). TellsHolds history x.item)
+          (All-weaker (λ (x : ServedItem). IsServedFor g.P.Program.asks (HeardIn course.heard) g.M.ProgramMaker.makes g.R.Random.gives g.S.Serials.looks service start history x.taken x.item) (λ (x : ServedItem). TellsHolds history x.item)
           (λ x told. tells_holds start history told.errand told.facts (trace_in history x.item) x.item told.became
-          (c.items_tell_what_was_served.ensures.unheld service start history x.taken x.item told)
-          (λ place named. let there = c.items_tell_what_was_served.ensures.entry service start history x.taken x.item place told named in (there.0, there.1)))
+          (c.items_tell_what_was_served.ensures.unheld service start history x.taken x.item (linked x.taken x.item told))
+          (λ place named. let there = c.items_tell_what_was_served.ensures.entry service start history x.taken x.item place (linked x.taken x.item told) named in (there.0, there.1)))
           served.served served.each));
+      called = h.called;
       count_on = h.counted.count_on;
       follow = h.follow;
       keep = h.keep;
@@ -70,8 +82,10 @@ returns-clause-ended g c = λ service start begun history counts now course s en
         hold_on = rested.hold_on;
         begin = rested.begin;
         looked = rested.looked;
+        full = rested.full;
         within = rested.within;
         holds = rested.holds;
+        called = rested.called;
         count_on = rested.count_on;
         follow = rested.follow;
         keep = rested.keep;
@@ -106,7 +120,8 @@ returns-clause-stopped g c = λ service start begun history counts now course s 
     let said : responses.1 ≡ [] = says_unsent service.key history responses.0 responses.1 h.was.stage h.unended unsent responses.3 in
     let then = c.items_tell_what_was_added.ensures start history course.own h.before course.items h.was was.accounts in
     let added = c.stopped_connections_account_for_what_they_left.ensures.told start history course.own course.marks course.items s h.stopped in
-    let served = c.items_tell_what_was_served.ensures.served service start history was.heads course.drawn begun.moment now course.items h.was was.attributes in
+    let linked = item_among g.P.Program.asks (HeardIn course.heard) g.L.Link.makes (called_among g.L.Link.makes course.heard was.called) (g.M.ProgramMaker.makes service.maker) (WasTakenIn g.R.Random.gives g.S.Serials.looks service.key service.home) start history in
+    let served = all_served g.P.Program.asks (HeardIn course.heard) g.M.ProgramMaker.makes g.R.Random.gives g.S.Serials.looks c.requests_account_for_their_events.ensures.item (λ first before v i is item_is so. item_stands (HeardIn course.heard) first before v i is item_is so) service start history was.heads course.drawn begun.moment now course.items h.was was.attributes in
     record {
       opened = responses.0;
       open_own = added.0;
@@ -119,24 +134,26 @@ returns-clause-stopped g c = λ service start begun history counts now course s 
         served = served;
         hold_on = was.holds.hold_on;
         begin = was.begin.each;
-        looked = told_spent_for service.key history responses.0 responses.1 course.looked course.items h.was.stage responses.3 was.finds;
+        looked = told_found_for spent_in spent_elsewhere service.key history responses.0 responses.1 course.looked course.items h.was.stage responses.3 was.finds;
+        full = told_found_for full_in full_elsewhere service.key history responses.0 responses.1 course.full course.items h.was.stage responses.3 was.full;
         within = was.holds.within;
         holds = subst (λ (items : List Item). All (TellsHolds history) items) (sym served.items_are)
             (all_items (TellsHolds history) served.served
-            (All-weaker (λ (x : ServedItem). IsServedFor g.P.Program.asks g.L.Link.makes g.M.ProgramMaker.makes g.R.Random.gives g.S.Serials.looks service start history x.taken x.item) (λ (x : ServedItem). TellsHolds history x.item)
+            (All-weaker (λ (x : ServedItem). IsServedFor g.P.Program.asks (HeardIn course.heard) g.M.ProgramMaker.makes g.R.Random.gives g.S.Serials.looks service start history x.taken x.item) (λ (x : ServedItem). TellsHolds history x.item)
             (λ x told. tells_holds start history told.errand told.facts (trace_in history x.item) x.item told.became
-            (c.items_tell_what_was_served.ensures.unheld service start history x.taken x.item told)
-            (λ place named. let there = c.items_tell_what_was_served.ensures.entry service start history x.taken x.item place told named in (there.0, there.1)))
+            (c.items_tell_what_was_served.ensures.unheld service start history x.taken x.item (linked x.taken x.item told))
+            (λ place named. let there = c.items_tell_what_was_served.ensures.entry service start history x.taken x.item place (linked x.taken x.item told) named in (there.0, there.1)))
             served.served served.each));
+        called = was.called;
         count_on = was.counted.count_on;
         follow = was.follow;
         keep = was.keep;
       };
       few = added.3;
       more =
-          subst (λ (own : List Event). (own ≡ []) ⊎ HasAddedMore g.P.Program.asks g.L.Link.makes (g.M.ProgramMaker.makes service.maker) (WasTakenIn g.R.Random.gives g.S.Serials.looks service.key service.home) start history responses.0 course.drawn own)
+          subst (λ (own : List Event). (own ≡ []) ⊎ HasAddedMore g.P.Program.asks (HeardIn course.heard) (g.M.ProgramMaker.makes service.maker) (WasTakenIn g.R.Random.gives g.S.Serials.looks service.key service.home) start history responses.0 course.drawn own)
           (append_cancel_left (traces_in history course.items) then.0 added.0 (sym then.2.events ∙ added.2.events))
-          (stage_added g.P.Program.asks g.L.Link.makes (g.M.ProgramMaker.makes service.maker) (WasTakenIn g.R.Random.gives g.S.Serials.looks service.key service.home) start history then.0 then.1 was.attributes.opened
+          (stage_added g.P.Program.asks (HeardIn course.heard) (g.M.ProgramMaker.makes service.maker) (WasTakenIn g.R.Random.gives g.S.Serials.looks service.key service.home) start history then.0 then.1 was.attributes.opened
           responses.0 course.drawn h.was.stage
           (came_last service.key history was.heads course.drawn course.written course.items responses.0 responses.1 was.attributes.served was.attributes.opened responses.2 was.attributes.heads_are was.attributes.items_are was.attributes.drawn_are)
           then.3 was.attributes.is_open);
