@@ -326,6 +326,10 @@ fn serve_with<
 /// step of a request or one commit. It holds none while it reads, writes, asks a brick or passes a point. At the end,
 /// in every case, it gives up the call and the passes that it holds, in one hold each.
 ///
+/// A hold of the windows goes over the bricks, at most 16. A hold of the container goes over the answers that the
+/// request has got so far, to find what it asks for next, and copies the row or goes over the table that it reads; one
+/// with a commit copies the rows that the call wrote, and lasts as long as the keeper takes.
+///
 /// It returns only if its holds do, and what it is given to read, to write and to ask.
 pub fn serve_gated<
     W: Wait,
