@@ -1,4 +1,5 @@
--- What a call has seen of what its course tells: it stays seen, and so is what a further item tells that the link counted.
+-- What a call has seen of what its course tells: it stays seen, and so is what a further item tells that the link
+-- counted.
 use Rattle.std.proofs.Common.{◌≡◌, false, List, [], ◌∷◌, ◌++◌, arith, refl, sym, ap, subst, true≢false}
 use Rattle.auction_calls.specs.declared.action.ActionCall.{ActionCall}
 use Rattle.outcome_items.specs.declared.item.Item.{Item}

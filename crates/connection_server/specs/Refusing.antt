@@ -7,8 +7,8 @@ use Rattle.send_windows.specs.declared.fact.WindowFact.{WindowFact}
 use Rattle.send_windows.specs.declared.history.WindowMark.{WindowMark}
 use Rattle.send_windows.specs.declared.history.WindowMark.TheVariants as mark
 
--- Passes were refused at a moment of a history of windows, which so begins with the numbers that these were opened with:
--- fewer of them were open than a write needs, these are all others, and the mark stands behind.
+-- Passes were refused at a moment of a history of windows, which so begins with the numbers that these were opened
+-- with: fewer of them were open than a write needs, these are all others, and the mark stands behind.
 pub record WereRefused (history : List WindowMark) (full : List WindowFact) : Type 0 where
   pub windows : WindowsValue
   pub limits : KeepLimits windows

@@ -48,9 +48,9 @@ pub record GoesOnBehind {P L : Type 0} (accepts : P → Parts → Type 0) (asks 
 -- and what it put out are the responses to them. What it added to the history of the container and left in that of the
 -- windows is what they tell, and what the request that is open has done. Each item goes back to its own request. None
 -- is older than what the connection had seen, and none began behind fewer entries than it had seen; each follows on the
--- one before, and the link's counts rise with them. Each serial number that was found spent is one that they tell of, and
--- so are the windows that were full.
--- What they tell of their sessions is so over the calls of the link that the connection made.
+-- one before, and the link's counts rise with them. Each serial number that was found spent is one that they tell of,
+-- and so are the windows that were full. What they tell of their sessions is so over the calls of the link that the
+-- connection made.
 pub record Serves {P L M R S : Type 0} (accepts : P → Parts → Type 0) (asks : P → List Answer → Next) (calls : L → LinkEvent → L → Type 0) (makes : M → ActionCall → List ℕ → P → Type 0) (gives : Gives R) (looks : Looks S) (service : Service M) (start : Start) (begun : Begun) (history : List Event) (counts : LinkCounts) (now : ℕ) (c : Course) (s : Shepherd P) : Type 0 where
   pub heads : List Head
   pub stands : Standing c.fed heads c.written c.items s

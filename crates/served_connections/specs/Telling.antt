@@ -57,8 +57,8 @@ pub record TellsHolds (history : List Event) (i : Item) : Type 0 where
 -- what its items tell, in order, and then `open_own` and `open_marks`. No item is older than what the connection had
 -- seen when it began, or than the item before, and none began behind fewer entries than there were then; and the link's
 -- counts rise from item to item. The serial numbers that were found spent are those that its items tell of, in order,
--- and so are the windows that were full where passes were refused.
--- What its items tell of their sessions is so over the calls of the link that it made.
+-- and so are the windows that were full where passes were refused. What its items tell of their sessions is so over the
+-- calls of the link that it made.
 pub record HasServed {P L M R S : Type 0} (asks : P → List Answer → Next) (calls : L → LinkEvent → L → Type 0) (makes : M → ActionCall → List ℕ → P → Type 0) (gives : Gives R) (looks : Looks S) (service : Service M) (start : Start) (begun : Begun) (history : List Event) (now : ℕ) (c : Course) (opened : List Head) (last : List ℕ) (open_own : List Event) (open_marks : List WindowMark) : Type 0 where
   pub heads : List Head
   pub requests_are : (more : List ℕ) → (behind : Requests) × (requests (c.fed ++ more) ≡ all_before heads behind)
