@@ -149,24 +149,26 @@ fn each_refusal_has_its_status_and_heading(rt: HostRuntime) {
     );
 }
 
+/// Fields, and of the page that names each as bad the size and the heading.
+const BAD_FIELDS: &[(FormField, u32, &str)] = &[
+    (FormField::Name, 70, "Bad field name"),
+    (FormField::Password, 78, "Bad field password"),
+    (FormField::Page, 70, "Bad field page"),
+    (FormField::Title, 72, "Bad field title"),
+    (FormField::Category, 78, "Bad field category"),
+    (FormField::Start, 72, "Bad field start"),
+    (FormField::BuyNow, 76, "Bad field buy_now"),
+    (FormField::Hours, 72, "Bad field hours"),
+    (FormField::Item, 70, "Bad field item"),
+    (FormField::Amount, 74, "Bad field amount"),
+    (FormField::Good, 70, "Bad field good"),
+    (FormField::Text, 70, "Bad field text"),
+    (FormField::Token, 72, "Bad field token"),
+];
+
 #[test]
 fn a_bad_field_is_named_in_the_heading(rt: HostRuntime) {
-    let rows = [
-        (FormField::Name, 70, "Bad field name"),
-        (FormField::Password, 78, "Bad field password"),
-        (FormField::Page, 70, "Bad field page"),
-        (FormField::Title, 72, "Bad field title"),
-        (FormField::Category, 78, "Bad field category"),
-        (FormField::Start, 72, "Bad field start"),
-        (FormField::BuyNow, 76, "Bad field buy_now"),
-        (FormField::Hours, 72, "Bad field hours"),
-        (FormField::Item, 70, "Bad field item"),
-        (FormField::Amount, 74, "Bad field amount"),
-        (FormField::Good, 70, "Bad field good"),
-        (FormField::Text, 70, "Bad field text"),
-        (FormField::Token, 72, "Bad field token"),
-    ];
-    for (field, size, heading) in rows {
+    for &(field, size, heading) in BAD_FIELDS {
         let answer = SiteAnswer::BadForm { field };
         expect_answer(
             &rt,
@@ -232,31 +234,33 @@ fn a_page_sets_the_cookie_of_a_session_that_was_written(rt: HostRuntime) {
     );
 }
 
+/// What is no request, and of its answer the status, the size of the page and the heading.
+const UNTAKEN: &[(Untaken, &str, u32, &str)] = &[
+    (Untaken::Bad, "400 Bad Request", 64, "Bad request"),
+    (
+        Untaken::TooLong,
+        "431 Request Header Fields Too Large",
+        68,
+        "Head too long",
+    ),
+    (
+        Untaken::BodyTooLong,
+        "413 Content Too Large",
+        68,
+        "Body too long",
+    ),
+    (
+        Untaken::NoCoding,
+        "501 Not Implemented",
+        82,
+        "Coding not supported",
+    ),
+];
+
 #[test]
 fn a_connection_that_takes_no_request_ends(rt: HostRuntime) {
     let alloc = rt.alloc();
-    let rows = [
-        (Untaken::Bad, "400 Bad Request", 64, "Bad request"),
-        (
-            Untaken::TooLong,
-            "431 Request Header Fields Too Large",
-            68,
-            "Head too long",
-        ),
-        (
-            Untaken::BodyTooLong,
-            "413 Content Too Large",
-            68,
-            "Body too long",
-        ),
-        (
-            Untaken::NoCoding,
-            "501 Not Implemented",
-            82,
-            "Coding not supported",
-        ),
-    ];
-    for (why, status, size, heading) in rows {
+    for &(why, status, size, heading) in UNTAKEN {
         let mut want = head(&rt, alloc, status, size, "Connection: close\r\n");
         let page = format!(in alloc;
             "<!doctype html>\n<title>{heading}</title>\n<h1>{heading}</h1>\n"

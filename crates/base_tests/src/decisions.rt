@@ -160,56 +160,60 @@ fn expect_decision(rt: &impl Abort, alloc: Global, router: &SiteRouter, row: &st
     expect_words(rt, words.as_str(), want, row);
 }
 
+/// Requests that are refused.
+const REFUSED: &[&str] = &[
+    "PUT /nope none none parts x|404",
+    "POST /item/0 none none parts x|404",
+    "PUT /bid none none parts x|405/2",
+    "GET /bid none none parts x|405/2",
+    "POST /about good token parts x|405/1",
+    "DELETE /categories none none parts x|405/3",
+    "POST /bid none none parts item=0|415",
+    "GET / none none parts x|415",
+    "HEAD /item/7 none none parts x|415",
+    "POST /bid none none whole item=0|400 item",
+    "POST /bid good old whole item=7&amount=0|400 amount",
+    "POST /bid none token whole item=7&amount=5|400 token",
+    "POST /bid broken token whole item=7&amount=5|400 token",
+    "POST /bid foreign token whole item=7&amount=5|400 token",
+    "POST /bid good none whole item=7&amount=5|400 token",
+    "POST /bid good none whole item=7&amount=5&token=ab|400 token",
+    "POST /bid good strange whole item=7&amount=5|400 token",
+    "POST /bid good short whole item=7&amount=5|400 token",
+    "POST /bid good long whole item=7&amount=5|400 token",
+    "POST /bid good upper whole item=7&amount=5|400 token",
+    "POST /bid good old whole item=7&amount=5|409 2/3",
+    "POST /bid good later whole item=7&amount=5|409 4/3",
+    "GET /category/7?page=x good none whole |400 page",
+];
+
 #[test]
 fn the_earlier_refusal_is_told(rt: HostRuntime) {
     let router = SiteRouter::new(rt.alloc()).expect(&rt, "the routes");
-    let rows = [
-        "PUT /nope none none parts x|404",
-        "POST /item/0 none none parts x|404",
-        "PUT /bid none none parts x|405/2",
-        "GET /bid none none parts x|405/2",
-        "POST /about good token parts x|405/1",
-        "DELETE /categories none none parts x|405/3",
-        "POST /bid none none parts item=0|415",
-        "GET / none none parts x|415",
-        "HEAD /item/7 none none parts x|415",
-        "POST /bid none none whole item=0|400 item",
-        "POST /bid good old whole item=7&amount=0|400 amount",
-        "POST /bid none token whole item=7&amount=5|400 token",
-        "POST /bid broken token whole item=7&amount=5|400 token",
-        "POST /bid foreign token whole item=7&amount=5|400 token",
-        "POST /bid good none whole item=7&amount=5|400 token",
-        "POST /bid good none whole item=7&amount=5&token=ab|400 token",
-        "POST /bid good strange whole item=7&amount=5|400 token",
-        "POST /bid good short whole item=7&amount=5|400 token",
-        "POST /bid good long whole item=7&amount=5|400 token",
-        "POST /bid good upper whole item=7&amount=5|400 token",
-        "POST /bid good old whole item=7&amount=5|409 2/3",
-        "POST /bid good later whole item=7&amount=5|409 4/3",
-        "GET /category/7?page=x good none whole |400 page",
-    ];
-    for row in rows {
+    for row in REFUSED {
         expect_decision(&rt, rt.alloc(), &router, row);
     }
 }
 
+/// Requests that are taken, and what is drawn for them.
+const ORDERS: &[&str] = &[
+    "GET / none none whole |draws request fresh write",
+    "HEAD /?page=x none none whole |draws request fresh write",
+    "GET / broken none whole |draws request fresh write",
+    "GET / good none whole |cookie draws request fresh read write",
+    "GET /form/bid none none whole |draws request token key key fresh write",
+    "HEAD /form/bid none none whole |draws request token key key fresh write",
+    "GET /form/bid foreign none whole |draws request token key key fresh write",
+    "GET /form/bid good none whole |cookie draws request token fresh read write",
+    "POST /bid good token whole item=7&amount=5|3:9 cookie draws fresh read write",
+    "POST /bid good escaped whole item=7&amount=5|3:9 cookie draws fresh read write",
+    "POST /signout good token whole |3:9 cookie draws fresh read write",
+];
+
 #[test]
 fn an_order_draws_what_it_needs(rt: HostRuntime) {
     let router = SiteRouter::new(rt.alloc()).expect(&rt, "the routes");
-    let rows = [
-        "GET / none none whole |draws request fresh write",
-        "HEAD /?page=x none none whole |draws request fresh write",
-        "GET / broken none whole |draws request fresh write",
-        "GET / good none whole |cookie draws request fresh read write",
-        "GET /form/bid none none whole |draws request token key key fresh write",
-        "HEAD /form/bid none none whole |draws request token key key fresh write",
-        "GET /form/bid foreign none whole |draws request token key key fresh write",
-        "GET /form/bid good none whole |cookie draws request token fresh read write",
-        "POST /bid good token whole item=7&amount=5|3:9 cookie draws fresh read write",
-        "POST /bid good escaped whole item=7&amount=5|3:9 cookie draws fresh read write",
-        "POST /signout good token whole |3:9 cookie draws fresh read write",
-    ];
-    for row in rows {
+    for row in ORDERS {
         expect_decision(&rt, rt.alloc(), &router, row);
     }
 }
@@ -250,23 +254,25 @@ fn expect_drawn(rt: &impl Abort, alloc: Global, router: &SiteRouter, left: u64, 
     expect_words(rt, words.as_str(), want, row);
 }
 
+/// How many serial numbers are left, and a request.
+const SPENT: &[(u64, &str)] = &[
+    (0, "GET / none none whole |spent"),
+    (1, "GET / none none whole |spent request fresh"),
+    (2, "GET / none none whole |all request fresh write"),
+    (1, "GET /form/bid none none whole |spent request"),
+    (
+        2,
+        "GET /form/bid none none whole |spent request token key key fresh",
+    ),
+    (0, "POST /signout good token whole |spent fresh"),
+    (1, "POST /signout good token whole |spent fresh read"),
+    (0, "GET /nope none none whole |404"),
+];
+
 #[test]
 fn nothing_is_drawn_behind_a_spent_serial(rt: HostRuntime) {
     let router = SiteRouter::new(rt.alloc()).expect(&rt, "the routes");
-    let rows = [
-        (0, "GET / none none whole |spent"),
-        (1, "GET / none none whole |spent request fresh"),
-        (2, "GET / none none whole |all request fresh write"),
-        (1, "GET /form/bid none none whole |spent request"),
-        (
-            2,
-            "GET /form/bid none none whole |spent request token key key fresh",
-        ),
-        (0, "POST /signout good token whole |spent fresh"),
-        (1, "POST /signout good token whole |spent fresh read"),
-        (0, "GET /nope none none whole |404"),
-    ];
-    for (left, row) in rows {
+    for &(left, row) in SPENT {
         expect_drawn(&rt, rt.alloc(), &router, left, row);
     }
 }
@@ -332,20 +338,22 @@ fn expect_call(rt: &impl Abort, alloc: Global, router: &SiteRouter, row: &str) {
     expect_words(rt, words.as_str(), want, row);
 }
 
+/// Requests, and their calls.
+const CALLED: &[&str] = &[
+    "GET / none none whole |3:1 user 0 key 0 0 0 0 0 0 0 0 0 0 0 0 0 0 0 0 at 1000 fresh 1 no form 0 2",
+    "GET / good none whole |3:1 user 7 key 7 7 7 7 7 7 7 7 7 7 7 7 7 7 7 7 at 1000 fresh 1 no form 2 3",
+    "GET /form/bid none none whole |3:1 user 0 key 0 0 0 0 0 0 0 1 0 0 0 0 0 0 0 2 at 1000 fresh 3 \
+     00000003000000000000000266a8563b58bcd948a9a89c638f0306ae 0 3",
+    "GET /form/bid good none whole |3:1 user 7 key 7 7 7 7 7 7 7 7 7 7 7 7 7 7 7 7 at 1000 fresh 1 \
+     0000000300000000000000024e770db2c7138dee2b3c8ecaa6e48852 3 4",
+    "POST /bid good token whole item=7&amount=5|3:9 user 7 key 7 7 7 7 7 7 7 7 7 7 7 7 7 7 7 7 at 1000 fresh 1 \
+     no form 1 2",
+];
+
 #[test]
 fn an_order_has_its_call(rt: HostRuntime) {
     let router = SiteRouter::new(rt.alloc()).expect(&rt, "the routes");
-    let rows = [
-        "GET / none none whole |3:1 user 0 key 0 0 0 0 0 0 0 0 0 0 0 0 0 0 0 0 at 1000 fresh 1 no form 0 2",
-        "GET / good none whole |3:1 user 7 key 7 7 7 7 7 7 7 7 7 7 7 7 7 7 7 7 at 1000 fresh 1 no form 2 3",
-        "GET /form/bid none none whole |3:1 user 0 key 0 0 0 0 0 0 0 1 0 0 0 0 0 0 0 2 at 1000 fresh 3 \
-         00000003000000000000000266a8563b58bcd948a9a89c638f0306ae 0 3",
-        "GET /form/bid good none whole |3:1 user 7 key 7 7 7 7 7 7 7 7 7 7 7 7 7 7 7 7 at 1000 fresh 1 \
-         0000000300000000000000024e770db2c7138dee2b3c8ecaa6e48852 3 4",
-        "POST /bid good token whole item=7&amount=5|3:9 user 7 key 7 7 7 7 7 7 7 7 7 7 7 7 7 7 7 7 at 1000 fresh 1 \
-         no form 1 2",
-    ];
-    for row in rows {
+    for row in CALLED {
         expect_call(&rt, rt.alloc(), &router, row);
     }
 }

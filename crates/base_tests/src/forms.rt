@@ -39,58 +39,62 @@ fn expect_number(rt: &impl Abort, alloc: Global, row: &str) {
     expect_words(rt, words.as_str(), want, row);
 }
 
+/// Forms, and their field `a` as a text.
+const TEXTS: &[&str] = &[
+    "a=bc|=bc",
+    "a=b&a=c|=b",
+    "b=1&a=2|=2",
+    "%61=x|=x",
+    "a=b+c|=b c",
+    "a=b%2Bc|=b+c",
+    "a=%26%3D|=&=",
+    "a=%C3%A4|=ä",
+    "a=%FF|=\u{FFFD}",
+    "a=%F|=%F",
+    "a=b=c|=b=c",
+    "&&a=1|=1",
+    "a=abcd|=abcd",
+    "a=abcde|length 5",
+    "a=%FFx%FF|length 7",
+    "a=|length 0",
+    "a|length 0",
+    "|missing",
+    "A=1|missing",
+    "aa=1&b=a|missing",
+    "=1|missing",
+];
+
 #[test]
 fn a_field_is_the_text_of_the_first_pair_of_its_name(rt: HostRuntime) {
-    let rows = [
-        "a=bc|=bc",
-        "a=b&a=c|=b",
-        "b=1&a=2|=2",
-        "%61=x|=x",
-        "a=b+c|=b c",
-        "a=b%2Bc|=b+c",
-        "a=%26%3D|=&=",
-        "a=%C3%A4|=ä",
-        "a=%FF|=\u{FFFD}",
-        "a=%F|=%F",
-        "a=b=c|=b=c",
-        "&&a=1|=1",
-        "a=abcd|=abcd",
-        "a=abcde|length 5",
-        "a=%FFx%FF|length 7",
-        "a=|length 0",
-        "a|length 0",
-        "|missing",
-        "A=1|missing",
-        "aa=1&b=a|missing",
-        "=1|missing",
-    ];
-    for row in rows {
+    for row in TEXTS {
         expect_text(&rt, rt.alloc(), row);
     }
 }
 
+/// Forms, and their field `a` as a number.
+const NUMBERS: &[&str] = &[
+    "a=1|1",
+    "a=65536|65536",
+    "a=7&a=x|7",
+    "a=%37|7",
+    "a=65537|range 65537",
+    "a=0|range 0",
+    "a=9999999999999999999|range 9999999999999999999",
+    "a=10000000000000000000|no number",
+    "a=01|no number",
+    "a=00|no number",
+    "a=+1|no number",
+    "a=-1|no number",
+    "a=1.0|no number",
+    "a= 1|no number",
+    "a=|no number",
+    "a=x&a=7|no number",
+    "b=1|missing",
+];
+
 #[test]
 fn a_field_is_a_number_without_a_zero_before_it(rt: HostRuntime) {
-    let rows = [
-        "a=1|1",
-        "a=65536|65536",
-        "a=7&a=x|7",
-        "a=%37|7",
-        "a=65537|range 65537",
-        "a=0|range 0",
-        "a=9999999999999999999|range 9999999999999999999",
-        "a=10000000000000000000|no number",
-        "a=01|no number",
-        "a=00|no number",
-        "a=+1|no number",
-        "a=-1|no number",
-        "a=1.0|no number",
-        "a= 1|no number",
-        "a=|no number",
-        "a=x&a=7|no number",
-        "b=1|missing",
-    ];
-    for row in rows {
+    for row in NUMBERS {
         expect_number(&rt, rt.alloc(), row);
     }
 }

@@ -46,17 +46,19 @@ fn a_response_has_its_fields_in_order(rt: HostRuntime) {
     expect_response(&rt, alloc, 403, &cleared, head);
 }
 
+/// Methods that there are, and the field that names them.
+const METHODS: &[(u8, &str)] = &[
+    (1, "Allow: GET, HEAD\r\n"),
+    (2, "Allow: POST\r\n"),
+    (3, "Allow: GET, HEAD, POST\r\n"),
+    (0, ""),
+    (4, ""),
+    (255, ""),
+];
+
 #[test]
 fn a_response_names_the_methods_that_there_are(rt: HostRuntime) {
-    let rows = [
-        (1, "Allow: GET, HEAD\r\n"),
-        (2, "Allow: POST\r\n"),
-        (3, "Allow: GET, HEAD, POST\r\n"),
-        (0, ""),
-        (4, ""),
-        (255, ""),
-    ];
-    for (allow, field) in rows {
+    for &(allow, field) in METHODS {
         let alloc = rt.alloc();
         let head = format!(in alloc;
             "HTTP/1.1 405 Method Not Allowed\r\nContent-Type: text/html; charset=utf-8\r\n\
@@ -68,27 +70,29 @@ fn a_response_names_the_methods_that_there_are(rt: HostRuntime) {
     }
 }
 
+/// Statuses, and their reasons.
+const REASONS: &[(u16, &str)] = &[
+    (200, "OK"),
+    (400, "Bad Request"),
+    (403, "Forbidden"),
+    (404, "Not Found"),
+    (405, "Method Not Allowed"),
+    (409, "Conflict"),
+    (413, "Content Too Large"),
+    (415, "Unsupported Media Type"),
+    (431, "Request Header Fields Too Large"),
+    (500, "Internal Server Error"),
+    (501, "Not Implemented"),
+    (503, "Service Unavailable"),
+    (204, ""),
+    (999, ""),
+    (0, ""),
+    (65_535, ""),
+];
+
 #[test]
 fn a_status_has_its_reason(rt: HostRuntime) {
-    let rows = [
-        (200, "OK"),
-        (400, "Bad Request"),
-        (403, "Forbidden"),
-        (404, "Not Found"),
-        (405, "Method Not Allowed"),
-        (409, "Conflict"),
-        (413, "Content Too Large"),
-        (415, "Unsupported Media Type"),
-        (431, "Request Header Fields Too Large"),
-        (500, "Internal Server Error"),
-        (501, "Not Implemented"),
-        (503, "Service Unavailable"),
-        (204, ""),
-        (999, ""),
-        (0, ""),
-        (65_535, ""),
-    ];
-    for (status, reason) in rows {
+    for &(status, reason) in REASONS {
         let alloc = rt.alloc();
         let head = format!(in alloc;
             "HTTP/1.1 {status} {reason}\r\nContent-Type: text/html; charset=utf-8\r\n\

@@ -69,67 +69,71 @@ fn expect_routes(rt: &impl Abort, alloc: Global, router: &SiteRouter, row: &str)
     expect_words(rt, words.as_str(), want, row);
 }
 
+/// Paths, and where they lead by each method.
+const ROUTES: &[&str] = &[
+    "/ home | home | 405/1 | 405/1 |",
+    "/register 405/2 | 405/2 | register | 405/2 |",
+    "/signin 405/2 | 405/2 | signin | 405/2 |",
+    "/signout 405/2 | 405/2 | signout | 405/2 |",
+    "/categories categories | categories | add | 405/3 |",
+    "/category/3 browse 3 | browse 3 | 405/1 | 405/1 |",
+    "/item/7 item 7 | item 7 | 405/1 | 405/1 |",
+    "/user/4294967295 user 4294967295 | user 4294967295 | 405/1 | 405/1 |",
+    "/about about | about | 405/1 | 405/1 |",
+    "/sell 405/2 | 405/2 | sell | 405/2 |",
+    "/bid 405/2 | 405/2 | bid | 405/2 |",
+    "/buy 405/2 | 405/2 | buy | 405/2 |",
+    "/close 405/2 | 405/2 | close | 405/2 |",
+    "/feedback 405/2 | 405/2 | feedback | 405/2 |",
+    "/form/register form register | form register | 405/1 | 405/1 |",
+    "/form/signin form signin | form signin | 405/1 | 405/1 |",
+    "/form/signout form signout | form signout | 405/1 | 405/1 |",
+    "/form/category form category | form category | 405/1 | 405/1 |",
+    "/form/sell form sell | form sell | 405/1 | 405/1 |",
+    "/form/bid form bid | form bid | 405/1 | 405/1 |",
+    "/form/buy form buy | form buy | 405/1 | 405/1 |",
+    "/form/close form close | form close | 405/1 | 405/1 |",
+    "/form/feedback form feedback | form feedback | 405/1 | 405/1 |",
+];
+
 #[test]
 fn paths_lead_to_actions(rt: HostRuntime) {
     let router = SiteRouter::new(rt.alloc()).expect(&rt, "the routes");
-    let rows = [
-        "/ home | home | 405/1 | 405/1 |",
-        "/register 405/2 | 405/2 | register | 405/2 |",
-        "/signin 405/2 | 405/2 | signin | 405/2 |",
-        "/signout 405/2 | 405/2 | signout | 405/2 |",
-        "/categories categories | categories | add | 405/3 |",
-        "/category/3 browse 3 | browse 3 | 405/1 | 405/1 |",
-        "/item/7 item 7 | item 7 | 405/1 | 405/1 |",
-        "/user/4294967295 user 4294967295 | user 4294967295 | 405/1 | 405/1 |",
-        "/about about | about | 405/1 | 405/1 |",
-        "/sell 405/2 | 405/2 | sell | 405/2 |",
-        "/bid 405/2 | 405/2 | bid | 405/2 |",
-        "/buy 405/2 | 405/2 | buy | 405/2 |",
-        "/close 405/2 | 405/2 | close | 405/2 |",
-        "/feedback 405/2 | 405/2 | feedback | 405/2 |",
-        "/form/register form register | form register | 405/1 | 405/1 |",
-        "/form/signin form signin | form signin | 405/1 | 405/1 |",
-        "/form/signout form signout | form signout | 405/1 | 405/1 |",
-        "/form/category form category | form category | 405/1 | 405/1 |",
-        "/form/sell form sell | form sell | 405/1 | 405/1 |",
-        "/form/bid form bid | form bid | 405/1 | 405/1 |",
-        "/form/buy form buy | form buy | 405/1 | 405/1 |",
-        "/form/close form close | form close | 405/1 | 405/1 |",
-        "/form/feedback form feedback | form feedback | 405/1 | 405/1 |",
-    ];
-    for row in rows {
+    for row in ROUTES {
         expect_routes(&rt, rt.alloc(), &router, row);
     }
 }
 
+/// Paths that lead nowhere.
+const NOWHERE: &[&str] = &[
+    "",
+    "*",
+    "/nope",
+    "//",
+    "/about/",
+    "/About",
+    "/item",
+    "/item/",
+    "/item/0",
+    "/item/07",
+    "/item/7/",
+    "/item/7/8",
+    "/item/4294967296",
+    "/item/99999999999999999999",
+    "/item/+7",
+    "/item/x",
+    "/user/-1",
+    "/category/%37",
+    "/form/",
+    "/form/home",
+    "/form/Bid",
+    "http://localhost/",
+];
+
 #[test]
 fn other_paths_lead_nowhere(rt: HostRuntime) {
     let router = SiteRouter::new(rt.alloc()).expect(&rt, "the routes");
-    let paths = [
-        "",
-        "*",
-        "/nope",
-        "//",
-        "/about/",
-        "/About",
-        "/item",
-        "/item/",
-        "/item/0",
-        "/item/07",
-        "/item/7/",
-        "/item/7/8",
-        "/item/4294967296",
-        "/item/99999999999999999999",
-        "/item/+7",
-        "/item/x",
-        "/user/-1",
-        "/category/%37",
-        "/form/",
-        "/form/home",
-        "/form/Bid",
-        "http://localhost/",
-    ];
-    for path in paths {
+    for path in NOWHERE {
         let mut words = String::new(rt.alloc());
         add_routed(&rt, &mut words, &router, path, MethodKind::Get);
         add_routed(&rt, &mut words, &router, path, MethodKind::Post);
