@@ -15,8 +15,6 @@
 //! trusted, and so are the texts of the statements and the few lines that turn a row into values and
 //! back. What is proved: `new` answers `OtherSchema` exactly where something else than this table
 //! stands under its name, and the count of faults rises by each `Failed` and by nothing else.
-//!
-//! No command uses this keeper yet.
 #![tactic(auto)]
 
 mod rows_table;

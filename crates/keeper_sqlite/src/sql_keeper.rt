@@ -10,7 +10,7 @@ use crate::rows_table::{MAKE_TABLE, has_other};
 use crash_base::{RowBytes, RowId, RowList, RowWrite, WriteList};
 use outside::{Keeper, KeeperFault};
 use sqlite::types::ValueRef;
-use sqlite::{Alter, Connection, Error, ErrorCode, Row, params};
+use sqlite::{Alter, Connection, Error, ErrorCode, Row, Statement, params};
 use std::alloc::Global;
 use std::marker::Model;
 
@@ -38,6 +38,8 @@ pub enum OpenFault {
 #[derive(Drop)]
 pub struct SqlKeeper<S: Alter> {
     connection: Connection<S>,
+    /// Puts a row.
+    put: Statement,
     faults: u64,
 }
 
@@ -108,13 +110,16 @@ fn all_rows<S: Alter>(
     rows_of(alloc, found.as_slice())
 }
 
-/// Puts all rows in one transaction, which is rolled back where it is not committed.
-fn put_all<S: Alter>(connection: &mut Connection<S>, writes: &[RowWrite]) -> Result<(), Error> {
+/// Puts all rows in one transaction, each by this statement. It is rolled back where it is not committed.
+fn put_all<S: Alter>(
+    connection: &mut Connection<S>,
+    put: &Statement,
+    writes: &[RowWrite],
+) -> Result<(), Error> {
     if !connection.is_autocommit() {
         return Err(Error::SqliteFailure(ErrorCode::TransactionState));
     }
     let mut transaction = connection.transaction();
-    let put = transaction.prepare(PUT_ROW)?;
     for write in writes {
         let key = write.id.key.to_be_bytes();
         let values = params![
@@ -122,9 +127,19 @@ fn put_all<S: Alter>(connection: &mut Connection<S>, writes: &[RowWrite]) -> Res
             key.as_slice(),
             write.bytes.as_slice()
         ];
-        transaction.execute_prepared(&put, values)?;
+        transaction.execute_prepared(put, values)?;
     }
     transaction.commit()
+}
+
+/// Why no keeper was made, for an error of the database.
+fn open_fault_of(error: Error) -> OpenFault
+    ensures { result ≢ OpenFault.OtherSchema }
+{
+    match error {
+        Error::SqliteFailure(ErrorCode::OutOfMemory) => OpenFault::OutOfMemory,
+        _ => OpenFault::Failed,
+    }
 }
 
 /// Makes the table where nothing stands under its name. `Failed` where a transaction is open.
@@ -136,8 +151,17 @@ fn make_table<S: Alter>(connection: &mut Connection<S>) -> Result<(), OpenFault>
     }
     match connection.execute(MAKE_TABLE, &[]) {
         Ok(_) => Ok(()),
-        Err(Error::SqliteFailure(ErrorCode::OutOfMemory)) => Err(OpenFault::OutOfMemory),
-        Err(_) => Err(OpenFault::Failed),
+        Err(error) => Err(open_fault_of(error)),
+    }
+}
+
+/// Prepares the statement that puts a row.
+fn prepare_put<S: Alter>(connection: &mut Connection<S>) -> Result<Statement, OpenFault>
+    ensures { IfErr result (λ fault. fault ≢ OpenFault.OtherSchema) }
+{
+    match connection.prepare(PUT_ROW) {
+        Ok(put) => Ok(put),
+        Err(error) => Err(open_fault_of(error)),
     }
 }
 
@@ -158,8 +182,10 @@ impl<S: Alter> SqlKeeper<S> {
             return Err(OpenFault::OtherSchema);
         }
         make_table(&mut connection)?;
+        let put = prepare_put(&mut connection)?;
         Ok(SqlKeeper {
             connection,
+            put,
             faults: 0,
         })
     }
@@ -212,7 +238,7 @@ impl<S: Alter + Send> Keeper for SqlKeeper<S> {
         ensures cause { result ≡ Err KeeperFault.Failed → Rose self.old self.new }
         ensures count { self.old ≤ self.new }
     {
-        match put_all(&mut self.connection, writes.as_slice()) {
+        match put_all(&mut self.connection, &self.put, writes.as_slice()) {
             Ok(()) => Ok(()),
             Err(error) => Err(self.count(fault_of(error))),
         }

@@ -1,5 +1,6 @@
 //! Tests of the pieces on which threads meet, over real threads: a lock whose value counts who held it, words that are
-//! drawn from and looked at, the queue of reports, and a house of bricks. Each ends by itself, whatever the schedule.
+//! drawn from and looked at, the queue of reports, a house of bricks, and sockets of clients. Each ends by itself, whatever
+//! the schedule.
 #![tactic(auto)]
 
 pub mod hands;
@@ -12,5 +13,7 @@ pub mod notes;
 #[cfg(test)]
 mod queues;
 pub mod senders;
+#[cfg(test)]
+mod sockets;
 #[cfg(test)]
 mod words;
