@@ -102,18 +102,12 @@ is_admitted (arrival.SerialsSpent request seen) = false
 is_admitted (arrival.Admitted a) = true
 
 module _ {P L : Type 0} (asks : P → List Answer → Next) (calls : L → LinkEvent → L → Type 0) (makes : ActionCall → List ℕ → P → Type 0) (came : TakenIn → Type 0) (start : Start) (history : List Event) (t : TakenIn) (i : Item)
-    (h : IsItemFor asks calls makes came start history t i) (n : NothingHindered asks calls makes start history t i) where
+    (h : IsItemFor asks calls makes came start history t i) (n : NothingHindered asks makes start history t i) where
   abbrev es : List Entry
   es = entries_in (take i.holds.held history)
 
   not_admitted : is_admitted t.intake.arrival ≡ false → ⊥
   not_admitted is = true≢false (sym (ap is_admitted n.arrived) ∙ is)
-
-  not_gone : (why : ReadRefusal) → IsGone calls (read_by t.intake.now t.intake.arrival) why → ⊥
-  not_gone why gone = by (read_by t.intake.now t.intake.arrival) refl gone where
-    by : (begin : Option ReadState) → read_by t.intake.now t.intake.arrival ≡ begin → IsGone calls begin why → ⊥
-    by None is gone = gone
-    by (Some first) is gone = n.session.found first why is gone
 
   -- what it asked of the container is its own
   abbrev Own : Admission → Type 0
@@ -149,13 +143,12 @@ module _ {P L : Type 0} (asks : P → List Answer → Next) (calls : L → LinkE
   in_container KeeperFailed is mine so = absurd (n.kept so.0 h.errand.request so.1)
 
   pub ends_as_page : IsPage i.outcome
-  ends_as_page = by i.outcome refl h.became h.became_by h.session.told where
-    by : (o : ItemOutcome) → i.outcome ≡ o → Became start history h.errand h.facts i.holds (trace_in history i) o → BecameBy t.intake.arrival Own o
-        → SessionTold calls (read_by t.intake.now t.intake.arrival) es h.facts h.session.lease i.cookie o → IsPage o
-    by (item.Refused why) is became whence told = absurd (not_admitted (ap is_admitted whence))
-    by (item.SerialsSpent seen) is became whence told = absurd (not_admitted (ap is_admitted whence.1))
-    by (item.Expired now expiry) is became whence told = absurd (not_gone (read_refusal.Expired now expiry) told.2)
-    by (item.Lost causes) is became whence told = absurd (not_gone (read_refusal.Lost causes) told.2)
-    by (item.Ended end) is became whence told = in_container end is (own whence) (stands end became)
-    by (item.Overload place again full) is became whence told = absurd (n.passes (ap (marks_of_outcome i.cookie) is))
-    by (item.Missed place again causes) is became whence told = absurd (n.session.stored h.facts h.session.lease place (write_refusal.Missed causes) h.facts_are h.session.value_is (ap committed_at is) told.2)
+  ends_as_page = by i.outcome refl h.became h.became_by where
+    by : (o : ItemOutcome) → i.outcome ≡ o → Became start history h.errand h.facts i.holds (trace_in history i) o → BecameBy t.intake.arrival Own o → IsPage o
+    by (item.Refused why) is became whence = absurd (not_admitted (ap is_admitted whence))
+    by (item.SerialsSpent seen) is became whence = absurd (not_admitted (ap is_admitted whence.1))
+    by (item.Expired now expiry) is became whence = absurd (n.session.fresh now expiry is)
+    by (item.Lost causes) is became whence = absurd (n.session.found causes is)
+    by (item.Ended end) is became whence = in_container end is (own whence) (stands end became)
+    by (item.Overload place again full) is became whence = absurd (n.passes (ap (marks_of_outcome i.cookie) is))
+    by (item.Missed place again causes) is became whence = absurd (n.session.stored place again causes is)

@@ -1,5 +1,5 @@
 -- A request that nothing hindered, by what its item tells.
-use Rattle.std.specs.Prelude.{◌≡◌, ◌≢◌, ◌≤◌, ◌<◌, ℕ, Bool, List, [], ◌∷◌, ◌++◌, length, take, Option, Some, None, Err, option_map}
+use Rattle.std.specs.Prelude.{◌≡◌, ◌≢◌, ◌≤◌, ◌<◌, ℕ, Bool, List, [], ◌∷◌, ◌++◌, length, take, Some, None}
 use Rattle.auction_calls.specs.declared.action.ActionCall.{ActionCall}
 use Rattle.boot_core.specs.declared.boot.Start.{Start}
 use Rattle.call_attempts.specs.Attempt.{EntersGroup, FailsOnItsWay}
@@ -12,6 +12,7 @@ use Rattle.container_core.specs.declared.history.Event.TheVariants.{KeeperFailed
 use Rattle.crash_base.specs.declared.fault_plans.FaultKind.{FaultKind}
 use Rattle.crash_base.specs.declared.numbers.ComponentNo.{ComponentNo}
 use Rattle.crash_base.specs.declared.numbers.GroupNo.{GroupNo}
+use Rattle.crash_base.specs.declared.numbers.Moment.{Moment}
 use Rattle.crash_base.specs.declared.numbers.Place.{Place}
 use Rattle.crash_base.specs.declared.numbers.RequestNo.{RequestNo}
 use Rattle.journal_model.specs.Limits.{entry_bytes, full_for}
@@ -25,21 +26,15 @@ use Rattle.outcome_items.specs.Traces.{window_trace}
 use Rattle.outcome_items.specs.declared.item.Item.{Item}
 use Rattle.outcome_items.specs.declared.outcome.ItemOutcome.{ItemOutcome}
 use Rattle.outcome_items.specs.declared.outcome.ItemOutcome.TheVariants as item
-use Rattle.outside.specs.declared.link.LinkEvent.{LinkEvent}
 use Rattle.request_decisions.specs.Calls.{call_by}
 use Rattle.request_intake.specs.declared.intake.Admission.{Admission}
 use Rattle.request_intake.specs.declared.intake.Arrival.TheVariants.{Admitted}
-use Rattle.request_tries.specs.Ends.{HasUncuredPlan, done_at}
+use Rattle.request_tries.specs.Ends.{HasUncuredPlan}
 use Rattle.request_tries.specs.declared.outcome.RequestOutcome.TheVariants.{Page}
-use Rattle.request_visit.specs.Sessions.{HasCome, ReadsTo}
-use Rattle.request_visit.specs.declared.facts.VisitFacts.{VisitFacts}
 use Rattle.send_windows.specs.declared.history.WindowMark.TheVariants as mark
-use Rattle.served_items.specs.Attributing.{TakenIn, facts_by, read_by}
+use Rattle.served_items.specs.Attributing.{TakenIn}
 use Rattle.served_items.specs.Served.{committed_at}
-use Rattle.session_way.specs.declared.lease.SessionLease.{SessionLease}
-use Rattle.ssm_stub.specs.Reads.{ReadState}
-use Rattle.ssm_stub.specs.declared.read_call.ReadRefusal.{ReadRefusal}
-use Rattle.ssm_stub.specs.declared.write_call.WriteRefusal.{WriteRefusal}
+use Rattle.ssm_stub.specs.declared.cause.BrickCause.{BrickCause}
 
 -- Nothing in a journal stops a program: no group that it enters is down, no plan that no reboot has cured is of a
 -- component that it enters, and there is room for what it makes.
@@ -49,20 +44,20 @@ pub record NothingStops (start : Start) (es : List Entry) (asks : List Answer �
   pub room : (entry : CommitEntry) (done : DoneText) → entry.at.0 ≤ length es → Makes start.deployment asks (snapshot start.base es entry.at.0) entry done
       → full_for start.limits es 1 (entry_bytes (Commit entry)) ≡ None
 
--- The session of an item's request serves: its read, if there is one, is not refused; and neither is the write that
--- follows its page, if one does.
-pub record SessionServes {L : Type 0} (calls : L → LinkEvent → L → Type 0) (es : List Entry) (t : TakenIn) (i : Item) : Type 0 where
-  pub found : (first : ReadState) (why : ReadRefusal) → read_by t.intake.now t.intake.arrival ≡ Some first → ReadsTo calls first (Err why) → ⊥
-  pub stored : (facts : VisitFacts) (lease : Option SessionLease) (place : Place) (why : WriteRefusal) → facts ≡ facts_by facts.front t.head t.intake.now t.intake.arrival
-      → i.value ≡ option_map (λ (l : SessionLease). l.value) lease → committed_at i.outcome ≡ Some place → HasCome calls facts lease (done_at es place) (Err why) → ⊥
+-- The session of an item's request served: it was neither expired nor lost, and its write, if there was one, was not
+-- missed.
+pub record SessionServed (i : Item) : Type 0 where
+  pub fresh : (now expiry : Moment) → i.outcome ≢ item.Expired now expiry
+  pub found : (causes : List BrickCause) → i.outcome ≢ item.Lost causes
+  pub stored : (place : Place) (again : Bool) (causes : List BrickCause) → i.outcome ≢ item.Missed place again causes
 
--- Nothing hindered the request of an item, which was taken in so. It was admitted; its session serves, and no passes
+-- Nothing hindered the request of an item, which was taken in so. It was admitted; its session served, and no passes
 -- were refused for it. When the container was last held for it, nothing stopped the program of its own call; each entry
 -- since it was first held is its own; and the last event is not that the keeper failed.
-pub record NothingHindered {P L : Type 0} (asks : P → List Answer → Next) (calls : L → LinkEvent → L → Type 0) (makes : ActionCall → List ℕ → P → Type 0) (start : Start) (history : List Event) (t : TakenIn) (i : Item) : Type 0 where
+pub record NothingHindered {P : Type 0} (asks : P → List Answer → Next) (makes : ActionCall → List ℕ → P → Type 0) (start : Start) (history : List Event) (t : TakenIn) (i : Item) : Type 0 where
   pub admission : Admission
   pub arrived : t.intake.arrival ≡ Admitted admission
-  pub session : SessionServes calls (entries_in (take i.holds.held history)) t i
+  pub session : SessionServed i
   pub passes : window_trace i ≢ mark.Refused ∷ []
   pub free : (text : List ℕ) (program : P) → makes (call_by admission.call i.value) text program → NothingStops start (entries_in (take i.holds.held history)) (asks program)
   pub alone : (place : ℕ) → i.holds.from.0 ≤ place → place < length (entries_in (take i.holds.held history)) → committed_at i.outcome ≡ Some (record { 0 = place })

@@ -14,11 +14,12 @@ use outside::{Link, Random, Serials};
 use shepherd::ProgramMaker;
 
 /// Each item whose request nothing hindered is a page. So what an item tells in place of a page was so: whoever answers
-/// that a request is refused, revoked, in conflict or failed, that its session is lost or that it is too many, though
-/// nothing hindered it, does not meet `IsServedFor`, and so not `HasServed`, by which there is such an item for each
-/// request that was served (`courses_show_what_was_served`, clause `request`).
+/// that a request is refused, revoked, in conflict or failed, though nothing hindered it, does not meet `IsServedFor`,
+/// and so not `HasServed`, by which there is such an item for each request that was served
+/// (`courses_show_what_was_served`, clause `request`). That its session served and that no passes were refused is taken
+/// as the item tells it: other clauses tie that to what was heard and seen.
 pub fn unhindered_items_are_pages<P: Program, L: Link, M: ProgramMaker<P>, R: Random, S: Serials>()
     ensures { (service : Service M) (start : Start) (history : List Event) (t : TakenIn) (i : Item)
         → IsServedFor P.asks L.makes M.makes R.gives S.looks service start history t i
-        → NothingHindered P.asks L.makes (M.makes service.maker) start history t i → IsPage i.outcome }
+        → NothingHindered P.asks (M.makes service.maker) start history t i → IsPage i.outcome }
 {}
