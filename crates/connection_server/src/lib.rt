@@ -31,9 +31,11 @@ mod points;
 mod served;
 mod serving;
 mod shared;
+mod showing;
 mod steps;
 
 pub use points::{NoPoints, Point, Points};
 pub use served::{Served, ServedEnd};
 pub use serving::{serve_connection, serve_gated};
 pub use shared::{Shared, WorkerSeat};
+pub use showing::served_connections_tell_how_they_ended;
