@@ -1,6 +1,6 @@
 //! A container under a lock.
 
-ghost use Rattle.std.specs.Prelude.{◌≡◌, ◌-◌, ◌<◌, ◌≤◌, ◌+◌, [], ◌++◌, false, true, IfErr, IfOk, Some, slice_get};
+ghost use Rattle.std.specs.Prelude.{◌≡◌, ◌-◌, ◌<◌, ◌≤◌, ◌+◌, [], ◌++◌, false, true, length, IfErr, IfOk, Some, slice_get};
 ghost use mathlib.Core.List.{IsPrefix};
 ghost use Rattle.commit_journal.specs.Journal.{IsScope};
 ghost use Rattle.container_core.specs.Container.{ContainerValue, HasGrownBy, events_of};
@@ -20,7 +20,7 @@ use crate::calls::{NoMaker, come_up, step_inside};
 use crate::cells::{ContainerCell, ContainerSeat};
 use crate::laws::histories_tell_their_containers;
 use call_ticket::Program;
-use container_core::{Container, RebootRefusal};
+use container_core::{Container, RebootRefusal, histories_grow};
 use crash_base::{OutOfMemory, Place, Scope};
 use outside::{Keeper, Link};
 use shepherd::{Shepherd, ShepherdTurn, connections_go_on};
@@ -195,6 +195,21 @@ impl<K: Keeper + Drop> ContainerLock<K> {
         let mut container = self.take(rt, seat);
         container.stop();
         self.give(seat, container);
+    }
+
+    /// How many entries the journal has at the end of this hold, which changes nothing. It takes no memory.
+    pub fn entry_count<W: Wait>(&self, rt: &W, seat: &mut ContainerSeat<K>) -> u64
+        requires seat { seat.old.lock ≡ self.now.id }
+        requires home { seat.old.holds ≡ false }
+        ensures held { InHold seat.old seat.new (λ before after. after ≡ before) }
+        ensures count { result ≡ length (entries_in seat.new.seen) }
+        ensures seen { IsPrefix seat.old.seen seat.new.seen }
+    {
+        histories_grow();
+        let container = self.take(rt, seat);
+        let count = container.journal().len();
+        self.give(seat, container);
+        count
     }
 
     /// Cuts that many parts off, as `TurnLock::split` says.
