@@ -1,5 +1,5 @@
 -- What a seat has seen behind a hold: it begins with what it had seen before, and has the entries of the journal.
-use Rattle.std.proofs.Common.{◌≡◌, ◌∙◌, ◌++◌, ℕ, List, length, sym, ap}
+use Rattle.std.proofs.Common.{◌≡◌, ◌∙◌, ◌++◌, List, sym, ap}
 use Rattle.std.proofs.lemmas.List.{append_assoc}
 use mathlib.Core.List.{IsPrefix}
 use Rattle.container_core.specs.Container.{ContainerValue}
@@ -14,7 +14,6 @@ seen_begins {E} old new before after hold =
     let grown = hold.grown in
     (begun.0 ++ grown.0, sym (append_assoc old.seen begun.0 grown.0) ∙ (ap (λ (es : List E). es ++ grown.0) begun.1 ∙ (grown.1 ∙ sym (ap (λ (s : SeatValue E). s.seen) hold.seat))))
 
--- behind a hold that changes nothing a seat has seen as many entries as the journal has
-pub entries_seen : (old new : SeatValue Event) (found : ContainerValue) (count : ℕ) → Holds old new found found → count ≡ length found.boot.entries → count ≡ length (entries_in new.seen)
-entries_seen old new found count holds is =
-    is ∙ (ap length (sym holds.left.journal) ∙ sym (ap (λ (s : SeatValue Event). length (entries_in s.seen)) holds.hold.seat))
+-- behind a hold that changes nothing a seat has seen the entries of the journal
+pub entries_seen : (old new : SeatValue Event) (found : ContainerValue) → Holds old new found found → found.boot.entries ≡ entries_in new.seen
+entries_seen old new found holds = sym holds.left.journal ∙ sym (ap (λ (s : SeatValue Event). entries_in s.seen) holds.hold.seat)

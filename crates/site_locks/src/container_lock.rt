@@ -1,12 +1,13 @@
 //! A container under a lock.
 
-ghost use Rattle.std.specs.Prelude.{◌≡◌, ◌-◌, ◌<◌, ◌≤◌, ◌+◌, [], ◌++◌, false, true, length, IfErr, IfOk, Some, slice_get};
+ghost use Rattle.std.specs.Prelude.{◌≡◌, ◌-◌, ◌<◌, ◌≤◌, ◌+◌, [], ◌++◌, false, true, IfErr, IfOk, Some, slice_get};
 ghost use mathlib.Core.List.{IsPrefix};
 ghost use Rattle.commit_journal.specs.Journal.{IsScope};
 ghost use Rattle.container_core.specs.Container.{ContainerValue, HasGrownBy, events_of};
 ghost use Rattle.container_core.specs.History.{entries_in, is_stopped};
 ghost use Rattle.container_core.specs.declared.history.Event.{Event};
 ghost use Rattle.crash_base.specs.declared.scope.Scope.{Scope};
+ghost use Rattle.journal_model.specs.Limits.{fullness};
 ghost use Rattle.journal_model.specs.Reboots.{IsUndone};
 ghost use Rattle.journal_model.specs.declared.entry.Entry.TheVariants.{Down};
 ghost use Rattle.shepherd.specs.Shepherds.{turn};
@@ -20,7 +21,7 @@ use crate::calls::{NoMaker, come_up, step_inside};
 use crate::cells::{ContainerCell, ContainerSeat};
 use crate::laws::histories_tell_their_containers;
 use call_ticket::Program;
-use container_core::{Container, RebootRefusal, histories_grow};
+use container_core::{Container, FullAt, RebootRefusal, histories_grow};
 use crash_base::{OutOfMemory, Place, Scope};
 use outside::{Keeper, Link};
 use shepherd::{Shepherd, ShepherdTurn, connections_go_on};
@@ -197,19 +198,19 @@ impl<K: Keeper + Drop> ContainerLock<K> {
         self.give(seat, container);
     }
 
-    /// How many entries the journal has at the end of this hold, which changes nothing. It takes no memory.
-    pub fn entry_count<W: Wait>(&self, rt: &W, seat: &mut ContainerSeat<K>) -> u64
+    /// How full the journal is in this hold, which changes nothing. It takes no memory.
+    pub fn fullness<W: Wait>(&self, rt: &W, seat: &mut ContainerSeat<K>) -> FullAt
         requires seat { seat.old.lock ≡ self.now.id }
         requires home { seat.old.holds ≡ false }
         ensures held { InHold seat.old seat.new (λ before after. after ≡ before) }
-        ensures count { result ≡ length (entries_in seat.new.seen) }
+        ensures full { result ≡ fullness (entries_in seat.new.seen) }
         ensures seen { IsPrefix seat.old.seen seat.new.seen }
     {
         histories_grow();
         let container = self.take(rt, seat);
-        let count = container.journal().len();
+        let full = container.journal().fullness();
         self.give(seat, container);
-        count
+        full
     }
 
     /// Cuts that many parts off, as `TurnLock::split` says.
