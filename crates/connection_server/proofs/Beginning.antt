@@ -48,6 +48,7 @@ come_none begun home windows_home = record {
   windows = added_none begun.windows windows_home;
   words = drawn_none begun.words;
   heard = sym (append-nil begun.heard);
+  given = sym (append-nil begun.given);
   read_faults = omega arith;
   write_faults = omega arith;
   moment = omega arith;

@@ -112,7 +112,7 @@ module _ {L R : Type 0} (calls : L → LinkEvent → L → Type 0) (gives : Give
       start = k.served.start;
       parts_are = k.served.parts_are;
       boot_is = k.served.boot_is;
-      come = came begun now now k.course later k.served.come refl refl refl refl refl refl k.served.come.words (omega arith) (omega arith) (omega arith);
+      come = came begun now now k.course later k.served.come refl refl refl refl refl refl k.served.come.words k.served.come.given (omega arith) (omega arith) (omega arith);
       drew = k.served.drew;
       saw = saw_item begun now k.course i (last_counts begun.counts k.course.items) now.counts old.shepherd.stage new.shepherd.stage takes k.served.serves.counted.is_open (reached_here now.counts) k.served.saw;
       read = k.served.read;
@@ -202,6 +202,7 @@ module _ {L R : Type 0} (calls : L → LinkEvent → L → Type 0) (gives : Give
           windows = held_still begun.windows now.windows windows h.come.marks before_windows.history after_windows.history h.come.windows hold_windows.hold (ap (λ (x : WindowsValue). x.history) same_windows);
           words = h.come.words;
           heard = h.come.heard;
+          given = h.come.given;
           read_faults = h.come.read_faults;
           write_faults = h.come.write_faults;
           moment = h.come.moment;
@@ -422,13 +423,14 @@ module _ {L R : Type 0} (calls : L → LinkEvent → L → Type 0) (gives : Give
       windows = held_on begun.windows now.windows windows come.marks l.before_windows.history l.after_windows.history added come.windows l.held_windows.hold grown;
       words = come.words;
       heard = come.heard;
+      given = come.given;
       read_faults = come.read_faults;
       write_faults = come.write_faults;
       moment = come.moment;
     }
 
     come_item : (c : Course) (i : Item) → HasCome begun next c → HasCome begun next (record c { items = c.items ++ i ∷ [] })
-    come_item c i come = came begun next next c (record c { items = c.items ++ i ∷ [] }) come refl refl refl refl refl refl come.words (omega arith) (omega arith) (omega arith)
+    come_item c i come = came begun next next c (record c { items = c.items ++ i ∷ [] }) come refl refl refl refl refl refl come.words come.given (omega arith) (omega arith) (omega arith)
 
     -- a part of a response was written
     module _ (k : BreaksOff calls gives service begun now conn) where

@@ -43,7 +43,7 @@ use Rattle.connection_server.specs.Heeding.{Heeds}
 use Rattle.connection_server.specs.Refusing.{AllRefused}
 use Rattle.connection_server.specs.Seats.{BeginsWith, HasAdded}
 use Rattle.connection_server.specs.Serving.{BreaksOff, IsAccepted, KeepsServing, Waits, WantsMemory}
-use Rattle.connection_server.specs.Stands.{HasCalled, HasCome, Stand, began_at, with_drawn}
+use Rattle.connection_server.specs.Stands.{HasCalled, HasCome, Stand, began_at, with_drawn, words_in}
 use Rattle.connection_server.specs.declared.connection.Connection.{Connection}
 use Rattle.connection_server.proofs.Drawn.{drawn_on, drew_just, drew_on, seen_on}
 use Rattle.connection_server.proofs.Growing.{held_on, held_seen, held_still, prefix_trans}
@@ -71,6 +71,7 @@ container_came begun now c seat added come grew = record {
   windows = come.windows;
   words = come.words;
   heard = come.heard;
+  given = come.given;
   read_faults = come.read_faults;
   write_faults = come.write_faults;
   moment = come.moment;
@@ -85,14 +86,15 @@ windows_came begun now c seat added full come grew = record {
   windows = grew;
   words = come.words;
   heard = come.heard;
+  given = come.given;
   read_faults = come.read_faults;
   write_faults = come.write_faults;
   moment = come.moment;
 }
 
 pub came : (begun now next : Stand) (c later : Course) → HasCome begun now c → next.container ≡ now.container → later.own ≡ c.own → next.windows ≡ now.windows → later.marks ≡ c.marks → next.heard ≡ now.heard → later.heard ≡ c.heard
-    → HasDrawnOn begun.words next.words → now.read_faults ≤ next.read_faults → now.write_faults ≤ next.write_faults → now.moment ≤ next.moment → HasCome begun next later
-came begun now next c later come container own windows marks heard same words read write moment =
+    → HasDrawnOn begun.words next.words → next.given ≡ begun.given ++ words_in later.drawn → now.read_faults ≤ next.read_faults → now.write_faults ≤ next.write_faults → now.moment ≤ next.moment → HasCome begun next later
+came begun now next c later come container own windows marks heard same words given read write moment =
     let reads = come.read_faults in
     let writes = come.write_faults in
     let told = come.moment in
@@ -104,6 +106,7 @@ came begun now next c later come container own windows marks heard same words re
       windows = subst (λ (s : SeatValue WindowMark). HasAdded begun.windows s come.marks) (sym windows) come.windows;
       words = words;
       heard = heard ∙ come.heard ∙ ap (λ (l : List LinkEvent). begun.heard ++ l) (sym same);
+      given = given;
       read_faults = omega (arith, reads, read);
       write_faults = omega (arith, writes, write);
       moment = omega (arith, told, moment);
@@ -123,6 +126,7 @@ called_came begun now c counts made come = record {
   windows = come.windows;
   words = come.words;
   heard = ap (λ (l : List LinkEvent). l ++ made) come.heard ∙ append_assoc begun.heard c.heard made;
+  given = come.given;
   read_faults = come.read_faults;
   write_faults = come.write_faults;
   moment = come.moment;
@@ -164,7 +168,7 @@ module _ {L R : Type 0} (calls : L → LinkEvent → L → Type 0) (gives : Give
           start = start;
           parts_are = k.served.parts_are;
           boot_is = k.served.boot_is;
-          come = came begun now next c later k.served.come refl refl refl refl refl refl k.served.come.words count (omega arith) (omega arith);
+          come = came begun now next c later k.served.come refl refl refl refl refl refl k.served.come.words k.served.come.given count (omega arith) (omega arith);
           drew = k.served.drew;
           saw = record { spent = k.served.saw.spent; full = k.served.saw.full; counted = k.served.saw.counted };
           read = read_on begun.left now.left left c.fed more k.served.read read;
@@ -191,7 +195,7 @@ module _ {L R : Type 0} (calls : L → LinkEvent → L → Type 0) (gives : Give
           start = start;
           parts_are = k.served.parts_are;
           boot_is = k.served.boot_is;
-          come = came begun now next c c k.served.come refl refl refl refl refl refl k.served.come.words count (omega arith) (omega arith);
+          come = came begun now next c c k.served.come refl refl refl refl refl refl k.served.come.words k.served.come.given count (omega arith) (omega arith);
           drew = k.served.drew;
           saw = record { spent = k.served.saw.spent; full = k.served.saw.full; counted = k.served.saw.counted };
           read = k.served.read ∙ ap (prepended c.fed) (read ∙ prepended_none left);
@@ -204,12 +208,12 @@ module _ {L R : Type 0} (calls : L → LinkEvent → L → Type 0) (gives : Give
       }
 
   -- a stand with another left of the source, and another count of its faults, and nothing else done
-  pub went_on : (now next : Stand) (old new : Connection) → SameItems old new → new.shepherd.ended ≡ old.shepherd.ended → next.container ≡ now.container → next.windows ≡ now.windows → next.words ≡ now.words → next.heard ≡ now.heard → AreReached now.counts next.counts → now.left ≡ next.left
+  pub went_on : (now next : Stand) (old new : Connection) → SameItems old new → new.shepherd.ended ≡ old.shepherd.ended → next.container ≡ now.container → next.windows ≡ now.windows → next.words ≡ now.words → next.heard ≡ now.heard → next.given ≡ now.given → AreReached now.counts next.counts → now.left ≡ next.left
       → now.read_faults ≤ next.read_faults → now.write_faults ≤ next.write_faults → next.written ≡ now.written → now.moment ≤ next.moment
       → ((start : Start) (c : Course) → start.deployment ≡ site_parts → SiteServes start now c old.shepherd → SiteServes start next c new.shepherd)
       → (Heeds now.container.seen old.items.items old.stopped old.shepherd.stage → Heeds now.container.seen old.items.items old.stopped new.shepherd.stage)
       → Keeps now old → Keeps next new
-  went_on now next old new same over container windows words heard counts left reads writes written moment on heeds k =
+  went_on now next old new same over container windows words heard given counts left reads writes written moment on heeds k =
       let c = k.course in
       let start = k.served.start in
       record {
@@ -218,7 +222,7 @@ module _ {L R : Type 0} (calls : L → LinkEvent → L → Type 0) (gives : Give
           start = start;
           parts_are = k.served.parts_are;
           boot_is = k.served.boot_is;
-          come = came begun now next c c k.served.come container refl windows refl heard refl (subst (λ (w : WordSeatValue). HasDrawnOn begun.words w) (sym words) k.served.come.words) reads writes moment;
+          come = came begun now next c c k.served.come container refl windows refl heard refl (subst (λ (w : WordSeatValue). HasDrawnOn begun.words w) (sym words) k.served.come.words) (given ∙ k.served.come.given) reads writes moment;
           drew = subst (λ (w : WordSeatValue). w ≡ with_drawn begun.words c.drawn w.seen) (sym words) k.served.drew;
           saw = record {
             spent = subst (λ (w : WordSeatValue). All (λ (serial : ℕ). serial ≤ w.seen) c.looked) (sym words) k.served.saw.spent;
@@ -245,7 +249,7 @@ module _ {L R : Type 0} (calls : L → LinkEvent → L → Type 0) (gives : Give
           start = k.served.start;
           parts_are = k.served.parts_are;
           boot_is = k.served.boot_is;
-          come = came begun now next c c k.served.come refl refl refl refl refl refl k.served.come.words count (omega arith) (omega arith);
+          come = came begun now next c c k.served.come refl refl refl refl refl refl k.served.come.words k.served.come.given count (omega arith) (omega arith);
           drew = k.served.drew;
           saw = record { spent = k.served.saw.spent; full = k.served.saw.full; counted = k.served.saw.counted };
           read = k.served.read ∙ ap (prepended c.fed) (sym same);
@@ -259,12 +263,12 @@ module _ {L R : Type 0} (calls : L → LinkEvent → L → Type 0) (gives : Give
       }
 
   -- memory was wanted, and the stand is another
-  pub wanted : (now next : Stand) (lost : List ℕ) (old new : Connection) → SameItems old new → next.container ≡ now.container → next.windows ≡ now.windows → HasDrawnOn now.words next.words → next.heard ≡ now.heard → AreReached now.counts next.counts → now.left ≡ prepended lost next.left
+  pub wanted : (now next : Stand) (lost : List ℕ) (old new : Connection) → SameItems old new → next.container ≡ now.container → next.windows ≡ now.windows → HasDrawnOn now.words next.words → next.heard ≡ now.heard → next.given ≡ now.given → AreReached now.counts next.counts → now.left ≡ prepended lost next.left
       → now.read_faults ≤ next.read_faults → now.write_faults ≤ next.write_faults → next.written ≡ now.written → now.moment ≤ next.moment
       → ((start : Start) (c : Course) → SiteServes start now c old.shepherd → SiteServesSoFar start now.counts next c new.shepherd)
       → (Heeds now.container.seen old.items.items old.stopped old.shepherd.stage → Heeds now.container.seen old.items.items old.stopped new.shepherd.stage)
       → Keeps now old → WantsMemory calls gives service begun next new
-  wanted now next lost old new same container windows words heard counts left reads writes written moment on heeds k =
+  wanted now next lost old new same container windows words heard given counts left reads writes written moment on heeds k =
       let c = k.course in
       let start = k.served.start in
       record {
@@ -275,7 +279,7 @@ module _ {L R : Type 0} (calls : L → LinkEvent → L → Type 0) (gives : Give
         boot_is = k.served.boot_is;
         counts = now.counts;
         count_on = counts;
-        come = came begun now next c c k.served.come container refl windows refl heard refl (drawn_on begun.words now.words next.words k.served.come.words words) reads writes moment;
+        come = came begun now next c c k.served.come container refl windows refl heard refl (drawn_on begun.words now.words next.words k.served.come.words words) (given ∙ k.served.come.given) reads writes moment;
         drew = drew_on begun.words now.words next.words c.drawn k.served.drew words;
         saw = record {
           spent = seen_on now.words.seen next.words.seen c.looked words.3 k.served.saw.spent;
@@ -353,23 +357,23 @@ module _ {L R : Type 0} (calls : L → LinkEvent → L → Type 0) (gives : Give
       }
 
   -- a request was taken off the bytes
-  pub took : (now : Stand) (words : WordSeatValue) (moment : ℕ) (old new : Connection) (k : Keeps now old) (more : List Draw) (spent : Option ℕ) → new.items.items ≡ old.items.items → new.shepherd.ended ≡ old.shepherd.ended → HasDrawnOn now.words words
-      → words ≡ with_drawn begun.words (k.course.drawn ++ more) words.seen → All (λ (serial : ℕ). serial ≤ words.seen) (k.course.looked ++ option_to_list spent) → now.moment ≤ moment
+  pub took : (now : Stand) (words : WordSeatValue) (given : List ℕ) (moment : ℕ) (old new : Connection) (k : Keeps now old) (more : List Draw) (spent : Option ℕ) → new.items.items ≡ old.items.items → new.shepherd.ended ≡ old.shepherd.ended → HasDrawnOn now.words words
+      → words ≡ with_drawn begun.words (k.course.drawn ++ more) words.seen → given ≡ begun.given ++ words_in (k.course.drawn ++ more) → All (λ (serial : ℕ). serial ≤ words.seen) (k.course.looked ++ option_to_list spent) → now.moment ≤ moment
       → SiteServes k.served.start (record now { moment = moment }) (record (k.course) { drawn = k.course.drawn ++ more; looked = k.course.looked ++ option_to_list spent }) new.shepherd
       → (Heeds now.container.seen old.items.items old.stopped old.shepherd.stage → Heeds now.container.seen old.items.items new.stopped new.shepherd.stage)
-      → Keeps (record now { words = words; moment = moment }) new
-  took now words moment old new k more spent items over since drew seen rises serves heeds =
+      → Keeps (record now { words = words; given = given; moment = moment }) new
+  took now words given moment old new k more spent items over since drew gave seen rises serves heeds =
       let c = k.course in
       let start = k.served.start in
       let later : Course = record c { drawn = c.drawn ++ more; looked = c.looked ++ option_to_list spent } in
-      let next : Stand = record now { words = words; moment = moment } in
+      let next : Stand = record now { words = words; given = given; moment = moment } in
       record {
         course = later;
         served = record {
           start = start;
           parts_are = k.served.parts_are;
           boot_is = k.served.boot_is;
-          come = came begun now next c later k.served.come refl refl refl refl refl refl (drawn_on begun.words now.words words k.served.come.words since) (omega arith) (omega arith) rises;
+          come = came begun now next c later k.served.come refl refl refl refl refl refl (drawn_on begun.words now.words words k.served.come.words since) gave (omega arith) (omega arith) rises;
           drew = drew;
           saw = record { spent = seen; full = k.served.saw.full; counted = k.served.saw.counted };
           read = k.served.read;
@@ -491,6 +495,7 @@ module _ {L R : Type 0} (calls : L → LinkEvent → L → Type 0) (gives : Give
           windows = k.served.come.windows;
           words = k.served.come.words;
           heard = k.served.come.heard;
+          given = k.served.come.given;
           read_faults = k.served.come.read_faults;
           write_faults = k.served.come.write_faults;
           moment = k.served.come.moment;
@@ -522,7 +527,7 @@ module _ {L R : Type 0} (calls : L → LinkEvent → L → Type 0) (gives : Give
           start = start;
           parts_are = k.served.parts_are;
           boot_is = k.served.boot_is;
-          come = came begun now next c later k.served.come refl refl refl refl refl refl k.served.come.words (omega arith) count (omega arith);
+          come = came begun now next c later k.served.come refl refl refl refl refl refl k.served.come.words k.served.come.given (omega arith) count (omega arith);
           drew = k.served.drew;
           saw = record { spent = k.served.saw.spent; full = k.served.saw.full; counted = k.served.saw.counted };
           read = k.served.read;
@@ -550,7 +555,7 @@ module _ {L R : Type 0} (calls : L → LinkEvent → L → Type 0) (gives : Give
           start = start;
           parts_are = k.served.parts_are;
           boot_is = k.served.boot_is;
-          come = came begun now next c later k.served.come refl refl refl refl refl refl k.served.come.words (omega arith) count (omega arith);
+          come = came begun now next c later k.served.come refl refl refl refl refl refl k.served.come.words k.served.come.given (omega arith) count (omega arith);
           drew = k.served.drew;
           saw = record { spent = k.served.saw.spent; full = k.served.saw.full; counted = k.served.saw.counted };
           read = k.served.read;

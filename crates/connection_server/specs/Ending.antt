@@ -1,5 +1,5 @@
 -- What a call has served over its connection, at its end.
-use Rattle.std.specs.Prelude.{◌≡◌, ◌⊎◌, ◌++◌, ℕ, List, []}
+use Rattle.std.specs.Prelude.{◌≡◌, ◌⊎◌, ◌++◌, ℕ, List, [], Some}
 use Rattle.auction_rows.specs.Parts.{site_parts}
 use Rattle.auction_site.specs.Actions.{steps_of}
 use Rattle.boot_core.specs.declared.boot.Start.{Start}
@@ -22,7 +22,7 @@ use Rattle.seat_serials.specs.Drawing.{SeatLooks}
 use Rattle.connection_server.specs.Closing.{EndsBy, LastStaysOpen}
 use Rattle.connection_server.specs.Heeding.{AtMostLastStopped, LastStopped, NoneStopped}
 use Rattle.connection_server.specs.Seats.{BeginsWith}
-use Rattle.connection_server.specs.Stands.{DrewAtLeast, HasCalled, HasCome, HasSeen, Stand, began_at, with_drawn}
+use Rattle.connection_server.specs.Stands.{DrewAtLeast, HasCalled, HasCome, HasGiven, HasSeen, Stand, began_at, with_drawn}
 use Rattle.connection_server.specs.declared.served.Served.{Served}
 use Rattle.connection_server.specs.declared.served.ServedEnd.{ServedEnd}
 use Rattle.connection_server.specs.declared.served.ServedEnd.TheVariants.{Closed, Cut, Refused, Stopped, ReadFault, WriteFault, OutOfMemory}
@@ -103,7 +103,8 @@ module _ {L R : Type 0} (calls : L → LinkEvent → L → Type 0) (gives : Give
     ServedBy OutOfMemory = HasWantedMemory
 
   -- These items were served on a course, over which a call has come from where it began to where it stands now, in a
-  -- container of the site. What its serial numbers were drawn with is its seat of words.
+  -- container of the site. What its serial numbers were drawn with is its seat of words, and its random words were given
+  -- by the source of the call.
   pub record HasServedItems (items : List Item) (end : ServedEnd) : Type 0 where
     pub course : Course
     pub start : Start
@@ -114,7 +115,10 @@ module _ {L R : Type 0} (calls : L → LinkEvent → L → Type 0) (gives : Give
     pub items_are : items ≡ course.items
     pub served : ServedBy start course end
 
--- A call has served its connection, and made the calls of its link that lead from where that was to where it is.
-pub record HasServedConnection {L R : Type 0} (calls : L → LinkEvent → L → Type 0) (from to : L) (gives : Gives R) (service : Service SiteMaker) (begun now : Stand) (told : Served) : Type 0 where
-  pub served : HasCalled calls from to (λ heard. HasServedItems calls gives service begun (record now { heard = heard }) told.items told.ended)
+-- A call has served its connection, made the calls of its link that lead from where that was to where it is, and drawn
+-- the words of its random source likewise.
+pub record HasServedConnection {L R : Type 0} (calls : L → LinkEvent → L → Type 0) (from to : L) (gives : Gives R) (first last : R) (service : Service SiteMaker) (begun now : Stand) (told : Served) : Type 0 where
+  pub served : HasCalled calls from to (λ heard.
+      HasGiven gives first last (Some told.ended) (λ given.
+      HasServedItems calls gives service begun (record now { heard = heard; given = given }) told.items told.ended))
   pub front_is : told.front ≡ last_front (record { 0 = 0 }) told.items

@@ -1,13 +1,14 @@
 -- Where a call stands with all that it serves a connection over.
-use Rattle.std.specs.Prelude.{◌≡◌, ◌≤◌, ℕ, false, List, [], ◌++◌, All, map, Option, None}
+use Rattle.std.specs.Prelude.{◌≡◌, ◌≢◌, ◌≤◌, ℕ, false, List, [], ◌∷◌, ◌++◌, All, map, filter, not, Option, Some, None}
 use Rattle.atomic_table.specs.Seated.{TableId}
 use Rattle.container_core.specs.declared.history.Event.{Event}
 use Rattle.outcome_items.specs.Traces.{uncounted}
 use Rattle.outside.specs.Link.{Made, Tally}
 use Rattle.outside.specs.declared.link.LinkCounts.{LinkCounts}
 use Rattle.outside.specs.declared.link.LinkEvent.{LinkEvent}
+use Rattle.request_decisions.specs.Draws.{is_serial}
 use Rattle.request_decisions.specs.declared.draws.Draw.{Draw}
-use Rattle.request_intake.specs.Intakes.{serials_in}
+use Rattle.request_intake.specs.Intakes.{Gives, serials_in}
 use Rattle.request_visit.specs.Stepping.{counted}
 use Rattle.send_windows.specs.declared.history.WindowMark.{WindowMark}
 use Rattle.served_connections.specs.Courses.{Begun, Course, begun_behind}
@@ -17,10 +18,13 @@ use Rattle.turn_lock.specs.Seats.{SeatValue}
 use Rattle.seat_serials.specs.Drawing.{HasDrawnOn}
 use Rattle.connection_server.specs.Refusing.{AllRefused}
 use Rattle.connection_server.specs.Seats.{HasAdded}
+use Rattle.connection_server.specs.declared.served.ServedEnd.{ServedEnd}
+use Rattle.connection_server.specs.declared.served.ServedEnd.TheVariants.{OutOfMemory}
 
 -- Where a call stands: its seats of the container, of the windows and of the words; what its source has left, where it
 -- tells, and how often it has failed; what was written to its sink, where that tells, and how often it has failed; what
--- its link has counted, and which calls of it were made since the call began; and the last moment of its clock.
+-- its link has counted, and which calls of it were made since the call began; which words its random source has given
+-- since then; and the last moment of its clock.
 pub record Stand : Type 0 where
   pub container : SeatValue Event
   pub windows : SeatValue WindowMark
@@ -31,9 +35,10 @@ pub record Stand : Type 0 where
   pub write_faults : ℕ
   pub counts : LinkCounts
   pub heard : List LinkEvent
+  pub given : List ℕ
   pub moment : ℕ
 
--- the stand of these, where no call of the link was made
+-- the stand of these, where no call of the link was made and no word was given
 abbrev pub stand_of : SeatValue Event → SeatValue WindowMark → WordSeatValue → Option (List ℕ) → ℕ → Option (List ℕ) → ℕ → Tally → ℕ → Stand
 stand_of container windows words left read_faults written write_faults tally moment = record {
   container = container;
@@ -45,6 +50,7 @@ stand_of container windows words left read_faults written write_faults tally mom
   write_faults = write_faults;
   counts = counted tally;
   heard = [];
+  given = [];
   moment = moment;
 }
 
@@ -56,9 +62,13 @@ began_at begun = begun_behind begun.container.seen begun.moment begun.counts
 abbrev pub with_drawn : WordSeatValue → List Draw → ℕ → WordSeatValue
 with_drawn seat drawn seen = record seat { drawn = seat.drawn ++ serials_in drawn; seen = seen }
 
+-- the random words among what was drawn, in order
+abbrev pub words_in : List Draw → List ℕ
+words_in drawn = map (λ (d : Draw). d.number) (filter (λ (d : Draw). not (is_serial d.kind)) drawn)
+
 -- A call has come from one stand to another on the course of its connection: it has added the events of the course to
 -- the history of the container, and left its marks in that of the windows; and it has done no more with its seat of
--- words than to draw, and has made the calls of the course.
+-- words than to draw, has made the calls of the course, and was given the random words of it, in order, and no others.
 pub record HasCome (begun now : Stand) (c : Course) : Type 0 where
   pub container : HasAdded begun.container now.container c.own
   pub marks : List WindowMark
@@ -66,6 +76,7 @@ pub record HasCome (begun now : Stand) (c : Course) : Type 0 where
   pub windows : HasAdded begun.windows now.windows marks
   pub words : HasDrawnOn begun.words now.words
   pub heard : now.heard ≡ begun.heard ++ c.heard
+  pub given : now.given ≡ begun.given ++ words_in c.drawn
   pub read_faults : begun.read_faults ≤ now.read_faults
   pub write_faults : begun.write_faults ≤ now.write_faults
   pub moment : begun.moment ≤ now.moment
@@ -87,6 +98,20 @@ pub record HasCalled {L : Type 0} (calls : L → LinkEvent → L → Type 0) (fr
   pub leads : Made calls from heard to
   pub so : So heard
 
+-- A random source gives these words in a row, from the one state to the other.
+abbrev pub GivesAll : {R : Type 0} → Gives R → R → List ℕ → R → Type 0
+GivesAll gives from [] to = from ≡ to
+GivesAll {R} gives from (word ∷ words) to = (next : R) × gives from word next × GivesAll gives next words to
+
+-- A random source gave these words from where it was, and this is so with them. It is where they lead to, unless the
+-- call ended for want of memory: then words that it gave behind them may be lost.
+pub record HasGiven {R : Type 0} (gives : Gives R) (from to : R) (end : Option ServedEnd) (So : List ℕ → Type 0) : Type 0 where
+  pub given : List ℕ
+  pub reached : R
+  pub leads : GivesAll gives from given reached
+  pub stays : end ≢ Some OutOfMemory → reached ≡ to
+  pub so : So given
+
 -- a seat of no lock, and of no words, and the stand of such a call
 abbrev pub no_table : TableId
 no_table = record { words = 0; slots = 0; views_name = 0; atom = 0; block = 0; offset = 0; slot_names = [] }
@@ -105,5 +130,6 @@ nowhere = record {
   write_faults = 0;
   counts = record { hushed = 0; got = 0 };
   heard = [];
+  given = [];
   moment = 0;
 }

@@ -1,13 +1,13 @@
 //! A connection, from its first byte to its end.
 
-ghost use Rattle.std.specs.Prelude.{◌≡◌, ◌++◌, [], false, IfOk, MatchOption, option_to_list};
+ghost use Rattle.std.specs.Prelude.{◌≡◌, ◌++◌, [], false, IfOk, MatchOption, None, Some, option_to_list};
 ghost use Rattle.crash_base.specs.declared.numbers.Place.{Place as PlaceValue};
 ghost use Rattle.outside.specs.Link.{Tally};
 ghost use Rattle.shepherd.specs.Standing.{last_front};
 ghost use Rattle.connection_server.specs.Ending.{HasServedConnection, HasServedItems};
 ghost use Rattle.connection_server.specs.Seats.{AreSeatsOf, IsOfSite, ids_of};
 ghost use Rattle.connection_server.specs.Serving.{ComesTo, Ends, KeepsServing, service_of};
-ghost use Rattle.connection_server.specs.Stands.{HasCalled, Stand, stand_of};
+ghost use Rattle.connection_server.specs.Stands.{HasCalled, HasGiven, Stand, stand_of};
 
 use crate::connection::Connection;
 use crate::outset::Outset;
@@ -67,18 +67,24 @@ fn turn_once<
     requires service { B.service ≡ service_of shared.now.key shared.now.home }
     requires seats { AreSeatsOf (ids_of shared.now.container shared.now.windows shared.now.words shared.now.reports)
         container.old windows.old words.old pass.old }
-    requires serving { (from : L) × HasCalled L.makes from link.old (λ heard. KeepsServing L.makes R.gives B.service B.begun
+    requires serving { (from : L) × (first : R) × HasCalled L.makes from link.old (λ heard.
+        HasGiven R.gives first random.old None (λ given. KeepsServing L.makes R.gives B.service B.begun
         (record (stand_of container.old windows.old words.old (S.left source.old) (S.faults source.old)
-        (T.written sink.old) (T.faults sink.old) (L.tally link.old) (C.told clock.old)) { heard = heard }) connection.old) }
+        (T.written sink.old) (T.faults sink.old) (L.tally link.old) (C.told clock.old))
+        { heard = heard; given = given }) connection.old)) }
     ensures seats { AreSeatsOf (ids_of shared.now.container shared.now.windows shared.now.words shared.now.reports)
         container.new windows.new words.new pass.new }
-    ensures comes { (from : L)
-        → HasCalled L.makes from link.old (λ heard. KeepsServing L.makes R.gives B.service B.begun
+    ensures comes { (from : L) (first : R)
+        → HasCalled L.makes from link.old (λ heard.
+        HasGiven R.gives first random.old None (λ given. KeepsServing L.makes R.gives B.service B.begun
         (record (stand_of container.old windows.old words.old (S.left source.old) (S.faults source.old)
-        (T.written sink.old) (T.faults sink.old) (L.tally link.old) (C.told clock.old)) { heard = heard }) connection.old)
-        → HasCalled L.makes from link.new (λ heard. ComesTo L.makes R.gives B.service B.begun result
+        (T.written sink.old) (T.faults sink.old) (L.tally link.old) (C.told clock.old))
+        { heard = heard; given = given }) connection.old))
+        → HasCalled L.makes from link.new (λ heard.
+        HasGiven R.gives first random.new result (λ given. ComesTo L.makes R.gives B.service B.begun result
         (record (stand_of container.new windows.new words.new (S.left source.new) (S.faults source.new)
-        (T.written sink.new) (T.faults sink.new) (L.tally link.new) (C.told clock.new)) { heard = heard }) connection.new) }
+        (T.written sink.new) (T.faults sink.new) (L.tally link.new) (C.told clock.new))
+        { heard = heard; given = given }) connection.new)) }
 {
     match connection.shepherd.turn() {
         ShepherdTurn::Bytes => read::<B, S, L, C, R>(alloc, connection, source),
@@ -144,9 +150,11 @@ fn turn_all<
         (T.written sink.old) (T.faults sink.old) (L.tally link.old) (C.told clock.old)) connection.old }
     ensures seats { AreSeatsOf (ids_of shared.now.container shared.now.windows shared.now.words shared.now.reports)
         container.new windows.new words.new pass.new }
-    ensures ends { HasCalled L.makes link.old link.new (λ heard. Ends L.makes R.gives B.service B.begun result
+    ensures ends { HasCalled L.makes link.old link.new (λ heard.
+        HasGiven R.gives random.old random.new (Some result) (λ given. Ends L.makes R.gives B.service B.begun result
         (record (stand_of container.new windows.new words.new (S.left source.new) (S.faults source.new)
-        (T.written sink.new) (T.faults sink.new) (L.tally link.new) (C.told clock.new)) { heard = heard }) connection.new) }
+        (T.written sink.new) (T.faults sink.new) (L.tally link.new) (C.told clock.new))
+        { heard = heard; given = given }) connection.new)) }
 {
     for _ in rt.forever() {
         if let Some(end) = turn_once::<B, W, K, S, T, L, C, R, G>(
@@ -270,9 +278,9 @@ fn serve_with<
     ensures seats { AreSeatsOf (ids_of shared.now.container shared.now.windows shared.now.words shared.now.reports)
         container.new windows.new words.new pass.new }
     ensures site { IsOfSite shared.now.home container.new.seen }
-    ensures served { HasServedConnection L.makes link.old link.new R.gives B.service B.begun (stand_of container.new windows.new
-        words.new (S.left source.new) (S.faults source.new) (T.written sink.new) (T.faults sink.new)
-        (L.tally link.new) (C.told clock.new)) result }
+    ensures served { HasServedConnection L.makes link.old link.new R.gives random.old random.new B.service B.begun
+        (stand_of container.new windows.new words.new (S.left source.new) (S.faults source.new) (T.written sink.new)
+        (T.faults sink.new) (L.tally link.new) (C.told clock.new)) result }
 {
     connections_are_served_from_their_begin::<
         ActionProgram,
@@ -359,7 +367,8 @@ pub fn serve_gated<
     ensures seats { AreSeatsOf (ids_of shared.now.container shared.now.windows shared.now.words shared.now.reports)
         seat.new.container seat.new.windows seat.new.words seat.new.pass }
     ensures site { IsOfSite shared.now.home seat.new.container.seen }
-    ensures served { HasServedConnection L.makes link.old link.new R.gives (service_of shared.now.key shared.now.home)
+    ensures served { HasServedConnection L.makes link.old link.new R.gives random.old random.new
+        (service_of shared.now.key shared.now.home)
         (stand_of seat.old.container seat.old.windows seat.old.words (S.left source.old) (S.faults source.old)
         (T.written sink.old) (T.faults sink.old) (L.tally link.old) (C.told clock.old))
         (stand_of seat.new.container seat.new.windows seat.new.words (S.left source.new) (S.faults source.new)
@@ -411,7 +420,8 @@ pub fn serve_connection<
     ensures seats { AreSeatsOf (ids_of shared.now.container shared.now.windows shared.now.words shared.now.reports)
         seat.new.container seat.new.windows seat.new.words seat.new.pass }
     ensures site { IsOfSite shared.now.home seat.new.container.seen }
-    ensures served { HasServedConnection L.makes link.old link.new R.gives (service_of shared.now.key shared.now.home)
+    ensures served { HasServedConnection L.makes link.old link.new R.gives random.old random.new
+        (service_of shared.now.key shared.now.home)
         (stand_of seat.old.container seat.old.windows seat.old.words (S.left source.old) (S.faults source.old)
         (T.written sink.old) (T.faults sink.old) (L.tally link.old) (C.told clock.old))
         (stand_of seat.new.container seat.new.windows seat.new.words (S.left source.new) (S.faults source.new)

@@ -35,39 +35,50 @@ use std::marker::Brand;
 /// rose, and all requests have an item (`read_fault`); where the sink did, its count rose (`write_fault`). The front
 /// that is told is that of the last item (`front`).
 pub fn served_connections_tell_how_they_ended<L: Link, C: Clock, R: Random>()
-    ensures cut { (from to : L) (service : Service SiteMaker) (begun now : Stand) (told : ServedValue)
-        → HasServedConnection L.makes from to R.gives service begun now told → told.ended ≡ ServedEnd.Cut
+    ensures cut { (from to : L) (random random_after : R) (service : Service SiteMaker)
+        (begun now : Stand) (told : ServedValue)
+        → HasServedConnection L.makes from to R.gives random random_after service begun now told
+        → told.ended ≡ ServedEnd.Cut
         → (fed : List ℕ) × (begun.left ≡ prepended fed now.left) × HasEnded now.left
         × (length told.items ≡ length (requests fed).heads) × ((requests fed).ending ≡ ending_of ends.Cut)
         × ((bytes : List ℕ) × (now.written ≡ appended begun.written bytes))
         × All (λ (i : Item). is_stopped (take i.holds.held now.container.seen) ≡ false) told.items }
-    ensures closed { (from to : L) (service : Service SiteMaker) (begun now : Stand) (told : ServedValue)
-        → HasServedConnection L.makes from to R.gives service begun now told → told.ended ≡ ServedEnd.Closed
+    ensures closed { (from to : L) (random random_after : R) (service : Service SiteMaker)
+        (begun now : Stand) (told : ServedValue)
+        → HasServedConnection L.makes from to R.gives random random_after service begun now told
+        → told.ended ≡ ServedEnd.Closed
         → (fed : List ℕ) × (begun.left ≡ prepended fed now.left)
         × (length told.items ≡ length (requests fed).heads) × ((requests fed).ending ≡ ending_of ends.Closed)
         × (HasEnded now.left ⊎ ((more : List ℕ) → requests (fed ++ more) ≡ requests fed)) }
-    ensures refused { (from to : L) (service : Service SiteMaker) (begun now : Stand) (told : ServedValue)
-        (why : Untaken) → HasServedConnection L.makes from to R.gives service begun now told
+    ensures refused { (from to : L) (random random_after : R) (service : Service SiteMaker)
+        (begun now : Stand) (told : ServedValue)
+        (why : Untaken) → HasServedConnection L.makes from to R.gives random random_after service begun now told
         → told.ended ≡ ServedEnd.Refused why
         → (fed : List ℕ) × (begun.left ≡ prepended fed now.left)
         × (length told.items ≡ length (requests fed).heads)
         × ((requests fed).ending ≡ ending_of (ends.Refused why))
         × All (λ (i : Item). is_stopped (take i.holds.held now.container.seen) ≡ false) told.items }
-    ensures memory { (from to : L) (service : Service SiteMaker) (begun now : Stand) (told : ServedValue)
-        → HasServedConnection L.makes from to R.gives service begun now told → told.ended ≡ ServedEnd.OutOfMemory
+    ensures memory { (from to : L) (random random_after : R) (service : Service SiteMaker)
+        (begun now : Stand) (told : ServedValue)
+        → HasServedConnection L.makes from to R.gives random random_after service begun now told
+        → told.ended ≡ ServedEnd.OutOfMemory
         → (fed : List ℕ) × (lost : List ℕ) × (begun.left ≡ prepended (fed ++ lost) now.left)
         × ((drawn : List Draw) × (more : List ℕ)
         × (now.words.drawn ≡ begun.words.drawn ++ (serials_in drawn ++ more))) }
-    ensures drew { (from to : L) (service : Service SiteMaker) (begun now : Stand) (told : ServedValue)
-        → HasServedConnection L.makes from to R.gives service begun now told
+    ensures drew { (from to : L) (random random_after : R) (service : Service SiteMaker)
+        (begun now : Stand) (told : ServedValue)
+        → HasServedConnection L.makes from to R.gives random random_after service begun now told
         → (told.ended ≡ ServedEnd.OutOfMemory → ⊥)
         → (drawn : List Draw) × (now.words.drawn ≡ begun.words.drawn ++ serials_in drawn) }
-    ensures wrote { (from to : L) (service : Service SiteMaker) (begun now : Stand) (told : ServedValue)
-        → HasServedConnection L.makes from to R.gives service begun now told
+    ensures wrote { (from to : L) (random random_after : R) (service : Service SiteMaker)
+        (begun now : Stand) (told : ServedValue)
+        → HasServedConnection L.makes from to R.gives random random_after service begun now told
         → (told.ended ≡ ServedEnd.WriteFault → ⊥)
         → (bytes : List ℕ) × (now.written ≡ appended begun.written bytes) }
-    ensures stopped { (from to : L) (service : Service SiteMaker) (begun now : Stand) (told : ServedValue)
-        → HasServedConnection L.makes from to R.gives service begun now told → told.ended ≡ ServedEnd.Stopped
+    ensures stopped { (from to : L) (random random_after : R) (service : Service SiteMaker)
+        (begun now : Stand) (told : ServedValue)
+        → HasServedConnection L.makes from to R.gives random random_after service begun now told
+        → told.ended ≡ ServedEnd.Stopped
         → (before : List Item) × (last : Item) × (told.items ≡ before ++ last ∷ [])
         × (is_stopped (take last.holds.held now.container.seen) ≡ true)
         × All (λ (i : Item). is_stopped (take i.holds.held now.container.seen) ≡ false) before
@@ -75,22 +86,29 @@ pub fn served_connections_tell_how_they_ended<L: Link, C: Clock, R: Random>()
         × ((first : List Head) × (head : Head) × (behind : List Head)
         × ((requests fed).heads ≡ first ++ head ∷ behind) × (length told.items ≡ length first + 1)
         × (head.close ≡ false))) }
-    ensures read_fault { (from to : L) (service : Service SiteMaker) (begun now : Stand) (told : ServedValue)
-        → HasServedConnection L.makes from to R.gives service begun now told → told.ended ≡ ServedEnd.ReadFault
+    ensures read_fault { (from to : L) (random random_after : R) (service : Service SiteMaker)
+        (begun now : Stand) (told : ServedValue)
+        → HasServedConnection L.makes from to R.gives random random_after service begun now told
+        → told.ended ≡ ServedEnd.ReadFault
         → Rose begun.read_faults now.read_faults
         × All (λ (i : Item). is_stopped (take i.holds.held now.container.seen) ≡ false) told.items
         × ((fed : List ℕ) × (begun.left ≡ prepended fed now.left)
         × (length told.items ≡ length (requests fed).heads)) }
-    ensures write_fault { (from to : L) (service : Service SiteMaker) (begun now : Stand) (told : ServedValue)
-        → HasServedConnection L.makes from to R.gives service begun now told → told.ended ≡ ServedEnd.WriteFault
+    ensures write_fault { (from to : L) (random random_after : R) (service : Service SiteMaker)
+        (begun now : Stand) (told : ServedValue)
+        → HasServedConnection L.makes from to R.gives random random_after service begun now told
+        → told.ended ≡ ServedEnd.WriteFault
         → Rose begun.write_faults now.write_faults
         × ((bytes : List ℕ) × AppendsPrefix begun.written now.written bytes) }
-    ensures front { (from to : L) (service : Service SiteMaker) (begun now : Stand) (told : ServedValue)
+    ensures front { (from to : L) (random random_after : R) (service : Service SiteMaker)
+        (begun now : Stand) (told : ServedValue)
         (before : List Item) (last : Item)
-        → HasServedConnection L.makes from to R.gives service begun now told → told.items ≡ before ++ last ∷ []
+        → HasServedConnection L.makes from to R.gives random random_after service begun now told
+        → told.items ≡ before ++ last ∷ []
         → told.front ≡ last.holds.front }
-    ensures added { (from to : L) (service : Service SiteMaker) (begun now : Stand) (told : ServedValue)
-        → HasServedConnection L.makes from to R.gives service begun now told
+    ensures added { (from to : L) (random random_after : R) (service : Service SiteMaker)
+        (begun now : Stand) (told : ServedValue)
+        → HasServedConnection L.makes from to R.gives random random_after service begun now told
         → (places : List ℕ) × (now.container.own ≡ begun.container.own ++ places)
         × ((before behind : List ℕ) (place : ℕ) → places ≡ before ++ place ∷ behind
         → (length begun.container.seen ≤ place) × (place < length now.container.seen)) }

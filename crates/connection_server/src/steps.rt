@@ -9,7 +9,7 @@ ghost use Rattle.served_connections.specs.Resting.{HasLeftAll};
 ghost use Rattle.shepherd.specs.Shepherds.{has_item, turn};
 ghost use Rattle.shepherd.specs.Steps.{TakesItem, TakesRequest};
 ghost use Rattle.connection_server.specs.Serving.{ComesTo, IsAccepted, KeepsServing, service_of};
-ghost use Rattle.connection_server.specs.Stands.{HasCalled, Stand};
+ghost use Rattle.connection_server.specs.Stands.{GivesAll, HasCalled, HasGiven, Stand};
 ghost use Rattle.connection_server.specs.Turning.{ended_so, stopped_so};
 
 use crate::connection::Connection;
@@ -135,16 +135,19 @@ pub(crate) fn take_request<B: Outset, K: Keeper + Drop, L: Link, C: Clock, R: Ra
     requires service { B.service ≡ service_of shared.now.key shared.now.home }
     requires words { words.old.words ≡ shared.now.words.id }
     ensures words { words.new.words ≡ shared.now.words.id }
-    ensures on { (rest : Stand) → KeepsServing L.makes R.gives B.service B.begun (record rest {
-      words = words.old;
-      counts = counted (L.tally link.now);
-      moment = C.told clock.old;
-    }) connection.old
-        → ComesTo L.makes R.gives B.service B.begun result (record rest {
+    ensures on { (rest : Stand) (first : R) → GivesAll R.gives first rest.given random.old
+        → KeepsServing L.makes R.gives B.service B.begun (record rest {
+          words = words.old;
+          counts = counted (L.tally link.now);
+          moment = C.told clock.old;
+        }) connection.old
+        → HasGiven R.gives first random.new result (λ given. ComesTo L.makes R.gives B.service B.begun result
+        (record rest {
           words = words.new;
           counts = counted (L.tally link.now);
+          given = given;
           moment = C.told clock.new;
-        }) connection.new }
+        }) connection.new) }
 {
     requests_join_their_connections::<
         ActionProgram,

@@ -21,9 +21,15 @@ returns-in-Err-clause-served g c =
       served = record {
         heard = [];
         leads = refl;
-        so = unbegun_there g.L.Link.makes g.R.Random.gives service begun now c.requires.begun c.requires.seats.container_home c.requires.seats.windows_home site
-            (c.courses_tell_what_was_served.ensures.rested service site.container.boot.start (began_at begun) begun.container.seen begun.counts begun.moment no_course fresh tt
-            (c.connections_are_served_from_their_begin.ensures.begins service begun.container.seen site.container begun.counts begun.moment site.tells.events site.tells.journal));
+        so = record {
+          given = [];
+          reached = c.args.random.now;
+          leads = refl;
+          stays = λ other. refl;
+          so = unbegun_there g.L.Link.makes g.R.Random.gives service begun now c.requires.begun c.requires.seats.container_home c.requires.seats.windows_home site
+              (c.courses_tell_what_was_served.ensures.rested service site.container.boot.start (began_at begun) begun.container.seen begun.counts begun.moment no_course fresh tt
+              (c.connections_are_served_from_their_begin.ensures.begins service begun.container.seen site.container begun.counts begun.moment site.tells.events site.tells.journal));
+        };
       };
       front_is = refl;
     })
@@ -42,15 +48,25 @@ pub returns-clause-site : goal.returns-clause-site
 returns-clause-site g c =
     let end = c.turn_all-ended.new in
     let called = c.turn_all-ended.ensures.ends in
-    let now : Stand = record (stand_of end.container end.windows end.words (g.S.Source.left end.source) (g.S.Source.faults end.source) (g.T.Sink.written end.sink) (g.T.Sink.faults end.sink) (g.L.Link.tally end.link) (g.C.Clock.told end.clock)) { heard = called.heard } in
-    subst (λ (x : Service SiteMaker). IsOfSite x.home c.leave-items.new.container.seen) c.requires.service (c.leave-items.ensures.served now called.so).1
+    let now : Stand = record (stand_of end.container end.windows end.words (g.S.Source.left end.source) (g.S.Source.faults end.source) (g.T.Sink.written end.sink) (g.T.Sink.faults end.sink) (g.L.Link.tally end.link) (g.C.Clock.told end.clock)) { heard = called.heard; given = called.so.given } in
+    subst (λ (x : Service SiteMaker). IsOfSite x.home c.leave-items.new.container.seen) c.requires.service (c.leave-items.ensures.served now called.so.so).1
 
 pub returns-clause-served : goal.returns-clause-served
 returns-clause-served g c =
     let end = c.turn_all-ended.new in
     let called = c.turn_all-ended.ensures.ends in
-    let now : Stand = record (stand_of end.container end.windows end.words (g.S.Source.left end.source) (g.S.Source.faults end.source) (g.T.Sink.written end.sink) (g.T.Sink.faults end.sink) (g.L.Link.tally end.link) (g.C.Clock.told end.clock)) { heard = called.heard } in
+    let now : Stand = record (stand_of end.container end.windows end.words (g.S.Source.left end.source) (g.S.Source.faults end.source) (g.T.Sink.written end.sink) (g.T.Sink.faults end.sink) (g.L.Link.tally end.link) (g.C.Clock.told end.clock)) { heard = called.heard; given = called.so.given } in
     (record {
-      served = record { heard = called.heard; leads = called.leads; so = (c.leave-items.ensures.served now called.so).0 };
+      served = record {
+        heard = called.heard;
+        leads = called.leads;
+        so = record {
+          given = called.so.given;
+          reached = called.so.reached;
+          leads = called.so.leads;
+          stays = called.so.stays;
+          so = (c.leave-items.ensures.served now called.so.so).0;
+        };
+      };
       front_is = c.last_front-front.ensures ∙ ap (λ (is : List Item). last_front (record { 0 = 0 }) is) c.as_slice.ensures;
     })

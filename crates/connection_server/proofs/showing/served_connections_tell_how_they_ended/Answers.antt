@@ -80,9 +80,9 @@ module _ {L R : Type 0} (calls : L → LinkEvent → L → Type 0) (gives : Give
   read_all start course all (inr h) is = (course.fed, h.took.read, ap length is ∙ all ends.Cut h.ended)
 
 pub returns-clause-cut : goal.returns-clause-cut
-returns-clause-cut g c = λ from to service begun now told h is.
-    let there = h.served.so in
-    let by = subst (λ (e : ServedEnd). ServedBy g.L.Link.makes g.R.Random.gives service begun (record now { heard = h.served.heard }) there.start there.course e) is there.served in
+returns-clause-cut g c = λ from to random random_after service begun now told h is.
+    let there = h.served.so.so in
+    let by = subst (λ (e : ServedEnd). ServedBy g.L.Link.makes g.R.Random.gives service begun (record now { heard = h.served.heard; given = h.served.so.given }) there.start there.course e) is there.served in
     let all = c.courses_show_what_was_served.ensures.ended service there.start (began_at begun) now.container.seen now.moment there.course ends.Cut by.all.ended in
     (there.course.fed, by.all.took.read, by.by.0, ap length there.items_are ∙ all.0, all.1, (there.course.written, by.all.wrote), running now.container.seen told.items (subst (λ (is : List Item). All (λ (i : Item). WasFound now.container.seen i.holds false) is) (sym there.items_are) by.by.1))
 
@@ -91,40 +91,40 @@ closed_by left fed history items (inl h) = inl h.0
 closed_by left fed history items (inr h) = inr h.0
 
 pub returns-clause-closed : goal.returns-clause-closed
-returns-clause-closed g c = λ from to service begun now told h is.
-    let there = h.served.so in
-    let by = subst (λ (e : ServedEnd). ServedBy g.L.Link.makes g.R.Random.gives service begun (record now { heard = h.served.heard }) there.start there.course e) is there.served in
+returns-clause-closed g c = λ from to random random_after service begun now told h is.
+    let there = h.served.so.so in
+    let by = subst (λ (e : ServedEnd). ServedBy g.L.Link.makes g.R.Random.gives service begun (record now { heard = h.served.heard; given = h.served.so.given }) there.start there.course e) is there.served in
     let all = c.courses_show_what_was_served.ensures.ended service there.start (began_at begun) now.container.seen now.moment there.course ends.Closed by.all.ended in
     (there.course.fed, by.all.took.read, ap length there.items_are ∙ all.0, all.1, closed_by now.left there.course.fed now.container.seen there.course.items by.by)
 
 pub returns-clause-refused : goal.returns-clause-refused
-returns-clause-refused g c = λ from to service begun now told why h is.
-    let there = h.served.so in
-    let by = subst (λ (e : ServedEnd). ServedBy g.L.Link.makes g.R.Random.gives service begun (record now { heard = h.served.heard }) there.start there.course e) is there.served in
+returns-clause-refused g c = λ from to random random_after service begun now told why h is.
+    let there = h.served.so.so in
+    let by = subst (λ (e : ServedEnd). ServedBy g.L.Link.makes g.R.Random.gives service begun (record now { heard = h.served.heard; given = h.served.so.given }) there.start there.course e) is there.served in
     let all = c.courses_show_what_was_served.ensures.ended service there.start (began_at begun) now.container.seen now.moment there.course (ends.Refused why) by.all.ended in
     (there.course.fed, by.all.took.read, ap length there.items_are ∙ all.0, all.1, running now.container.seen told.items (subst (λ (is : List Item). All (λ (i : Item). WasFound now.container.seen i.holds false) is) (sym there.items_are) by.by))
 
 pub returns-clause-memory : goal.returns-clause-memory
-returns-clause-memory g c = λ from to service begun now told h is.
-    let there = h.served.so in
-    let by = subst (λ (e : ServedEnd). ServedBy g.L.Link.makes g.R.Random.gives service begun (record now { heard = h.served.heard }) there.start there.course e) is there.served in
+returns-clause-memory g c = λ from to random random_after service begun now told h is.
+    let there = h.served.so.so in
+    let by = subst (λ (e : ServedEnd). ServedBy g.L.Link.makes g.R.Random.gives service begun (record now { heard = h.served.heard; given = h.served.so.given }) there.start there.course e) is there.served in
     (there.course.fed, by.lost, by.read, (there.course.drawn, by.drew.0, by.drew.1))
 
 pub returns-clause-drew : goal.returns-clause-drew
-returns-clause-drew g c = λ from to service begun now told h not.
-    let there = h.served.so in
-    let took = took_all g.L.Link.makes g.R.Random.gives service begun (record now { heard = h.served.heard }) told.items there.start there.course told.ended not there.served in
+returns-clause-drew g c = λ from to random random_after service begun now told h not.
+    let there = h.served.so.so in
+    let took = took_all g.L.Link.makes g.R.Random.gives service begun (record now { heard = h.served.heard; given = h.served.so.given }) told.items there.start there.course told.ended not there.served in
     (there.course.drawn, ap (λ (w : WordSeatValue). w.drawn) took.drew)
 
 pub returns-clause-wrote : goal.returns-clause-wrote
-returns-clause-wrote g c = λ from to service begun now told h not.
-    let there = h.served.so in
-    (there.course.written, wrote_all g.L.Link.makes g.R.Random.gives service begun (record now { heard = h.served.heard }) told.items there.start there.course told.ended not there.served)
+returns-clause-wrote g c = λ from to random random_after service begun now told h not.
+    let there = h.served.so.so in
+    (there.course.written, wrote_all g.L.Link.makes g.R.Random.gives service begun (record now { heard = h.served.heard; given = h.served.so.given }) told.items there.start there.course told.ended not there.served)
 
 pub returns-clause-stopped : goal.returns-clause-stopped
-returns-clause-stopped g c = λ from to service begun now told h is.
-    let there = h.served.so in
-    let by = subst (λ (e : ServedEnd). ServedBy g.L.Link.makes g.R.Random.gives service begun (record now { heard = h.served.heard }) there.start there.course e) is there.served in (
+returns-clause-stopped g c = λ from to random random_after service begun now told h is.
+    let there = h.served.so.so in
+    let by = subst (λ (e : ServedEnd). ServedBy g.L.Link.makes g.R.Random.gives service begun (record now { heard = h.served.heard; given = h.served.so.given }) there.start there.course e) is there.served in (
       by.stopped.before,
       by.stopped.last,
       there.items_are ∙ by.stopped.items_are,
@@ -134,28 +134,28 @@ returns-clause-stopped g c = λ from to service begun now told h is.
     )
 
 pub returns-clause-read_fault : goal.returns-clause-read_fault
-returns-clause-read_fault g c = λ from to service begun now told h is.
-    let there = h.served.so in
-    let by = subst (λ (e : ServedEnd). ServedBy g.L.Link.makes g.R.Random.gives service begun (record now { heard = h.served.heard }) there.start there.course e) is there.served in (
+returns-clause-read_fault g c = λ from to random random_after service begun now told h is.
+    let there = h.served.so.so in
+    let by = subst (λ (e : ServedEnd). ServedBy g.L.Link.makes g.R.Random.gives service begun (record now { heard = h.served.heard; given = h.served.so.given }) there.start there.course e) is there.served in (
       by.failed,
       running now.container.seen told.items (subst (λ (is : List Item). All (λ (i : Item). WasFound now.container.seen i.holds false) is) (sym there.items_are) by.running),
-      read_all g.L.Link.makes g.R.Random.gives service begun (record now { heard = h.served.heard }) told.items there.start there.course
+      read_all g.L.Link.makes g.R.Random.gives service begun (record now { heard = h.served.heard; given = h.served.so.given }) told.items there.start there.course
           (λ end ended. (c.courses_show_what_was_served.ensures.ended service there.start (began_at begun) now.container.seen now.moment there.course end ended).0) by.all there.items_are,
     )
 
 pub returns-clause-write_fault : goal.returns-clause-write_fault
-returns-clause-write_fault g c = λ from to service begun now told h is.
-    let there = h.served.so in
-    let by = subst (λ (e : ServedEnd). ServedBy g.L.Link.makes g.R.Random.gives service begun (record now { heard = h.served.heard }) there.start there.course e) is there.served in
+returns-clause-write_fault g c = λ from to random random_after service begun now told h is.
+    let there = h.served.so.so in
+    let by = subst (λ (e : ServedEnd). ServedBy g.L.Link.makes g.R.Random.gives service begun (record now { heard = h.served.heard; given = h.served.so.given }) there.start there.course e) is there.served in
     (by.failed, (there.course.written, by.wrote))
 
 pub returns-clause-front : goal.returns-clause-front
-returns-clause-front g c = λ from to service begun now told before last h is.
+returns-clause-front g c = λ from to random random_after service begun now told before last h is.
     h.front_is ∙ ap (λ (items : List Item). last_front (record { 0 = 0 }) items) is ∙ last_is (record { 0 = 0 }) before last
 
 pub returns-clause-added : goal.returns-clause-added
-returns-clause-added g c = λ from to service begun now told h.
-    let added = h.served.so.come.container in (
+returns-clause-added g c = λ from to random random_after service begun now told h.
+    let added = h.served.so.so.come.container in (
       added.places,
       added.own,
       λ before behind place is. (

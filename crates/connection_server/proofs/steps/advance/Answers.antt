@@ -22,7 +22,7 @@ pub returns-in-Ok : goal.returns-in-Ok
 returns-in-Ok g c = λ now k.
     let old = c.args.connection.now in
     let key = c.as_slice.result.now in
-    went_on g.L.Link.makes g.R.Random.gives g.B.Outset.service g.B.Outset.begun now now old _ (record { items = refl; stopped = refl }) (ap (λ (s : Shepherd ActionCall). s.ended) c.in-Ok.ensures.step.rest) refl refl refl refl (reached_here now.counts) refl (omega arith) (omega arith) refl (omega arith)
+    went_on g.L.Link.makes g.R.Random.gives g.B.Outset.service g.B.Outset.begun now now old _ (record { items = refl; stopped = refl }) (ap (λ (s : Shepherd ActionCall). s.ended) c.in-Ok.ensures.step.rest) refl refl refl refl refl (reached_here now.counts) refl (omega arith) (omega arith) refl (omega arith)
     (λ start course parts serves. c.connections_are_served_behind_their_steps.ensures.advance g.B.Outset.service start (began_at g.B.Outset.begun) now.container.seen now.counts now.moment course old.shepherd c.advance.new.self
     c.requires.turn (rw (c.requires.service, ← c.as_slice.ensures) c.in-Ok.ensures.step) serves)
     (λ heeds. stepped now.container.seen old.items.items old.stopped (λ (v : Visit ActionCall) w. Advances key v v.work w) old.shepherd.stage c.advance.new.self.stage
@@ -32,7 +32,7 @@ returns-in-Ok g c = λ now k.
 pub returns-in-Err : goal.returns-in-Err
 returns-in-Err g c = λ now k.
     let old = c.args.connection.now in
-    wanted g.L.Link.makes g.R.Random.gives g.B.Outset.service g.B.Outset.begun now now [] old _ (record { items = refl; stopped = refl }) refl refl (drawn_none now.words) refl (reached_here now.counts) (sym (prepended_none now.left)) (omega arith) (omega arith) refl (omega arith)
+    wanted g.L.Link.makes g.R.Random.gives g.B.Outset.service g.B.Outset.begun now now [] old _ (record { items = refl; stopped = refl }) refl refl (drawn_none now.words) refl refl (reached_here now.counts) (sym (prepended_none now.left)) (omega arith) (omega arith) refl (omega arith)
     (λ start course serves. c.connections_stop_where_memory_is_wanted.ensures.advance g.B.Outset.service start (began_at g.B.Outset.begun) now.container.seen now.counts now.moment course old.shepherd c.advance.new.self
     c.requires.turn c.in-Err.ensures.holds serves)
     (λ heeds. stepped now.container.seen old.items.items old.stopped (λ (v : Visit ActionCall) w. w ≡ record v { work = Opening }) old.shepherd.stage c.advance.new.self.stage

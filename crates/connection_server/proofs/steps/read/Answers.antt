@@ -34,7 +34,7 @@ returns-in-Err-feed g c = λ rest k.
     let next : Stand = record rest { left = g.S.Source.left c.read.new.self; read_faults = g.S.Source.faults c.read.new.self } in
     let more : List ℕ = take c.in-Ok.count c.read.new.into in
     let same = ap (λ (s : Shepherd ActionCall). s.stage) c.in-Err-feed.ensures.want in
-    wanted g.L.Link.makes g.R.Random.gives g.B.Outset.service g.B.Outset.begun now next more old _ (record { items = refl; stopped = refl }) refl refl (drawn_none rest.words) refl (reached_here rest.counts) c.in-Ok.ensures.taken
+    wanted g.L.Link.makes g.R.Random.gives g.B.Outset.service g.B.Outset.begun now next more old _ (record { items = refl; stopped = refl }) refl refl (drawn_none rest.words) refl refl (reached_here rest.counts) c.in-Ok.ensures.taken
     c.read.ensures.count (omega arith) refl (omega arith)
     (λ start course serves. c.connections_stop_where_memory_is_wanted.ensures.bytes g.B.Outset.service start (began_at g.B.Outset.begun) rest.container.seen rest.counts rest.moment course old.shepherd c.feed.new.self c.requires same serves)
     (λ heeds. still rest.container.seen old.items.items old.stopped old.shepherd.stage c.feed.new.self.stage same heeds)

@@ -19,7 +19,7 @@ pub returns-in-Err : goal.returns-in-Err
 returns-in-Err g c = λ now k.
     let old = c.args.connection.now in
     let new = c.reserve.new.self in
-    wanted g.L.Link.makes g.R.Random.gives g.B.Outset.service g.B.Outset.begun now now [] old new (record { items = c.reserve.ensures.items; stopped = c.reserve.ensures.rest.0 }) refl refl (drawn_none now.words) refl (reached_here now.counts) (sym (prepended_none now.left)) (omega arith) (omega arith) refl (omega arith)
+    wanted g.L.Link.makes g.R.Random.gives g.B.Outset.service g.B.Outset.begun now now [] old new (record { items = c.reserve.ensures.items; stopped = c.reserve.ensures.rest.0 }) refl refl (drawn_none now.words) refl refl (reached_here now.counts) (sym (prepended_none now.left)) (omega arith) (omega arith) refl (omega arith)
     (λ start course serves. c.connections_stop_where_memory_is_wanted.ensures.room g.B.Outset.service start (began_at g.B.Outset.begun) now.container.seen now.counts now.moment course old.shepherd new.shepherd
     c.requires (ap (λ (s : Shepherd ActionCall). s.stage) c.reserve.ensures.rest.1) serves)
     (λ heeds. still now.container.seen old.items.items old.stopped old.shepherd.stage new.shepherd.stage (ap (λ (s : Shepherd ActionCall). s.stage) c.reserve.ensures.rest.1) heeds)
