@@ -1,0 +1,90 @@
+-- What a server has run: boots, one after the other over the same keeper.
+use Rattle.std.specs.Prelude.{◌≡◌, ◌≢◌, ◌⊎◌, ℕ, zero, suc, List, Option, Some, None}
+use Rattle.auction_rows.specs.Parts.{site_parts}
+use Rattle.boot_core.specs.declared.refusals.StartRefusal.{StartRefusal}
+use Rattle.boot_core.specs.declared.refusals.StartRefusal.TheVariants as refusals
+use Rattle.component_pool.specs.Plans.{left_by_process}
+use Rattle.container_core.specs.Container.{ContainerValue, HasGrownBy, HoldsRows}
+use Rattle.container_core.specs.Start.{IsRefusedStart, IsStarted}
+use Rattle.crash_base.specs.declared.fault_plans.FaultPlan.{FaultPlan}
+use Rattle.journal_model.specs.declared.limits.JournalLimits.{JournalLimits}
+use Rattle.journal_model.specs.declared.limits.TheConstants.{MAX_ENTRIES, MAX_JOURNAL_BYTES}
+use Rattle.outside.specs.Faults.{Rose}
+use Rattle.outside.specs.Keeper.{KeeperTold}
+use Rattle.service_log.specs.Ending.{status_of}
+use Rattle.service_log.specs.declared.ending.ServiceEnd.{ServiceEnd}
+use Rattle.service_log.specs.declared.ending.ServiceEnd.TheVariants.{Closed, KeeperFailed, BadRow, BootsSpent, OutOfMemory}
+
+-- What a keeper tells, where it does, and how often it has failed.
+pub record KeeperSeen : Type 0 where
+  pub told : Option KeeperTold
+  pub faults : ℕ
+
+-- the keeper that tells this and has failed so often
+abbrev pub seen : Option KeeperTold → ℕ → KeeperSeen
+seen told faults = record { told = told; faults = faults }
+
+-- how full the journal of a boot may be
+abbrev pub service_limits : JournalLimits
+service_limits = record { entries = MAX_ENTRIES; bytes = MAX_JOURNAL_BYTES }
+
+-- A boot of the site was started over a keeper with these fault plans, and it has grown. The keeper that it left, where
+-- it tells, holds just the rows that the journal of the boot leaves.
+pub record RanBoot (plans : List FaultPlan) (before after : KeeperSeen) : Type 0 where
+  pub started : ContainerValue
+  pub is_started : IsStarted site_parts plans service_limits before.told started
+  pub ended : ContainerValue
+  pub grown : HasGrownBy started ended
+  pub left : after ≡ seen ended.told ended.faults
+  pub rows : HoldsRows ended.told ended.boot
+
+-- the fault plans of a boot, by how many came before it: a restart leaves those that no reboot cures
+abbrev pub plans_behind : ℕ → List FaultPlan → List FaultPlan
+plans_behind zero plans = plans
+plans_behind (suc boots) plans = left_by_process (plans_behind boots plans)
+
+-- So many boots were run, each over the keeper that the one before left.
+abbrev pub RanBoots : List FaultPlan → ℕ → KeeperSeen → KeeperSeen → Type 0
+RanBoots plans zero before after = after ≡ before
+RanBoots plans (suc boots) before after =
+    (between : KeeperSeen) × RanBoots plans boots before between × RanBoot (plans_behind boots plans) between after
+
+-- Why no more boots were run, by the keeper that the last one left and the one that is handed back.
+abbrev pub EndedOver : ServiceEnd → KeeperSeen → KeeperSeen → Type 0
+EndedOver Closed before after = after ≡ before
+EndedOver KeeperFailed before after =
+    IsRefusedStart refusals.KeeperFailed before.told after.told × Rose before.faults after.faults
+EndedOver (BadRow id) before after = IsRefusedStart (refusals.BadRow id) before.told after.told
+EndedOver BootsSpent before after = IsRefusedStart refusals.BootsSpent before.told after.told
+EndedOver OutOfMemory before after =
+    (after ≡ before) ⊎ ((refusal : StartRefusal) × IsRefusedStart refusal before.told after.told)
+
+-- A container was started behind some boots, over the keeper that the last of them left.
+pub record HasStarted (plans : List FaultPlan) (before : KeeperSeen) (c : ContainerValue) : Type 0 where
+  pub boots : ℕ
+  pub between : KeeperSeen
+  pub ran : RanBoots plans boots before between
+  pub started : IsStarted site_parts (plans_behind boots plans) service_limits between.told c
+
+-- Some boots were run over a keeper, the first of them with these fault plans, and then a server ended so.
+pub record RanFrom (plans : List FaultPlan) (end : ServiceEnd) (before after : KeeperSeen) : Type 0 where
+  pub boots : ℕ
+  pub last : KeeperSeen
+  pub ran : RanBoots plans boots before last
+  pub ended : EndedOver end last after
+
+-- Some boots were run over a keeper, and then a server ended so.
+abbrev pub RanOver : ServiceEnd → KeeperSeen → KeeperSeen → Type 0
+RanOver end before after = (plans : List FaultPlan) × RanFrom plans end before after
+
+-- how a server ended whose container was not started
+abbrev pub end_of : StartRefusal → ServiceEnd
+end_of refusals.KeeperFailed = KeeperFailed
+end_of (refusals.BadRow id) = BadRow id
+end_of refusals.BootsSpent = BootsSpent
+end_of refusals.OutOfMemory = OutOfMemory
+
+-- it is told that no more connections come exactly where a server ended for that
+abbrev pub TellsClosed : {C : Type 0} → Option C → ServiceEnd → Type 0
+TellsClosed None end = status_of end ≢ 0
+TellsClosed (Some closed) end = end ≡ Closed

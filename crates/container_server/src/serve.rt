@@ -1,0 +1,338 @@
+//! A site that is served, from its first boot to its last.
+
+ghost use Rattle.std.specs.Prelude.{◌≡◌, ◌≢◌, ◌+◌, ◌≤◌, ℕ, List, length, vec_len, IfErr, IfOk, MatchOption, MatchResult, None};
+ghost use Rattle.auction_rows.specs.Parts.{site_parts};
+ghost use Rattle.container_core.specs.Container.{ContainerValue, HasGrownBy};
+ghost use Rattle.container_server.specs.Running.{HasStarted, KeeperSeen, RanFrom, RanOver, TellsClosed, end_of, seen, service_limits};
+ghost use Rattle.crash_base.specs.declared.fault_plans.FaultPlan.{FaultPlan};
+ghost use Rattle.service_log.specs.Ending.{status_of};
+
+use crate::boot::serve_boot;
+use crate::config::SiteConfig;
+use crate::deciding::Desk;
+use crate::gate::Gate;
+use crate::tools::{ToolBox, Tools, take_tools};
+use auction_rows::site_deployment;
+use container_core::{
+    Container, JournalLimits, MAX_ENTRIES, MAX_JOURNAL_BYTES, StartFail, StartRefusal,
+};
+use crash_base::{FaultList, OutOfMemory, Place};
+use deployment::Deployment;
+use outside::{Keeper, Sink};
+use recovery_manager::Manager;
+use service_log::{ServiceEnd, ServiceEvent, log_event, report_end};
+use std::alloc::Global;
+use std::sync::{Mutex, Wait};
+use std::thread::Threads;
+
+/// How a server ended whose container was not started.
+fn end_of(refusal: StartRefusal) -> ServiceEnd
+    ensures { result ≡ end_of refusal }
+{
+    match refusal {
+        StartRefusal::KeeperFailed => ServiceEnd::KeeperFailed,
+        StartRefusal::BadRow { id } => ServiceEnd::BadRow(id),
+        StartRefusal::BootsSpent => ServiceEnd::BootsSpent,
+        StartRefusal::OutOfMemory => ServiceEnd::OutOfMemory,
+    }
+}
+
+/// What a server is made with, before its first boot.
+#[derive(Drop)]
+struct Beginning<L: Drop, C: Drop, R: Drop> {
+    tools: Vec<Mutex<Tools<L, C, R>>>,
+    plans: FaultList,
+    manager: Manager,
+    /// For the container, and for the names in what the operator is told.
+    deployment: Deployment,
+    names: Deployment,
+}
+
+/// How full the journal of a boot may be.
+fn limits() -> JournalLimits
+    ensures { result ≡ service_limits }
+{
+    JournalLimits {
+        entries: MAX_ENTRIES,
+        bytes: MAX_JOURNAL_BYTES,
+    }
+}
+
+/// The rows of a container beside that of its boot's number.
+fn row_count<K: Keeper + Drop>(
+    alloc: Global,
+    container: &Container<K>,
+) -> Result<u64, OutOfMemory> {
+    let rows = container.rows().all_at(alloc, Place(0))?;
+    let count = rows.as_slice().len() as u64;
+    Ok(count.saturating_sub(1))
+}
+
+/// Tells the operator of the start of a boot. Where there is no memory to count its rows, nothing is told.
+fn log_start<K: Keeper + Drop, E: Sink>(
+    alloc: Global,
+    desk: &mut Desk<'_, E>,
+    container: &Container<K>,
+) {
+    if let Ok(rows) = row_count(alloc, container) {
+        let boot = container.boot();
+        let event = ServiceEvent::Started { boot, rows };
+        log_event(alloc, desk.errors, &desk.deployment, event);
+    }
+}
+
+/// What a server was made with, before its first boot.
+fn begin<G: Gate>(
+    alloc: Global,
+    gate: &G,
+    workers: u16,
+) -> Result<Beginning<G::L, G::C, G::R>, OutOfMemory>
+    requires { workers ≤ 64 }
+    ensures tools { IfOk result (λ made. vec_len made.tools ≡ workers + 2) }
+    ensures deployment { IfOk result (λ made. (made.deployment ≡ site_parts) × (made.names ≡ site_parts)) }
+{
+    let tools = take_tools(alloc, gate, workers as u32 + 2)?;
+    let plans = gate.plan()?;
+    let names = site_deployment(alloc)?;
+    let manager = Manager::new(alloc, &names)?;
+    let deployment = site_deployment(alloc)?;
+    Ok(Beginning {
+        tools,
+        plans,
+        manager,
+        deployment,
+        names,
+    })
+}
+
+/// How a server ended, that no more connections come, if that is why, and its keeper.
+#[derive(Drop)]
+struct ServeResult<C: Drop, K: Keeper + Drop> {
+    end: ServiceEnd,
+    closed: Option<C>,
+    keeper: K,
+}
+
+/// A server whose container was not started.
+fn unstarted<C: Drop, K: Keeper + Drop>(fail: StartFail<K>) -> ServeResult<C, K>
+    ensures end { result.end ≡ end_of fail.refusal }
+    ensures closed { result.closed ≡ None }
+    ensures keeper { result.keeper ≡ fail.keeper }
+{
+    let StartFail { refusal, keeper } = fail;
+    ServeResult {
+        end: end_of(refusal),
+        closed: None,
+        keeper,
+    }
+}
+
+/// Goes on behind a boot: starts the container again, unless no more connections come.
+fn go_on<C: Drop, K: Keeper + Drop>(
+    alloc: Global,
+    container: Container<K>,
+    closed: Option<C>,
+) -> Result<Container<K>, ServeResult<C, K>>
+    ensures on { (plans : List FaultPlan) (before : KeeperSeen) (started : ContainerValue)
+        → HasStarted plans before started → HasGrownBy started container
+        → MatchResult result (λ again. HasStarted plans before again)
+        (λ ended. RanFrom plans ended.end before (seen (K.told ended.keeper) (K.faults ended.keeper))) }
+    ensures closed { IfErr result (λ ended. TellsClosed ended.closed ended.end) }
+{
+    match closed {
+        Some(closed) => Err(ServeResult {
+            end: ServiceEnd::Closed,
+            closed: Some(closed),
+            keeper: container.into_keeper(),
+        }),
+        None => match container.reopen(alloc) {
+            Ok(again) => Ok(again),
+            Err(fail) => Err(unstarted(fail)),
+        },
+    }
+}
+
+/// Serves one boot, and starts the container again, if there is to be another one.
+fn serve_once<'a, G: Gate + Sync, K: Keeper + Drop, E: Sink + Send, R: Threads + Wait + Sync>(
+    rt: &R,
+    alloc: Global,
+    gate: &G,
+    config: &SiteConfig,
+    tools: &[ToolBox<G>],
+    workers: u16,
+    bricks: u16,
+    container: Container<K>,
+    desk: Desk<'a, E>,
+) -> (Result<Container<K>, ServeResult<G::Closed, K>>, Desk<'a, E>)
+    requires workers { (1 ≤ workers) × (workers ≤ 64) × (workers + 2 ≡ length tools.now) }
+    requires quorum { (1 ≤ config.now.wq) × (config.now.wq ≤ config.now.w) × (config.now.w ≤ bricks) × (bricks ≤ 16) }
+    requires site { container.boot.start.deployment ≡ site_parts }
+    ensures on { (plans : List FaultPlan) (before : KeeperSeen) → HasStarted plans before container
+        → MatchResult result.0 (λ again. HasStarted plans before again)
+        (λ ended. RanFrom plans ended.end before (seen (K.told ended.keeper) (K.faults ended.keeper))) }
+    ensures closed { IfErr result.0 (λ ended. TellsClosed ended.closed ended.end) }
+{
+    let mut desk = desk;
+    log_start(alloc, &mut desk, &container);
+    let (served, desk) = serve_boot::<G, K, E, R>(
+        rt, alloc, gate, config, tools, workers, bricks, container, desk,
+    );
+    match served {
+        Ok((container, closed)) => (go_on(alloc, container, closed), desk),
+        Err(container) => {
+            let ended = ServeResult {
+                end: ServiceEnd::OutOfMemory,
+                closed: None,
+                keeper: container.into_keeper(),
+            };
+            (Err(ended), desk)
+        }
+    }
+}
+
+/// Serves boots, one after the other, in this container and then in those that are started again.
+fn serve_boots<'a, G: Gate + Sync, K: Keeper + Drop, E: Sink + Send, R: Threads + Wait + Sync>(
+    rt: &R,
+    alloc: Global,
+    gate: &G,
+    config: &SiteConfig,
+    tools: &[ToolBox<G>],
+    workers: u16,
+    bricks: u16,
+    container: Container<K>,
+    desk: Desk<'a, E>,
+) -> (ServeResult<G::Closed, K>, Desk<'a, E>)
+    requires workers { (1 ≤ workers) × (workers ≤ 64) × (workers + 2 ≡ length tools.now) }
+    requires quorum { (1 ≤ config.now.wq) × (config.now.wq ≤ config.now.w) × (config.now.w ≤ bricks) × (bricks ≤ 16) }
+    requires started { (plans : List FaultPlan) × (before : KeeperSeen) × HasStarted plans before container }
+    ensures on { (plans : List FaultPlan) (before : KeeperSeen) → HasStarted plans before container
+        → RanFrom plans result.0.end before (seen (K.told result.0.keeper) (K.faults result.0.keeper)) }
+    ensures closed { TellsClosed result.0.closed result.0.end }
+{
+    let mut container = container;
+    let mut desk = desk;
+    for _ in rt.forever() {
+        let (served, kept) = serve_once::<G, K, E, R>(
+            rt, alloc, gate, config, tools, workers, bricks, container, desk,
+        );
+        match served {
+            Ok(again) => {
+                container = again;
+                desk = kept;
+            }
+            Err(ended) => return (ended, kept),
+        }
+    }
+    unreachable!()
+}
+
+/// Serves a site over a keeper, with what was made before.
+fn serve_over<'a, G: Gate + Sync, K: Keeper + Drop, E: Sink + Send, R: Threads + Wait + Sync>(
+    rt: &R,
+    alloc: Global,
+    gate: &G,
+    config: &SiteConfig,
+    workers: u16,
+    bricks: u16,
+    errors: &'a mut E,
+    keeper: K,
+    beginning: Beginning<G::L, G::C, G::R>,
+) -> ServeResult<G::Closed, K>
+    requires workers { (1 ≤ workers) × (workers ≤ 64) × (workers + 2 ≡ vec_len beginning.tools) }
+    requires quorum { (1 ≤ config.now.wq) × (config.now.wq ≤ config.now.w) × (config.now.w ≤ bricks) × (bricks ≤ 16) }
+    requires site { beginning.deployment ≡ site_parts }
+    ensures ran { RanOver result.end (seen (K.told keeper) (K.faults keeper))
+        (seen (K.told result.keeper) (K.faults result.keeper)) }
+    ensures closed { TellsClosed result.closed result.end }
+{
+    let Beginning {
+        tools,
+        plans,
+        manager,
+        deployment,
+        names,
+    } = beginning;
+    let container = match Container::start(alloc, deployment, keeper, plans, limits()) {
+        Ok(container) => container,
+        Err(fail) => return unstarted(fail),
+    };
+    let desk = Desk {
+        errors,
+        manager,
+        deployment: names,
+    };
+    let (ended, desk) = serve_boots::<G, K, E, R>(
+        rt,
+        alloc,
+        gate,
+        config,
+        tools.as_slice(),
+        workers,
+        bricks,
+        container,
+        desk,
+    );
+    drop(desk);
+    ended
+}
+
+/// Serves a site over a keeper, by so many workers, with bricks 1 to `bricks`, until no more connections come or a
+/// container cannot be started.
+///
+/// The workers take connections of the gate and serve them, as `serve_gated` of `connection_server` says. One thread
+/// decides on the requests that failed, and reboots what its decisions name. Another one sweeps the bricks. Where the
+/// process is to be rebooted, or a restart is due before the journal is full (`is_restart_due`), the container is
+/// stopped, all threads end, and it is started again over its keeper with the fault plans that no reboot cures. Work
+/// that no thread can be started for is done by the caller.
+///
+/// The status, the last word of the gate, if it had one, and the keeper, whatever the status is:
+///
+/// - 0: the gate gave its last word: no more connections come.
+/// - 6: the keeper failed while a container was to be started.
+/// - 7: the keeper gave a row that may not be loaded.
+/// - 9: memory ran out.
+/// - 11: no container was started, since the number of the last boot is the greatest that there is.
+///
+/// The operator is told on `errors` of each start, each reboot and each stop, and at the end of the status, except 0. A
+/// fault there changes nothing else.
+///
+/// It returns only if its workers do: that any connection is served, that anything is rebooted or swept, is not
+/// promised.
+pub fn run_serve<R: Threads + Wait + Sync, G: Gate + Sync, E: Sink + Send, K: Keeper + Drop>(
+    rt: &R,
+    alloc: Global,
+    gate: &G,
+    workers: u16,
+    config: &SiteConfig,
+    bricks: u16,
+    errors: &mut E,
+    keeper: K,
+) -> (u8, Option<G::Closed>, K)
+    requires workers { (1 ≤ workers) × (workers ≤ 64) }
+    requires quorum { (1 ≤ config.now.wq) × (config.now.wq ≤ config.now.w) × (config.now.w ≤ bricks) × (bricks ≤ 16) }
+    // There were boots, one after the other, each over the keeper that the one before left, and why there is no other
+    // one the status says; the first was over the keeper that was given, and the last one left the keeper that is handed
+    // back, or it was asked for another boot that was not started.
+    ensures ran { (end : ServiceEnd) × (result.0 ≡ status_of end)
+        × RanOver end (seen (K.told keeper) (K.faults keeper)) (seen (K.told result.2) (K.faults result.2)) }
+    // The status is 0 exactly where the last word of the gate stands beside it.
+    ensures closed { MatchOption result.1 (result.0 ≢ 0) (λ _. result.0 ≡ 0) }
+{
+    let beginning = match begin(alloc, gate, workers) {
+        Ok(beginning) => beginning,
+        Err(OutOfMemory) => {
+            let end = report_end(alloc, errors, ServiceEnd::OutOfMemory);
+            return (end.status(), None, keeper);
+        }
+    };
+    let ended = serve_over::<G, K, E, R>(
+        rt, alloc, gate, config, workers, bricks, errors, keeper, beginning,
+    );
+    let ServeResult {
+        end,
+        closed,
+        keeper,
+    } = ended;
+    let end = report_end(alloc, errors, end);
+    (end.status(), closed, keeper)
+}
