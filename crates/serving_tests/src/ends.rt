@@ -23,6 +23,19 @@ const BAD: &str =
     "HTTP/1.1 400 Bad Request\r\nContent-Type: text/html; charset=utf-8\r\nContent-Length: 64\r\n\
 Connection: close\r\n\r\n<!doctype html>\n<title>Bad request</title>\n<h1>Bad request</h1>\n";
 
+/// A request for a page that is not there.
+const NOPE: &str = "GET /nope HTTP/1.1\r\nHost: localhost\r\n\r\n";
+
+/// What is answered to it.
+const NOT_THERE: &str =
+    "HTTP/1.1 404 Not Found\r\nContent-Type: text/html; charset=utf-8\r\nContent-Length: 60\r\n\r\n\
+<!doctype html>\n<title>Not there</title>\n<h1>Not there</h1>\n";
+
+/// A form.
+const FORM: &str =
+    "POST /register HTTP/1.1\r\nHost: localhost\r\nContent-Type: application/x-www-form-urlencoded\r\n\
+Content-Length: 19\r\n\r\nname=abc&password=x";
+
 /// How many requests a conversation has.
 const REQUESTS: usize = 10;
 
@@ -78,9 +91,33 @@ fn requests_are_answered_however_cut(rt: HostRuntime) {
         expect_end(&rt, &found, "cut", 1, PAGE);
         let found = go(&rt, alloc, &bad, size, 0, 0);
         expect_end(&rt, &found, "refused", 1, &pages(&rt, alloc, 1, BAD));
+        let found = go(&rt, alloc, NOPE, size, 0, 0);
+        expect_end(&rt, &found, "closed", 1, NOT_THERE);
         let found = go(&rt, alloc, "", size, 0, 0);
         expect_end(&rt, &found, "closed", 0, "");
     }
+}
+
+/// Nothing is answered to a form of which something is left out at its end.
+#[test]
+fn a_form_is_answered_once_it_is_whole(rt: HostRuntime) {
+    let alloc = rt.alloc();
+    for size in 1..FORM.len() {
+        let found = go(
+            &rt,
+            alloc,
+            FORM.get(..size).expect(&rt, "a part"),
+            1000,
+            0,
+            0,
+        );
+        expect_end(&rt, &found, "cut", 0, "");
+    }
+    let (end, items, written) = go(&rt, alloc, FORM, 1000, 0, 0);
+    assert!(rt; end == "closed");
+    assert!(rt; items == 1);
+    assert!(rt; written.starts_with("HTTP/1.1 400 Bad Request\r\n"));
+    assert!(rt; written.contains("<h1>Bad field token</h1>"));
 }
 
 /// Each request comes with one call of the source, and each response leaves with one of the sink.
@@ -101,6 +138,14 @@ fn faults_end_a_conversation_where_they_come(rt: HostRuntime) {
             &pages(&rt, alloc, at, ""),
         );
     }
+    let found = go(&rt, alloc, &all, HOME.len() as u64, REQUESTS as u64 + 1, 0);
+    expect_end(
+        &rt,
+        &found,
+        "read fault",
+        REQUESTS,
+        &pages(&rt, alloc, REQUESTS, ""),
+    );
 }
 
 /// How many requests come, of which one finds the container stopped.

@@ -3,6 +3,8 @@
 #![tactic(auto)]
 
 #[cfg(test)]
+mod bids;
+#[cfg(test)]
 mod browser;
 #[cfg(test)]
 mod ends;

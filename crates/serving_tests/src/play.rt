@@ -1,10 +1,14 @@
 //! What clients ask of a site, a connection for each request.
 
+ghost use Rattle.std.specs.Prelude.{◌≡◌};
+
 use crate::browser::Client;
 use crate::visitor::Visitor;
 use connection_server::{Served, ServedEnd};
 use crash_base::InputBytes;
+use outcome_items::ItemOutcome;
 use outside::{BytesSink, BytesSource, CallList, SizeList};
+use request_tries::RequestOutcome;
 use std::alloc::Global;
 use std::process::Abort;
 use std::sync::Wait;
@@ -58,7 +62,19 @@ pub fn text_of<'a>(rt: &impl Abort, sink: &'a BytesSink) -> &'a str {
     std::str::from_utf8(sink.as_slice()).expect(rt, "a text")
 }
 
-/// Sends a request of a client over a connection of its own, cut behind so many bytes, and hears the response.
+/// The place of the entry that the page of the only request is of, if it is of one.
+fn only_place(served: &Served) -> Option<u64> {
+    match served.items.as_slice() {
+        [item] => match &item.outcome {
+            ItemOutcome::Ended(RequestOutcome::Page { place, .. }) => Some(place.0),
+            _ => None,
+        },
+        _ => None,
+    }
+}
+
+/// Sends a request of a client over a connection of its own, cut behind so many bytes, and hears the response. With it
+/// comes the place of the entry that its page is of, if it is of one.
 pub fn ask<W: Wait + Abort>(
     rt: &W,
     alloc: Global,
@@ -66,7 +82,9 @@ pub fn ask<W: Wait + Abort>(
     client: &mut Client,
     request: &str,
     cut: u64,
-) -> String {
+) -> (String, Option<u64>)
+    ensures there { visitor.new.shared.now ≡ visitor.old.shared.now }
+{
     let mut source = source_of(rt, alloc, request.as_bytes(), cut, 1, 0);
     let mut sink = sink_of(rt, alloc, 0);
     let served = visitor.serve(rt, alloc, &mut source, &mut sink);
@@ -74,5 +92,6 @@ pub fn ask<W: Wait + Abort>(
     assert!(rt; served.items.len() == 1);
     let response = text_of(rt, &sink);
     client.hear(rt, response);
-    String::from_str(alloc, response).expect(rt, "a response")
+    let response = String::from_str(alloc, response).expect(rt, "a response");
+    (response, only_place(&served))
 }

@@ -18,7 +18,7 @@ use std::sync::Wait;
 /// Who serves connections of a site: with its seats, over bricks of its own, by its own clock and random words.
 #[derive(Drop)]
 pub struct Visitor<'a> {
-    shared: &'a Shared<MapKeeper>,
+    pub shared: &'a Shared<MapKeeper>,
     seat: WorkerSeat<MapKeeper>,
     /// How many parts of the container's lock its seat has.
     parts: u32,
@@ -45,6 +45,7 @@ impl<'a> Visitor<'a> {
         requires seats { AreSeatsOf (ids_of shared.now.container shared.now.windows shared.now.words shared.now.reports)
             seat.container seat.windows seat.words seat.pass }
         requires site { BeginsSite shared.now.home seat.container.seen }
+        ensures there { IfOk result (λ visitor. visitor.shared.now ≡ shared.now) }
     {
         match ScriptLink::new(alloc, BRICKS) {
             Ok(link) => Ok(Visitor {
@@ -70,7 +71,9 @@ impl<'a> Visitor<'a> {
         alloc: Global,
         source: &mut BytesSource,
         sink: &mut BytesSink,
-    ) -> Served {
+    ) -> Served
+        ensures there { self.new.shared.now ≡ self.old.shared.now }
+    {
         serve_connection(
             rt,
             alloc,
@@ -128,7 +131,11 @@ impl<'a> Visitor<'a> {
 
     /// Its seats, and how many parts of the container's lock they have.
     pub fn into_seat(self) -> (WorkerSeat<MapKeeper>, u32)
-        ensures { result.0.container.parts ≡ result.1 }
+        ensures parts { result.0.container.parts ≡ result.1 }
+        ensures seats { AreSeatsOf (ids_of self.entry.shared.now.container self.entry.shared.now.windows
+            self.entry.shared.now.words self.entry.shared.now.reports)
+            result.0.container result.0.windows result.0.words result.0.pass }
+        ensures site { BeginsSite self.entry.shared.now.home result.0.container.seen }
     {
         let Visitor {
             shared: _,
