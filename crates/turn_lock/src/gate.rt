@@ -21,6 +21,9 @@ const LOOKS: u32 = 100;
 /// How often a thread sleeps before it goes through without a permit, so that nobody is passed by without end.
 const SLEEPS: u32 = 8;
 
+/// At how many holds at the latest a sleeper is woken, where others are inside all the time.
+const ROUND: u64 = 16;
+
 #[derive(Drop)]
 pub struct Gate {
     /// How many permits are left, above `NONE_LEFT`.
@@ -84,10 +87,18 @@ impl Gate {
         }
     }
 
-    /// Gives the permit back, and wakes a thread that sleeps for one.
-    pub fn leave(&self) {
-        self.left.fetch_add(1, Ordering::SeqCst);
-        if self.sleepers.load(Ordering::SeqCst) > 0 {
+    /// Gives the permit back behind a hold of the ticket, and wakes a thread that sleeps for one where nobody is inside
+    /// any more, and at each `ROUND`th ticket.
+    ///
+    /// A thread that is woken finds a permit only where few are inside, so a wake at each hold is mostly for nothing. No
+    /// sleeper is forgotten: it counts itself before it looks at `left`, and `park` returns at once unless `left` is
+    /// still what it saw. So whoever sleeps began while others were inside, and the last of those to leave finds it
+    /// counted and wakes one. Who was woken either goes through and leaves as well, or sleeps again behind others that
+    /// are inside. And where there is no last one, since others come all the time, the `ROUND`th ticket wakes.
+    pub fn leave(&self, ticket: u64) {
+        let left = self.left.fetch_add(1, Ordering::SeqCst);
+        let is_last = left == NONE_LEFT + (PERMITS - 1);
+        if (is_last || ticket % ROUND == 0) && self.sleepers.load(Ordering::SeqCst) > 0 {
             self.left.wake_one();
         }
     }

@@ -132,11 +132,11 @@ impl<T: Chronicle + Drop> TurnLock<T> {
           own = seat.old.own ++ new_places seat.old.seen (T.events value);
         } }
     {
-        hand_in(&self.table, &mut seat.inner, value);
+        let ticket = hand_in(&self.table, &mut seat.inner, value);
         if self.sleepers.load(Ordering::SeqCst) > 0 {
             self.table.shared.wake_all(SERVING);
         }
-        self.gate.leave();
+        self.gate.leave(ticket);
     }
 
     /// Cuts that many parts off. The new seat has seen as much, and has added nothing. It takes no memory, and waits
