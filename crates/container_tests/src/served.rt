@@ -1,0 +1,107 @@
+//! Servers that ran to their end.
+
+ghost use Rattle.std.specs.Prelude.{◌≡◌, ◌≤◌};
+ghost use Rattle.container_tests.specs.declared.links.TheConstants.{LINKS};
+
+use crate::clients::Ear;
+use crate::links::{BRICKS, LINKS};
+use brick_house::{BrickHouse, HouseSeats};
+use container_server::{Gate, SiteConfig, run_serve};
+use crash_base::{Items, RowBytes, RowId, RowList, RowWrite};
+use outside::{BytesSink, CallList, MapKeeper};
+use std::alloc::Global;
+use std::fmt::Write;
+use std::process::Abort;
+use std::sync::Wait;
+use std::thread::Threads;
+
+/// How a server ended.
+#[derive(Drop)]
+pub struct Run {
+    pub status: u8,
+    /// Whether it gave the last word of its gate back.
+    pub has_closed: bool,
+    /// What its operator was told.
+    pub log: BytesSink,
+    pub keeper: MapKeeper,
+}
+
+/// A house of three bricks of incarnation 1.
+pub fn house(rt: &impl Abort, alloc: Global) -> (BrickHouse, HouseSeats)
+    ensures { result.1 ≡ record { house = result.0; parts = LINKS } }
+{
+    BrickHouse::new(alloc, BRICKS, 1, LINKS).expect(rt, "a house")
+}
+
+/// A keeper of no rows, which does not fail.
+pub fn no_rows(rt: &impl Abort, alloc: Global) -> MapKeeper {
+    MapKeeper::new(alloc, RowList::new(alloc), CallList::new(alloc)).expect(rt, "a keeper")
+}
+
+/// A keeper of one row, which does not fail.
+pub fn of_row(rt: &impl Abort, alloc: Global, table: u8, key: u64, bytes: &[u8]) -> MapKeeper {
+    let mut rows = RowList::new(alloc);
+    let row = RowWrite {
+        id: RowId { table, key },
+        bytes: RowBytes::copied(alloc, bytes).expect(rt, "bytes"),
+    };
+    rows.push(row).expect(rt, "a row");
+    MapKeeper::new(alloc, rows, CallList::new(alloc)).expect(rt, "a keeper")
+}
+
+/// Lets a server run, under a key of 32 zeros, with sessions that two of three bricks are to store.
+pub fn let_run<R: Threads + Wait + Abort + Sync, G: Gate + Sync>(
+    rt: &R,
+    alloc: Global,
+    gate: &G,
+    workers: u16,
+    keeper: MapKeeper,
+) -> Run
+    requires { (1 ≤ workers) × (workers ≤ 64) }
+{
+    let config = SiteConfig {
+        key: Items::copied(alloc, &[0; 32]).expect(rt, "a key"),
+        node: 1,
+        w: 3,
+        wq: 2,
+    };
+    let mut log = BytesSink::new(alloc, 10_000, CallList::new(alloc)).expect(rt, "a log");
+    let (status, closed, keeper) = run_serve(
+        rt, alloc, gate, workers, &config, BRICKS, &mut log, keeper,
+    );
+    Run {
+        status,
+        has_closed: closed.is_some(),
+        log,
+        keeper,
+    }
+}
+
+/// What stands in a text between two marks; nothing, where it has not the first.
+fn between<'a>(text: &'a str, open: &str, close: &str) -> &'a str {
+    match text.split_once(open) {
+        None => "",
+        Some((_, rest)) => match rest.split_once(close) {
+            None => "",
+            Some((part, _)) => part,
+        },
+    }
+}
+
+/// What the operator was told.
+pub fn log_of<'a>(rt: &impl Abort, ran: &'a Run) -> &'a str {
+    std::str::from_utf8(ran.log.as_slice()).expect(rt, "a log")
+}
+
+/// The status and the heading of each response that a client has heard, in a line each.
+pub fn responses<W: Wait + Abort>(rt: &W, alloc: Global, ear: &Ear) -> String {
+    let bytes = ear.heard(rt, alloc).expect(rt, "what was heard");
+    let text = std::str::from_utf8(bytes.as_slice()).expect(rt, "a text");
+    let mut lines = String::new(alloc);
+    for response in text.split("HTTP/1.1 ").skip(1) {
+        let (status, _) = response.split_once("\r\n").expect(rt, "a status");
+        let heading = between(response, "<h1>", "</h1>");
+        writeln!(lines, "{status}: {heading}").expect(rt, "a line");
+    }
+    lines
+}
