@@ -44,7 +44,8 @@ use shepherd::ProgramMaker;
 /// What the course of a connection shows. Each item is for the request in its place of all its bytes, whatever follows;
 /// what was drawn for that stands among all that was drawn, and the response to the item among all that was put out
 /// (`request`, `response`). What the item tells of its session is so over the calls of the link that the connection
-/// made (`heard`), and each of these is one that the link makes (`called`). The container was held for no item when its
+/// made (`heard`): over those that stand in the list of its calls, and no others (`among`). Each of these is one that
+/// the link makes (`called`). The container was held for no item when its
 /// history had fewer events than at the begin (`since`), or than for the item before (`later`, `follows`); the moment
 /// of each lies between the clock's last answer before the begin and its last one (`moment`); and the link's counts
 /// rise by the causes that an item tells (`first`, `next`). What was added and left are the events and the marks that
@@ -75,6 +76,15 @@ pub fn courses_show_what_was_served<
         → c.items ≡ before ++ i ∷ behind
         → (t : TakenIn) × (slice_get (requests (c.fed ++ more)).heads (length before) ≡ Some t.head)
         × IsServedFor P.asks (HeardIn c.heard) M.makes R.gives S.looks service start history t i
+        × ((earlier : List Draw) × (later : List Draw) × (c.drawn ≡ earlier ++ (t.intake.drawn ++ later))) }
+    ensures among { (service : Service M) (start : Start) (begun : Begun) (history : List Event) (now : ℕ)
+        (c : Course) (opened : List Head) (last : List ℕ) (own : List Event) (marks : List WindowMark)
+        (before behind : List Item) (i : Item) (more : List ℕ)
+        → HasServed P.asks L.makes M.makes R.gives S.looks service start begun history now c opened last own marks
+        → c.items ≡ before ++ i ∷ behind
+        → (t : TakenIn) × (slice_get (requests (c.fed ++ more)).heads (length before) ≡ Some t.head)
+        × IsServedFor P.asks (λ (old : Unit {0}) (call : LinkEvent) (new : Unit {0}). (n : ℕ)
+        × (slice_get c.heard n ≡ Some call)) M.makes R.gives S.looks service start history t i
         × ((earlier : List Draw) × (later : List Draw) × (c.drawn ≡ earlier ++ (t.intake.drawn ++ later))) }
     ensures called { (service : Service M) (start : Start) (begun : Begun) (history : List Event) (now : ℕ)
         (c : Course) (opened : List Head) (last : List ℕ) (own : List Event) (marks : List WindowMark)

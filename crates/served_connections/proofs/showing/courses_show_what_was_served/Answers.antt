@@ -1,8 +1,9 @@
-use Rattle.std.proofs.Common.{◌≡◌, ◌∙◌, inl, inr, true, arith, ℕ, ◌≤◌, Option, List, [], ◌∷◌, ◌++◌, length, map, slice_get, Some, sym, ap, subst}
+use Rattle.std.proofs.Common.{◌≡◌, ◌∙◌, inl, inr, true, arith, ℕ, ◌≤◌, Option, List, [], ◌∷◌, ◌++◌, length, map, slice_get, Some, refl, sym, ap, subst}
 use Rattle.std.proofs.lemmas.List.{append-nil, append_assoc, length-map}
 use Rattle.http_wire.specs.Requests.{Requests}
 use Rattle.http_wire.specs.declared.taken.Head.{Head}
 use Rattle.outcome_items.specs.declared.item.Item.{Item}
+use Rattle.outside.specs.declared.link.LinkEvent.{LinkEvent}
 use Rattle.request_decisions.specs.Counts.{ascends}
 use Rattle.request_intake.specs.declared.intake.Arrival.{Arrival}
 use Rattle.request_tries.specs.Ends.{Errand}
@@ -17,7 +18,7 @@ use Rattle.served_items.specs.Served.{IsServedFor, IsValueRead}
 use Rattle.shepherd.specs.Answering.{Response}
 use Rattle.shepherd.specs.Shepherds.{fresh}
 use Rattle.served_connections.specs.Heard.{HeardIn}
-use Rattle.served_connections.proofs.Among.{known_among}
+use Rattle.served_connections.proofs.Among.{AreAmong, known_among}
 use Rattle.served_connections.proofs.Heard.{called_among, item_among}
 use Rattle.served_connections.proofs.Leaving.{by_cases}
 use Rattle.served_connections.proofs.Shown.{in_its_place, moments_between, next_there, none_unspent, responds_in_place, still_there, value_read}
@@ -44,6 +45,24 @@ returns-clause-heard g c = λ service start begun history now course opened last
       there.0,
       ap (λ (r : Requests). slice_get r.heads (length before)) all.1 ∙ still_there h.heads all.0.heads (length before) there.0.head here,
       there.2,
+      (there.3.0, there.3.1, h.served.drawn_are ∙ there.3.2),
+    )
+
+-- each of the calls that were made stands among them
+stand_there : (heard : List LinkEvent) → AreAmong (HeardIn heard) (λ (old : Unit {0}) (call : LinkEvent) (new : Unit {0}). (n : ℕ) × (slice_get heard n ≡ Some call))
+stand_there heard call (old, new, (before, behind, is)) =
+    (tt, tt, (length before, subst (λ (l : List LinkEvent). slice_get l (length before) ≡ Some call) (sym is) (next_there before behind call (length before) refl)))
+
+pub returns-clause-among : goal.returns-clause-among
+returns-clause-among g c = λ service start begun history now course opened last own marks before behind i more h is.
+    let So : TakenIn → Item → Type 0 = λ t x. IsServedFor g.P.Program.asks (HeardIn course.heard) g.M.ProgramMaker.makes g.R.Random.gives g.S.Serials.looks service start history t x in
+    let all = h.requests_are more in
+    let there = in_its_place So h.served.served h.served.opened before behind i (sym is ∙ h.served.items_are) h.served.each in
+    let here : slice_get h.heads (length before) ≡ Some there.0.head = ap (λ (hs : List Head). slice_get hs (length before)) h.served.heads_are ∙ there.1 in (
+      there.0,
+      ap (λ (r : Requests). slice_get r.heads (length before)) all.1 ∙ still_there h.heads all.0.heads (length before) there.0.head here,
+      item_among g.P.Program.asks (HeardIn course.heard) (λ (old : Unit {0}) (call : LinkEvent) (new : Unit {0}). (n : ℕ) × (slice_get course.heard n ≡ Some call)) (stand_there course.heard) (g.M.ProgramMaker.makes service.maker)
+          (WasTakenIn g.R.Random.gives g.S.Serials.looks service.key service.home) start history there.0 i there.2,
       (there.3.0, there.3.1, h.served.drawn_are ∙ there.3.2),
     )
 
