@@ -1,5 +1,5 @@
-use Rattle.std.proofs.Common.{◌≡◌, Option, ◌⊎◌, inl, inr, ◌≤◌, ◌<◌, ◌+◌, ◌∙◌, ℕ, false, List, [], ◌∷◌, ◌++◌, All, ap, arith, length, refl, subst, sym, take}
-use Rattle.std.proofs.lemmas.List.Elements.{All-pop, All-head, All-tail, All-weaker}
+use Rattle.std.proofs.Common.{◌≡◌, Option, Some, ◌⊎◌, inl, inr, ◌≤◌, ◌<◌, ◌+◌, ◌∙◌, ℕ, suc, false, List, [], ◌∷◌, ◌++◌, All, ap, arith, length, refl, slice_get, subst, sym, take}
+use Rattle.std.proofs.lemmas.List.Elements.{All-head, All-tail, All-weaker}
 use Rattle.container_core.specs.History.{is_stopped}
 use Rattle.container_core.specs.declared.history.Event.{Event}
 use Rattle.boot_core.specs.declared.boot.Start.{Start}
@@ -7,22 +7,31 @@ use Rattle.outside.specs.Source.{HasEnded, prepended}
 use Rattle.outside.specs.declared.link.LinkEvent.{LinkEvent}
 use Rattle.request_intake.specs.Intakes.{Gives}
 use Rattle.served_connections.specs.Courses.{Course}
-use Rattle.served_items.specs.Attributing.{Service}
+use Rattle.served_items.specs.Attributing.{Service, WasTakenIn}
 use Rattle.shepherd.specs.declared.shepherd.EndKind.{EndKind}
 use Rattle.site_programs.specs.declared.maker.SiteMaker.{SiteMaker}
 use Rattle.crash_base.specs.declared.numbers.Place.{Place}
 use Rattle.http_wire.specs.Requests.{requests}
 use Rattle.outcome_items.specs.declared.item.Item.{Item}
-use Rattle.shepherd.specs.Standing.{last_front}
+use Rattle.shepherd.specs.Standing.{last_front, last_of}
 use Rattle.shepherd.specs.declared.shepherd.EndKind.TheVariants as ends
 use Rattle.connection_server.specs.Closing.{AllHaveCome, EndsBy}
-use Rattle.connection_server.specs.Ending.{AllServed, HasServedAllOf, HasTakenAll, ServedBy, WroteAll}
+use Rattle.connection_server.specs.Ending.{AllServed, FirstServed, HasServedAllOf, HasTakenAll, ServedBy, WroteAll}
 use Rattle.connection_server.specs.Heeding.{WasFound}
 use Rattle.connection_server.specs.Seats.{RiseFrom}
 use Rattle.connection_server.specs.Stands.{Stand, began_at}
 use Rattle.connection_server.specs.declared.served.ServedEnd.{ServedEnd}
 use Rattle.connection_server.specs.declared.served.ServedEnd.TheVariants.{Closed, Cut, Refused, Stopped, ReadFault, WriteFault, OutOfMemory}
 use Rattle.shared_words.specs.Words.{WordSeatValue}
+use Rattle.auction_site.specs.Actions.{steps_of}
+use Rattle.http_wire.specs.declared.taken.Head.{Head}
+use Rattle.send_windows.specs.declared.history.WindowMark.{WindowMark}
+use Rattle.served_connections.specs.Telling.{HasServed}
+use Rattle.served_connections.proofs.Among.{AreAmong}
+use Rattle.served_connections.proofs.Heard.{item_among}
+use Rattle.seat_serials.specs.Drawing.{SeatLooks}
+use Rattle.site_programs.specs.Errands.{IsMadeOf}
+use Rattle.site_responses.specs.declared.answer.Untaken.{Untaken}
 use Rattle.connection_server.proofs.showing.served_connections_tell_how_they_ended.Goals as goal
 
 running : (history : List Event) (items : List Item) → All (λ (i : Item). WasFound history i.holds false) items
@@ -45,6 +54,9 @@ risen least (p ∷ before) behind place rise =
 each_below : (top : ℕ) (before behind : List ℕ) (place : ℕ) → All (λ (p : ℕ). p < top) (before ++ place ∷ behind) → place < top
 each_below top [] behind place all = All-head (λ (p : ℕ). p < top) place behind all
 each_below top (p ∷ before) behind place all = each_below top before behind place (All-tail (λ (q : ℕ). q < top) p (before ++ place ∷ behind) all)
+
+some_same : (a b : ServedEnd) → Some a ≡ Some b → a ≡ b
+some_same a b is = cc
 
 module _ {L R : Type 0} (calls : L → LinkEvent → L → Type 0) (gives : Gives R) (service : Service SiteMaker) (begun now : Stand) (items : List Item) where
   -- where memory was not wanted, just the numbers of the course were drawn
@@ -78,6 +90,51 @@ module _ {L R : Type 0} (calls : L → LinkEvent → L → Type 0) (gives : Give
       → (fed : List ℕ) × (begun.left ≡ prepended fed now.left) × (length items ≡ length (requests fed).heads)
   read_all start course all (inl h) is = (course.fed, h.took.read, ap length is ∙ all ends.Closed h.ended)
   read_all start course all (inr h) is = (course.fed, h.took.read, ap length is ∙ all ends.Cut h.ended)
+
+  -- A call has served what its course tells, up to here.
+  record ServedSo (start : Start) (course : Course) : Type 0 where
+    pub opened : List Head
+    pub last : List ℕ
+    pub own : List Event
+    pub marks : List WindowMark
+    pub so : HasServed steps_of calls (λ (maker : SiteMaker). IsMadeOf) gives SeatLooks service start (began_at begun) now.container.seen now.moment course opened last own marks
+
+  ended_so : (start : Start) (course : Course) (end : EndKind) → AllServed calls gives service begun now start course end → ServedSo start course
+  ended_so start course end h = record { opened = []; last = last_of end; own = []; marks = []; so = h.whole }
+
+  first_so : (start : Start) (course : Course) → FirstServed calls gives service begun now start course → ServedSo start course
+  first_so start course h = record { opened = []; last = []; own = []; marks = []; so = h }
+
+  served_so : (start : Start) (course : Course) (end : ServedEnd) → ServedBy calls gives service begun now start course end → ServedSo start course
+  served_so start course Closed h = ended_so start course ends.Closed h.all.ended
+  served_so start course Cut h = ended_so start course ends.Cut h.all.ended
+  served_so start course (Refused why) h = ended_so start course (ends.Refused why) h.all.ended
+  served_so start course Stopped h = first_so start course h.first
+  served_so start course ReadFault h = by h.all where
+    by : HasServedAllOf calls gives service begun now start course ends.Closed ⊎ HasServedAllOf calls gives service begun now start course ends.Cut → ServedSo start course
+    by (inl all) = ended_so start course ends.Closed all.ended
+    by (inr all) = ended_so start course ends.Cut all.ended
+  served_so start course WriteFault h = by h.served where
+    by : FirstServed calls gives service begun now start course ⊎ ((why : Untaken) × AllServed calls gives service begun now start course (ends.Refused why)) → ServedSo start course
+    by (inl first) = first_so start course first
+    by (inr (why, all)) = ended_so start course (ends.Refused why) all
+  served_so start course OutOfMemory h = record { opened = h.stopped.opened; last = []; own = h.stopped.open_own; marks = h.stopped.open_marks; so = h.stopped.served }
+
+-- what stands in a list stands in a longer one
+further : {A : Type 0} (xs ys : List A) (n : ℕ) (x : A) → slice_get ys n ≡ Some x → (m : ℕ) × (slice_get (xs ++ ys) m ≡ Some x)
+further [] ys n x is = (n, is)
+further (a ∷ xs) ys n x is =
+    let rest = further xs ys n x is in
+    (suc rest.0, rest.1)
+
+-- a call stands among these
+abbrev StandsIn : List LinkEvent → Unit {0} → LinkEvent → Unit {0} → Type 0
+StandsIn heard old call new = (n : ℕ) × (slice_get heard n ≡ Some call)
+
+still_stands : (before heard all : List LinkEvent) → all ≡ before ++ heard → AreAmong (StandsIn heard) (StandsIn all)
+still_stands before heard all is call (old, new, (n, there)) =
+    let far = further before heard n call there in
+    (tt, tt, (far.0, subst (λ (l : List LinkEvent). slice_get l far.0 ≡ Some call) (sym is) far.1))
 
 pub returns-clause-cut : goal.returns-clause-cut
 returns-clause-cut g c = λ from to random random_after service begun now told h is.
@@ -163,3 +220,23 @@ returns-clause-added g c = λ from to random random_after service begun now told
         each_below (length now.container.seen) before behind place (subst (λ (ps : List ℕ). All (λ (p : ℕ). p < length now.container.seen) ps) is added.within),
       ),
     )
+
+pub returns-clause-called : goal.returns-clause-called
+returns-clause-called g c = λ from to random random_after service begun now told h.
+    let there = h.served.so.so in
+    let heard = h.served.heard in
+    let so = served_so g.L.Link.makes g.R.Random.gives service begun (record now { heard = heard; given = h.served.so.given }) told.items there.start there.course told.ended there.served in (
+      heard,
+      h.served.leads,
+      λ before behind i is.
+          let found = c.courses_show_what_was_served.ensures.among service there.start (began_at begun) now.container.seen now.moment there.course so.opened so.last so.own so.marks before behind i [] so.so (sym there.items_are ∙ is) in (
+            there.start,
+            found.0,
+            item_among steps_of (StandsIn there.course.heard) (StandsIn heard) (still_stands begun.heard there.course.heard heard there.come.heard) IsMadeOf (WasTakenIn g.R.Random.gives SeatLooks service.key service.home) there.start now.container.seen found.0 i found.2,
+          ),
+    )
+
+pub returns-clause-given : goal.returns-clause-given
+returns-clause-given g c = λ from to random random_after service begun now told h.
+    let given = h.served.so in
+    (given.given, given.reached, given.leads, λ not. given.stays (λ is. not (some_same told.ended OutOfMemory is)))
