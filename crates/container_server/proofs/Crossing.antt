@@ -25,7 +25,6 @@ use Rattle.site_locks.specs.contracts.cells.ContainerCellChronicle.TheImpl as Im
 use Rattle.site_locks.specs.contracts.cells.WindowsCell as WindowsCell
 use Rattle.site_locks.specs.contracts.windows_lock.WindowsLock as WindowsLock
 use Rattle.site_routes.proofs.site_route.SiteRoute.TheSendSync.{the_sync as site_route_sync}
-use Rattle.site_routes.specs.contracts.router.SiteRouter as SiteRouter
 use Rattle.slab.proofs.Slab.TheSendSync.{the_sync as slab_sync}
 use Rattle.std.proofs.Crossing.{crosses}
 use Rattle.std.proofs.option.Option.TheSendSync.{the_sync as option_sync}

@@ -1,3 +1,4 @@
 pub mod Crossing
 pub mod Running
+pub mod Telling
 pub mod Using

@@ -1,11 +1,10 @@
 -- Seats that are used, split and joined.
-use Rattle.std.proofs.Common.{◌≡◌, ℕ, ◌+◌, ◌-◌, ◌≤◌, arith, subst, List, [], ◌++◌, refl, sym, ap, ◌∙◌, append-nil}
+use Rattle.std.proofs.Common.{◌≡◌, ℕ, ◌+◌, arith, subst, List, [], ◌++◌, refl, sym, ap, ◌∙◌, append-nil}
 use Rattle.std.proofs.lemmas.List.{append_assoc}
 use mathlib.Core.List.{IsPrefix}
-use Rattle.connection_server.specs.Seats.{AreSeatsOf}
 use Rattle.container_core.specs.Container.{ContainerValue}
 use Rattle.container_core.specs.declared.history.Event.{Event}
-use Rattle.container_server.specs.Seats.{AreOf, HaveParts, SeatsValue, SiteValue, WereUsed}
+use Rattle.container_server.specs.Seats.{AreOf, SeatsValue, SiteValue, WereUsed}
 use Rattle.site_locks.specs.Holds.{InHold}
 use Rattle.turn_lock.specs.Seats.{SeatValue}
 

@@ -1,3 +1,4 @@
 pub mod Planning
 pub mod Running
 pub mod Seats
+pub mod Telling

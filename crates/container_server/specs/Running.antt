@@ -1,5 +1,5 @@
 -- What a server has run: boots, one after the other over the same keeper.
-use Rattle.std.specs.Prelude.{◌≡◌, ◌≢◌, ◌⊎◌, ℕ, zero, suc, List, Option, Some, None}
+use Rattle.std.specs.Prelude.{◌≡◌, ◌≢◌, ◌⊎◌, ◌≤◌, ℕ, zero, suc, List, Option, Some, None}
 use Rattle.auction_rows.specs.Parts.{site_parts}
 use Rattle.boot_core.specs.declared.refusals.StartRefusal.{StartRefusal}
 use Rattle.boot_core.specs.declared.refusals.StartRefusal.TheVariants as refusals
@@ -11,9 +11,11 @@ use Rattle.journal_model.specs.declared.limits.JournalLimits.{JournalLimits}
 use Rattle.journal_model.specs.declared.limits.TheConstants.{MAX_ENTRIES, MAX_JOURNAL_BYTES}
 use Rattle.outside.specs.Faults.{Rose}
 use Rattle.outside.specs.Keeper.{KeeperTold}
-use Rattle.service_log.specs.Ending.{status_of}
+use Rattle.service_log.specs.Ending.{end_line, status_of}
+use Rattle.service_log.specs.Logging.{Log, WritesLine}
 use Rattle.service_log.specs.declared.ending.ServiceEnd.{ServiceEnd}
 use Rattle.service_log.specs.declared.ending.ServiceEnd.TheVariants.{Closed, KeeperFailed, BadRow, BootsSpent, OutOfMemory}
+use Rattle.container_server.specs.Telling.{HasToldBoot}
 
 -- What a keeper tells, where it does, and how often it has failed.
 pub record KeeperSeen : Type 0 where
@@ -24,19 +26,29 @@ pub record KeeperSeen : Type 0 where
 abbrev pub seen : Option KeeperTold → ℕ → KeeperSeen
 seen told faults = record { told = told; faults = faults }
 
+-- What is seen of a server from outside: its keeper, and what was written for its operator.
+pub record ServerSeen : Type 0 where
+  pub keeper : KeeperSeen
+  pub log : Log
+
+-- the server of these
+abbrev pub server_seen : KeeperSeen → Log → ServerSeen
+server_seen keeper log = record { keeper = keeper; log = log }
+
 -- how full the journal of a boot may be
 abbrev pub service_limits : JournalLimits
 service_limits = record { entries = MAX_ENTRIES; bytes = MAX_JOURNAL_BYTES }
 
 -- A boot of the site was started over a keeper with these fault plans, and it has grown. The keeper that it left, where
--- it tells, holds just the rows that the journal of the boot leaves.
-pub record RanBoot (plans : List FaultPlan) (before after : KeeperSeen) : Type 0 where
+-- it tells, holds just the rows that the journal of the boot leaves. Its start was told, and what happened in it.
+pub record RanBoot (plans : List FaultPlan) (before after : ServerSeen) : Type 0 where
   pub started : ContainerValue
-  pub is_started : IsStarted site_parts plans service_limits before.told started
+  pub is_started : IsStarted site_parts plans service_limits before.keeper.told started
   pub ended : ContainerValue
   pub grown : HasGrownBy started ended
-  pub left : after ≡ seen ended.told ended.faults
+  pub left : after.keeper ≡ seen ended.told ended.faults
   pub rows : HoldsRows ended.told ended.boot
+  pub told : HasToldBoot started before.log after.log
 
 -- the fault plans of a boot, by how many came before it: a restart leaves those that no reboot cures
 abbrev pub plans_behind : ℕ → List FaultPlan → List FaultPlan
@@ -44,10 +56,10 @@ plans_behind zero plans = plans
 plans_behind (suc boots) plans = left_by_process (plans_behind boots plans)
 
 -- So many boots were run, each over the keeper that the one before left.
-abbrev pub RanBoots : List FaultPlan → ℕ → KeeperSeen → KeeperSeen → Type 0
+abbrev pub RanBoots : List FaultPlan → ℕ → ServerSeen → ServerSeen → Type 0
 RanBoots plans zero before after = after ≡ before
 RanBoots plans (suc boots) before after =
-    (between : KeeperSeen) × RanBoots plans boots before between × RanBoot (plans_behind boots plans) between after
+    (between : ServerSeen) × RanBoots plans boots before between × RanBoot (plans_behind boots plans) between after
 
 -- Why no more boots were run, by the keeper that the last one left and the one that is handed back.
 abbrev pub EndedOver : ServiceEnd → KeeperSeen → KeeperSeen → Type 0
@@ -59,23 +71,32 @@ EndedOver BootsSpent before after = IsRefusedStart refusals.BootsSpent before.to
 EndedOver OutOfMemory before after =
     (after ≡ before) ⊎ ((refusal : StartRefusal) × IsRefusedStart refusal before.told after.told)
 
--- A container was started behind some boots, over the keeper that the last of them left.
-pub record HasStarted (plans : List FaultPlan) (before : KeeperSeen) (c : ContainerValue) : Type 0 where
+-- A container was started behind some boots, over the keeper that the last of them left. Nothing was told of it yet.
+pub record HasStarted (plans : List FaultPlan) (before : ServerSeen) (c : ContainerValue) (log : Log) : Type 0 where
   pub boots : ℕ
-  pub between : KeeperSeen
+  pub between : ServerSeen
   pub ran : RanBoots plans boots before between
-  pub started : IsStarted site_parts (plans_behind boots plans) service_limits between.told c
+  pub started : IsStarted site_parts (plans_behind boots plans) service_limits between.keeper.told c
+  pub untold : log ≡ between.log
 
--- Some boots were run over a keeper, the first of them with these fault plans, and then a server ended so.
-pub record RanFrom (plans : List FaultPlan) (end : ServiceEnd) (before after : KeeperSeen) : Type 0 where
+-- Some boots were run over a keeper, the first of them with these fault plans, and then a server ended so, which was
+-- not told yet. Connections came to their end in a boot alone.
+pub record RanFrom (plans : List FaultPlan) (end : ServiceEnd) (before after : ServerSeen) : Type 0 where
   pub boots : ℕ
-  pub last : KeeperSeen
+  pub last : ServerSeen
   pub ran : RanBoots plans boots before last
-  pub ended : EndedOver end last after
+  pub ended : EndedOver end last.keeper after.keeper
+  pub untold : after.log ≡ last.log
+  pub once : end ≡ Closed → 1 ≤ boots
 
--- Some boots were run over a keeper, and then a server ended so.
-abbrev pub RanOver : ServiceEnd → KeeperSeen → KeeperSeen → Type 0
-RanOver end before after = (plans : List FaultPlan) × RanFrom plans end before after
+-- Some boots were run over a keeper, the first of them with plans that were given; then a server ended so, and the line
+-- of its end was written.
+pub record RanOver (gives : List FaultPlan → Type 0) (end : ServiceEnd) (before after : ServerSeen) : Type 0 where
+  pub plans : List FaultPlan
+  pub log : Log
+  pub ran : RanFrom plans end before (record after { log = log })
+  pub given : 1 ≤ ran.boots → gives plans
+  pub reported : WritesLine (end_line end) log after.log
 
 -- how a server ended whose container was not started
 abbrev pub end_of : StartRefusal → ServiceEnd

@@ -1,8 +1,8 @@
 -- What the threads of a boot share, and the seats of one of them.
-use Rattle.std.specs.Prelude.{◌≡◌, ◌≤◌, ℕ, List}
+use Rattle.std.specs.Prelude.{◌≡◌, ◌≤◌, ℕ}
 use mathlib.Core.List.{IsPrefix}
 use Rattle.atomic_table.specs.Seated.{TableId}
-use Rattle.connection_server.specs.Seats.{AreSeatsOf, IsOfSite, SharedIds, ids_of}
+use Rattle.connection_server.specs.Seats.{AreSeatsOf, ids_of}
 use Rattle.container_core.specs.declared.history.Event.{Event}
 use Rattle.report_queue.specs.Passes.{PassValue}
 use Rattle.request_intake.specs.declared.intake.HomeBoot.{HomeBoot}

@@ -6,7 +6,9 @@ ghost use Rattle.auction_rows.specs.Parts.{site_parts};
 ghost use Rattle.connection_server.specs.Seats.{IsOfSite};
 ghost use Rattle.container_core.specs.Container.{HasGrownBy, HoldsRows};
 ghost use Rattle.container_server.specs.Seats.{AreOf, HaveParts, WereUsed};
+ghost use Rattle.container_server.specs.Telling.{HasTold};
 ghost use Rattle.report_queue.specs.Passes.{AreTo};
+ghost use Rattle.service_log.specs.Logging.{log_of};
 
 use crate::config::SiteConfig;
 use crate::crew::work_all;
@@ -45,7 +47,12 @@ fn decide_and_sweep<'a, G: Gate + Sync, K: Keeper + Drop, E: Sink + Send, R: Thr
 ) -> (Seats<K>, Desk<'a, E>)
     requires bricks { bricks ≤ 16 }
     requires seats { AreOf site.now seats }
+    requires names { desk.deployment.now ≡ site_parts }
     ensures seats { AreOf site.now result.0 × WereUsed seats result.0 }
+    ensures desk { result.1.errors.ghost_name ≡ desk.entry.errors.ghost_name }
+    ensures names { result.1.deployment.now ≡ desk.entry.deployment.now }
+    ensures told { HasTold (log_of (E.written desk.entry.errors.now) (E.faults desk.entry.errors.now))
+        (log_of (E.written result.1.errors.now) (E.faults result.1.errors.now)) }
 {
     let home = site.home();
     let ((), decided) = join(
@@ -55,7 +62,12 @@ fn decide_and_sweep<'a, G: Gate + Sync, K: Keeper + Drop, E: Sink + Send, R: Thr
         { sweep::<G, R>(rt, alloc, gate, signals, sweeper, bricks, home) },
         move || -> (Seats<K>, Desk<E>)
             requires seats { AreOf site.now seats }
+            requires names { desk.deployment.now ≡ site_parts }
             ensures seats { AreOf site.entry.now result.0 × WereUsed seats result.0 }
+            ensures desk { result.1.errors.ghost_name ≡ desk.entry.errors.ghost_name }
+            ensures names { result.1.deployment.now ≡ desk.entry.deployment.now }
+            ensures told { HasTold (log_of (E.written desk.entry.errors.now) (E.faults desk.entry.errors.now))
+                (log_of (E.written result.1.errors.now) (E.faults result.1.errors.now)) }
         {
             let mut seats = seats;
             let mut desk = desk;
@@ -89,8 +101,13 @@ fn run_threads<'a, G: Gate + Sync, K: Keeper + Drop, E: Sink + Send, R: Threads 
     requires seen { IsOfSite site.now.home seats.container.seen }
     requires parts { HaveParts workers seats }
     requires passes { (length passes + 1 ≡ workers) × AreTo site.now.reports tt passes }
+    requires names { desk.deployment.now ≡ site_parts }
     ensures seats { AreOf site.now result.0 × WereUsed seats result.0 }
     ensures decider { AreOf site.now result.2 × WereUsed decider result.2 }
+    ensures desk { result.3.errors.ghost_name ≡ desk.entry.errors.ghost_name }
+    ensures names { result.3.deployment.now ≡ desk.entry.deployment.now }
+    ensures told { HasTold (log_of (E.written desk.entry.errors.now) (E.faults desk.entry.errors.now))
+        (log_of (E.written result.3.errors.now) (E.faults result.3.errors.now)) }
 {
     let signals = Signals::new();
     let signals = &signals;
@@ -103,7 +120,12 @@ fn run_threads<'a, G: Gate + Sync, K: Keeper + Drop, E: Sink + Send, R: Threads 
             requires sync { IsSync R.row }
             requires bricks { bricks ≤ 16 }
             requires seats { AreOf site.now decider }
+            requires names { desk.deployment.now ≡ site_parts }
             ensures seats { AreOf site.entry.now result.0 × WereUsed decider result.0 }
+            ensures desk { result.1.errors.ghost_name ≡ desk.entry.errors.ghost_name }
+            ensures names { result.1.deployment.now ≡ desk.entry.deployment.now }
+            ensures told { HasTold (log_of (E.written desk.entry.errors.now) (E.faults desk.entry.errors.now))
+                (log_of (E.written result.1.errors.now) (E.faults result.1.errors.now)) }
         {
             decide_and_sweep::<G, K, E, R>(
                 rt, alloc, gate, site, signals, sweeping, deciding, bricks, decider, desk,
@@ -157,8 +179,13 @@ pub(crate) fn serve_boot<
     requires workers { (1 ≤ workers) × (workers ≤ 64) × (workers + 2 ≡ length tools.now) }
     requires quorum { (1 ≤ config.now.wq) × (config.now.wq ≤ config.now.w) × (config.now.w ≤ bricks) × (bricks ≤ 16) }
     requires site { container.boot.start.deployment ≡ site_parts }
+    requires names { desk.deployment.now ≡ site_parts }
     ensures grown { IfOk result.0 (λ served. HasGrownBy container served.0) }
     ensures back { IfErr result.0 (λ given. given ≡ container) }
+    ensures desk { result.1.errors.ghost_name ≡ desk.entry.errors.ghost_name }
+    ensures names { result.1.deployment.now ≡ desk.entry.deployment.now }
+    ensures told { HasTold (log_of (E.written desk.entry.errors.now) (E.faults desk.entry.errors.now))
+        (log_of (E.written result.1.errors.now) (E.faults result.1.errors.now)) }
 {
     histories_tell_their_containers();
     let threads = workers + 1;

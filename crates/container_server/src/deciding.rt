@@ -1,8 +1,11 @@
 //! What the thread does that decides on reboots.
 
 ghost use Rattle.std.specs.Prelude.{◌≡◌, IfSome};
+ghost use Rattle.auction_rows.specs.Parts.{site_parts};
 ghost use Rattle.commit_journal.specs.Journal.{IsScope};
 ghost use Rattle.container_server.specs.Seats.{AreOf, WereUsed};
+ghost use Rattle.container_server.specs.Telling.{HasTold};
+ghost use Rattle.service_log.specs.Logging.{log_of};
 
 use crate::gate::Gate;
 use crate::planning::is_restart_due;
@@ -20,12 +23,13 @@ use service_log::{ServiceEvent, log_event};
 use std::alloc::Global;
 use std::sync::Wait;
 
-/// What the thread decides with, over all boots: what is told of reports, and where the operator is told of reboots.
+/// What the thread decides with, over all boots: what is told of reports, and where the operator is told of reboots. It
+/// owns nothing, so that what was written is known where it is let go.
 #[derive(Drop)]
 pub(crate) struct Desk<'a, E: Sink> {
     pub errors: &'a mut E,
-    pub manager: Manager,
-    pub deployment: Deployment,
+    pub manager: &'a mut Manager,
+    pub deployment: &'a Deployment,
 }
 
 /// What is rebooted of the container at a level.
@@ -58,9 +62,14 @@ fn reboot<G: Gate, K: Keeper + Drop, E: Sink, W: Wait>(
     level: Level,
 )
     requires seats { AreOf site.now seats.old }
+    requires names { desk.old.deployment.now ≡ site_parts }
     requires scope { IsScope scope }
     ensures seats { AreOf site.now seats.new }
     ensures used { WereUsed seats.old seats.new }
+    ensures desk { desk.new.errors.ghost_name ≡ desk.old.errors.ghost_name }
+    ensures names { desk.new.deployment.now ≡ desk.old.deployment.now }
+    ensures told { HasTold (log_of (E.written desk.old.errors.now) (E.faults desk.old.errors.now))
+        (log_of (E.written desk.new.errors.now) (E.faults desk.new.errors.now)) }
 {
     let begun = clock.now();
     let Ok(down) = seats.go_down(rt, site, scope) else {
@@ -72,7 +81,7 @@ fn reboot<G: Gate, K: Keeper + Drop, E: Sink, W: Wait>(
         scope,
         milliseconds,
     };
-    log_event(alloc, desk.errors, &desk.deployment, event);
+    log_event(alloc, desk.errors, desk.deployment, event);
     gate.pass(seats.worker(), Point::Rebooted(level));
 }
 
@@ -87,8 +96,13 @@ fn stop<G: Gate, K: Keeper + Drop, E: Sink, W: Wait>(
     desk: &mut Desk<'_, E>,
 )
     requires seats { AreOf site.now seats.old }
+    requires names { desk.old.deployment.now ≡ site_parts }
     ensures seats { AreOf site.now seats.new }
     ensures used { WereUsed seats.old seats.new }
+    ensures desk { desk.new.errors.ghost_name ≡ desk.old.errors.ghost_name }
+    ensures names { desk.new.deployment.now ≡ desk.old.deployment.now }
+    ensures told { HasTold (log_of (E.written desk.old.errors.now) (E.faults desk.old.errors.now))
+        (log_of (E.written desk.new.errors.now) (E.faults desk.new.errors.now)) }
 {
     let entries = seats.fullness(rt, site).entries;
     seats.stop(rt, site);
@@ -96,7 +110,7 @@ fn stop<G: Gate, K: Keeper + Drop, E: Sink, W: Wait>(
     log_event(
         alloc,
         desk.errors,
-        &desk.deployment,
+        desk.deployment,
         ServiceEvent::Stopped { entries },
     );
     gate.pass(seats.worker(), Point::Rebooted(Level::Process));
@@ -115,8 +129,13 @@ fn carry_out<G: Gate, K: Keeper + Drop, E: Sink, W: Wait>(
     level: Level,
 )
     requires seats { AreOf site.now seats.old }
+    requires names { desk.old.deployment.now ≡ site_parts }
     ensures seats { AreOf site.now seats.new }
     ensures used { WereUsed seats.old seats.new }
+    ensures desk { desk.new.errors.ghost_name ≡ desk.old.errors.ghost_name }
+    ensures names { desk.new.deployment.now ≡ desk.old.deployment.now }
+    ensures told { HasTold (log_of (E.written desk.old.errors.now) (E.faults desk.old.errors.now))
+        (log_of (E.written desk.new.errors.now) (E.faults desk.new.errors.now)) }
 {
     match level {
         Level::Group(_) | Level::App => {
@@ -128,7 +147,7 @@ fn carry_out<G: Gate, K: Keeper + Drop, E: Sink, W: Wait>(
         Level::Human => log_event(
             alloc,
             desk.errors,
-            &desk.deployment,
+            desk.deployment,
             ServiceEvent::HumanNeeded,
         ),
     }
@@ -155,12 +174,17 @@ fn decide_once<G: Gate, K: Keeper + Drop, E: Sink, W: Wait>(
     desk: &mut Desk<'_, E>,
 )
     requires seats { AreOf site.now seats.old }
+    requires names { desk.old.deployment.now ≡ site_parts }
     ensures seats { AreOf site.now seats.new }
     ensures used { WereUsed seats.old seats.new }
+    ensures desk { desk.new.errors.ghost_name ≡ desk.old.errors.ghost_name }
+    ensures names { desk.new.deployment.now ≡ desk.old.deployment.now }
+    ensures told { HasTold (log_of (E.written desk.old.errors.now) (E.faults desk.old.errors.now))
+        (log_of (E.written desk.new.errors.now) (E.faults desk.new.errors.now)) }
 {
     match seats.next_report(rt, site) {
         Some(report) => {
-            if let Some(level) = hear(&mut desk.manager, report) {
+            if let Some(level) = hear(desk.manager, report) {
                 carry_out::<G, K, E, W>(rt, alloc, gate, site, signals, clock, seats, desk, level);
             }
         }
@@ -187,8 +211,13 @@ pub(crate) fn decide<G: Gate, K: Keeper + Drop, E: Sink, W: Wait>(
     desk: &mut Desk<'_, E>,
 )
     requires seats { AreOf site.now seats.old }
+    requires names { desk.old.deployment.now ≡ site_parts }
     ensures seats { AreOf site.now seats.new }
     ensures used { WereUsed seats.old seats.new }
+    ensures desk { desk.new.errors.ghost_name ≡ desk.old.errors.ghost_name }
+    ensures names { desk.new.deployment.now ≡ desk.old.deployment.now }
+    ensures told { HasTold (log_of (E.written desk.old.errors.now) (E.faults desk.old.errors.now))
+        (log_of (E.written desk.new.errors.now) (E.faults desk.new.errors.now)) }
 {
     let mut tools = tools.lock(rt);
     for _ in rt.forever() {

@@ -1,11 +1,17 @@
 //! What is outside of a server.
 
+ghost use Rattle.std.specs.Prelude.{List, IfOk};
+ghost use Rattle.crash_base.specs.declared.fault_plans.FaultPlan.{FaultPlan};
+
 use connection_server::Points;
 use crash_base::{FaultList, OutOfMemory, WorkerNo};
 use outside::{Clock, Link, Random, Sink, Source};
 
 /// What is outside of a server: where connections come from, and what each thread works with. All threads share it.
 pub trait Gate: Points {
+    /// Whether it may give these fault plans.
+    ghost plans: { Self → List FaultPlan → Type 0 };
+
     /// What is read of a connection.
     type In: Source + Drop + Send;
 
@@ -41,7 +47,8 @@ pub trait Gate: Points {
     ///
     /// # Errors
     /// Out of memory alone.
-    fn plan(&self) -> Result<FaultList, OutOfMemory>;
+    fn plan(&self) -> Result<FaultList, OutOfMemory>
+        ensures { IfOk result (λ given. plans self.now given) };
 
     /// Rests for a moment: the thread that calls it has nothing to do.
     fn rest(&self);

@@ -1,11 +1,15 @@
 //! A site that is served, from its first boot to its last.
 
-ghost use Rattle.std.specs.Prelude.{◌≡◌, ◌≢◌, ◌+◌, ◌≤◌, ℕ, List, length, vec_len, IfErr, IfOk, MatchOption, MatchResult, None};
+ghost use Rattle.std.specs.Prelude.{◌≡◌, ◌≢◌, ◌+◌, ◌≤◌, ℕ, List, length, vec_len, IfErr, IfOk, IfSome, IsSome, MatchOption, MatchResult, None};
 ghost use Rattle.auction_rows.specs.Parts.{site_parts};
-ghost use Rattle.container_core.specs.Container.{ContainerValue, HasGrownBy};
-ghost use Rattle.container_server.specs.Running.{HasStarted, KeeperSeen, RanFrom, RanOver, TellsClosed, end_of, seen, service_limits};
+ghost use Rattle.component_pool.specs.Plans.{left_by_process};
+ghost use Rattle.container_core.specs.Container.{HoldsRows};
+ghost use Rattle.container_core.specs.Start.{IsStarted};
+ghost use Rattle.container_server.specs.Running.{EndedOver, HasStarted, RanFrom, RanOver, ServerSeen, TellsClosed, end_of, seen, server_seen, service_limits};
+ghost use Rattle.container_server.specs.Telling.{start_of, started_rows};
 ghost use Rattle.crash_base.specs.declared.fault_plans.FaultPlan.{FaultPlan};
 ghost use Rattle.service_log.specs.Ending.{status_of};
+ghost use Rattle.service_log.specs.Logging.{LogsEvent, log_of};
 
 use crate::boot::serve_boot;
 use crate::config::SiteConfig;
@@ -58,11 +62,10 @@ fn limits() -> JournalLimits
     }
 }
 
-/// The rows of a container beside that of its boot's number.
-fn row_count<K: Keeper + Drop>(
-    alloc: Global,
-    container: &Container<K>,
-) -> Result<u64, OutOfMemory> {
+/// How many rows a boot was started over, beside that of its number.
+fn row_count<K: Keeper + Drop>(alloc: Global, container: &Container<K>) -> Result<u64, OutOfMemory>
+    ensures { IfOk result (λ count. count ≡ started_rows container.now) }
+{
     let rows = container.rows().all_at(alloc, Place(0))?;
     let count = rows.as_slice().len() as u64;
     Ok(count.saturating_sub(1))
@@ -71,13 +74,17 @@ fn row_count<K: Keeper + Drop>(
 /// Tells the operator of the start of a boot. Where there is no memory to count its rows, nothing is told.
 fn log_start<K: Keeper + Drop, E: Sink>(
     alloc: Global,
-    desk: &mut Desk<'_, E>,
+    errors: &mut E,
+    names: &Deployment,
     container: &Container<K>,
-) {
+)
+    requires names { names.now ≡ site_parts }
+    ensures told { LogsEvent site_parts (start_of container.now) (log_of (E.written errors.old) (E.faults errors.old))
+        (log_of (E.written errors.new) (E.faults errors.new)) }
+{
     if let Ok(rows) = row_count(alloc, container) {
         let boot = container.boot();
-        let event = ServiceEvent::Started { boot, rows };
-        log_event(alloc, desk.errors, &desk.deployment, event);
+        log_event(alloc, errors, names, ServiceEvent::Started { boot, rows });
     }
 }
 
@@ -89,6 +96,7 @@ fn begin<G: Gate>(
 ) -> Result<Beginning<G::L, G::C, G::R>, OutOfMemory>
     requires { workers ≤ 64 }
     ensures tools { IfOk result (λ made. vec_len made.tools ≡ workers + 2) }
+    ensures plans { IfOk result (λ made. G.plans gate.now made.plans) }
     ensures deployment { IfOk result (λ made. (made.deployment ≡ site_parts) × (made.names ≡ site_parts)) }
 {
     let tools = take_tools(alloc, gate, workers as u32 + 2)?;
@@ -133,10 +141,11 @@ fn go_on<C: Drop, K: Keeper + Drop>(
     container: Container<K>,
     closed: Option<C>,
 ) -> Result<Container<K>, ServeResult<C, K>>
-    ensures on { (plans : List FaultPlan) (before : KeeperSeen) (started : ContainerValue)
-        → HasStarted plans before started → HasGrownBy started container
-        → MatchResult result (λ again. HasStarted plans before again)
-        (λ ended. RanFrom plans ended.end before (seen (K.told ended.keeper) (K.faults ended.keeper))) }
+    ensures rows { HoldsRows container.told container.boot }
+    ensures again { IfOk result (λ again. IsStarted container.boot.start.deployment
+        (left_by_process container.boot.start.plans) container.boot.start.limits container.told again) }
+    ensures ended { IfErr result (λ ended. EndedOver ended.end (seen container.told container.faults)
+        (seen (K.told ended.keeper) (K.faults ended.keeper))) }
     ensures closed { IfErr result (λ ended. TellsClosed ended.closed ended.end) }
 {
     match closed {
@@ -167,13 +176,18 @@ fn serve_once<'a, G: Gate + Sync, K: Keeper + Drop, E: Sink + Send, R: Threads +
     requires workers { (1 ≤ workers) × (workers ≤ 64) × (workers + 2 ≡ length tools.now) }
     requires quorum { (1 ≤ config.now.wq) × (config.now.wq ≤ config.now.w) × (config.now.w ≤ bricks) × (bricks ≤ 16) }
     requires site { container.boot.start.deployment ≡ site_parts }
-    ensures on { (plans : List FaultPlan) (before : KeeperSeen) → HasStarted plans before container
-        → MatchResult result.0 (λ again. HasStarted plans before again)
-        (λ ended. RanFrom plans ended.end before (seen (K.told ended.keeper) (K.faults ended.keeper))) }
+    requires names { desk.deployment.now ≡ site_parts }
+    ensures desk { result.1.errors.ghost_name ≡ desk.entry.errors.ghost_name }
+    ensures names { result.1.deployment.now ≡ desk.entry.deployment.now }
+    ensures on { let log = log_of (E.written result.1.errors.now) (E.faults result.1.errors.now) in
+        (plans : List FaultPlan) (before : ServerSeen)
+        → HasStarted plans before container (log_of (E.written desk.entry.errors.now) (E.faults desk.entry.errors.now))
+        → MatchResult result.0 (λ again. HasStarted plans before again log)
+        (λ ended. RanFrom plans ended.end before (server_seen (seen (K.told ended.keeper) (K.faults ended.keeper)) log)) }
     ensures closed { IfErr result.0 (λ ended. TellsClosed ended.closed ended.end) }
 {
-    let mut desk = desk;
-    log_start(alloc, &mut desk, &container);
+    let names = desk.deployment;
+    log_start(alloc, desk.errors, names, &container);
     let (served, desk) = serve_boot::<G, K, E, R>(
         rt, alloc, gate, config, tools, workers, bricks, container, desk,
     );
@@ -190,7 +204,8 @@ fn serve_once<'a, G: Gate + Sync, K: Keeper + Drop, E: Sink + Send, R: Threads +
     }
 }
 
-/// Serves boots, one after the other, in this container and then in those that are started again.
+/// Serves boots, one after the other, in this container and then in those that are started again. How the server ended
+/// is put behind `out`: what is written of the desk is known to a caller that gets nothing of its own beside it.
 fn serve_boots<'a, G: Gate + Sync, K: Keeper + Drop, E: Sink + Send, R: Threads + Wait + Sync>(
     rt: &R,
     alloc: Global,
@@ -201,13 +216,21 @@ fn serve_boots<'a, G: Gate + Sync, K: Keeper + Drop, E: Sink + Send, R: Threads 
     bricks: u16,
     container: Container<K>,
     desk: Desk<'a, E>,
-) -> (ServeResult<G::Closed, K>, Desk<'a, E>)
+    out: &mut Option<ServeResult<G::Closed, K>>,
+) -> Desk<'a, E>
     requires workers { (1 ≤ workers) × (workers ≤ 64) × (workers + 2 ≡ length tools.now) }
     requires quorum { (1 ≤ config.now.wq) × (config.now.wq ≤ config.now.w) × (config.now.w ≤ bricks) × (bricks ≤ 16) }
-    requires started { (plans : List FaultPlan) × (before : KeeperSeen) × HasStarted plans before container }
-    ensures on { (plans : List FaultPlan) (before : KeeperSeen) → HasStarted plans before container
-        → RanFrom plans result.0.end before (seen (K.told result.0.keeper) (K.faults result.0.keeper)) }
-    ensures closed { TellsClosed result.0.closed result.0.end }
+    requires names { desk.deployment.now ≡ site_parts }
+    requires started { (plans : List FaultPlan) × (before : ServerSeen)
+        × HasStarted plans before container (log_of (E.written desk.errors.now) (E.faults desk.errors.now)) }
+    ensures desk { result.errors.ghost_name ≡ desk.entry.errors.ghost_name }
+    ensures some { IsSome out.new }
+    ensures on { (plans : List FaultPlan) (before : ServerSeen)
+        → HasStarted plans before container (log_of (E.written desk.entry.errors.now) (E.faults desk.entry.errors.now))
+        → IfSome out.new (λ ended. RanFrom plans ended.end before
+        (server_seen (seen (K.told ended.keeper) (K.faults ended.keeper))
+        (log_of (E.written result.errors.now) (E.faults result.errors.now)))) }
+    ensures closed { IfSome out.new (λ ended. TellsClosed ended.closed ended.end) }
 {
     let mut container = container;
     let mut desk = desk;
@@ -220,29 +243,34 @@ fn serve_boots<'a, G: Gate + Sync, K: Keeper + Drop, E: Sink + Send, R: Threads 
                 container = again;
                 desk = kept;
             }
-            Err(ended) => return (ended, kept),
+            Err(ended) => {
+                *out = Some(ended);
+                return kept;
+            }
         }
     }
     unreachable!()
 }
 
 /// Serves a site over a keeper, with what was made before.
-fn serve_over<'a, G: Gate + Sync, K: Keeper + Drop, E: Sink + Send, R: Threads + Wait + Sync>(
+fn serve_over<G: Gate + Sync, K: Keeper + Drop, E: Sink + Send, R: Threads + Wait + Sync>(
     rt: &R,
     alloc: Global,
     gate: &G,
     config: &SiteConfig,
     workers: u16,
     bricks: u16,
-    errors: &'a mut E,
+    errors: &mut E,
     keeper: K,
     beginning: Beginning<G::L, G::C, G::R>,
 ) -> ServeResult<G::Closed, K>
     requires workers { (1 ≤ workers) × (workers ≤ 64) × (workers + 2 ≡ vec_len beginning.tools) }
     requires quorum { (1 ≤ config.now.wq) × (config.now.wq ≤ config.now.w) × (config.now.w ≤ bricks) × (bricks ≤ 16) }
-    requires site { beginning.deployment ≡ site_parts }
-    ensures ran { RanOver result.end (seen (K.told keeper) (K.faults keeper))
-        (seen (K.told result.keeper) (K.faults result.keeper)) }
+    requires site { (beginning.deployment ≡ site_parts) × (beginning.names ≡ site_parts) }
+    ensures ran { RanFrom beginning.plans result.end
+        (server_seen (seen (K.told keeper) (K.faults keeper)) (log_of (E.written errors.old) (E.faults errors.old)))
+        (server_seen (seen (K.told result.keeper) (K.faults result.keeper))
+        (log_of (E.written errors.new) (E.faults errors.new))) }
     ensures closed { TellsClosed result.closed result.end }
 {
     let Beginning {
@@ -256,12 +284,14 @@ fn serve_over<'a, G: Gate + Sync, K: Keeper + Drop, E: Sink + Send, R: Threads +
         Ok(container) => container,
         Err(fail) => return unstarted(fail),
     };
+    let mut manager = manager;
+    let mut out = None;
     let desk = Desk {
         errors,
-        manager,
-        deployment: names,
+        manager: &mut manager,
+        deployment: &names,
     };
-    let (ended, desk) = serve_boots::<G, K, E, R>(
+    let _desk = serve_boots::<G, K, E, R>(
         rt,
         alloc,
         gate,
@@ -271,9 +301,12 @@ fn serve_over<'a, G: Gate + Sync, K: Keeper + Drop, E: Sink + Send, R: Threads +
         bricks,
         container,
         desk,
+        &mut out,
     );
-    drop(desk);
-    ended
+    match out {
+        Some(ended) => ended,
+        None => unreachable!(),
+    }
 }
 
 /// Serves a site over a keeper, by so many workers, with bricks 1 to `bricks`, until no more connections come or a
@@ -282,8 +315,11 @@ fn serve_over<'a, G: Gate + Sync, K: Keeper + Drop, E: Sink + Send, R: Threads +
 /// The workers take connections of the gate and serve them, as `serve_gated` of `connection_server` says. One thread
 /// decides on the requests that failed, and reboots what its decisions name. Another one sweeps the bricks. Where the
 /// process is to be rebooted, or a restart is due before the journal is full (`is_restart_due`), the container is
-/// stopped, all threads end, and it is started again over its keeper with the fault plans that no reboot cures. Work
-/// that no thread can be started for is done by the caller.
+/// stopped, all threads end, and it is started again over its keeper with the fault plans that no reboot cures.
+///
+/// Work that no thread can be started for is done by the caller, behind the end of the work beside which it was to be
+/// done: that of a worker behind that of those after it, and what decides and sweeps behind the end of all workers, where
+/// nothing is left to do.
 ///
 /// The status, the last word of the gate, if it had one, and the keeper, whatever the status is:
 ///
@@ -293,8 +329,9 @@ fn serve_over<'a, G: Gate + Sync, K: Keeper + Drop, E: Sink + Send, R: Threads +
 /// - 9: memory ran out.
 /// - 11: no container was started, since the number of the last boot is the greatest that there is.
 ///
-/// The operator is told on `errors` of each start, each reboot and each stop, and at the end of the status, except 0. A
-/// fault there changes nothing else.
+/// The operator is told on `errors` of each start, each reboot and each stop, and at the end of the status, except 0: in
+/// whole lines, each as `service_log` has it, but for a fault there, which changes nothing else. A line for which there
+/// is no memory is left out, except that of the status.
 ///
 /// It returns only if its workers do: that any connection is served, that anything is rebooted or swept, is not
 /// promised.
@@ -311,10 +348,13 @@ pub fn run_serve<R: Threads + Wait + Sync, G: Gate + Sync, E: Sink + Send, K: Ke
     requires workers { (1 ≤ workers) × (workers ≤ 64) }
     requires quorum { (1 ≤ config.now.wq) × (config.now.wq ≤ config.now.w) × (config.now.w ≤ bricks) × (bricks ≤ 16) }
     // There were boots, one after the other, each over the keeper that the one before left, and why there is no other
-    // one the status says; the first was over the keeper that was given, and the last one left the keeper that is handed
-    // back, or it was asked for another boot that was not started.
+    // one the status says; the first was over the keeper that was given, with fault plans of the gate, and the last one
+    // left the keeper that is handed back, or it was asked for another boot that was not started. What was written on
+    // `errors` is the start of each boot, each with what happened in it, and behind all the line of the status.
     ensures ran { (end : ServiceEnd) × (result.0 ≡ status_of end)
-        × RanOver end (seen (K.told keeper) (K.faults keeper)) (seen (K.told result.2) (K.faults result.2)) }
+        × RanOver (G.plans gate.now) end
+        (server_seen (seen (K.told keeper) (K.faults keeper)) (log_of (E.written errors.old) (E.faults errors.old)))
+        (server_seen (seen (K.told result.2) (K.faults result.2)) (log_of (E.written errors.new) (E.faults errors.new))) }
     // The status is 0 exactly where the last word of the gate stands beside it.
     ensures closed { MatchOption result.1 (result.0 ≢ 0) (λ _. result.0 ≡ 0) }
 {

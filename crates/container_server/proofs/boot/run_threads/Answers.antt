@@ -1,7 +1,7 @@
 use mathlib.Core.List.{[], ◌∷◌}
 use Rattle.std.proofs.Common.{rules}
 use denote.Param.{param}
-use denote.Param.Send.{IsSend, IsSync, sendable, shr_send}
+use denote.Param.Send.{IsSend, sendable, shr_send}
 use denote.Ref.{ShrRef}
 use denote.Struct.Field.{u16-field}
 use Rattle.container_server.proofs.Crossing.{captured, passed_send, passed_sync, seats_send, site_sync}
@@ -47,16 +47,19 @@ join-decided-requires-after_bounds g c κs within =
           (
             c.requires.seats.1,
             (
-              passed_send 1 1 _ g.row.K b.send-K,
-              passed_send 2 2 _ g.row.E b.send-E,
-              passed_send 4 4 _ g.row.G-In b.send-G-In,
-              passed_send 5 5 _ g.row.G-Out b.send-G-Out,
-              passed_send 6 6 _ g.row.G-L b.send-G-L,
-              passed_send 7 7 _ g.row.G-C b.send-G-C,
-              passed_send 8 8 _ g.row.G-R b.send-G-R,
-              passed_send 9 9 _ g.row.G-Closed b.send-G-Closed,
-              passed_sync 0 0 _ g.row.G b.sync-G,
-              passed_sync 3 3 _ g.row.R b.sync-R,
+              c.requires.names,
+              (
+                passed_send 1 1 _ g.row.K b.send-K,
+                passed_send 2 2 _ g.row.E b.send-E,
+                passed_send 4 4 _ g.row.G-In b.send-G-In,
+                passed_send 5 5 _ g.row.G-Out b.send-G-Out,
+                passed_send 6 6 _ g.row.G-L b.send-G-L,
+                passed_send 7 7 _ g.row.G-C b.send-G-C,
+                passed_send 8 8 _ g.row.G-R b.send-G-R,
+                passed_send 9 9 _ g.row.G-Closed b.send-G-Closed,
+                passed_sync 0 0 _ g.row.G b.sync-G,
+                passed_sync 3 3 _ g.row.R b.sync-R,
+              ),
             ),
           ),
         ),

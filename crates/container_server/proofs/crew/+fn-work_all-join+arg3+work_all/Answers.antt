@@ -2,7 +2,7 @@ use Rattle.std.proofs.Common.{rules, arith, List, [], ◌∷◌, sym, subst}
 use Rattle.connection_server.specs.Seats.{IsOfSite}
 use Rattle.container_core.specs.declared.history.Event.{Event}
 use denote.Param.{arg, param}
-use denote.Param.Send.{IsSend, IsSync, arg_send, param_send, sendable, shr_send}
+use denote.Param.Send.{IsSend, arg_send, param_send, sendable, shr_send}
 use denote.Param.SendFields.{as_row_send, declared_send}
 use denote.Ref.{ShrRef}
 use denote.Struct.Tuple.{TupleAt}

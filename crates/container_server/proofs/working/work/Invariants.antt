@@ -1,4 +1,3 @@
-use Rattle.std.proofs.Common.{◌≡◌}
 use Rattle.connection_server.specs.Seats.{IsOfSite}
 use Rattle.container_server.specs.Seats.{AreOf, WereUsed}
 use Rattle.container_server.proofs.working.work.Given as goal
