@@ -28,6 +28,54 @@ impl Ear {
     }
 }
 
+/// What stands in a text behind the last mark of one kind, up to the next one of another; nothing, where it is not there.
+pub fn last_between<'a>(text: &'a str, open: &str, close: &str) -> &'a str {
+    match text.rsplit_once(open) {
+        None => "",
+        Some((_, rest)) => match rest.split_once(close) {
+            None => "",
+            Some((part, _)) => part,
+        },
+    }
+}
+
+/// The request for a page.
+fn get(alloc: Global, target: &str, cookie: &str) -> Result<String, OutOfMemory> {
+    let text = format!(in alloc; "GET {target} HTTP/1.1\r\nHost: localhost\r\n{cookie}\r\n")?;
+    Ok(text)
+}
+
+/// The request with the fields of a form.
+fn post(alloc: Global, target: &str, cookie: &str, fields: &str) -> Result<String, OutOfMemory> {
+    let size = fields.len();
+    let head = format!(in alloc; "POST {target} HTTP/1.1\r\nHost: localhost\r\n{cookie}")?;
+    let text = format!(in alloc;
+        "{head}Content-Type: application/x-www-form-urlencoded\r\nContent-Length: {size}\r\n\r\n{fields}"
+    )?;
+    Ok(text)
+}
+
+/// What a browser asks that has heard this: a target, or a form, if it has fields. It sends the cookie that it was given
+/// last, and the token of the form that it was shown last.
+pub fn request(
+    alloc: Global,
+    heard: &str,
+    target: &str,
+    form: &str,
+) -> Result<String, OutOfMemory> {
+    let kept = last_between(heard, "\r\nSet-Cookie: crash=", ";");
+    let mut cookie = String::new(alloc);
+    if !kept.is_empty() {
+        cookie = format!(in alloc; "Cookie: crash={kept}\r\n")?;
+    }
+    if form.is_empty() {
+        return get(alloc, target, &cookie);
+    }
+    let token = last_between(heard, "name=\"token\" value=\"", "\"");
+    let fields = format!(in alloc; "token={token}&{form}")?;
+    post(alloc, target, &cookie, &fields)
+}
+
 /// The sink of a connection, whose bytes a client hears.
 #[derive(Drop)]
 pub struct EarSink<'a, W: Wait> {

@@ -1,13 +1,12 @@
 //! A server whose gate holds a request until a group was rebooted.
 
+ghost use Rattle.std.specs.Prelude.{◌≡◌, [], ◌∷◌};
+
 use crate::clients::{Connection, Ear, EarSink, Ended, connection};
 use crate::links::{Kit, LinkShelf};
-use auction_rows::CATEGORIES;
 use brick_house::HouseLink;
 use container_server::{Gate, Point, Points};
-use crash_base::{
-    ComponentNo, FaultKind, FaultList, FaultPlan, GroupNo, Level, OutOfMemory, WorkerNo,
-};
+use crash_base::{ComponentNo, FaultList, FaultPlan, GroupNo, Level, OutOfMemory, WorkerNo};
 use outside::{PlainClock, PlainRandom, SureSource};
 use std::alloc::Global;
 use std::sync::Wait;
@@ -26,12 +25,13 @@ GET /categories HTTP/1.1\r\nHost: localhost\r\n\r\n\
 GET /categories HTTP/1.1\r\nHost: localhost\r\n\r\n";
 
 /// A gate that gives two connections, and holds the worker of the first, once it has entered Web, until Web was rebooted
-/// and three responses were written to the second. Categories fails from its first entering on.
+/// and three responses were written to the second.
 #[derive(Drop)]
 pub struct HoldingGate<'a, W: Wait> {
     rt: &'a W,
     alloc: Global,
     shelf: LinkShelf<'a, W>,
+    fault: FaultPlan,
     first: &'a Ear,
     second: &'a Ear,
     /// The worker of the first connection; 0 before there is one.
@@ -50,6 +50,7 @@ impl<'a, W: Wait> HoldingGate<'a, W> {
         rt: &'a W,
         alloc: Global,
         shelf: LinkShelf<'a, W>,
+        fault: FaultPlan,
         first: &'a Ear,
         second: &'a Ear,
     ) -> HoldingGate<'a, W> {
@@ -57,6 +58,7 @@ impl<'a, W: Wait> HoldingGate<'a, W> {
             rt,
             alloc,
             shelf,
+            fault,
             first,
             second,
             holder: AtomicU64::new(0),
@@ -126,6 +128,8 @@ impl<'a, W: Wait> Points for HoldingGate<'a, W> {
 }
 
 impl<'a, W: Wait + Sync> Gate for HoldingGate<'a, W> {
+    ghost plans = { λ gate plans. plans ≡ gate.fault ∷ [] };
+
     type In = SureSource;
 
     type Out = EarSink<'a, W>;
@@ -167,12 +171,7 @@ impl<'a, W: Wait + Sync> Gate for HoldingGate<'a, W> {
 
     fn plan(&self) -> Result<FaultList, OutOfMemory> {
         let mut plans = Vec::new(self.alloc);
-        plans.push(FaultPlan {
-            component: ComponentNo(CATEGORIES),
-            after: 0,
-            kind: FaultKind::Raise,
-            cured_by: Level::Group(GroupNo(0)),
-        })?;
+        plans.push(self.fault)?;
         Ok(FaultList::from_vec(plans))
     }
 

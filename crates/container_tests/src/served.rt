@@ -3,11 +3,14 @@
 ghost use Rattle.std.specs.Prelude.{◌≡◌, ◌≤◌};
 ghost use Rattle.container_tests.specs.declared.links.TheConstants.{LINKS};
 
-use crate::clients::Ear;
+use crate::clients::{Ear, last_between};
 use crate::links::{BRICKS, LINKS};
+use auction_rows::CATEGORIES;
 use brick_house::{BrickHouse, HouseSeats};
 use container_server::{Gate, SiteConfig, run_serve};
-use crash_base::{Items, RowBytes, RowId, RowList, RowWrite};
+use crash_base::{
+    ComponentNo, FaultKind, FaultPlan, Items, Level, RowBytes, RowId, RowList, RowWrite,
+};
 use outside::{BytesSink, CallList, MapKeeper};
 use std::alloc::Global;
 use std::fmt::Write;
@@ -31,6 +34,16 @@ pub fn house(rt: &impl Abort, alloc: Global) -> (BrickHouse, HouseSeats)
     ensures { result.1 ≡ record { house = result.0; parts = LINKS } }
 {
     BrickHouse::new(alloc, BRICKS, 1, LINKS).expect(rt, "a house")
+}
+
+/// Categories fails from its first entering on, until a reboot of this level.
+pub fn categories_fail(cured_by: Level) -> FaultPlan {
+    FaultPlan {
+        component: ComponentNo(CATEGORIES),
+        after: 0,
+        kind: FaultKind::Raise,
+        cured_by,
+    }
 }
 
 /// A keeper of no rows, which does not fail.
@@ -77,17 +90,6 @@ pub fn let_run<R: Threads + Wait + Abort + Sync, G: Gate + Sync>(
     }
 }
 
-/// What stands in a text between two marks; nothing, where it has not the first.
-fn between<'a>(text: &'a str, open: &str, close: &str) -> &'a str {
-    match text.split_once(open) {
-        None => "",
-        Some((_, rest)) => match rest.split_once(close) {
-            None => "",
-            Some((part, _)) => part,
-        },
-    }
-}
-
 /// What the operator was told.
 pub fn log_of<'a>(rt: &impl Abort, ran: &'a Run) -> &'a str {
     std::str::from_utf8(ran.log.as_slice()).expect(rt, "a log")
@@ -100,7 +102,7 @@ pub fn responses<W: Wait + Abort>(rt: &W, alloc: Global, ear: &Ear) -> String {
     let mut lines = String::new(alloc);
     for response in text.split("HTTP/1.1 ").skip(1) {
         let (status, _) = response.split_once("\r\n").expect(rt, "a status");
-        let heading = between(response, "<h1>", "</h1>");
+        let heading = last_between(response, "<h1>", "</h1>");
         writeln!(lines, "{status}: {heading}").expect(rt, "a line");
     }
     lines

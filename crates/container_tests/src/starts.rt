@@ -1,5 +1,7 @@
 //! A server to whose gate nobody comes.
 
+ghost use Rattle.std.specs.Prelude.{◌≡◌, []};
+
 use crate::clients::{Connection, EarSink, Ended};
 use crate::links::{Kit, LinkShelf};
 use brick_house::HouseLink;
@@ -22,6 +24,8 @@ impl<'a, W: Wait> Points for LonelyGate<'a, W> {
 }
 
 impl<'a, W: Wait + Sync> Gate for LonelyGate<'a, W> {
+    ghost plans = { λ _ plans. plans ≡ [] };
+
     type In = SureSource;
 
     type Out = EarSink<'a, W>;

@@ -1,5 +1,7 @@
 //! A server whose gate waits until each brick was swept.
 
+ghost use Rattle.std.specs.Prelude.{◌≡◌, []};
+
 use crate::clients::{Connection, EarSink, Ended};
 use crate::links::{BRICKS, Kit, LinkShelf, NOW};
 use brick_house::HouseLink;
@@ -104,6 +106,8 @@ impl<'a, W: Wait> Points for SweptGate<'a, W> {
 }
 
 impl<'a, W: Wait + Sync> Gate for SweptGate<'a, W> {
+    ghost plans = { λ _ plans. plans ≡ [] };
+
     type In = SureSource;
 
     type Out = EarSink<'a, W>;

@@ -3,8 +3,9 @@
 use crate::clients::Ear;
 use crate::links::LinkShelf;
 use crate::reboots::HoldingGate;
-use crate::served::{house, let_run, log_of, no_rows, responses};
+use crate::served::{categories_fail, house, let_run, log_of, no_rows, responses};
 use crate::sweeps::SweptGate;
+use crash_base::{GroupNo, Level};
 
 #[test]
 fn each_brick_is_swept(rt: HostRuntime) {
@@ -27,7 +28,8 @@ fn a_group_is_rebooted_while_a_request_is_held(rt: HostRuntime) {
     let shelf = LinkShelf::new(&rt, alloc, &house, seats).expect(&rt, "links");
     let first = Ear::new(alloc);
     let second = Ear::new(alloc);
-    let gate = HoldingGate::new(&rt, alloc, shelf, &first, &second);
+    let fault = categories_fail(Level::Group(GroupNo(0)));
+    let gate = HoldingGate::new(&rt, alloc, shelf, fault, &first, &second);
     let ran = let_run(&rt, alloc, &gate, 2, no_rows(&rt, alloc));
     assert!(rt; !gate.has_given_up());
     assert!(rt; ran.status == 0);
