@@ -1,0 +1,4 @@
+pub mod Ending
+pub mod Keys
+pub mod Opening
+pub mod Words

@@ -1,0 +1,190 @@
+//! The command.
+
+ghost use Rattle.std.specs.Prelude.{◌≡◌, ◌==◌, ◌≤◌, [], ◌∷◌, IfOk, string_bytes, true};
+ghost use Rattle.std.specs.List.{list_any};
+ghost use Rattle.serve_command.specs.Opening.{place_text, serving_line};
+
+use crate::ending::{StartFault, report_fault};
+use crate::file_keeper::FileKeeper;
+use crate::gate::SystemGate;
+use crate::house::{BRICKS, make_kits, open_house};
+use crate::opening::{open_door, open_keeper, open_key, port_failed};
+use crate::words::ServeWords;
+use client_sockets::Door;
+use container_server::{Gate, SiteConfig, run_serve};
+use crash_base::{Items, OutOfMemory};
+use outside::{Keeper, Sink, write_all};
+use std::alloc::Global;
+use std::io;
+use std::random::RandomSource;
+use std::sync::Wait;
+use std::thread::Threads;
+use std::time::Clock;
+
+/// What a server has opened.
+#[derive(Drop)]
+struct Opened<K: Keeper + Drop> {
+    key: Items<u8>,
+    keeper: K,
+    door: Door,
+}
+
+/// Opens the port, behind the files.
+fn open_last<K: Keeper + Drop>(
+    host: &HostRuntime,
+    port: u16,
+    key: Items<u8>,
+    keeper: K,
+) -> Result<Opened<K>, StartFault> {
+    match open_door(host, port) {
+        Ok(door) => Ok(Opened { key, keeper, door }),
+        Err(fault) => Err(fault),
+    }
+}
+
+/// Opens what the words name: the file of the key, the database and the port, in this order.
+fn open(host: &HostRuntime, words: &ServeWords<'_>) -> Result<Opened<FileKeeper>, StartFault> {
+    let key = open_key(host, words.key_file)?;
+    match open_keeper(host, words.file) {
+        Ok(keeper) => open_last(host, words.port, key, keeper),
+        Err(fault) => Err(fault),
+    }
+}
+
+/// The site is served under this key, and each session is sent to three bricks, two of which have to store it.
+fn site_config(key: Items<u8>) -> SiteConfig
+    ensures key { result.key ≡ key }
+    ensures node { result.node ≡ 1 }
+    ensures bricks { (result.w ≡ 3) × (result.wq ≡ 2) }
+{
+    SiteConfig {
+        key,
+        node: 1,
+        w: 3,
+        wq: 2,
+    }
+}
+
+/// Where a server is, and how many workers it has.
+fn place_text(alloc: Global, port: u16, workers: u16) -> Result<String, OutOfMemory>
+    ensures { IfOk result (λ text. string_bytes text ≡ place_text port workers) }
+{
+    let text = format!(in alloc; " on 127.0.0.1:{port} by {workers} workers\n")?;
+    Ok(text)
+}
+
+/// The line of a server that has opened its file and its port.
+fn serving_line(alloc: Global, file: &[u8], port: u16, workers: u16) -> Result<Vec<u8>, OutOfMemory>
+    ensures { IfOk result (λ line. line.items ≡ serving_line file.now port workers) }
+{
+    let place = place_text(alloc, port, workers)?;
+    let mut line = Vec::from_slice(alloc, b"serving ")?;
+    line.extend_from_slice(file)?;
+    line.extend_from_slice(place.as_bytes())?;
+    Ok(line)
+}
+
+/// Tells what is served, and where. Where there is no memory for the line, nothing is told.
+fn tell_serving<E: Sink>(alloc: Global, errors: &mut E, words: &ServeWords<'_>) {
+    if let Ok(line) = serving_line(alloc, words.file, words.port, words.workers) {
+        let _ = write_all(errors, line.as_slice());
+    }
+}
+
+/// Tells why no more connections came, where that is why a server ended.
+fn tell_closed<E: Sink>(alloc: Global, errors: &mut E, port: u16, closed: Option<io::Error>) {
+    if let Some(error) = closed {
+        let fault = port_failed(alloc, port, error);
+        let _ = write_all(errors, fault.reason());
+    }
+}
+
+/// Serves through a gate to the end, and answers the status.
+fn serve_through<
+    R: Threads + Wait + Sync,
+    G: Gate<Closed = io::Error> + Sync + Drop,
+    E: Sink + Send,
+    K: Keeper + Drop,
+>(
+    rt: &R,
+    alloc: Global,
+    gate: G,
+    words: &ServeWords<'_>,
+    key: Items<u8>,
+    errors: &mut E,
+    keeper: K,
+) -> u8
+    requires some { 1 ≤ words.now.workers }
+    requires few { words.now.workers ≤ 64 }
+{
+    let config = site_config(key);
+    let (status, closed, keeper) = run_serve(
+        rt,
+        alloc,
+        &gate,
+        words.workers,
+        &config,
+        BRICKS,
+        errors,
+        keeper,
+    );
+    drop(keeper);
+    tell_closed(alloc, errors, words.port, closed);
+    status
+}
+
+/// Serves what was opened, to its end, and answers the status.
+fn serve_opened<R: Threads + Wait + Clock + RandomSource + Sync, E: Sink + Send, K: Keeper + Drop>(
+    rt: &R,
+    alloc: Global,
+    words: &ServeWords<'_>,
+    errors: &mut E,
+    opened: Opened<K>,
+) -> Result<u8, StartFault>
+    requires some { 1 ≤ words.now.workers }
+    requires few { words.now.workers ≤ 64 }
+{
+    let Opened { key, keeper, door } = opened;
+    let links = words.workers as u32 + 2;
+    let (house, seats) = open_house(rt, alloc, links)?;
+    let kits = make_kits(rt, alloc, &house, seats, links)?;
+    let gate = SystemGate::new(rt, alloc, &door, kits);
+    tell_serving(alloc, errors, words);
+    let status = serve_through(rt, alloc, gate, words, key, errors, keeper);
+    Ok(status)
+}
+
+/// Serves the shop as the words say: on this port of 127.0.0.1, over the database in this file, which is made where there
+/// is none, under the key in this file, by so many workers. It runs until the process is ended, or as follows.
+///
+/// The status:
+///
+/// - 0: no more connections come, since the system's listener failed.
+/// - 6: the keeper failed while a container was to be started.
+/// - 7: the keeper gave a row that may not be loaded.
+/// - 9: memory ran out.
+/// - 11: no container was started, since the number of the last boot is the greatest that there is.
+/// - 13: the file of the key has fewer than 16 bytes, or more than 1,024.
+/// - 14: the file of the key, the database or the port was not opened, or the key not read, or the system gave no random
+///   words.
+///
+/// On `errors` the operator is told what is served once all is open, then what `run_serve` of `container_server` tells;
+/// and of 13 and 14 first the file or the port and the reason, and then the line of the status.
+pub fn serve<R: Threads + Wait + Clock + RandomSource + Sync, E: Sink + Send>(
+    rt: &R,
+    host: &HostRuntime,
+    words: &ServeWords<'_>,
+    errors: &mut E,
+) -> u8
+    requires some { 1 ≤ words.now.workers }
+    requires few { words.now.workers ≤ 64 }
+{
+    let served = match open(host, words) {
+        Ok(opened) => serve_opened(rt, host.alloc(), words, errors, opened),
+        Err(fault) => Err(fault),
+    };
+    match served {
+        Ok(status) => status,
+        Err(fault) => report_fault(errors, &fault),
+    }
+}

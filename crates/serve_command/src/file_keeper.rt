@@ -1,0 +1,31 @@
+//! The keeper of the command.
+
+ghost use Rattle.std.specs.Prelude.{None, box_value};
+
+use crash_base::{RowList, WriteList};
+use keeper_sqlite::SqlKeeper;
+use outside::{Keeper, KeeperFault};
+use sqlite_std_file::File;
+use sqlite_store::FileStore;
+use std::alloc::Global;
+
+/// A keeper whose rows are in a database in a file. It is on the heap, so that who moves it moves one pointer: a container
+/// has its keeper by value, and is moved at each hold of its lock.
+#[derive(Drop)]
+pub(crate) struct FileKeeper {
+    pub inner: Box<SqlKeeper<FileStore<File>>>,
+}
+
+impl Keeper for FileKeeper {
+    ghost told = { λ _. None };
+
+    ghost faults = { λ keeper. box_value keeper.inner };
+
+    fn load(&mut self, alloc: Global) -> Result<RowList, KeeperFault> {
+        self.inner.load(alloc)
+    }
+
+    fn apply(&mut self, alloc: Global, writes: &WriteList) -> Result<(), KeeperFault> {
+        self.inner.apply(alloc, writes)
+    }
+}

@@ -1,0 +1,33 @@
+//! The command `serve PORT FILE KEYFILE WORKERS`: the shop on a port of 127.0.0.1, over a database in a file.
+//!
+//! ```text
+//! let Some(said) = serve_words(words) else { .. };      // `serve 8080 shop.db shop.key 8`
+//! let status = serve(&rt, &rt, &said, &mut errors);     // to its end, which it need not have
+//! ```
+//!
+//! `words` says which words spell it, `key` what a key is, `ending` why a server is not started, with its status and its
+//! lines, and `command` what is done in which order: the file of the key, the database and the port are opened, bricks
+//! and links are made, and `run_serve` of `container_server` serves over them.
+//!
+//! What is promised is of these words, keys, statuses and lines, exactly: `serve_words` with the law
+//! `serve_is_spelled_by_five_words`, `read_key` and `report_fault`. What the system opens, reads, accepts, tells and draws
+//! no contract can say: `opening`, `gate`, `house` and `command` are short, and to be read.
+//!
+//! A keeper is on the heap, and each thread's link and random source are made before the first connection is taken.
+#![tactic(auto)]
+
+mod command;
+mod ending;
+mod file_keeper;
+mod gate;
+mod house;
+mod key;
+mod laws;
+mod opening;
+mod words;
+
+pub use command::serve;
+pub use ending::{StartFault, report_fault};
+pub use key::{KeyFault, MAX_KEY_BYTES, MIN_KEY_BYTES, read_key};
+pub use laws::serve_is_spelled_by_five_words;
+pub use words::{MAX_PORT, MAX_WORKERS, ServeWords, serve_words};
