@@ -15,8 +15,13 @@ ghost use Rattle.outside.specs.Sink.{appended, AppendsPrefix, AppendsOrFails};
 use crash_base::{OutOfMemory, RowList, WordText};
 use drive_engine::{USAGE, run_command};
 use outside::{CallList, InputSource, MapKeeper, OutputSink, Sink, write_all};
+use serve_command::{serve, serve_words};
 use std::alloc::Global;
 use std::process::ExitCode;
+use std::random::RandomSource;
+use std::sync::Wait;
+use std::thread::Threads;
+use std::time::Clock;
 use words::Invocation;
 
 /// What `--help` writes after the usage line: a line for each word.
@@ -24,7 +29,7 @@ const HELP: &str =
     "drive: reads a scenario from standard input and writes its transcript to standard output\n\
 groups: reads descriptors in TOML from standard input and writes each component with its recovery group\n\
 workload: makes the calls and the reboots that the number NUMBER draws, in COUNT turns, and sums them up\n\
-serve: not built yet\n";
+serve: serves the shop on PORT of 127.0.0.1, over the database FILE, under the key in KEYFILE, by WORKERS threads\n";
 
 /// What `--version` writes.
 const VERSION: &str = "crash 0.2.0\n";
@@ -69,31 +74,52 @@ fn out_of_memory<E: Sink>(errors: &mut E) -> u8
     9
 }
 
+/// Runs a command that ends with its input, and answers the status.
+fn run_on_streams(host: &HostRuntime, words: &[WordText]) -> u8 {
+    let alloc = host.alloc();
+    let mut input = InputSource::new(host.stdin());
+    let mut out = OutputSink::new(host.stdout());
+    let mut errors = OutputSink::new(host.stderr());
+    let Ok(keeper) = empty_keeper(alloc) else {
+        return out_of_memory(&mut errors);
+    };
+    let (status, _) = run_command(alloc, words, &mut input, &mut out, &mut errors, keeper);
+    status
+}
+
+/// Runs a command, and answers the status.
+fn command<R: Threads + Wait + Clock + RandomSource + Sync>(
+    rt: &R,
+    host: &HostRuntime,
+    words: &[WordText],
+) -> u8 {
+    match serve_words(words) {
+        Some(said) => serve(rt, host, &said, &mut OutputSink::new(host.stderr())),
+        None => run_on_streams(host, words),
+    }
+}
+
 /// Runs what the words ask for, and answers the status.
-fn run(rt: &HostRuntime, words: &[WordText]) -> u8 {
-    let mut out = OutputSink::new(rt.stdout());
-    let mut errors = OutputSink::new(rt.stderr());
+fn run<R: Threads + Wait + Clock + RandomSource + Sync>(
+    rt: &R,
+    host: &HostRuntime,
+    words: &[WordText],
+) -> u8 {
+    let mut out = OutputSink::new(host.stdout());
+    let mut errors = OutputSink::new(host.stderr());
     match words::invocation_of(words) {
         Invocation::Help => match answer(&mut out, &mut errors, USAGE) {
             0 => answer(&mut out, &mut errors, HELP),
             status => status,
         },
         Invocation::Version => answer(&mut out, &mut errors, VERSION),
-        Invocation::Command => {
-            let alloc = rt.alloc();
-            let mut input = InputSource::new(rt.stdin());
-            let Ok(keeper) = empty_keeper(alloc) else {
-                return out_of_memory(&mut errors);
-            };
-            let (status, _) = run_command(alloc, words, &mut input, &mut out, &mut errors, keeper);
-            status
-        }
+        Invocation::Command => command(rt, host, words),
     }
 }
 
 fn main(rt: HostRuntime) -> ExitCode {
     let status = match words::read(&rt) {
-        Ok(words) => run(&rt, words.as_slice()),
+        Ok(words) => run(&rt, &rt, words.as_slice()),
         Err(_) => out_of_memory(&mut OutputSink::new(rt.stderr())),
     };
     ExitCode::from(status)

@@ -10,6 +10,7 @@ mod handed_back;
 mod keepers;
 mod kept_commits;
 mod running;
+mod serving;
 mod starts;
 mod streams;
 mod table;

@@ -37,7 +37,7 @@ pub fn one_call(rt: &impl Abort, alloc: Global, call: u64) -> CallList {
 }
 
 /// A text in memory, read in pieces of this size, of whose reads one fails.
-fn source_of(rt: &impl Abort, alloc: Global, text: &str, piece: u64, call: u64) -> BytesSource {
+pub fn source_of(rt: &impl Abort, alloc: Global, text: &str, piece: u64, call: u64) -> BytesSource {
     let text = lines(rt, alloc, text);
     let mut pieces = SizeList::new(alloc);
     if piece > 0 {
@@ -50,15 +50,15 @@ fn source_of(rt: &impl Abort, alloc: Global, text: &str, piece: u64, call: u64) 
 }
 
 /// Room for so many bytes, of whose writes one fails.
-fn sink_of(rt: &impl Abort, alloc: Global, room: u64, call: u64) -> BytesSink {
+pub fn sink_of(rt: &impl Abort, alloc: Global, room: u64, call: u64) -> BytesSink {
     BytesSink::new(alloc, room, one_call(rt, alloc, call)).expect(rt, "room")
 }
 
-/// The words of a command line.
-fn words_of(rt: &impl Abort, alloc: Global, text: &str) -> Items<WordText> {
+/// The words of a command line, which has one space between them. An empty line has none.
+pub fn words_of(rt: &impl Abort, alloc: Global, text: &str) -> Items<WordText> {
     let mut all = Items::new(alloc);
-    for word in text.split(' ') {
-        if !word.is_empty() {
+    if !text.is_empty() {
+        for word in text.split(' ') {
             let word = WordText::copied(alloc, word.as_bytes()).expect(rt, "a word");
             all.push(word).expect(rt, "a word");
         }
