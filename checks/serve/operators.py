@@ -1,0 +1,193 @@
+"""Each error of an operator: with which status the program ends, and what it writes. docs/OPERATING.md, "When it does
+not start"."""
+
+import os
+import resource
+import signal
+import socket
+import subprocess
+
+from service import Browser, HOST, Service, Wrong, expect, running, sqlite3
+
+USAGE = "usage: crash drive | groups | workload NUMBER COUNT | serve PORT FILE KEYFILE WORKERS"
+MOST_SECONDS = 20
+LAST_BOOT = (2**32 - 1).to_bytes(4, "big")
+# The file of the database, or its log, may not grow past this, and then fewer categories than so many are taken.
+LARGEST_FILE, MOST_CATEGORIES = 400_000, 2_000
+
+# Words that spell no command; P is a port, F a file, K a key file.
+WORDS = (
+    "P F K",
+    "P F K 8 9",
+    "0 F K 8",
+    "65536 F K 8",
+    "08080 F K 8",
+    "+8080 F K 8",
+    "P F K 0",
+    "P F K 65",
+    "P F K 08",
+    "P F K eight",
+    " F K 8",
+)
+
+
+def ends(service, status, line, named=None, words=None):
+    """That the program ends with a status and this line, with one before it that names a file or a port and a reason,
+    where there is a name."""
+    words = words or service.words()
+    ran = subprocess.run(words, stdin=subprocess.DEVNULL, stdout=subprocess.PIPE, stderr=subprocess.PIPE, timeout=MOST_SECONDS)
+    wrote = ran.stderr.decode(errors="replace").splitlines()
+    tells = [line] if named is None else [None, line]
+    if ran.returncode != status or len(wrote) != len(tells) or wrote[-1:] != [line] or ran.stdout:
+        raise Wrong(f"{words} ends with status {ran.returncode} and writes {wrote}; and not {status} and {tells}")
+    if named is not None and (named not in wrote[0] or len(wrote[0]) <= len(named) + 2):
+        raise Wrong(f"{words} writes {wrote[0]}, which does not name {named} and a reason")
+    return wrote
+
+
+def write(name, data):
+    with open(name, "wb") as file:
+        file.write(data)
+
+
+def words_are_refused(service):
+    values = {"P": str(service.port), "F": service.file, "K": service.key}
+    for row in WORDS:
+        words = [service.program, "serve", *(values.get(it, it) for it in row.split(" "))]
+        ends(service, 2, USAGE, words=words)
+    if os.path.exists(service.file):
+        raise Wrong("words that spell no command made a file")
+
+
+def keys_are_refused(service):
+    os.remove(service.key)
+    ends(service, 14, "start failed", service.key)
+    os.mkdir(service.key)
+    ends(service, 14, "start failed", service.key)
+    os.rmdir(service.key)
+    for size in (0, 15, 1025, 5000):
+        write(service.key, os.urandom(size))
+        ends(service, 13, "key refused", service.key)
+    if os.path.exists(service.file):
+        raise Wrong("a key that is refused made a file")
+    for size in (1024, 16):
+        write(service.key, os.urandom(size))
+        service.start().kill()
+
+
+def files_are_refused(service):
+    kept, service.file = service.file, os.path.join(service.room, "nowhere", "shop.db")
+    ends(service, 14, "start failed", service.file)
+    service.file = service.room
+    ends(service, 14, "start failed", service.file)
+    service.file = os.path.join(service.room, "text.db")
+    write(service.file, b"no database, but a text that is long enough to be looked at as one\n" * 100)
+    ends(service, 14, "start failed", service.file)
+    if sqlite3:
+        service.file = os.path.join(service.room, "other.db")
+        other = sqlite3.connect(service.file)
+        other.execute("CREATE TABLE crash_rows (t INTEGER, k TEXT)")
+        other.commit()
+        other.close()
+        ends(service, 14, "start failed", service.file)
+    service.file = kept
+
+
+def rows_are_refused(service):
+    """A number of a boot that is spent, and rows that may not be loaded, put there by another program."""
+    if not sqlite3:
+        return
+    kept = service.rows()
+    for table, key, data, status, line in (
+        (0, 0, LAST_BOOT, 11, "boots spent"),
+        (0, 0, b"12345", 7, "bad row 0 0"),
+        (0, 9, b"1234", 7, "bad row 0 9"),
+        (4, 1, b"x" * 4097, 7, "bad row 4 1"),
+        (300, 1, b"", 6, "keeper failed"),
+    ):
+        service.put(table, key, data)
+        ends(service, status, line, service.file)
+        other = sqlite3.connect(service.file)
+        other.execute("DELETE FROM crash_rows WHERE t = ? AND k = ?", (table, key.to_bytes(8, "big")))
+        other.commit()
+        other.close()
+    service.put(0, 0, kept[0, 0])
+    service.start().kill()
+
+
+def ports_are_refused(service):
+    taken = socket.socket()
+    taken.bind((HOST, service.port))
+    taken.listen()
+    ends(service, 14, "start failed", str(service.port))
+    taken.close()
+
+
+def a_file_has_one_server(program, service):
+    """A second server over the file of the first, and the first goes on."""
+    service.start()
+    second = Service(program, f"{service.room}/second")
+    second.file = service.file
+    ends(second, 14, "start failed", service.file)
+    expect(Browser(service.port).get("/"), 200, "Auctions", "Signed out", ("/categories", "Categories"))
+    service.kill()
+
+
+def the_key_comes_first(service):
+    """The key is looked at before the file, and the file before the port."""
+    key, file = service.key, service.file
+    taken = socket.socket()
+    taken.bind((HOST, service.port))
+    taken.listen()
+    service.file = os.path.join(service.room, "nowhere", "shop.db")
+    ends(service, 14, "start failed", service.file)
+    service.key = os.path.join(service.room, "no_key")
+    ends(service, 14, "start failed", service.key)
+    taken.close()
+    service.key, service.file = key, file
+
+
+def limit_files():
+    """Lets no file of the process grow past `LARGEST_FILE`: a write past it fails as on a full disk."""
+    signal.signal(signal.SIGXFSZ, signal.SIG_IGN)
+    resource.setrlimit(resource.RLIMIT_FSIZE, (LARGEST_FILE, LARGEST_FILE))
+
+
+def a_full_disk_loses_nothing(program, service):
+    """Where the file cannot grow, forms are answered 503 and pages go on; and behind a start with room all is there that
+    was acknowledged."""
+    full = Service(program, f"{service.room}/full").start(preexec_fn=limit_files)
+    ann, taken = Browser(full.port), 0
+    expect(ann.send("register", name="ann", password="x"), 200, "Welcome ann")
+    while taken < MOST_CATEGORIES:
+        answer = ann.send("category", name=f"{taken + 1}")
+        if answer.status != 200:
+            break
+        taken += 1
+        expect(answer, 200, f"Category {taken}")
+    expect(answer, 503, "Try again")
+    if answer.field("retry-after") != "2":
+        raise Wrong("an answer to try again does not say when")
+    expect(ann.get("/"), 200, "Auctions", "User 1", ("/categories", "Categories"))
+    full.kill()
+    full.start()
+    ann = Browser(full.port)
+    listed = [(f"/category/{number}", str(number)) for number in range(1, taken + 1)]
+    expect(ann.get("/categories"), 200, "Categories", *listed)
+    expect(ann.send("signin", name="ann", password="x"), 200, "Welcome ann")
+    expect(ann.send("category", name=f"{taken + 1}"), 200, f"Category {taken + 1}")
+    full.kill()
+
+
+def check(program, room):
+    """Each error, with its status and its lines."""
+    service = Service(program, room)
+    words_are_refused(service)
+    keys_are_refused(service)
+    files_are_refused(service)
+    rows_are_refused(service)
+    ports_are_refused(service)
+    the_key_comes_first(service)
+    a_file_has_one_server(program, service)
+    a_full_disk_loses_nothing(program, service)
+    return "errors of an operator"

@@ -1,0 +1,66 @@
+"""A planned restart: pages are asked for until the journal of the boot is nearly full."""
+
+import re
+import threading
+import time
+
+from service import Browser, Closed, Connection, Service, Wrong, expect
+
+MOST_SECONDS = 90
+LOADERS = 2
+TOGETHER = 100
+# 7/8 and 31/32 of the entries that a journal may have.
+FIRST, LAST = 229_376, 253_952
+PAGES = b"GET / HTTP/1.1\r\n\r\n" * TOGETHER
+
+
+def has_restarted(service):
+    return sum(line.startswith("boot ") for line in service.lines()) > 1
+
+
+def loads(service, deadline, faults):
+    """Asks for pages, many at a time, until the server has restarted."""
+    connection = None
+    try:
+        while not has_restarted(service) and time.monotonic() < deadline:
+            try:
+                connection = connection or Connection(service.port)
+                connection.send(PAGES)
+                for _ in range(TOGETHER):
+                    connection.response()
+            except Closed:
+                connection.close()
+                connection = None
+    except Exception as fault:
+        faults.append(fault)
+
+
+def check(program, room):
+    """What was bid before is there, the session goes on, and a form of before is old."""
+    service = Service(program, room).start()
+    ann, ben = Browser(service.port), Browser(service.port)
+    expect(ann.send("register", name="ann", password="x"), 200, "Welcome ann")
+    expect(ann.send("category", name="Maps"), 200, "Category 1")
+    expect(ann.send("sell", title="Atlas", category=1, start=1, buy_now=0, hours=1), 200, "Item 1")
+    expect(ben.send("register", name="ben", password="x"), 200, "Welcome ben")
+    form = ben.form("bid")
+    expect(ben.fill(form, {"item": 1, "amount": 500}), 200, "Bid 1 on item 1")
+    faults, begun = [], time.monotonic()
+    args = (service, begun + MOST_SECONDS, faults)
+    threads = [threading.Thread(target=loads, args=args) for _ in range(LOADERS)]
+    for thread in threads:
+        thread.start()
+    for thread in threads:
+        thread.join()
+    if faults:
+        raise faults[0]
+    ben.leave()
+    expect(ben.fill(form, {"item": 1, "amount": 500}), 409, "Form is old")
+    expect(ben.get("/"), 200, "Auctions", "User 2", ("/categories", "Categories"))
+    expect(ben.send("bid", item=1, amount=600), 200, "Bid 2 on item 1")
+    told = service.lines()
+    service.kill()
+    found = re.fullmatch(r"restarting behind ([0-9]+) entries", told[1]) if len(told) == 3 else None
+    if not found or not FIRST <= int(found[1]) <= LAST + 64 or not told[2].startswith("boot 2 started over "):
+        raise Wrong(f"the operator is told {told}")
+    return f"a restart behind {found[1]} entries"
