@@ -5,6 +5,7 @@ import re
 import struct
 import threading
 import time
+from collections import Counter
 
 from service import Browser, Closed, Service, Wrong, expect, sqlite3
 
@@ -83,10 +84,11 @@ def judge(rows, ledger):
     """Each acknowledged bid is in the rows once, in its place; the bids on an item are numbered from 1 and rise, and the
     item tells how many there are and which is the best."""
     bids = bids_of(rows)
+    times = Counter(bids.values())
     for item, number, user, amount in ledger.acknowledged:
         if bids.get((item, number)) != (user, amount):
             raise Wrong(f"bid {number} on item {item} was {amount} by user {user}, and is now {bids.get((item, number))}")
-        if sum(1 for it in bids.values() if it == (user, amount)) != 1:
+        if times[user, amount] != 1:
             raise Wrong(f"the bid of {amount} by user {user} is there more than once")
     for item in range(1, ITEMS + 1):
         on_it = sorted((number, *it) for (of, number), it in bids.items() if of == item)

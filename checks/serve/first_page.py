@@ -43,8 +43,8 @@ def check(program, room):
     service.file, service.key = words[3], words[4]
     service.start(cwd=room)
     shown = blocks()[1].replace(PORT, str(service.port))
-    told = "".join(f"{line}\n" for line in service.lines())
     seen = play("".join(asking).replace("curl ", "curl -s "), service)
+    told = "".join(f"{line}\n" for line in service.lines())
     if told + seen != shown:
         raise Wrong(f"the first page shows\n{shown}and not\n{told}{seen}")
     seen = play(blocks()[2], service)

@@ -60,7 +60,7 @@ def check(program, room):
     expect(ben.send("bid", item=1, amount=600), 200, "Bid 2 on item 1")
     told = service.lines()
     service.kill()
-    found = re.fullmatch(r"restarting behind ([0-9]+) entries", told[1]) if len(told) == 3 else None
-    if not found or not FIRST <= int(found[1]) <= LAST + 64 or not told[2].startswith("boot 2 started over "):
+    found = re.fullmatch(r"restarting behind ([0-9]+) entries", told[2]) if len(told) == 4 else None
+    if not found or not FIRST <= int(found[1]) <= LAST + 64 or not told[3].startswith("boot 2 started over "):
         raise Wrong(f"the operator is told {told}")
     return f"a restart behind {found[1]} entries"
