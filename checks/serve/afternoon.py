@@ -1,23 +1,22 @@
 """What customers do, and how they are refused: each page as docs/AUCTION.md and docs/HTTP.md have it."""
 
-import os
 import re
 import subprocess
 
-from service import Browser, Connection, HOST, Service, Wrong, expect, page, request, sqlite3
+from service import Browser, Connection, Service, Wrong, expect, page, sqlite3
 
 HOME = "Auctions"
 CATEGORIES = ("/categories", "Categories")
-LONG = "x" * 300
+ENDS = {"connection": "close"}
 
-# Requests that are refused off their bytes, or by their path, method or coding: the bytes, in which \n stands for CR LF;
-# the status, the reason and the heading of the page; and the fields besides.
+# Requests that are refused off their bytes, or by their path, method or coding: the bytes, in which \n stands for CR
+# LF; the status, the reason and the heading of the page; and the fields besides.
 BYTES = (
-    ("GET / HTTP/1.1\nTransfer-Encoding: chunked\n\n", 501, "Not Implemented", "Coding not supported", {"connection": "close"}),
-    ("hello\n\n", 400, "Bad Request", "Bad request", {"connection": "close"}),
-    ("GET / HTTP/1.1\nContent-Length: 5, 5\n\n", 400, "Bad Request", "Bad request", {"connection": "close"}),
-    ("GET / HTTP/1.1\nX: " + "x" * 16_400, 431, "Request Header Fields Too Large", "Head too long", {"connection": "close"}),
-    ("POST /bid HTTP/1.1\nContent-Length: 65537\n\n", 413, "Content Too Large", "Body too long", {"connection": "close"}),
+    ("GET / HTTP/1.1\nTransfer-Encoding: chunked\n\n", 501, "Not Implemented", "Coding not supported", ENDS),
+    ("hello\n\n", 400, "Bad Request", "Bad request", ENDS),
+    ("GET / HTTP/1.1\nContent-Length: 5, 5\n\n", 400, "Bad Request", "Bad request", ENDS),
+    ("GET / HTTP/1.1\nX: " + "x" * 16_400, 431, "Request Header Fields Too Large", "Head too long", ENDS),
+    ("POST /bid HTTP/1.1\nContent-Length: 65537\n\n", 413, "Content Too Large", "Body too long", ENDS),
     ("GET /nothing HTTP/1.1\n\n", 404, "Not Found", "Not there", {}),
     ("GET /item/07 HTTP/1.1\n\n", 404, "Not Found", "Not there", {}),
     ("GET /form/nothing HTTP/1.1\n\n", 404, "Not Found", "Not there", {}),
@@ -33,7 +32,7 @@ BYTES = (
     ),
     ("POST /bid HTTP/1.1\nContent-Length: 15\n\nitem=1&amount=2", 400, "Bad Request", "Bad field token", {}),
     ("GET /category/1?page=10000 HTTP/1.1\n\n", 400, "Bad Request", "Bad field page", {}),
-    ("GET / HTTP/1.0\n\n", 200, "OK", HOME, {"connection": "close"}),
+    ("GET / HTTP/1.0\n\n", 200, "OK", HOME, ENDS),
 )
 
 # Forms whose first bad field is named: the kind, its values, and the field.

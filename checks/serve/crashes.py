@@ -81,13 +81,14 @@ def bids_of(rows):
 
 
 def judge(rows, ledger):
-    """Each acknowledged bid is in the rows once, in its place; the bids on an item are numbered from 1 and rise, and the
-    item tells how many there are and which is the best."""
+    """Each acknowledged bid is in the rows once, in its place; the bids on an item are numbered from 1 and rise, and
+    the item tells how many there are and which is the best."""
     bids = bids_of(rows)
     times = Counter(bids.values())
     for item, number, user, amount in ledger.acknowledged:
         if bids.get((item, number)) != (user, amount):
-            raise Wrong(f"bid {number} on item {item} was {amount} by user {user}, and is now {bids.get((item, number))}")
+            found = bids.get((item, number))
+            raise Wrong(f"bid {number} on item {item} was {amount} by user {user}, and is now {found}")
         if times[user, amount] != 1:
             raise Wrong(f"the bid of {amount} by user {user} is there more than once")
     for item in range(1, ITEMS + 1):
@@ -144,7 +145,6 @@ def check(program, room):
     service.start()
     judge_pages(service, ledger)
     service.kill()
-    boots = [line for line in service.lines() if line.startswith("boot ")]
-    if len(boots) != ROUNDS + 2:
-        raise Wrong(f"{ROUNDS + 2} starts were told as {boots}")
+    if service.boots() != ROUNDS + 2:
+        raise Wrong(f"{ROUNDS + 2} starts were told as {service.lines()}")
     return f"{ROUNDS} kills under bids, with each of {len(ledger.acknowledged)} acknowledged bids found once"

@@ -4,9 +4,8 @@ import os
 import re
 import shutil
 import subprocess
-import time
 
-from service import PATIENCE, Service, Wrong, end, running
+from service import PATIENCE, Service, Wrong
 
 TOP = os.path.dirname(os.path.dirname(os.path.dirname(os.path.realpath(__file__))))
 PORT = "8080"

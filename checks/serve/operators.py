@@ -7,7 +7,7 @@ import signal
 import socket
 import subprocess
 
-from service import Browser, HOST, Service, Wrong, expect, running, sqlite3
+from service import HOST, Browser, Service, Wrong, expect, sqlite3
 
 USAGE = "usage: crash drive | groups | workload NUMBER COUNT | serve PORT FILE KEYFILE WORKERS"
 MOST_SECONDS = 20
@@ -35,7 +35,7 @@ def ends(service, status, line, named=None, words=None):
     """That the program ends with a status and this line, with one before it that names a file or a port and a reason,
     where there is a name."""
     words = words or service.words()
-    ran = subprocess.run(words, stdin=subprocess.DEVNULL, stdout=subprocess.PIPE, stderr=subprocess.PIPE, timeout=MOST_SECONDS)
+    ran = subprocess.run(words, stdin=subprocess.DEVNULL, capture_output=True, timeout=MOST_SECONDS)
     wrote = ran.stderr.decode(errors="replace").splitlines()
     tells = [line] if named is None else [None, line]
     if ran.returncode != status or len(wrote) != len(tells) or wrote[-1:] != [line] or ran.stdout:
@@ -154,8 +154,8 @@ def limit_files():
 
 
 def a_full_disk_loses_nothing(program, service):
-    """Where the file cannot grow, forms are answered 503 and pages go on; and behind a start with room all is there that
-    was acknowledged."""
+    """Where the file cannot grow, forms are answered 503 and pages go on; and behind a start with room all is there
+    that was acknowledged."""
     full = Service(program, f"{service.room}/full").start(preexec_fn=limit_files)
     ann, taken = Browser(full.port), 0
     expect(ann.send("register", name="ann", password="x"), 200, "Welcome ann")

@@ -22,7 +22,7 @@ except ImportError:
 # Ports that the system gives to no client by itself.
 PORTS = range(18_000, 32_000)
 HOST = "127.0.0.1"
-PATIENCE = 30
+PATIENCE = 60
 PAIRS = "application/x-www-form-urlencoded"
 TOKEN = re.compile(r'name="token" value="([0-9a-f]{56})"')
 SENT_TO = re.compile(r'<form method="post" action="([^"]*)">')
@@ -86,19 +86,17 @@ class Service:
         return self
 
     def start(self, **how):
-        """Starts it, and waits until it listens."""
+        """Starts it, and waits until it tells that a boot has started."""
+        before = self.boots()
         self.launch(**how)
         deadline = time.monotonic() + PATIENCE
-        while True:
-            try:
-                socket.create_connection((HOST, self.port), PATIENCE).close()
-                return self
-            except OSError:
-                if self.process.poll() is not None:
-                    raise Wrong(f"the server ended with status {self.process.returncode}, and wrote {self.lines()}")
-                if time.monotonic() > deadline:
-                    raise Wrong("the server does not listen")
-                time.sleep(0.005)
+        while self.boots() == before:
+            if self.process.poll() is not None:
+                raise Wrong(f"the server ended with status {self.process.returncode}, and wrote {self.lines()}")
+            if time.monotonic() > deadline:
+                raise Wrong(f"the server does not start, and writes {self.lines()}")
+            time.sleep(0.005)
+        return self
 
     def kill(self):
         end(self.process)
@@ -108,8 +106,12 @@ class Service:
         with open(self.log, encoding="utf-8", errors="replace") as log:
             return log.read().splitlines()
 
+    def boots(self):
+        """How many boots it has told of."""
+        return sum(line.startswith("boot ") for line in self.lines()) if os.path.exists(self.log) else 0
+
     def rows(self):
-        """The rows of its file, by table and key. They are read off a copy, so that the next start finds what it left."""
+        """The rows of its file, by table and key. They are read off a copy, so the next start finds what it left."""
         copy = os.path.join(self.room, "copy.db")
         for end in ("", "-wal", "-shm"):
             if os.path.exists(copy + end):
