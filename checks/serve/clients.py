@@ -5,7 +5,7 @@ import time
 
 from service import Browser, Closed, Connection, Service, Wrong, expect
 
-IDLE = 200
+IDLE, MANY = 200, 1000
 HOME = ("Auctions", "Signed out", ("/categories", "Categories"))
 # How long a client may take for a request, or for a response, and how long a connection may be idle, in seconds; and
 # how much later than that a busy machine may be.
@@ -92,6 +92,18 @@ def never_asks(service):
         raise Wrong(f"a connection without a request is ended after {took:.1f} seconds")
 
 
+def asks_much(service):
+    """Asks for a thousand pages, one by one, and pauses. Its connection is ended soon, and not only after a minute."""
+    connection = Connection(service.port)
+    for _ in range(MANY):
+        connection.send(b"GET / HTTP/1.1\r\n\r\n")
+        expect(connection.response(), 200, *HOME)
+    took = seconds_to_end(connection, time.monotonic())
+    connection.close()
+    if took > LATE:
+        raise Wrong(f"a connection that has made {MANY} requests is ended after {took:.1f} seconds")
+
+
 def works_beside(service):
     """Asks for pages while many connections do nothing: each is answered."""
     crowd = [Connection(service.port) for _ in range(IDLE)]
@@ -133,8 +145,8 @@ def check(program, room):
     works_beside(crowded)
     took = time.monotonic() - begun
     crowded.kill()
-    in_threads(patient, [trickles_head, trickles_body, takes_nothing, idles, never_asks])
+    in_threads(patient, [trickles_head, trickles_body, takes_nothing, idles, never_asks, asks_much])
     expect(Browser(patient.port).get("/"), 200, *HOME)
     patient.kill()
     beside = f"fifty pages beside {IDLE} idle connections in {took:.1f} s"
-    return f"two trickles, a client that reads nothing, two idle ones, and {beside}"
+    return f"two trickles, clients that read nothing, are idle or ask much, and {beside}"
