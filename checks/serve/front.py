@@ -3,13 +3,14 @@
 import http.client
 import os
 import shutil
+import signal
 import ssl
 import subprocess
 import time
 from concurrent.futures import ThreadPoolExecutor
 from urllib.parse import urlencode
 
-from service import HOST, PAIRS, PATIENCE, Browser, Response, Service, Wrong, expect, free_port
+from service import HOST, PAIRS, PATIENCE, Browser, Response, Service, Wrong, end, expect, free_port, run
 
 TOP = os.path.dirname(os.path.dirname(os.path.dirname(os.path.realpath(__file__))))
 NAME = "shop.example"
@@ -101,13 +102,12 @@ def check(program, room):
     certify(room)
     configure(room, service.port, plain, secret)
     words = [shutil.which("nginx") or ASIDE, "-p", room, "-c", f"{room}/nginx.conf", "-g", "daemon off;"]
-    nginx = subprocess.Popen(words, stdin=subprocess.DEVNULL, stderr=subprocess.DEVNULL)
+    # By this signal its processes end with it.
+    nginx = run(words, signal.SIGTERM, stderr=subprocess.DEVNULL)
     try:
         return through(service, plain, secret)
     finally:
-        # By this signal its processes end with it.
-        nginx.terminate()
-        nginx.wait()
+        end(nginx)
 
 
 def through(service, plain, secret):

@@ -8,6 +8,7 @@ import os
 import random
 import re
 import shutil
+import signal
 import socket
 import subprocess
 import time
@@ -28,22 +29,28 @@ TOKEN = re.compile(r'name="token" value="([0-9a-f]{56})"')
 SENT_TO = re.compile(r'<form method="post" action="([^"]*)">')
 FIELD = re.compile(r'<label>\w+ <input name="(\w+)"></label>')
 
-# Each process that was started and not ended yet.
-running = []
+# Each process that was started and not ended yet, with the signal that ends it.
+running = {}
+
+
+def run(words, ends_by=signal.SIGKILL, **how):
+    """Starts a process, which is ended at the end of the checks where it was not ended before."""
+    process = subprocess.Popen(words, stdin=subprocess.DEVNULL, **how)
+    running[process] = ends_by
+    return process
+
+
+def end(process):
+    """Ends one of our processes, and waits until it is gone."""
+    process.send_signal(running.get(process, signal.SIGKILL))
+    process.wait()
+    running.pop(process, None)
 
 
 @atexit.register
 def end_all():
     for process in list(running):
         end(process)
-
-
-def end(process):
-    """Ends one of our processes, as a fall of the power would, and waits until it is gone."""
-    process.kill()
-    process.wait()
-    if process in running:
-        running.remove(process)
 
 
 class Wrong(Exception):
@@ -79,10 +86,7 @@ class Service:
     def launch(self, **how):
         """Starts it, and does not wait for it."""
         with open(self.log, "ab") as log:
-            self.process = subprocess.Popen(
-                self.words(), stdin=subprocess.DEVNULL, stdout=log, stderr=log, **how
-            )
-        running.append(self.process)
+            self.process = run(self.words(), stdout=log, stderr=log, **how)
         return self
 
     def start(self, **how):

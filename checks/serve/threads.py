@@ -39,7 +39,9 @@ def check(program, room):
     """Each limit, where another user may be taken."""
     if os.geteuid() != 0:
         return "no limit of threads, which only root could set here"
-    os.chmod(os.path.dirname(room), 0o755)
+    os.makedirs(room)
+    for path in (os.path.dirname(room), room):
+        os.chmod(path, 0o755)
     for limit in LIMITS:
         serves(program, f"{room}/{limit}", limit)
     return f"servers of {', '.join(map(str, LIMITS))} threads"
