@@ -1,5 +1,8 @@
 """What customers do, and how they are refused: each page as docs/AUCTION.md and docs/HTTP.md have it."""
 
+import base64
+import hashlib
+import hmac
 import re
 import subprocess
 
@@ -126,6 +129,22 @@ def sales(service):
     return ann, ben
 
 
+def texts_are_of_the_key(service, ann):
+    """A cookie and the token of a form end with the tags that the key in KEYFILE gives them; and the cookie is of node
+    1."""
+    with open(service.key, "rb") as file:
+        secret = file.read()
+    token = bytes.fromhex(ann.form("category")[1])
+    data = base64.urlsafe_b64decode(ann.cookie + "=" * (-len(ann.cookie) % 4))
+    fields, tag, session = data[:-32], data[-32:], data[1:17]
+    if hmac.new(secret, fields, hashlib.sha256).digest() != tag:
+        raise Wrong("a cookie is not of the key")
+    if hmac.new(secret, b"form" + session + token[:12], hashlib.sha256).digest()[:16] != token[12:]:
+        raise Wrong("the token of a form is not of the key")
+    if int.from_bytes(fields[17:19], "big") != 1:
+        raise Wrong("a cookie is of another node than 1")
+
+
 def bytes_are_refused(service):
     """Each row of BYTES, on a connection of its own."""
     for text, status, reason, heading, fields in BYTES:
@@ -223,6 +242,7 @@ def check(program, room):
     """An afternoon, each refusal, and what is found behind a crash."""
     service = Service(program, room).start()
     ann, ben = sales(service)
+    texts_are_of_the_key(service, ann)
     bytes_are_refused(service)
     forms_are_refused(service, ann, ben)
     what_is_of_another_start_is_refused(service, ben)

@@ -140,8 +140,8 @@ def check(program, room):
     service.kill()
     for _ in range(ROUNDS):
         play_round(service, ledger)
-    if not ledger.acknowledged:
-        raise Wrong("not one bid was acknowledged")
+    if len(ledger.acknowledged) < ROUNDS:
+        raise Wrong(f"only {len(ledger.acknowledged)} bids were acknowledged in {ROUNDS} rounds")
     service.start()
     judge_pages(service, ledger)
     service.kill()

@@ -5,7 +5,7 @@ import re
 import shutil
 import subprocess
 
-from service import PATIENCE, Service, Wrong
+from service import PATIENCE, Service, Wrong, run
 
 TOP = os.path.dirname(os.path.dirname(os.path.dirname(os.path.realpath(__file__))))
 PORT = "8080"
@@ -21,33 +21,33 @@ def blocks():
 
 
 def play(commands, service):
-    """What a shell writes that is given the commands, which is all that it writes but for the server's own lines."""
-    text = commands.replace(PORT, str(service.port)).replace("./crash", service.program)
-    shell = subprocess.run(["bash", "-eu", "-c", text], cwd=service.room, stdout=subprocess.PIPE, timeout=PATIENCE)
-    if shell.returncode:
+    """What a shell writes that is given these commands of the page, on its outputs. What they leave runs on."""
+    text = commands.replace(PORT, str(service.port)).replace("./crash try", service.program)
+    told = os.path.join(service.room, "told")
+    with open(told, "wb") as file:
+        words = ["bash", "-eu", "-c", f"{text}jobs -p > jobs\n"]
+        shell = run(words, cwd=service.room, stdout=file, stderr=file)
+    if shell.wait(PATIENCE):
         raise Wrong(f"{text}ends with status {shell.returncode}")
-    return shell.stdout.decode()
+    with open(told, encoding="utf-8") as file:
+        return file.read()
 
 
 def check(program, room):
-    """The key is made, the server started, and the rest done as the page says."""
+    """The key is made, the server started and asked, and a form sent, each block as a whole."""
     if not shutil.which("curl"):
         return "no curl, by which the first page asks"
     service = Service(program, room)
-    making, starting, *asking = re.split(r"(?<=\n)(?=\./crash|curl)", blocks()[0])
-    play(making, service)
-    words = starting.replace(PORT, str(service.port)).split()
-    if words[:2] != ["./crash", "serve"] or words[-1] != "&":
-        raise Wrong(f"the first page starts the server by {starting}")
-    service.file, service.key = words[3], words[4]
-    service.start(cwd=room)
-    shown = blocks()[1].replace(PORT, str(service.port))
-    seen = play("".join(asking).replace("curl ", "curl -s "), service)
-    told = "".join(f"{line}\n" for line in service.lines())
-    if told + seen != shown:
-        raise Wrong(f"the first page shows\n{shown}and not\n{told}{seen}")
-    seen = play(blocks()[2], service)
-    if seen != WELCOME:
-        raise Wrong(f"the form of the first page is answered\n{seen}")
-    service.kill()
+    begins, shows, sends = blocks()
+    seen = play(begins, service)
+    with open(os.path.join(room, "jobs"), encoding="utf-8") as file:
+        (number,) = map(int, file.read().split())
+    try:
+        if seen != shows.replace(PORT, str(service.port)):
+            raise Wrong(f"the first page shows\n{shows}and not\n{seen}")
+        seen = play(sends, service)
+        if seen != WELCOME:
+            raise Wrong(f"the form of the first page is answered\n{seen}")
+    finally:
+        os.kill(number, 9)
     return "the first page's commands"

@@ -11,6 +11,7 @@ from service import HOST, Browser, Service, Wrong, expect, sqlite3
 
 USAGE = "usage: crash drive | groups | workload NUMBER COUNT | serve PORT FILE KEYFILE WORKERS"
 MOST_SECONDS = 20
+NOT_THERE, NOT_OPENED = "No such file or directory (os error 2)", "unable to open database file"
 LAST_BOOT = (2**32 - 1).to_bytes(4, "big")
 # The file of the database, or its log, may not grow past this, and then fewer categories than so many are taken.
 LARGEST_FILE, MOST_CATEGORIES = 400_000, 2_000
@@ -31,18 +32,18 @@ WORDS = (
 )
 
 
-def ends(service, status, line, named=None, words=None):
-    """That the program ends with a status and this line, with one before it that names a file or a port and a reason,
-    where there is a name."""
+def ends(service, status, *lines, words=None):
+    """That the program ends with a status, and writes just these lines."""
     words = words or service.words()
     ran = subprocess.run(words, stdin=subprocess.DEVNULL, capture_output=True, timeout=MOST_SECONDS)
     wrote = ran.stderr.decode(errors="replace").splitlines()
-    tells = [line] if named is None else [None, line]
-    if ran.returncode != status or len(wrote) != len(tells) or wrote[-1:] != [line] or ran.stdout:
-        raise Wrong(f"{words} ends with status {ran.returncode} and writes {wrote}; and not {status} and {tells}")
-    if named is not None and (named not in wrote[0] or len(wrote[0]) <= len(named) + 2):
-        raise Wrong(f"{words} writes {wrote[0]}, which does not name {named} and a reason")
-    return wrote
+    if (ran.returncode, wrote, ran.stdout) != (status, list(lines), b""):
+        raise Wrong(f"{words} ends with status {ran.returncode} and writes {wrote}; and not {status} and {lines}")
+
+
+def fails(service, name, reason):
+    """That a start fails, since what has this name is of no use for this reason."""
+    ends(service, 14, f"{name}: {reason}", "start failed")
 
 
 def write(name, data):
@@ -61,13 +62,13 @@ def words_are_refused(service):
 
 def keys_are_refused(service):
     os.remove(service.key)
-    ends(service, 14, "start failed", service.key)
+    fails(service, service.key, NOT_THERE)
     os.mkdir(service.key)
-    ends(service, 14, "start failed", service.key)
+    fails(service, service.key, "not read")
     os.rmdir(service.key)
     for size in (0, 15, 1025, 5000):
         write(service.key, os.urandom(size))
-        ends(service, 13, "key refused", service.key)
+        ends(service, 13, f"{service.key}: a key has 16 to 1024 bytes", "key refused")
     if os.path.exists(service.file):
         raise Wrong("a key that is refused made a file")
     for size in (1024, 16):
@@ -77,20 +78,25 @@ def keys_are_refused(service):
 
 def files_are_refused(service):
     kept, service.file = service.file, os.path.join(service.room, "nowhere", "shop.db")
-    ends(service, 14, "start failed", service.file)
+    fails(service, service.file, NOT_OPENED)
     service.file = service.room
-    ends(service, 14, "start failed", service.file)
+    fails(service, service.file, NOT_OPENED)
     service.file = os.path.join(service.room, "text.db")
     write(service.file, b"no database, but a text that is long enough to be looked at as one\n" * 100)
-    ends(service, 14, "start failed", service.file)
+    fails(service, service.file, "file is not a database that obeys its schema")
     if sqlite3:
         service.file = os.path.join(service.room, "other.db")
         other = sqlite3.connect(service.file)
         other.execute("CREATE TABLE crash_rows (t INTEGER, k TEXT)")
         other.commit()
         other.close()
-        ends(service, 14, "start failed", service.file)
+        fails(service, service.file, "crash_rows is another table in it")
     service.file = kept
+
+
+def serving(service):
+    """The line of a server that has opened all."""
+    return f"serving {service.file} on {HOST}:{service.port} by {service.workers} workers"
 
 
 def rows_are_refused(service):
@@ -106,7 +112,7 @@ def rows_are_refused(service):
         (300, 1, b"", 6, "keeper failed"),
     ):
         service.put(table, key, data)
-        ends(service, status, line, service.file)
+        ends(service, status, serving(service), line)
         other = sqlite3.connect(service.file)
         other.execute("DELETE FROM crash_rows WHERE t = ? AND k = ?", (table, key.to_bytes(8, "big")))
         other.commit()
@@ -119,7 +125,7 @@ def ports_are_refused(service):
     taken = socket.socket()
     taken.bind((HOST, service.port))
     taken.listen()
-    ends(service, 14, "start failed", str(service.port))
+    fails(service, f"port {service.port}", "Address already in use (os error 98)")
     taken.close()
 
 
@@ -128,7 +134,7 @@ def a_file_has_one_server(program, service):
     service.start()
     second = Service(program, f"{service.room}/second")
     second.file = service.file
-    ends(second, 14, "start failed", service.file)
+    fails(second, service.file, "database is locked")
     expect(Browser(service.port).get("/"), 200, "Auctions", "Signed out", ("/categories", "Categories"))
     service.kill()
 
@@ -140,9 +146,9 @@ def the_key_comes_first(service):
     taken.bind((HOST, service.port))
     taken.listen()
     service.file = os.path.join(service.room, "nowhere", "shop.db")
-    ends(service, 14, "start failed", service.file)
+    fails(service, service.file, NOT_OPENED)
     service.key = os.path.join(service.room, "no_key")
-    ends(service, 14, "start failed", service.key)
+    fails(service, service.key, NOT_THERE)
     taken.close()
     service.key, service.file = key, file
 
