@@ -1,11 +1,11 @@
 // Loads a served shop with forms and cookies, as browsers send them: for `bench/serve`, which builds it with cc.
 //
-//     serve_load PORT KIND SECONDS PATH < CLIENTS
+//     serve_load PORT KIND SECONDS WORD < CLIENTS
 //
 // Each line of CLIENTS is a client with a connection of its own: its name, its password, its cookie and the item that
-// it bids on. KIND is `bid`, `signin` or `page`. A client of `bid` asks for the form of bids, and sends one bid more
-// than its last with the token of that form, over and over; one of `signin` does so with the form of sign-ins; one of
-// `page` asks for PATH. One thread drives all clients. It writes how many seconds it took, how many posts (or pages)
+// it bids on. KIND is `bid`, `signin` or `page`. A client of `bid` asks for the form of bids, and sends a bid with its
+// token, the first of WORD cents and each next one a cent above it, over and over; one of `signin` does so with the form
+// of sign-ins; one of `page` asks for the path WORD. One thread drives all clients. It writes how many seconds it took, how many posts (or pages)
 // were answered 200, how many answers were no 200, how many connections ended, and the microseconds of the 50th and of
 // the 99th of a hundred posts (or pages), and the most.
 #include <arpa/inet.h>
@@ -66,7 +66,7 @@ static void send_request(struct client *c) {
     int size;
     c->posts = c->token[0] != 0;
     if (c->posts && kind[0] == 'b') {
-        snprintf(body, sizeof body, "item=%u&amount=%llu&token=%s", c->item, (unsigned long long)++c->amount, c->token);
+        snprintf(body, sizeof body, "item=%u&amount=%llu&token=%s", c->item, (unsigned long long)c->amount++, c->token);
     } else if (c->posts) {
         snprintf(body, sizeof body, "name=%s&password=%s&token=%s", c->name, c->password, c->token);
     }
@@ -164,7 +164,7 @@ int main(int argc, char **argv) {
         strcpy(c->password, read_in.password);
         strcpy(c->cookie, strcmp(read_in.cookie, "-") ? read_in.cookie : "");
         c->item = read_in.item;
-        c->amount = (uint64_t)(time(0) % 1000000) * 3000;
+        c->amount = strtoull(path, 0, 10);
         clients[count++] = c;
     }
     begun = now();
