@@ -182,7 +182,7 @@ int main(int argc, char **argv) {
     kept = good < SAMPLES ? good : SAMPLES;
     qsort(samples, kept, sizeof *samples, order);
     printf("%.3f %llu %llu %llu %u %u %u\n", took / 1e9, (unsigned long long)good, (unsigned long long)bad,
-           (unsigned long long)closed, kept ? samples[kept / 2] : 0, kept ? samples[kept / 100 * 99] : 0,
+           (unsigned long long)closed, kept ? samples[kept / 2] : 0, kept ? samples[kept * 99 / 100] : 0,
            kept ? samples[kept - 1] : 0);
     return 0;
 }
