@@ -35,23 +35,36 @@ impl<'a, C: Clock> Model for ClientSink<'a, C> {
 }
 
 impl<'a, C: Clock> ClientSink<'a, C> {
-    /// A sink over a new connection.
-    pub(crate) fn new(clock: &'a C, door: &'a Door, line: Arc<Line, Global>) -> ClientSink<'a, C> {
+    /// A sink over a new connection, which came when the door had been stopped so often.
+    pub(crate) fn new(
+        clock: &'a C,
+        door: &'a Door,
+        line: Arc<Line, Global>,
+        stops: u64,
+    ) -> ClientSink<'a, C> {
         ClientSink {
             clock,
             door,
             line,
-            stops: door.stops(),
+            stops,
             blocked: None,
             faults: 0,
         }
     }
 
+    /// Whether the door was stopped since the connection came, which is then to be ended with no wait.
+    fn is_stopped(&self) -> bool {
+        if self.door.stops() == self.stops {
+            return false;
+        }
+        self.line.hurry();
+        true
+    }
+
     /// Whether the client is waited for no longer.
     fn is_late(&self) -> bool {
         match self.blocked {
-            Some(blocked) => self.door.stops() != self.stops
-                || is_patience_over(self.clock, blocked),
+            Some(blocked) => self.is_stopped() || is_patience_over(self.clock, blocked),
             None => false,
         }
     }

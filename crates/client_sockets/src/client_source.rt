@@ -36,21 +36,31 @@ impl<'a, C: Clock> Model for ClientSource<'a, C> {
 }
 
 impl<'a, C: Clock> ClientSource<'a, C> {
-    /// A source over a new connection.
+    /// A source over a new connection, which came when the door had been stopped so often.
     pub(crate) fn new(
         clock: &'a C,
         door: &'a Door,
         line: Arc<Line, Global>,
+        stops: u64,
     ) -> ClientSource<'a, C> {
         ClientSource {
             clock,
             door,
             line,
-            stops: door.stops(),
+            stops,
             begun: None,
             requests: 0,
             faults: 0,
         }
+    }
+
+    /// Whether the door was stopped since the connection came, which is then to be ended with no wait.
+    fn is_stopped(&self) -> bool {
+        if self.door.stops() == self.stops {
+            return false;
+        }
+        self.line.hurry();
+        true
     }
 
     /// Heeds that the client is waited for, and says whether its request has taken too long to come.
@@ -73,7 +83,7 @@ impl<'a, C: Clock> ClientSource<'a, C> {
 
     /// Whether the client is waited for no longer, after so many waits in a row.
     fn is_over(&self, waits: u64) -> bool {
-        if self.door.stops() != self.stops {
+        if self.is_stopped() {
             return true;
         }
         match self.begun {
@@ -106,7 +116,7 @@ impl<'a, C: Clock> Source for ClientSource<'a, C> {
     ghost faults = { λ s. s };
 
     fn read(&mut self, into: &mut [u8]) -> Result<usize, Failed> {
-        if self.is_late() || self.door.stops() != self.stops {
+        if self.is_late() || self.is_stopped() {
             return Ok(0);
         }
         match self.wait(into) {

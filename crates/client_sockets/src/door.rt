@@ -44,19 +44,21 @@ fn is_broken(error: &io::Error) -> bool {
     }
 }
 
-/// The source and the sink over a connection. None where there is no memory, or the client has gone.
+/// The source and the sink over a connection, which came when the door had been stopped so often. None where there is no
+/// memory, or the client has gone.
 fn pair_of<'a, C: Clock>(
     clock: &'a C,
     alloc: Global,
     door: &'a Door,
+    stops: u64,
     socket: TcpStream,
 ) -> Option<(ClientSource<'a, C>, ClientSink<'a, C>)> {
     let line = Line::new(socket).ok()?;
     let line = Arc::new(alloc, line).ok()?;
     let other = Arc::try_clone(&line).ok()?;
     Some((
-        ClientSource::new(clock, door, line),
-        ClientSink::new(clock, door, other),
+        ClientSource::new(clock, door, line, stops),
+        ClientSink::new(clock, door, other, stops),
     ))
 }
 
@@ -113,10 +115,10 @@ impl Door {
     ) -> io::Result<Option<(ClientSource<'a, R>, ClientSink<'a, R>)>> {
         let stops = self.stops();
         if let Some(socket) = self.held.lock(rt).pop() {
-            return Ok(pair_of(rt, alloc, self, socket));
+            return Ok(pair_of(rt, alloc, self, stops, socket));
         }
         match self.wait() {
-            Ok(socket) if self.stops() == stops => Ok(pair_of(rt, alloc, self, socket)),
+            Ok(socket) if self.stops() == stops => Ok(pair_of(rt, alloc, self, stops, socket)),
             Ok(socket) => {
                 self.hold(rt, socket);
                 Ok(None)

@@ -17,7 +17,8 @@
 //! - at most a tenth of a second after a stop, where its client is waited for.
 //!
 //! A request is open from its first byte until a byte is written. To a client that still sends when its connection is
-//! ended, the last response comes all the same: what it sends is read and thrown away for a while.
+//! ended, the last response comes all the same: what it sends is read and thrown away for up to a second, with no wait
+//! where the door was stopped.
 //!
 //! Nothing is promised of time, of bytes, or of what reaches a client; the count of faults is.
 #![tactic(auto)]

@@ -9,8 +9,11 @@ use std::net::{Shutdown, TcpStream};
 use std::sync::atomic::{AtomicBool, Ordering};
 use std::time::Duration;
 
-/// How many pieces of what a client still sends are thrown away at most when its connection is ended.
-const MAX_LAST_READS: u32 = 256;
+/// How often a client that still sends is waited for at most when its connection is ended: for a second in all.
+const MAX_LAST_WAITS: u32 = 10;
+
+/// How many pieces of what it has sent are thrown away at most before each of these waits.
+const MAX_LAST_PIECES: u32 = 256;
 
 /// What one wait for bytes gave.
 #[derive(Clone, Copy)]
@@ -36,6 +39,8 @@ pub(crate) enum Put {
 pub(crate) struct Line {
     socket: TcpStream,
     is_asked: AtomicBool,
+    /// Whether it is to be ended with no wait.
+    is_hurried: AtomicBool,
 }
 
 /// Sets what the waits of a socket are, and that each piece leaves at once.
@@ -54,22 +59,40 @@ fn throws_away(mut socket: &TcpStream) -> bool {
     }
 }
 
-/// Throws away what a client still sends, until it pauses or there is too much. A connection that is closed over bytes
+/// Whether anything was there to be thrown away. All that has come is, unless there is too much.
+fn throws_all_away(socket: &TcpStream) -> bool {
+    for pieces in 0..MAX_LAST_PIECES {
+        if !throws_away(socket) {
+            return pieces > 0;
+        }
+    }
+    true
+}
+
+/// Whether a client that is waited for once sent more, which was thrown away.
+fn waits_for_more(socket: &TcpStream) -> bool {
+    socket.set_nonblocking(false).is_ok()
+        && throws_away(socket)
+        && socket.set_nonblocking(true).is_ok()
+}
+
+/// Throws away what a client still sends, until it pauses or a second has passed. A connection that is closed over bytes
 /// that nobody read may lose the response that is on its way.
 fn throw_away(socket: &TcpStream) {
-    for _ in 0..MAX_LAST_READS {
-        if !throws_away(socket) {
+    for _ in 0..MAX_LAST_WAITS {
+        if !waits_for_more(socket) {
             return;
         }
+        let _ = throws_all_away(socket);
     }
 }
 
-/// Ends a connection. It waits only for a client that still sends.
-fn leave(socket: &TcpStream) {
+/// Ends a connection. It waits only for a client that still sends, and not where it is hurried.
+fn leave(socket: &TcpStream, is_hurried: bool) {
     if socket.shutdown(Shutdown::Write).is_err() || socket.set_nonblocking(true).is_err() {
         return;
     }
-    if throws_away(socket) && socket.set_nonblocking(false).is_ok() {
+    if throws_all_away(socket) && !is_hurried {
         throw_away(socket);
     }
 }
@@ -81,7 +104,13 @@ impl Line {
         Ok(Line {
             socket,
             is_asked: AtomicBool::new(false),
+            is_hurried: AtomicBool::new(false),
         })
+    }
+
+    /// It is to be ended with no wait.
+    pub fn hurry(&self) {
+        self.is_hurried.store(true, Ordering::SeqCst);
     }
 
     /// Whether a request is open.
@@ -125,10 +154,11 @@ impl Line {
 
 impl Drop for Line {
     fn drop(self) {
-        leave(&self.socket);
+        leave(&self.socket, self.is_hurried.load(Ordering::SeqCst));
         let Line {
             socket: _,
             is_asked: _,
+            is_hurried: _,
         } = self;
     }
 }
