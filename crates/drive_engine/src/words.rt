@@ -7,7 +7,7 @@ use crash_base::WordText;
 use scenario_text::decimal_number;
 use workload::MAX_TURNS;
 
-/// How the program is called. `serve` is not built yet, and spells no command.
+/// How the program is called. `serve` is the command of `serve_command`, and spells none of these.
 pub const USAGE: &str =
     "usage: crash drive | groups | workload NUMBER COUNT | serve PORT FILE KEYFILE WORKERS\n";
 
