@@ -2,6 +2,7 @@
 
 import threading
 import time
+from functools import partial
 
 from service import Browser, Closed, Connection, Service, Wrong, expect
 
@@ -10,6 +11,9 @@ HOME = ("Auctions", "Signed out", ("/categories", "Categories"))
 # How long a client may take for a request, or for a response, and how long a connection may be idle, in seconds; and
 # how much later than that a busy machine may be.
 PATIENCE, MINUTE, LATE = 10, 60, 20
+# How long behind the end of a connection its worker is there for others, at the latest: a second, and two for a busy
+# machine; and how long a client that goes on sending pauses.
+SOON, PAUSE = 3, 0.05
 
 
 def seconds_to_end(connection, begun):
@@ -118,13 +122,65 @@ def works_beside(service):
         raise Wrong(f"fifty pages beside {IDLE} idle connections took {took:.1f} seconds")
 
 
-def in_threads(service, calls):
+def is_sent(connection, data):
+    """Sends bytes, unless the server has ended the connection."""
+    try:
+        connection.send(data)
+        return True
+    except Closed:
+        return False
+
+
+def sends_late(connection, begun):
+    """Sends a request that takes too long to come, and much of it at last. When its connection is ended."""
+    connection.send(b"POST /bid HTTP/1.1\r\nContent-Length: 60000\r\n\r\n")
+    connection.socket.settimeout(PAUSE)
+    data = b"x"
+    while not connection.is_ended() and is_sent(connection, data):
+        is_last = len(data) == 1 and time.monotonic() > begun + PATIENCE - 2 * PAUSE
+        data = b"x" * (5000 if is_last else 1)
+    return time.monotonic()
+
+
+def sends_too_much(connection, begun):
+    """Sends a body that is refused by its size. When it is answered, and so its connection is ended."""
+    connection.send(b"POST /bid HTTP/1.1\r\nContent-Length: 70000\r\n\r\n" + b"x" * 60_000)
+    answer = connection.response()
+    if (answer.status, answer.field("connection")) != (413, "close"):
+        raise Wrong(f"a body over the limit is answered {answer}")
+    return time.monotonic()
+
+
+def goes_on_sending(service, until_ended):
+    """Sends on when its connection was ended. It holds its worker for little longer: the only one of this server, by
+    which another client is answered soon."""
+    answered = []
+
+    def ask():
+        expect(Browser(service.port).get("/"), 200, *HOME)
+        answered.append(time.monotonic())
+
+    connection, other = Connection(service.port), threading.Thread(target=ask)
+    begun = time.monotonic()
+    time.sleep(PAUSE)
+    other.start()
+    ended = until_ended(connection, begun)
+    while other.is_alive() and is_sent(connection, b"x"):
+        other.join(PAUSE)
+    other.join()
+    connection.close()
+    if not answered or answered[0] > ended + SOON:
+        late = f"{answered[0] - ended:.1f} seconds later" if answered else "wrongly"
+        raise Wrong(f"a client goes on sending behind the end of its connection, and another is answered {late}")
+
+
+def in_threads(calls):
     """Makes each call in a thread of its own."""
     faults = []
 
     def keep_fault(call):
         try:
-            call(service)
+            call()
         except Exception as fault:
             faults.append(fault)
 
@@ -138,15 +194,20 @@ def in_threads(service, calls):
 
 
 def check(program, room):
-    """The slow and the idle at one server, which has a worker for each and one more; and a crowd at another."""
-    patient = Service(program, f"{room}/slow").start()
+    """A crowd at one server; the slow and the idle at another, which has a worker for each and one more; and those who
+    go on sending at one each, which has a worker alone."""
     crowded = Service(program, f"{room}/idle").start()
     begun = time.monotonic()
     works_beside(crowded)
     took = time.monotonic() - begun
     crowded.kill()
-    in_threads(patient, [trickles_head, trickles_body, takes_nothing, idles, never_asks, asks_much])
+    patient = Service(program, f"{room}/slow").start()
+    late, much = (Service(program, f"{room}/{it}", workers=1).start() for it in ("late", "much"))
+    calls = [trickles_head, trickles_body, takes_nothing, idles, never_asks, asks_much]
+    on = [partial(goes_on_sending, late, sends_late), partial(goes_on_sending, much, sends_too_much)]
+    in_threads([partial(it, patient) for it in calls] + on)
     expect(Browser(patient.port).get("/"), 200, *HOME)
-    patient.kill()
+    for service in (patient, late, much):
+        service.kill()
     beside = f"fifty pages beside {IDLE} idle connections in {took:.1f} s"
-    return f"two trickles, clients that read nothing, are idle or ask much, and {beside}"
+    return f"clients that trickle, read nothing, go on sending, are idle or ask much, and {beside}"

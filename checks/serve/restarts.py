@@ -7,11 +7,14 @@ import time
 from service import Browser, Closed, Connection, Service, Wrong, expect
 
 MOST_SECONDS = 300
+# How long the shop may be down; a busy machine takes its time.
+MOST_DOWN = 5
 LOADERS = 2
 TOGETHER = 100
 # 7/8 and 31/32 of the entries that a journal may have.
 FIRST, LAST = 229_376, 253_952
 PAGES = b"GET / HTTP/1.1\r\n\r\n" * TOGETHER
+POST = b"POST /bid HTTP/1.1\r\nContent-Length: 60000\r\n\r\n"
 
 
 def loads(service, deadline, faults):
@@ -31,6 +34,31 @@ def loads(service, deadline, faults):
         faults.append(fault)
 
 
+def goes_on_sending(service, deadline, faults):
+    """Sends a request, a byte now and then, also when its connection was ended, until the server has restarted."""
+    connection = None
+    while service.boots() == 1 and time.monotonic() < deadline:
+        try:
+            if not connection:
+                connection = Connection(service.port)
+                connection.send(POST)
+            connection.send(b"x")
+            time.sleep(0.05)
+        except (Closed, OSError):
+            connection = None
+
+
+def looks(service, deadline, faults):
+    """That the server is not down for long when it restarts."""
+    begun = None
+    while service.boots() == 1 and time.monotonic() < deadline:
+        if begun is None and service.lines()[-1].startswith("restarting "):
+            begun = time.monotonic()
+        time.sleep(0.01)
+    if begun is not None and time.monotonic() > begun + MOST_DOWN:
+        faults.append(Wrong(f"a restart took {time.monotonic() - begun:.1f} seconds"))
+
+
 def check(program, room):
     """What was bid before is there, the session goes on, and a form of before is old."""
     service = Service(program, room).start()
@@ -43,7 +71,7 @@ def check(program, room):
     expect(ben.fill(form, {"item": 1, "amount": 500}), 200, "Bid 1 on item 1")
     faults, begun = [], time.monotonic()
     args = (service, begun + MOST_SECONDS, faults)
-    threads = [threading.Thread(target=loads, args=args) for _ in range(LOADERS)]
+    threads = [threading.Thread(target=it, args=args) for it in [loads] * LOADERS + [goes_on_sending, looks]]
     for thread in threads:
         thread.start()
     for thread in threads:
