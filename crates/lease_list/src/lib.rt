@@ -14,9 +14,9 @@
 //! so a name is of one node alone. Numbers are seen by contracts only, so there is no last one. Who asks for a node by
 //! name shows that it stands in the list.
 //!
-//! A node has raw pointers to the two beside it. `src/links` has the five functions that touch them, each proved by hand; the
-//! list is safe code over these: a pop unlinks the first node, and a drop pops until none is left, so it goes no
-//! deeper for a longer list.
+//! A node has raw pointers to the two beside it. `src/links` has the five functions that touch them, each proved by
+//! hand; the list is safe code over these: a pop unlinks the first node, and a drop pops until none is left, so it goes
+//! no deeper for a longer list.
 //!
 //! A push takes memory for one node, and nothing else takes any. Each call visits at most three nodes, and a drop each
 //! node once. A list, and a name, may be sent to another thread where its values may.
