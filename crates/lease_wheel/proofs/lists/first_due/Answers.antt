@@ -1,4 +1,4 @@
-use Rattle.std.proofs.Common.{false, true, sym, ◌∙◌}
+use Rattle.std.proofs.Common.{sym, ◌∙◌}
 use Rattle.lease_wheel.proofs.Popping.{first_entry, none_due}
 use Rattle.lease_wheel.proofs.lists.first_due.Goals as goal
 

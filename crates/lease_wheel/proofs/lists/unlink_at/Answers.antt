@@ -1,4 +1,4 @@
-use Rattle.std.proofs.Common.{true, false, sym, ◌∙◌}
+use Rattle.std.proofs.Common.{sym, ◌∙◌}
 use Rattle.lease_wheel.proofs.Finding.{in_list, some_same, none_some, unlinked, unlinked_out, sound_set, sound_left, filled_from, not_empty}
 use Rattle.lease_wheel.proofs.lists.unlink_at.Goals as goal
 
