@@ -15,11 +15,7 @@ use Rattle.brick_store.specs.declared.kept.Kept.{Kept}
 use Rattle.brick_store.specs.declared.kept_map.Pair.{Pair}
 use Rattle.crash_base.specs.Same.{same_version}
 use Rattle.brick_store.specs.Kept.{is_under, kept_order, version_order}
-use Rattle.brick_store.specs.contracts.kept_map.PairOrd.TheImpl as pair_ord
-
--- the order of pairs: by key, and of one key by version
-abbrev pub pair_order : Pair → Pair → Ordering
-pair_order = (pair_ord.ghosts).cmp
+use Rattle.brick_store.specs.Tied.{pair_order}
 
 pub kept_total : IsTotalOrder kept_order
 kept_total =

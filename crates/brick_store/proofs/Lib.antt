@@ -3,3 +3,5 @@ mod Keeping
 mod Leases
 mod Limits
 pub mod Standing
+mod Sweeping
+mod Tying

@@ -3,3 +3,4 @@ pub mod History
 pub mod Kept
 pub mod Pairs
 pub mod Standing
+pub mod Tied

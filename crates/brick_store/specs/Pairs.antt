@@ -17,7 +17,7 @@ kept_at (pair, lease) =
     record {
       key = record { 0 = pair.key };
       version = record { node = pair.node; boot = pair.boot; serial = pair.serial };
-      expiry = lease.expiry;
+      expiry = lease.node.expiry;
       value = lease.value;
     }
 

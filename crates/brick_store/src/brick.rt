@@ -140,7 +140,7 @@ impl Brick {
     }
 
     /// Removes the values whose expiry and 60,000 ms more (`SWEEP_GRACE`) are before a moment. It
-    /// visits each value, and takes no memory.
+    /// visits no others, each for about log n of n values, and takes no memory.
     pub fn sweep(&mut self, moment: Moment)
         ensures value { self.new ≡ swept_at self.old moment }
         ensures stands { (first : ℕ) (h : List BrickEvent) → StandsFor first h self.old
@@ -245,7 +245,7 @@ impl Brick {
                     version,
                     brick: self.number,
                     incarnation: self.incarnation,
-                    expiry: lease.expiry,
+                    expiry: lease.node.expiry(),
                     value,
                 })
             }
@@ -255,7 +255,7 @@ impl Brick {
     /// Does what a request asks, and replies. A Put that there is no room for changes nothing, and is
     /// answered BrickFull. Only where a value is stored or found does it take memory, and where memory
     /// runs out, the brick is as it was. A Put and a Get visit about log n of n values, and copy the
-    /// value once; a Sweep visits each value.
+    /// value once; a Sweep visits what it removes.
     pub fn answer(&mut self, alloc: Global, frame: &Frame) -> Result<Frame, OutOfMemory>
         requires { is_request frame.now ≡ true }
         ensures reply { IfOk result (λ answer. reply self.old frame.now ≡ Some answer) }

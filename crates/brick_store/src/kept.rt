@@ -1,10 +1,6 @@
 //! A value that a brick keeps, and the limits of a brick.
 
-ghost use Rattle.std.specs.Prelude.{◌≡◌};
-ghost use Rattle.brick_store.specs.Kept.{is_late};
-
 use crash_base::{Moment, SessionBytes, SessionKey, Version};
-use ssm_frames::SWEEP_GRACE;
 
 /// The most values that a brick keeps.
 pub const MAX_BRICK_VALUES: u64 = 65_536;
@@ -23,11 +19,4 @@ pub struct Kept {
     pub expiry: Moment,
     /// The value.
     pub value: SessionBytes,
-}
-
-/// Whether a sweep at this moment takes a value with this expiry.
-pub(crate) fn is_late(moment: Moment, expiry: Moment) -> bool
-    ensures { result ≡ is_late moment expiry }
-{
-    expiry.0 < moment.0.saturating_sub(SWEEP_GRACE)
 }

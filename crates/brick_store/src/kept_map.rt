@@ -1,13 +1,20 @@
-//! Kept values in an ordered map.
+//! Kept values in an ordered map, and the names of their nodes in a wheel, which finds what a sweep takes.
 
-ghost use Rattle.std.specs.Prelude.{◌≡◌, ◌≤◌, ◌^◌, ◌<◌, [], length, filter, option_map, OnOk, OnErr};
+ghost use Rattle.std.specs.Prelude.{◌≡◌, ◌≤◌, ◌^◌, ◌<◌, [], length, filter, option_map, IsSome, IfOk, OnOk, OnErr, Some, None, if◌then◌else◌};
+ghost use Rattle.std.specs.BTreeMap as tree;
+ghost use Rattle.std.specs.Map.{remove_entry};
 ghost use Rattle.crash_base.specs.declared.bounded.TheConstants.{MAX_SESSION_BYTES};
+ghost use Rattle.lease_wheel.specs.declared.wheel.WheelItem.{WheelItem};
+ghost use Rattle.lease_wheel.specs.Wheels.{Stands, Leaves, AreInOrder as AreInTurn};
 ghost use Rattle.brick_store.specs.declared.kept.TheConstants.{MAX_BRICK_BYTES};
 ghost use Rattle.brick_store.specs.Kept.{with_kept, kept_under, bytes_of, size_of, outlives, AreInOrder};
 ghost use Rattle.brick_store.specs.Pairs.{pair_of, kept_at, kept_in};
+ghost use Rattle.brick_store.specs.declared.kept_map.Pair.{Pair};
+ghost use Rattle.brick_store.specs.Tied.{pair_order, is_pair, value_at, AreTied};
 
-use crate::kept::{Kept, is_late};
+use crate::kept::Kept;
 use crash_base::{Moment, OutOfMemory, SessionBytes, SessionKey, Version};
+use lease_wheel::{LeaseWheel, WheelItem, WheelNode};
 use std::alloc::Global;
 use std::collections::BTreeMap;
 use std::marker::Model;
@@ -21,17 +28,21 @@ pub(crate) struct Pair {
     serial: u64,
 }
 
-/// A value, and until when it is asked for.
+/// A value, and the name of its node in the wheel, which says until when it is asked for.
 #[derive(Drop)]
 pub(crate) struct Lease {
-    pub(crate) expiry: Moment,
+    pub(crate) node: WheelNode,
     pub(crate) value: SessionBytes,
 }
 
-/// Kept values in order of key and version, and how many bytes they have.
+/// The lease at each pair.
+type Leases = BTreeMap<Pair, Lease>;
+
+/// Kept values in order of key and version, the wheel of their leases, and how many bytes they have.
 #[derive(Drop)]
 pub(crate) struct KeptMap {
-    leases: BTreeMap<Pair, Lease>,
+    leases: Leases,
+    wheel: LeaseWheel,
     bytes: u64,
 }
 
@@ -45,12 +56,14 @@ impl Model for KeptMap {
     ghost use Rattle.brick_store.specs.declared.kept.TheConstants.{MAX_BRICK_BYTES};
     ghost use Rattle.brick_store.specs.Kept.{AreInOrder, bytes_of};
     ghost use Rattle.brick_store.specs.Pairs.{kept_in};
+    ghost use Rattle.brick_store.specs.Tied.{AreTied};
 
     ghost view = { λ m. kept_in m.leases.entries };
 
     ghost invariant = { λ m. AreInOrder (kept_in m.leases.entries)
         × (m.bytes ≡ bytes_of (kept_in m.leases.entries))
-        × (bytes_of (kept_in m.leases.entries) ≤ MAX_BRICK_BYTES) };
+        × (bytes_of (kept_in m.leases.entries) ≤ MAX_BRICK_BYTES)
+        × AreTied m.leases.entries m.wheel };
 }
 
 /// The pair of a key and a version.
@@ -66,45 +79,89 @@ fn pair_of(key: SessionKey, version: Version) -> Pair
     }
 }
 
-/// Keeps a value, in place of one under its key and version.
-fn put_lease(leases: &mut BTreeMap<Pair, Lease>, kept: Kept) -> Result<(), OutOfMemory>
-    ensures ok { OnOk result (kept_in leases.new.entries ≡ with_kept kept (kept_in leases.old.entries)) }
+/// Takes a lease off the wheel, and says how many bytes its value has.
+fn let_go(wheel: &mut LeaseWheel, lease: Lease) -> u64
+    requires { Stands wheel.old lease.node }
+    ensures size { result ≡ length lease.value }
+    ensures small { result ≤ MAX_SESSION_BYTES }
+    ensures left { (item : WheelItem) × Leaves wheel.old lease.node item wheel.new }
+    ensures ordered { AreInTurn wheel.old }
+{
+    let Lease { node, value } = lease;
+    let size = value.as_slice().len() as u64;
+    let _item = wheel.remove(node);
+    size
+}
+
+/// Keeps a value, in place of one under its key and version, and says how many bytes that one has. The new one is on
+/// the wheel and in the map before the old one leaves the wheel.
+fn put_in(leases: &mut Leases, wheel: &mut LeaseWheel, kept: Kept) -> Result<u64, OutOfMemory>
+    requires { AreTied leases.old.entries wheel.old }
+    ensures tied { AreTied leases.new.entries wheel.new }
+    ensures kept { OnOk result (kept_in leases.new.entries ≡ with_kept kept (kept_in leases.old.entries)) }
+    ensures size { IfOk result (λ less. less
+        ≡ size_of (kept_under kept.key kept.version (kept_in leases.old.entries))) }
+    ensures small { IfOk result (λ less. less ≤ MAX_SESSION_BYTES) }
     ensures err { OnErr result (leases.new.entries ≡ leases.old.entries) }
 {
-    let pair = pair_of(kept.key, kept.version);
-    let lease = Lease {
-        expiry: kept.expiry,
-        value: kept.value,
+    let item = WheelItem {
+        key: kept.key,
+        version: kept.version,
     };
-    leases.insert(pair, lease)?;
-    Ok(())
+    let node = wheel.add(kept.expiry, item)?;
+    let pair = pair_of(kept.key, kept.version);
+    let value = kept.value;
+    match leases.insert(pair, Lease { node, value }) {
+        Ok(None) => Ok(0),
+        Ok(Some(old)) => Ok(let_go(wheel, old)),
+        Err(back) => {
+            let (_, lease) = back.value;
+            let _size = let_go(wheel, lease);
+            Err(OutOfMemory)
+        }
+    }
 }
 
 /// The value under a key and version.
-fn lease_under(leases: &BTreeMap<Pair, Lease>, key: SessionKey, version: Version) -> Option<&Lease>
+fn lease_under(leases: &Leases, key: SessionKey, version: Version) -> Option<&Lease>
     ensures { option_map (λ lease. kept_at (pair_of key version, lease.now)) result
         ≡ kept_under key version (kept_in leases.now.entries) }
 {
     leases.get(&pair_of(key, version))
 }
 
-/// Removes the values that a sweep takes.
-fn sweep_leases(leases: &mut BTreeMap<Pair, Lease>, moment: Moment)
-    ensures { kept_in leases.new.entries ≡ filter (outlives moment) (kept_in leases.old.entries) }
+/// Removes what the wheel gave out, and says how many bytes its value has.
+fn take_out(leases: &mut Leases, item: WheelItem) -> u64
+    requires { IsSome (value_at (pair_of item.key item.version) leases.old.entries) }
+    ensures size { option_map (λ lease. length lease.value) (value_at (pair_of item.key item.version) leases.old.entries)
+        ≡ Some result }
+    ensures entries { leases.new.entries ≡ remove_entry (is_pair (pair_of item.key item.version)) leases.old.entries }
+    ensures others { (q : Pair) → value_at q leases.new.entries
+        ≡ (if is_pair (pair_of item.key item.version) q then None else value_at q leases.old.entries) }
+    ensures ordered { tree.IsOrdered pair_order leases.new }
 {
-    leases.retain(|_, lease| !is_late(moment, lease.expiry));
+    match leases.remove(&pair_of(item.key, item.version)) {
+        Some(lease) => lease.value.as_slice().len() as u64,
+        None => unreachable!(),
+    }
 }
 
-/// How many bytes the values have.
-fn bytes_in(leases: &BTreeMap<Pair, Lease>) -> u64
-    requires { bytes_of (kept_in leases.now.entries) ≤ MAX_BRICK_BYTES }
-    ensures { result ≡ bytes_of (kept_in leases.now.entries) }
+/// Removes the values that a sweep takes, and says how many bytes the others have.
+fn sweep_in(leases: &mut Leases, wheel: &mut LeaseWheel, bytes: u64, moment: Moment) -> u64
+    requires tied { AreTied leases.old.entries wheel.old }
+    requires bytes { bytes ≡ bytes_of (kept_in leases.old.entries) }
+    ensures tied { AreTied leases.new.entries wheel.new }
+    ensures left { kept_in leases.new.entries ≡ filter (outlives moment) (kept_in leases.old.entries) }
+    ensures bytes { result ≡ bytes_of (kept_in leases.new.entries) }
 {
-    let mut bytes = 0;
-    for (_, lease) in leases {
-        bytes += lease.value.as_slice().len() as u64;
+    let mut left = bytes;
+    if leases.len() == 0 {
+        return left;
     }
-    bytes
+    while let Some(item) = wheel.pop_due(moment) {
+        left -= take_out(leases, item);
+    }
+    left
 }
 
 impl KeptMap {
@@ -114,6 +171,7 @@ impl KeptMap {
     {
         KeptMap {
             leases: BTreeMap::new(alloc),
+            wheel: LeaseWheel::new(alloc),
             bytes: 0,
         }
     }
@@ -142,17 +200,6 @@ impl KeptMap {
         lease_under(&self.leases, key, version)
     }
 
-    /// How many bytes the value under a key and version has; 0 where there is none.
-    fn size_under(&self, key: SessionKey, version: Version) -> u64
-        ensures size { result ≡ size_of (kept_under key version self.now) }
-        ensures small { result ≤ MAX_SESSION_BYTES }
-    {
-        match self.get(key, version) {
-            None => 0,
-            Some(lease) => lease.value.as_slice().len() as u64,
-        }
-    }
-
     /// Keeps a value, in place of one under its key and version. It visits about log n of n values.
     pub(crate) fn put(&mut self, kept: Kept) -> Result<(), OutOfMemory>
         requires { bytes_of (with_kept kept self.old) ≤ MAX_BRICK_BYTES }
@@ -160,9 +207,8 @@ impl KeptMap {
         ensures err { OnErr result (self.new ≡ self.old) }
     {
         let size = kept.value.as_slice().len() as u64;
-        let less = self.size_under(kept.key, kept.version);
-        match put_lease(&mut self.leases, kept) {
-            Ok(()) => {
+        match put_in(&mut self.leases, &mut self.wheel, kept) {
+            Ok(less) => {
                 self.bytes = self.bytes + size - less;
                 Ok(())
             }
@@ -170,12 +216,11 @@ impl KeptMap {
         }
     }
 
-    /// Removes the values that a sweep takes. It visits each value, and takes no memory.
+    /// Removes the values that a sweep takes. It visits no others, and takes no memory.
     pub(crate) fn sweep(&mut self, moment: Moment)
         ensures { self.new ≡ filter (outlives moment) self.old }
     {
-        sweep_leases(&mut self.leases, moment);
-        self.bytes = bytes_in(&self.leases);
+        self.bytes = sweep_in(&mut self.leases, &mut self.wheel, self.bytes, moment);
     }
 
     /// Removes all values. It takes no memory.
@@ -183,6 +228,7 @@ impl KeptMap {
         ensures { self.new ≡ [] }
     {
         self.leases.clear();
+        self.wheel.clear();
         self.bytes = 0;
     }
 }

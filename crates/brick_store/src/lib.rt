@@ -12,11 +12,13 @@
 //! brick.answer(alloc, &get)?;       // Absent
 //! ```
 //!
-//! The values stand in one ordered map, beside the sum of their bytes. A Put and a Get visit about
-//! log n of n values, and a sweep all of them. A brick keeps no history of what happened to it, but
-//! it stands for one: `bricks_stand_for_their_history` says that it goes on doing so,
-//! `bricks_keep_all_held` that what it keeps is a function of that history, and `replies_are_held` that
-//! so is what it answers.
+//! The values stand in one ordered map, beside the sum of their bytes, and their leases on a wheel, which gives out
+//! what a sweep takes. A Put and a Get visit about log n of n values, and a sweep those that it removes. A Put takes
+//! its memory first, so that where there is none the brick is as it was.
+//!
+//! A brick keeps no history of what happened to it, but it stands for one: `bricks_stand_for_their_history` says that
+//! it goes on doing so, `bricks_keep_all_held` that what it keeps is a function of that history, and
+//! `replies_are_held` that so is what it answers.
 #![tactic(auto)]
 
 mod brick;

@@ -107,7 +107,7 @@ impl ScriptLink {
         self.lanes[brick.0 as usize - 1].crash();
     }
 
-    /// A brick is swept. It visits each value, and takes no memory.
+    /// A brick is swept. It visits the values that it removes, and takes no memory.
     pub fn sweep(&mut self, brick: BrickNo, moment: Moment)
         requires some { 1 ≤ brick.0 }
         requires few { brick.0 ≤ length self.old.lanes }

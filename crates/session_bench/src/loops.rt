@@ -3,9 +3,9 @@
 ghost use Rattle.std.specs.Prelude.{◌≡◌, true, IfOk};
 ghost use Rattle.ssm_frames.specs.Requests.{is_request};
 
-use brick_store::Brick;
+use brick_store::{Brick, MAX_BRICK_VALUES};
 use crash_base::{BrickNo, Moment, OutOfMemory, SessionBytes, SessionKey, Version};
-use ssm_frames::{Frame, decode, encode};
+use ssm_frames::{Frame, SWEEP_GRACE, decode, encode};
 use std::alloc::Global;
 
 /// How many bytes a value has.
@@ -43,17 +43,27 @@ pub(crate) fn value(alloc: Global) -> Result<SessionBytes, OutOfMemory> {
     Ok(SessionBytes::from_vec(Vec::from_elem(alloc, b'a', VALUE_BYTES)?))
 }
 
-/// A Put of a value.
-fn put(alloc: Global, number: u64) -> Result<Frame, OutOfMemory>
+/// When the leases of values end that are put with no other expiry.
+const EXPIRY: Moment = Moment(1_800_000);
+
+/// A Put of a value with an expiry.
+fn put_until(alloc: Global, number: u64, expiry: Moment) -> Result<Frame, OutOfMemory>
     ensures { IfOk result (λ frame. is_request frame ≡ true) }
 {
     Ok(Frame::Put {
         nonce: NONCE,
         key: key(number),
         version: VERSION,
-        expiry: Moment(1_800_000),
+        expiry,
         value: value(alloc)?,
     })
+}
+
+/// A Put of a value.
+fn put(alloc: Global, number: u64) -> Result<Frame, OutOfMemory>
+    ensures { IfOk result (λ frame. is_request frame ≡ true) }
+{
+    put_until(alloc, number, EXPIRY)
 }
 
 /// A Get of a value.
@@ -72,6 +82,15 @@ fn filled_brick(alloc: Global) -> Result<Brick, OutOfMemory> {
     let mut brick = Brick::new(alloc, BrickNo(1), 1);
     for number in 0..VALUES {
         brick.answer(alloc, &put(alloc, number)?)?;
+    }
+    Ok(brick)
+}
+
+/// A brick that keeps as many values as it may, each with an expiry of its own.
+fn full_brick(alloc: Global) -> Result<Brick, OutOfMemory> {
+    let mut brick = Brick::new(alloc, BrickNo(1), 1);
+    for number in 0..MAX_BRICK_VALUES {
+        brick.answer(alloc, &put_until(alloc, number, Moment(EXPIRY.0 + number))?)?;
     }
     Ok(brick)
 }
@@ -134,6 +153,20 @@ pub fn stored(alloc: Global, count: u64) -> Result<u64, OutOfMemory> {
     Ok(sum)
 }
 
+/// Makes a Put of a kept value and puts it, `count` times, each with an expiry of its own. How many were stored.
+pub fn renewed(alloc: Global, count: u64) -> Result<u64, OutOfMemory> {
+    let mut brick = full_brick(alloc)?;
+    let mut state: u64 = 1;
+    let mut sum: u64 = 0;
+    for round in 0..count {
+        state = next(state);
+        let expiry = Moment((EXPIRY.0 + MAX_BRICK_VALUES).saturating_add(round));
+        let request = put_until(alloc, (state >> 33) % MAX_BRICK_VALUES, expiry)?;
+        sum = sum.wrapping_add(is_stored(&brick.answer(alloc, &request)?));
+    }
+    Ok(sum)
+}
+
 /// The bytes of the value that was found.
 fn found_bytes(frame: &Frame) -> u64 {
     match frame {
@@ -151,6 +184,28 @@ pub fn got(alloc: Global, count: u64) -> Result<u64, OutOfMemory> {
         state = next(state);
         let request = get((state >> 33) % VALUES);
         sum = sum.wrapping_add(found_bytes(&brick.answer(alloc, &request)?));
+    }
+    Ok(sum)
+}
+
+/// Sweeps a full brick `count` times while nothing is due. How many values it kept each time.
+pub fn swept_in_vain(alloc: Global, count: u64) -> Result<u64, OutOfMemory> {
+    let mut brick = full_brick(alloc)?;
+    let mut sum: u64 = 0;
+    for _ in 0..count {
+        brick.sweep(EXPIRY);
+        sum = sum.wrapping_add(brick.values());
+    }
+    Ok(sum)
+}
+
+/// Fills a brick, and sweeps a thousand values at once, `count` times, at most 65. How many it kept each time.
+pub fn swept(alloc: Global, count: u64) -> Result<u64, OutOfMemory> {
+    let mut brick = full_brick(alloc)?;
+    let mut sum: u64 = 0;
+    for turn in 1..count.min(65) + 1 {
+        brick.sweep(Moment(EXPIRY.0 + SWEEP_GRACE + 1000 * turn));
+        sum = sum.wrapping_add(brick.values());
     }
     Ok(sum)
 }

@@ -271,8 +271,8 @@ impl Lanes {
         Ok(true)
     }
 
-    /// A brick is swept at a moment. It visits each value that the brick keeps. False, and nothing changes, where there
-    /// is no such brick.
+    /// A brick is swept at a moment. It visits the values that it removes. False, and nothing changes, where there is
+    /// no such brick.
     pub fn sweep(&mut self, alloc: Global, brick: u64, moment: Moment) -> Result<bool, OutOfMemory>
         ensures after { IfOk result (λ done. left_if done self.new ≡ brick_swept self.old brick moment) }
         ensures refused { IfOk result (λ done. done ≡ false → self.new ≡ self.old) }

@@ -11,6 +11,8 @@
 #[cfg(test)]
 mod asking;
 #[cfg(test)]
+mod brick_chance;
+#[cfg(test)]
 mod brick_limits;
 #[cfg(test)]
 mod brick_requests;

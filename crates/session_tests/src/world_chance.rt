@@ -20,13 +20,13 @@ fn small(number: u64) -> u16 {
 
 /// Numbers that look random.
 #[derive(Clone, Copy)]
-struct Dice {
-    state: u64,
+pub struct Dice {
+    pub state: u64,
 }
 
 impl Dice {
     /// A number below `end`, or 0 where that is 0.
-    fn below(&mut self, end: u64) -> u64 {
+    pub fn below(&mut self, end: u64) -> u64 {
         self.state = self
             .state
             .wrapping_mul(6_364_136_223_846_793_005)

@@ -44,7 +44,7 @@
 //! of it. The calls are those of `ssm_stub`, and the bricks those of `brick_store`; a world keeps
 //! beside each brick the list of what happened to it. An event looks at one call, and copies the frame that
 //! it is about. A write and a read that begin look their nonce up in an ordered set, so nonces may begin in any
-//! order (`World::is_new`). A crash and a sweep visit each value of their brick.
+//! order (`World::is_new`). A crash visits each value of its brick, and a sweep those that it removes.
 #![tactic(auto)]
 
 mod asking;

@@ -123,7 +123,7 @@ impl LoggedBrick {
         Ok(())
     }
 
-    /// The brick is swept. It visits each value.
+    /// The brick is swept. It visits the values that it removes.
     pub(crate) fn sweep(&mut self, moment: Moment) -> Result<(), OutOfMemory>
         ensures ok { OnOk result (self.new ≡ record (self.old) { history = happened.Sweep moment ∷ self.old.history }) }
         ensures err { OnErr result (self.new ≡ self.old) }

@@ -133,8 +133,9 @@ impl World {
     ///
     /// A Write or a Read costs what `is_new` does, and copies what it is given; a Send and a Hear copy the
     /// frame, of which nothing is encoded or decoded; a Deliver costs what the brick's answer does, and makes
-    /// one more copy of a value that is stored; a Crash and a Sweep visit each value of the brick. So a write to
-    /// one brick makes four copies of its value: in its ask, in the packet, in the brick, and in what happened to it.
+    /// one more copy of a value that is stored; a Crash visits each value of the brick, and a Sweep those that it
+    /// removes. So a write to one brick makes four copies of its value: in its ask, in the packet, in the brick, and in
+    /// what happened to it.
     pub fn step(&mut self, alloc: Global, event: &WorldEvent) -> Result<(), OutOfMemory>
         ensures ok { OnOk result (self.new ≡ step self.old event.now) }
         ensures err { OnErr result (self.new ≡ self.old) }

@@ -5,7 +5,7 @@ use Rattle.std.specs.BTreeMap.{get}
 use Rattle.brick_store.specs.declared.kept.Kept.{Kept}
 use Rattle.brick_store.specs.declared.kept_map.Lease.{Lease}
 use Rattle.brick_store.specs.Pairs.{pair_of, kept_at}
-use Rattle.brick_store.proofs.KeptOrder.{pair_order}
+use Rattle.brick_store.specs.Tied.{pair_order}
 use Rattle.brick_store.proofs.Leases.{kept_in-found}
 use Rattle.brick_store.proofs.kept_map.lease_under.Goals as goal
 
