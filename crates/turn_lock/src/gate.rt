@@ -1,34 +1,38 @@
 //! A gate in front of the tickets. It decides how long a thread waits, and nothing else: no proof speaks of it.
 //!
-//! A lock that serves tickets in order hands over to a thread that has to be woken first as soon as more threads have a
-//! ticket than run, and then every hold costs a wake. So few threads have a ticket: the one that holds, and the one
-//! behind it, which looks for its turn and need not be woken. The others sleep here.
+//! A lock that serves tickets in order hands over to a thread that does not run as soon as more threads have a ticket
+//! than there are processors, and then each hold waits for the system. So only the thread that holds has a ticket. The
+//! others look for its permit; then they let other threads run between two looks, the one that holds among them; and then
+//! they sleep. Who has slept goes through behind the holder, so nobody is passed by without end.
 
 use crossbeam_utils::CachePadded;
 use std::hint::spin_loop;
 use std::sync::Wait;
 use std::sync::atomic::{AtomicU64, Ordering};
+use std::thread::yield_now;
 
-/// How many threads have a ticket at once, but for those that slept too often.
-const PERMITS: u64 = 2;
+/// How many threads have a ticket at once, but for those that slept.
+const PERMITS: u64 = 1;
 
 /// `left` where no permit is left. It is less where threads went through without one.
 const NONE_LEFT: u64 = 1 << 32;
 
-/// How often a thread looks before it sleeps.
+/// How often a thread looks before it lets others run.
 const LOOKS: u32 = 100;
 
-/// How often a thread sleeps before it goes through without a permit, so that nobody is passed by without end.
-const SLEEPS: u32 = 8;
+/// How often it lets others run before it sleeps.
+const YIELDS: u32 = 200;
 
-/// At how many holds at the latest a sleeper is woken, where others are inside all the time.
+/// At how many holds at the latest a sleeper is woken, where others look all the time.
 const ROUND: u64 = 16;
 
 #[derive(Drop)]
 pub struct Gate {
     /// How many permits are left, above `NONE_LEFT`.
     left: CachePadded<AtomicU64>,
-    /// How many threads sleep for a permit, or are about to.
+    /// How many threads look for a permit.
+    lookers: CachePadded<AtomicU64>,
+    /// How many sleep for one, or are about to.
     sleepers: CachePadded<AtomicU64>,
 }
 
@@ -37,6 +41,7 @@ impl Gate {
     pub fn new() -> Gate {
         Gate {
             left: CachePadded::new(AtomicU64::new(NONE_LEFT + PERMITS)),
+            lookers: CachePadded::new(AtomicU64::new(0)),
             sleepers: CachePadded::new(AtomicU64::new(0)),
         }
     }
@@ -59,46 +64,67 @@ impl Gate {
         }
     }
 
-    /// Waits for a permit, and goes through without one after `SLEEPS` sleeps.
-    pub fn enter<W: Wait>(&self, rt: &W) {
+    /// Looks for a permit, and says whether it took one.
+    fn finds_one(&self) -> bool {
         for _ in 0..LOOKS {
             if self.pass().is_ok() {
-                return;
+                return true;
             }
             spin_loop();
         }
-        self.sleepers.fetch_add(1, Ordering::SeqCst);
-        self.sleep(rt);
-        self.sleepers.fetch_sub(1, Ordering::SeqCst);
+        for _ in 0..YIELDS {
+            if self.pass().is_ok() {
+                return true;
+            }
+            yield_now();
+        }
+        false
     }
 
-    /// Sleeps until a permit was taken, or it slept often enough.
+    /// Waits for a permit, and goes through without one behind a sleep.
+    pub fn enter<W: Wait>(&self, rt: &W) {
+        if self.pass().is_ok() {
+            return;
+        }
+        self.lookers.fetch_add(1, Ordering::SeqCst);
+        let found = self.finds_one();
+        self.lookers.fetch_sub(1, Ordering::SeqCst);
+        if !found {
+            self.sleepers.fetch_add(1, Ordering::SeqCst);
+            self.sleep(rt);
+            self.sleepers.fetch_sub(1, Ordering::SeqCst);
+        }
+    }
+
+    /// Sleeps where no permit is left, and goes through.
     fn sleep<W: Wait>(&self, rt: &W) {
-        for _ in 0..SLEEPS {
-            match self.pass() {
-                Ok(()) => return,
-                // Above `NONE_LEFT` another thread took a permit just now, and there may be more.
-                Err(left) if left <= NONE_LEFT => self.left.park(rt, (left % (1 << 32)) as u32),
-                Err(_) => {}
-            }
+        match self.pass() {
+            Ok(()) => return,
+            // Above `NONE_LEFT` another thread took a permit just now, and there may be more.
+            Err(left) if left <= NONE_LEFT => self.left.park(rt, (left % (1 << 32)) as u32),
+            Err(_) => {}
         }
         if self.pass().is_err() {
             self.left.fetch_sub(1, Ordering::SeqCst);
         }
     }
 
-    /// Gives the permit back behind a hold of the ticket, and wakes a thread that sleeps for one where nobody is inside
-    /// any more, and at each `ROUND`th ticket.
+    /// Gives the permit back behind a hold of the ticket, and wakes a thread that sleeps for one where a permit is left
+    /// and nobody looks for it, and at each `ROUND`th ticket.
     ///
-    /// A thread that is woken finds a permit only where few are inside, so a wake at each hold is mostly for nothing. No
-    /// sleeper is forgotten: it counts itself before it looks at `left`, and `park` returns at once unless `left` is
-    /// still what it saw. So whoever sleeps began while others were inside, and the last of those to leave finds it
-    /// counted and wakes one. Who was woken either goes through and leaves as well, or sleeps again behind others that
-    /// are inside. And where there is no last one, since others come all the time, the `ROUND`th ticket wakes.
+    /// To wake a thread costs more than a hold. No sleeper is forgotten: it counts itself before it tries to pass for the
+    /// last time, and `park` returns at once unless `left` is still what it saw then. So whoever sleeps began while
+    /// others were inside, and the last of those to leave finds it counted. It wakes nobody only where another thread
+    /// looks, and that one tries to pass at least once more after this: so it goes through, or a third one has, and
+    /// either leaves as well, or a permit is left and it finds the sleeper counted. Where others come all the time, the
+    /// `ROUND`th ticket wakes.
     pub fn leave(&self, ticket: u64) {
         let left = self.left.fetch_add(1, Ordering::SeqCst);
-        let is_last = left == NONE_LEFT + (PERMITS - 1);
-        if (is_last || ticket % ROUND == 0) && self.sleepers.load(Ordering::SeqCst) > 0 {
+        if self.sleepers.load(Ordering::SeqCst) == 0 {
+            return;
+        }
+        let is_wanted = left < NONE_LEFT || self.lookers.load(Ordering::SeqCst) > 0;
+        if !is_wanted || ticket % ROUND == 0 {
             self.left.wake_one();
         }
     }

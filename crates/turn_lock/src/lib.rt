@@ -25,9 +25,9 @@
 //! with what it tells. The words count modulo 2^64; each ticket that is out is of a seat with a part of its own, and
 //! the parts are fewer than 2^32, so no two tickets that are out are equal.
 //!
-//! In front of the tickets stands a gate of two permits (`src/gate`), since a fair lock hands over to threads that have
-//! to be woken first. It decides how long a thread waits, and no proof speaks of it. Who draws the next ticket is left
-//! to chance, and that a thread ever has its turn is not promised.
+//! In front of the tickets stands a gate of one permit (`src/gate`), since a fair lock hands over to threads that do not
+//! run. It decides how long a thread waits, and no proof speaks of it. Who draws the next ticket is left to chance, and
+//! that a thread ever has its turn is not promised.
 //!
 //! `new` takes memory, and nothing else does; `take` waits, and nothing else does. A hold moves the value out and in,
 //! so a large value stands in a `Box`.
