@@ -15,5 +15,7 @@
 #![tactic(auto)]
 
 mod block_random;
+#[cfg(test)]
+mod tests;
 
 pub use block_random::BlockRandom;
