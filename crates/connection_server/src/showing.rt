@@ -1,10 +1,13 @@
 //! The law of what a call that served a connection tells of its end. It is the contract of a function that does nothing:
 //! a caller that needs the law calls the function.
 
-ghost use Rattle.std.specs.Prelude.{◌≡◌, ◌⊎◌, ◌+◌, ◌<◌, ◌≤◌, ℕ, All, List, [], ◌∷◌, ◌++◌, Some, false, length, slice_get, take, true};
+ghost use Rattle.std.specs.Prelude.{◌≡◌, ◌⊎◌, ◌+◌, ◌<◌, ◌≤◌, ℕ, All, List, [], ◌∷◌, ◌++◌, Some, false, filter, length, map, not, slice_get, take, true};
+ghost use Rattle.auction_rows.specs.Parts.{site_parts};
 ghost use Rattle.auction_site.specs.Actions.{steps_of};
 ghost use Rattle.boot_core.specs.declared.boot.Start.{Start};
 ghost use Rattle.container_core.specs.History.{is_stopped};
+ghost use Rattle.container_core.specs.declared.history.Event.{Event};
+ghost use Rattle.container_core.specs.declared.history.Event.TheVariants.{Started};
 ghost use Rattle.http_wire.specs.Requests.{requests};
 ghost use Rattle.http_wire.specs.declared.taken.Head.{Head};
 ghost use Rattle.outcome_items.specs.declared.item.Item.{Item};
@@ -13,10 +16,11 @@ ghost use Rattle.outside.specs.Link.{Made};
 ghost use Rattle.outside.specs.Sink.{appended, AppendsPrefix};
 ghost use Rattle.outside.specs.Source.{HasEnded, prepended};
 ghost use Rattle.outside.specs.declared.link.LinkEvent.{LinkEvent};
+ghost use Rattle.request_decisions.specs.Draws.{is_serial};
 ghost use Rattle.request_decisions.specs.declared.draws.Draw.{Draw};
 ghost use Rattle.request_intake.specs.Intakes.{serials_in};
 ghost use Rattle.seat_serials.specs.Drawing.{SeatLooks};
-ghost use Rattle.served_items.specs.Attributing.{Service, TakenIn};
+ghost use Rattle.served_items.specs.Attributing.{Service, TakenIn, drawn_for_all, taken_heads};
 ghost use Rattle.served_items.specs.Served.{IsServedFor};
 ghost use Rattle.shepherd.specs.Standing.{ending_of};
 ghost use Rattle.shepherd.specs.declared.shepherd.EndKind.TheVariants as ends;
@@ -24,7 +28,7 @@ ghost use Rattle.site_programs.specs.Errands.{IsMadeOf};
 ghost use Rattle.site_programs.specs.declared.maker.SiteMaker.{SiteMaker};
 ghost use Rattle.site_responses.specs.declared.answer.Untaken.{Untaken};
 ghost use Rattle.connection_server.specs.Ending.{HasServedConnection};
-ghost use Rattle.connection_server.specs.Stands.{GivesAll, Stand};
+ghost use Rattle.connection_server.specs.Stands.{Stand};
 ghost use Rattle.connection_server.specs.declared.served.Served.{Served as ServedValue};
 
 use crate::served::ServedEnd;
@@ -40,9 +44,15 @@ use std::marker::Brand;
 /// all was written (`cut`). Where the container was stopped, it was so in the last hold for the last item and for no
 /// other, and the request of that one does not close the connection (`stopped`). Where the source failed, its count
 /// rose, and all requests have an item (`read_fault`); where the sink did, its count rose (`write_fault`). The front
-/// that is told is that of the last item (`front`). There are calls of the link that lead from where it was to where it
-/// is, and what each item tells of its session is so over these and no others (`called`); and words that the random
-/// source gives from where it was, which lead to where it is, unless memory was wanted (`given`).
+/// that is told is that of the last item (`front`).
+///
+/// Of all items at once (`items`): the history begins with a start of the site in the service's boot. Requests were
+/// taken in, whose heads are the first ones of the bytes that were read, in order, and each item is for the one in its
+/// place. Calls of the link lead from where it was to where it is, and what an item tells of its session is so over
+/// these and no others. The random source gave words from where it was on, one after another, and the seat drew serial
+/// numbers: just those that were drawn for these requests, in order, each once. Where memory was wanted, one more
+/// request may have been taken in, and bytes, words and serial numbers behind may be lost; else none are, and the words
+/// lead to where the source is.
 pub fn served_connections_tell_how_they_ended<L: Link, C: Clock, R: Random>()
     ensures cut { (from to : L) (random random_after : R) (service : Service SiteMaker)
         (begun now : Stand) (told : ServedValue)
@@ -67,18 +77,6 @@ pub fn served_connections_tell_how_they_ended<L: Link, C: Clock, R: Random>()
         × (length told.items ≡ length (requests fed).heads)
         × ((requests fed).ending ≡ ending_of (ends.Refused why))
         × All (λ (i : Item). is_stopped (take i.holds.held now.container.seen) ≡ false) told.items }
-    ensures memory { (from to : L) (random random_after : R) (service : Service SiteMaker)
-        (begun now : Stand) (told : ServedValue)
-        → HasServedConnection L.makes from to R.gives random random_after service begun now told
-        → told.ended ≡ ServedEnd.OutOfMemory
-        → (fed : List ℕ) × (lost : List ℕ) × (begun.left ≡ prepended (fed ++ lost) now.left)
-        × ((drawn : List Draw) × (more : List ℕ)
-        × (now.words.drawn ≡ begun.words.drawn ++ (serials_in drawn ++ more))) }
-    ensures drew { (from to : L) (random random_after : R) (service : Service SiteMaker)
-        (begun now : Stand) (told : ServedValue)
-        → HasServedConnection L.makes from to R.gives random random_after service begun now told
-        → (told.ended ≡ ServedEnd.OutOfMemory → ⊥)
-        → (drawn : List Draw) × (now.words.drawn ≡ begun.words.drawn ++ serials_in drawn) }
     ensures wrote { (from to : L) (random random_after : R) (service : Service SiteMaker)
         (begun now : Stand) (told : ServedValue)
         → HasServedConnection L.makes from to R.gives random random_after service begun now told
@@ -115,20 +113,27 @@ pub fn served_connections_tell_how_they_ended<L: Link, C: Clock, R: Random>()
         → HasServedConnection L.makes from to R.gives random random_after service begun now told
         → told.items ≡ before ++ last ∷ []
         → told.front ≡ last.holds.front }
-    ensures called { (from to : L) (random random_after : R) (service : Service SiteMaker)
+    ensures items { (from to : L) (random random_after : R) (service : Service SiteMaker)
         (begun now : Stand) (told : ServedValue)
         → HasServedConnection L.makes from to R.gives random random_after service begun now told
-        → (heard : List LinkEvent) × Made L.makes from heard to
-        × ((before behind : List Item) (i : Item) → told.items ≡ before ++ i ∷ behind
-        → (start : Start) × (t : TakenIn)
-        × IsServedFor steps_of (λ (old : Unit {0}) (call : LinkEvent) (new : Unit {0}). (n : ℕ)
-        × (slice_get heard n ≡ Some call)) (λ (maker : SiteMaker). IsMadeOf) R.gives SeatLooks service start
-        now.container.seen t i) }
-    ensures given { (from to : L) (random random_after : R) (service : Service SiteMaker)
-        (begun now : Stand) (told : ServedValue)
-        → HasServedConnection L.makes from to R.gives random random_after service begun now told
-        → (given : List ℕ) × (reached : R) × GivesAll R.gives random given reached
-        × ((told.ended ≡ ServedEnd.OutOfMemory → ⊥) → reached ≡ random_after) }
+        → (start : Start) × (since : List Event) × (now.container.seen ≡ Started start ∷ since)
+        × (start.deployment ≡ site_parts) × (start.boot ≡ service.home.boot)
+        × ((fed : List ℕ) × (lost : List ℕ) × (begun.left ≡ prepended (fed ++ lost) now.left)
+        × ((heard : List LinkEvent) × Made L.makes from heard to
+        × ((given : List ℕ) × (state : ℕ → R) × (state 0 ≡ random)
+        × ((n word : ℕ) → slice_get given n ≡ Some word → R.gives (state n) word (state (n + 1)))
+        × ((taken : List TakenIn) × (opened : List TakenIn) × (length taken ≡ length told.items)
+        × (length opened ≤ 1)
+        × ((behind : List Head) × ((requests fed).heads ≡ taken_heads (taken ++ opened) ++ behind)
+        × ((drawn : List Draw) × (drawn ≡ drawn_for_all (taken ++ opened))
+        × (given ≡ begun.given ++ map (λ (d : Draw). d.number) (filter (λ (d : Draw). not (is_serial d.kind)) drawn))
+        × ((more : List ℕ) × (now.words.drawn ≡ begun.words.drawn ++ (serials_in drawn ++ more))
+        × ((told.ended ≡ ServedEnd.OutOfMemory → ⊥)
+        → (opened ≡ []) × (lost ≡ []) × (more ≡ []) × (state (length given) ≡ random_after))
+        × ((n : ℕ) (i : Item) (t : TakenIn) → slice_get told.items n ≡ Some i → slice_get taken n ≡ Some t
+        → IsServedFor steps_of (λ (old : Unit {0}) (call : LinkEvent) (new : Unit {0}). (m : ℕ)
+        × (slice_get heard m ≡ Some call)) (λ (maker : SiteMaker). IsMadeOf) R.gives SeatLooks service start
+        now.container.seen t i)))))))) }
     ensures added { (from to : L) (random random_after : R) (service : Service SiteMaker)
         (begun now : Stand) (told : ServedValue)
         → HasServedConnection L.makes from to R.gives random random_after service begun now told

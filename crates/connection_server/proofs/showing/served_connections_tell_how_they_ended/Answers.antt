@@ -1,17 +1,25 @@
-use Rattle.std.proofs.Common.{◌≡◌, Option, Some, ◌⊎◌, inl, inr, ◌≤◌, ◌<◌, ◌+◌, ◌∙◌, ℕ, suc, false, List, [], ◌∷◌, ◌++◌, All, ap, arith, length, refl, slice_get, subst, sym, take}
+use Rattle.std.proofs.Common.{◌≡◌, Option, Some, ◌⊎◌, inl, inr, ◌≤◌, ◌<◌, ◌+◌, ◌∙◌, ℕ, suc, zero, false, List, [], ◌∷◌, ◌++◌, All, ap, append-nil, arith, length, map, refl, slice_get, subst, sym, take}
+use Rattle.std.proofs.lemmas.List.{append_assoc, length-map}
 use Rattle.std.proofs.lemmas.List.Elements.{All-head, All-tail, All-weaker}
 use Rattle.container_core.specs.History.{is_stopped}
 use Rattle.container_core.specs.declared.history.Event.{Event}
 use Rattle.boot_core.specs.declared.boot.Start.{Start}
 use Rattle.outside.specs.Source.{HasEnded, prepended}
 use Rattle.outside.specs.declared.link.LinkEvent.{LinkEvent}
-use Rattle.request_intake.specs.Intakes.{Gives}
+use Rattle.auction_calls.specs.declared.action.ActionCall.{ActionCall}
+use Rattle.call_ticket.specs.declared.next.Answer.{Answer}
+use Rattle.call_ticket.specs.declared.next.Next.{Next}
+use Rattle.request_decisions.specs.declared.draws.Draw.{Draw}
+use Rattle.request_intake.specs.Intakes.{Gives, Looks, serials_in}
 use Rattle.served_connections.specs.Courses.{Course}
-use Rattle.served_items.specs.Attributing.{Service, WasTakenIn}
+use Rattle.served_connections.specs.Heard.{HeardIn}
+use Rattle.served_items.specs.Attributing.{Service, TakenIn, WasTakenIn, taken_heads}
+use Rattle.served_items.specs.Served.{AreServed, IsServedFor, ServedItem}
+use Rattle.shepherd.specs.Answering.{AreResponses, Response}
 use Rattle.shepherd.specs.declared.shepherd.EndKind.{EndKind}
 use Rattle.site_programs.specs.declared.maker.SiteMaker.{SiteMaker}
 use Rattle.crash_base.specs.declared.numbers.Place.{Place}
-use Rattle.http_wire.specs.Requests.{requests}
+use Rattle.http_wire.specs.Requests.{Requests, requests}
 use Rattle.outcome_items.specs.declared.item.Item.{Item}
 use Rattle.shepherd.specs.Standing.{last_front, last_of}
 use Rattle.shepherd.specs.declared.shepherd.EndKind.TheVariants as ends
@@ -19,7 +27,7 @@ use Rattle.connection_server.specs.Closing.{AllHaveCome, EndsBy}
 use Rattle.connection_server.specs.Ending.{AllServed, FirstServed, HasServedAllOf, HasTakenAll, ServedBy, WroteAll}
 use Rattle.connection_server.specs.Heeding.{WasFound}
 use Rattle.connection_server.specs.Seats.{RiseFrom}
-use Rattle.connection_server.specs.Stands.{Stand, began_at}
+use Rattle.connection_server.specs.Stands.{GivesAll, Stand, began_at}
 use Rattle.connection_server.specs.declared.served.ServedEnd.{ServedEnd}
 use Rattle.connection_server.specs.declared.served.ServedEnd.TheVariants.{Closed, Cut, Refused, Stopped, ReadFault, WriteFault, OutOfMemory}
 use Rattle.shared_words.specs.Words.{WordSeatValue}
@@ -29,6 +37,7 @@ use Rattle.send_windows.specs.declared.history.WindowMark.{WindowMark}
 use Rattle.served_connections.specs.Telling.{HasServed}
 use Rattle.served_connections.proofs.Among.{AreAmong}
 use Rattle.served_connections.proofs.Heard.{item_among}
+use Rattle.served_connections.proofs.Shown.{next_there}
 use Rattle.seat_serials.specs.Drawing.{SeatLooks}
 use Rattle.site_programs.specs.Errands.{IsMadeOf}
 use Rattle.site_responses.specs.declared.answer.Untaken.{Untaken}
@@ -59,18 +68,34 @@ some_same : (a b : ServedEnd) → Some a ≡ Some b → a ≡ b
 some_same a b is = cc
 
 module _ {L R : Type 0} (calls : L → LinkEvent → L → Type 0) (gives : Gives R) (service : Service SiteMaker) (begun now : Stand) (items : List Item) where
-  -- where memory was not wanted, just the numbers of the course were drawn
-  took_all : (start : Start) (course : Course) (end : ServedEnd) → (end ≡ OutOfMemory → ⊥) → ServedBy calls gives service begun now start course end → HasTakenAll calls gives service begun now course
-  took_all start course Closed not h = h.all.took
-  took_all start course Cut not h = h.all.took
-  took_all start course (Refused why) not h = h.all.took
-  took_all start course Stopped not h = h.took
-  took_all start course ReadFault not h = by h.all where
-    by : HasServedAllOf calls gives service begun now start course ends.Closed ⊎ HasServedAllOf calls gives service begun now start course ends.Cut → HasTakenAll calls gives service begun now course
-    by (inl all) = all.took
-    by (inr all) = all.took
-  took_all start course WriteFault not h = h.took
-  took_all start course OutOfMemory not h = absurd (not refl)
+  -- What was read and drawn: just what the course tells, or more where memory was wanted.
+  record TookSo (course : Course) (end : ServedEnd) : Type 0 where
+    pub lost : List ℕ
+    pub read : begun.left ≡ prepended (course.fed ++ lost) now.left
+    pub more : List ℕ
+    pub drew : now.words.drawn ≡ begun.words.drawn ++ (serials_in course.drawn ++ more)
+    pub just : (end ≡ OutOfMemory → ⊥) → (lost ≡ []) × (more ≡ [])
+
+  took_all : (course : Course) (end : ServedEnd) → HasTakenAll calls gives service begun now course → TookSo course end
+  took_all course end took = record {
+    lost = [];
+    read = took.read ∙ ap (λ (l : List ℕ). prepended l now.left) (sym (append-nil course.fed));
+    more = [];
+    drew = ap (λ (w : WordSeatValue). w.drawn) took.drew ∙ ap (λ (l : List ℕ). begun.words.drawn ++ l) (sym (append-nil (serials_in course.drawn)));
+    just = λ not. (refl, refl);
+  }
+
+  took_so : (start : Start) (course : Course) (end : ServedEnd) → ServedBy calls gives service begun now start course end → TookSo course end
+  took_so start course Closed h = took_all course Closed h.all.took
+  took_so start course Cut h = took_all course Cut h.all.took
+  took_so start course (Refused why) h = took_all course (Refused why) h.all.took
+  took_so start course Stopped h = took_all course Stopped h.took
+  took_so start course ReadFault h = by h.all where
+    by : HasServedAllOf calls gives service begun now start course ends.Closed ⊎ HasServedAllOf calls gives service begun now start course ends.Cut → TookSo course ReadFault
+    by (inl all) = took_all course ReadFault all.took
+    by (inr all) = took_all course ReadFault all.took
+  took_so start course WriteFault h = took_all course WriteFault h.took
+  took_so start course OutOfMemory h = record { lost = h.lost; read = h.read; more = h.drew.0; drew = h.drew.1; just = λ not. absurd (not refl) }
 
   -- where the sink did not fail, all was written
   wrote_all : (start : Start) (course : Course) (end : ServedEnd) → (end ≡ WriteFault → ⊥) → ServedBy calls gives service begun now start course end → WroteAll calls gives service begun now course
@@ -91,50 +116,107 @@ module _ {L R : Type 0} (calls : L → LinkEvent → L → Type 0) (gives : Give
   read_all start course all (inl h) is = (course.fed, h.took.read, ap length is ∙ all ends.Closed h.ended)
   read_all start course all (inr h) is = (course.fed, h.took.read, ap length is ∙ all ends.Cut h.ended)
 
-  -- A call has served what its course tells, up to here.
-  record ServedSo (start : Start) (course : Course) : Type 0 where
+  -- A call has served what its course tells, up to here; and no request is open then, unless memory was wanted.
+  record ServedSo (start : Start) (course : Course) (end : ServedEnd) : Type 0 where
     pub opened : List Head
     pub last : List ℕ
     pub own : List Event
     pub marks : List WindowMark
     pub so : HasServed steps_of calls (λ (maker : SiteMaker). IsMadeOf) gives SeatLooks service start (began_at begun) now.container.seen now.moment course opened last own marks
+    pub whole : (end ≡ OutOfMemory → ⊥) → opened ≡ []
 
-  ended_so : (start : Start) (course : Course) (end : EndKind) → AllServed calls gives service begun now start course end → ServedSo start course
-  ended_so start course end h = record { opened = []; last = last_of end; own = []; marks = []; so = h.whole }
+  all_so : (start : Start) (course : Course) (so_ended : EndKind) (end : ServedEnd) → AllServed calls gives service begun now start course so_ended → ServedSo start course end
+  all_so start course so_ended end h = record { opened = []; last = last_of so_ended; own = []; marks = []; so = h.whole; whole = λ not. refl }
 
-  first_so : (start : Start) (course : Course) → FirstServed calls gives service begun now start course → ServedSo start course
-  first_so start course h = record { opened = []; last = []; own = []; marks = []; so = h }
+  first_so : (start : Start) (course : Course) (end : ServedEnd) → FirstServed calls gives service begun now start course → ServedSo start course end
+  first_so start course end h = record { opened = []; last = []; own = []; marks = []; so = h; whole = λ not. refl }
 
-  served_so : (start : Start) (course : Course) (end : ServedEnd) → ServedBy calls gives service begun now start course end → ServedSo start course
-  served_so start course Closed h = ended_so start course ends.Closed h.all.ended
-  served_so start course Cut h = ended_so start course ends.Cut h.all.ended
-  served_so start course (Refused why) h = ended_so start course (ends.Refused why) h.all.ended
-  served_so start course Stopped h = first_so start course h.first
+  served_so : (start : Start) (course : Course) (end : ServedEnd) → ServedBy calls gives service begun now start course end → ServedSo start course end
+  served_so start course Closed h = all_so start course ends.Closed Closed h.all.ended
+  served_so start course Cut h = all_so start course ends.Cut Cut h.all.ended
+  served_so start course (Refused why) h = all_so start course (ends.Refused why) (Refused why) h.all.ended
+  served_so start course Stopped h = first_so start course Stopped h.first
   served_so start course ReadFault h = by h.all where
-    by : HasServedAllOf calls gives service begun now start course ends.Closed ⊎ HasServedAllOf calls gives service begun now start course ends.Cut → ServedSo start course
-    by (inl all) = ended_so start course ends.Closed all.ended
-    by (inr all) = ended_so start course ends.Cut all.ended
+    by : HasServedAllOf calls gives service begun now start course ends.Closed ⊎ HasServedAllOf calls gives service begun now start course ends.Cut → ServedSo start course ReadFault
+    by (inl all) = all_so start course ends.Closed ReadFault all.ended
+    by (inr all) = all_so start course ends.Cut ReadFault all.ended
   served_so start course WriteFault h = by h.served where
-    by : FirstServed calls gives service begun now start course ⊎ ((why : Untaken) × AllServed calls gives service begun now start course (ends.Refused why)) → ServedSo start course
-    by (inl first) = first_so start course first
-    by (inr (why, all)) = ended_so start course (ends.Refused why) all
-  served_so start course OutOfMemory h = record { opened = h.stopped.opened; last = []; own = h.stopped.open_own; marks = h.stopped.open_marks; so = h.stopped.served }
-
--- what stands in a list stands in a longer one
-further : {A : Type 0} (xs ys : List A) (n : ℕ) (x : A) → slice_get ys n ≡ Some x → (m : ℕ) × (slice_get (xs ++ ys) m ≡ Some x)
-further [] ys n x is = (n, is)
-further (a ∷ xs) ys n x is =
-    let rest = further xs ys n x is in
-    (suc rest.0, rest.1)
+    by : FirstServed calls gives service begun now start course ⊎ ((why : Untaken) × AllServed calls gives service begun now start course (ends.Refused why)) → ServedSo start course WriteFault
+    by (inl first) = first_so start course WriteFault first
+    by (inr (why, all)) = all_so start course (ends.Refused why) WriteFault all
+  served_so start course OutOfMemory h = record {
+    opened = h.stopped.opened;
+    last = [];
+    own = h.stopped.open_own;
+    marks = h.stopped.open_marks;
+    so = h.stopped.served;
+    whole = λ not. absurd (not refl);
+  }
 
 -- a call stands among these
 abbrev StandsIn : List LinkEvent → Unit {0} → LinkEvent → Unit {0} → Type 0
 StandsIn heard old call new = (n : ℕ) × (slice_get heard n ≡ Some call)
 
-still_stands : (before heard all : List LinkEvent) → all ≡ before ++ heard → AreAmong (StandsIn heard) (StandsIn all)
-still_stands before heard all is call (old, new, (n, there)) =
-    let far = further before heard n call there in
-    (tt, tt, (far.0, subst (λ (l : List LinkEvent). slice_get l far.0 ≡ Some call) (sym is) far.1))
+-- the calls that a course tells stand among those that were made by then
+stand_there : (before heard all : List LinkEvent) → all ≡ before ++ heard → AreAmong (HeardIn heard) (StandsIn all)
+stand_there before heard all is call (old, new, (first, behind, there)) =
+    let whole : all ≡ (before ++ first) ++ call ∷ behind = is ∙ ap (λ (l : List LinkEvent). before ++ l) there ∙ sym (append_assoc before first (call ∷ behind)) in
+    (tt, tt, (length (before ++ first), subst (λ (l : List LinkEvent). slice_get l (length (before ++ first)) ≡ Some call) (sym whole) (next_there (before ++ first) behind call (length (before ++ first)) refl)))
+
+-- an item and the request that stands in the same place are one that was served
+zipped : (So : TakenIn → Item → Type 0) (served : List ServedItem) (n : ℕ) (i : Item) (t : TakenIn) → slice_get (map (λ (x : ServedItem). x.item) served) n ≡ Some i → slice_get (map (λ (x : ServedItem). x.taken) served) n ≡ Some t
+    → All (λ (x : ServedItem). So x.taken x.item) served → So t i
+zipped So [] n i t item taken all = absurd (cc)
+zipped So (x ∷ served) zero i t item taken all =
+    let same : x.item ≡ i = cc in
+    let same_taken : x.taken ≡ t = cc in
+    subst (λ (j : Item). So t j) same (subst (λ (u : TakenIn). So u x.item) same_taken (All-head (λ (x : ServedItem). So x.taken x.item) x served all))
+zipped So (x ∷ served) (suc n) i t item taken all = zipped So served n i t item taken (All-tail (λ (x : ServedItem). So x.taken x.item) x served all)
+
+-- where the requests that have an item are as many as all, none is open
+none_open : (served : List ServedItem) (opened : List TakenIn) → length (taken_heads (map (λ (x : ServedItem). x.taken) served ++ opened)) ≡ length served → opened ≡ []
+none_open [] [] is = refl
+none_open [] (t ∷ opened) is = absurd (omega (arith, is))
+none_open (x ∷ served) opened is = none_open served opened (omega (arith, is))
+
+-- where each request has its response, none is open
+nothing_open : {P L M R S : Type 0} {asks : P → List Answer → Next} {calls : L → LinkEvent → L → Type 0} {makes : M → ActionCall → List ℕ → P → Type 0} {gives : Gives R} {looks : Looks S} {service : Service M} {start : Start}
+    {key : List ℕ} {history : List Event} {heads opened : List Head} {written last : List ℕ} {drawn : List Draw} {earliest latest : ℕ} {items : List Item}
+    (r : AreResponses key history heads written items opened last) (h : AreServed asks calls makes gives looks service start history heads drawn earliest latest items) → opened ≡ [] → h.opened ≡ []
+nothing_open r h none =
+    let heads : length (taken_heads (map (λ (x : ServedItem). x.taken) h.served ++ h.opened)) ≡ length (map (λ (r : Response). r.head) r.responses ++ []) =
+    ap length (sym h.heads_are ∙ r.heads_are) ∙ ap (λ (l : List Head). length (map (λ (r : Response). r.head) r.responses ++ l)) none in
+    let responses : length (map (λ (r : Response). r.head) r.responses ++ []) ≡ length r.responses =
+    ap length (append-nil (map (λ (r : Response). r.head) r.responses)) ∙ length-map r.responses (λ (r : Response). r.head) in
+    let items : length r.responses ≡ length h.served =
+    sym (length-map r.responses (λ (r : Response). r.item)) ∙ ap length (sym r.items_are ∙ h.items_are) ∙ length-map h.served (λ (x : ServedItem). x.item) in
+    none_open h.served h.opened (heads ∙ responses ∙ items)
+
+-- A random source gave words in a row, over these states.
+record Runs {R : Type 0} (gives : Gives R) (from : R) (words : List ℕ) (to : R) : Type 0 where
+  pub state : ℕ → R
+  pub begins : state 0 ≡ from
+  pub each : (n word : ℕ) → slice_get words n ≡ Some word → gives (state n) word (state (n + 1))
+  pub leads : state (length words) ≡ to
+
+-- a state, and then these
+abbrev behind_one : {R : Type 0} → R → (ℕ → R) → ℕ → R
+behind_one first rest zero = first
+behind_one first rest (suc n) = rest n
+
+runs_one : {R : Type 0} (gives : Gives R) (from : R) (word : ℕ) (words : List ℕ) (next to : R) → gives from word next → Runs gives next words to → Runs gives from (word ∷ words) to
+runs_one {R} gives from word words next to here rest = record { state = behind_one from rest.state; begins = refl; each = each; leads = rest.leads } where
+  each : (n w : ℕ) → slice_get (word ∷ words) n ≡ Some w → gives (behind_one from rest.state n) w (behind_one from rest.state (n + 1))
+  each zero w is =
+      let same : word ≡ w = cc in
+      subst (λ (x : ℕ). gives from x (rest.state 0)) same (subst (λ (r : R). gives from word r) (sym rest.begins) here)
+  each (suc n) w is =
+      let far : suc (n + 1) ≡ suc n + 1 = omega arith in
+      subst (λ (m : ℕ). gives (rest.state n) w (behind_one from rest.state m)) far (rest.each n w is)
+
+runs : {R : Type 0} (gives : Gives R) (from : R) (words : List ℕ) (to : R) → GivesAll gives from words to → Runs gives from words to
+runs gives from [] to h = record { state = λ n. from; begins = refl; each = λ n word is. absurd (cc); leads = h }
+runs gives from (word ∷ words) to (next, here, h) = runs_one gives from word words next to here (runs gives next words to h)
 
 pub returns-clause-cut : goal.returns-clause-cut
 returns-clause-cut g c = λ from to random random_after service begun now told h is.
@@ -160,18 +242,6 @@ returns-clause-refused g c = λ from to random random_after service begun now to
     let by = subst (λ (e : ServedEnd). ServedBy g.L.Link.makes g.R.Random.gives service begun (record now { heard = h.served.heard; given = h.served.so.given }) there.start there.course e) is there.served in
     let all = c.courses_show_what_was_served.ensures.ended service there.start (began_at begun) now.container.seen now.moment there.course (ends.Refused why) by.all.ended in
     (there.course.fed, by.all.took.read, ap length there.items_are ∙ all.0, all.1, running now.container.seen told.items (subst (λ (is : List Item). All (λ (i : Item). WasFound now.container.seen i.holds false) is) (sym there.items_are) by.by))
-
-pub returns-clause-memory : goal.returns-clause-memory
-returns-clause-memory g c = λ from to random random_after service begun now told h is.
-    let there = h.served.so.so in
-    let by = subst (λ (e : ServedEnd). ServedBy g.L.Link.makes g.R.Random.gives service begun (record now { heard = h.served.heard; given = h.served.so.given }) there.start there.course e) is there.served in
-    (there.course.fed, by.lost, by.read, (there.course.drawn, by.drew.0, by.drew.1))
-
-pub returns-clause-drew : goal.returns-clause-drew
-returns-clause-drew g c = λ from to random random_after service begun now told h not.
-    let there = h.served.so.so in
-    let took = took_all g.L.Link.makes g.R.Random.gives service begun (record now { heard = h.served.heard; given = h.served.so.given }) told.items there.start there.course told.ended not there.served in
-    (there.course.drawn, ap (λ (w : WordSeatValue). w.drawn) took.drew)
 
 pub returns-clause-wrote : goal.returns-clause-wrote
 returns-clause-wrote g c = λ from to random random_after service begun now told h not.
@@ -221,22 +291,69 @@ returns-clause-added g c = λ from to random random_after service begun now told
       ),
     )
 
-pub returns-clause-called : goal.returns-clause-called
-returns-clause-called g c = λ from to random random_after service begun now told h.
+pub returns-clause-items : goal.returns-clause-items
+returns-clause-items g c = λ from to random random_after service begun now told h.
     let there = h.served.so.so in
-    let heard = h.served.heard in
-    let so = served_so g.L.Link.makes g.R.Random.gives service begun (record now { heard = heard; given = h.served.so.given }) told.items there.start there.course told.ended there.served in (
-      heard,
-      h.served.leads,
-      λ before behind i is.
-          let found = c.courses_show_what_was_served.ensures.among service there.start (began_at begun) now.container.seen now.moment there.course so.opened so.last so.own so.marks before behind i [] so.so (sym there.items_are ∙ is) in (
-            there.start,
-            found.0,
-            item_among steps_of (StandsIn there.course.heard) (StandsIn heard) (still_stands begun.heard there.course.heard heard there.come.heard) IsMadeOf (WasTakenIn g.R.Random.gives SeatLooks service.key service.home) there.start now.container.seen found.0 i found.2,
-          ),
-    )
-
-pub returns-clause-given : goal.returns-clause-given
-returns-clause-given g c = λ from to random random_after service begun now told h.
+    let heard : List LinkEvent = h.served.heard in
     let given = h.served.so in
-    (given.given, given.reached, given.leads, λ not. given.stays (λ is. not (some_same told.ended OutOfMemory is)))
+    let course : Course = there.course in
+    let end : Stand = record now { heard = heard; given = given.given } in
+    let all = served_so g.L.Link.makes g.R.Random.gives service begun end told.items there.start course told.ended there.served in
+    let took = took_so g.L.Link.makes g.R.Random.gives service begun end told.items there.start course told.ended there.served in
+    let served = all.so.served in
+    let taken : List TakenIn = map (λ (x : ServedItem). x.taken) served.served in
+    let first = all.so.requests_are [] in
+    let words = runs g.R.Random.gives random given.given given.reached given.leads in
+    let items : told.items ≡ map (λ (x : ServedItem). x.item) served.served = there.items_are ∙ served.items_are in
+    let So : TakenIn → Item → Type 0 = λ t i. IsServedFor steps_of (StandsIn heard) (λ (maker : SiteMaker). IsMadeOf) g.R.Random.gives SeatLooks service there.start now.container.seen t i in (
+      there.start,
+      there.starts.0,
+      there.starts.1,
+      there.parts_are,
+      there.boot_is,
+      (
+        course.fed,
+        took.lost,
+        took.read,
+        (
+          heard,
+          h.served.leads,
+          (
+            given.given,
+            words.state,
+            words.begins,
+            words.each,
+            (
+              taken,
+              served.opened,
+              length-map served.served (λ (x : ServedItem). x.taken) ∙ sym (ap length items ∙ length-map served.served (λ (x : ServedItem). x.item)),
+              served.one_open,
+              (
+                first.0.heads,
+                ap (λ (l : List ℕ). (requests l).heads) (sym (append-nil course.fed)) ∙ ap (λ (r : Requests). r.heads) first.1 ∙ ap (λ (l : List Head). l ++ first.0.heads) served.heads_are,
+                (
+                  course.drawn,
+                  served.drawn_are,
+                  there.come.given,
+                  (
+                    took.more,
+                    took.drew,
+                    λ not. (
+                      nothing_open all.so.responses all.so.served (all.whole not),
+                      (took.just not).0,
+                      (took.just not).1,
+                      words.leads ∙ given.stays (λ is. not (some_same told.ended OutOfMemory is)),
+                    ),
+                    λ n i t item request.
+                        zipped So served.served n i t (ap (λ (l : List Item). slice_get l n) (sym items) ∙ item) request
+                        (All-weaker (λ (x : ServedItem). IsServedFor steps_of (HeardIn course.heard) (λ (maker : SiteMaker). IsMadeOf) g.R.Random.gives SeatLooks service there.start now.container.seen x.taken x.item) (λ (x : ServedItem). So x.taken x.item)
+                        (λ x so. item_among steps_of (HeardIn course.heard) (StandsIn heard) (stand_there begun.heard course.heard heard there.come.heard) IsMadeOf (WasTakenIn g.R.Random.gives SeatLooks service.key service.home) there.start now.container.seen x.taken x.item so)
+                        served.served served.each),
+                  ),
+                ),
+              ),
+            ),
+          ),
+        ),
+      ),
+    )
