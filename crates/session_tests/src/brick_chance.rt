@@ -11,6 +11,7 @@ use std::process::Abort;
 
 /// How many keys there are, and versions of each.
 const KEYS: u64 = 16;
+
 const VERSIONS: u64 = 8;
 
 /// A value that has to be kept: so many times this byte.
@@ -111,9 +112,14 @@ fn is_right(plain: &Plain, held: Option<Held>, reply: &Frame) -> bool {
             let is_filled = bytes.iter().all(|byte| *byte == held.byte);
             expiry.0 == held.expiry && bytes.len() == held.size && is_filled
         }
-        (None, Frame::Absent { swept, incarnation, .. }) => {
-            swept.0 == plain.swept && *incarnation == plain.incarnation
-        }
+        (
+            None,
+            Frame::Absent {
+                swept,
+                incarnation,
+                ..
+            },
+        ) => { swept.0 == plain.swept && *incarnation == plain.incarnation }
         _ => false,
     }
 }
@@ -139,7 +145,13 @@ fn get_one(rt: &impl Abort, alloc: Global, dice: &mut Dice, brick: &mut Brick, p
     expect_so(rt, is_right(plain, plain.held(slot), &told), "a get");
 }
 
-fn sweep_one(rt: &impl Abort, alloc: Global, dice: &mut Dice, brick: &mut Brick, plain: &mut Plain) {
+fn sweep_one(
+    rt: &impl Abort,
+    alloc: Global,
+    dice: &mut Dice,
+    brick: &mut Brick,
+    plain: &mut Plain,
+) {
     let moment = dice.below(460).saturating_add(60_000);
     let told = reply(rt, alloc, brick, &sweep(moment));
     expect_so(rt, matches!(told, Frame::Swept { .. }), "a sweep");
