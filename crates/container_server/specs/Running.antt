@@ -1,12 +1,15 @@
 -- What a server has run: boots, one after the other over the same keeper.
 use Rattle.std.specs.Prelude.{◌≡◌, ◌≢◌, ◌⊎◌, ◌≤◌, ℕ, zero, suc, List, Option, Some, None}
 use Rattle.auction_rows.specs.Parts.{site_parts}
+use Rattle.boot_core.specs.Sound.{IsSound}
 use Rattle.boot_core.specs.declared.refusals.StartRefusal.{StartRefusal}
 use Rattle.boot_core.specs.declared.refusals.StartRefusal.TheVariants as refusals
 use Rattle.component_pool.specs.Plans.{left_by_process}
 use Rattle.container_core.specs.Container.{ContainerValue, HasGrownBy, HoldsRows}
+use Rattle.container_core.specs.History.{IsHistory, entries_in}
 use Rattle.container_core.specs.Start.{IsRefusedStart, IsStarted}
 use Rattle.crash_base.specs.declared.fault_plans.FaultPlan.{FaultPlan}
+use Rattle.crash_base.specs.declared.row_id.RowId.{RowId}
 use Rattle.journal_model.specs.declared.limits.JournalLimits.{JournalLimits}
 use Rattle.journal_model.specs.declared.limits.TheConstants.{MAX_ENTRIES, MAX_JOURNAL_BYTES}
 use Rattle.outside.specs.Faults.{Rose}
@@ -39,15 +42,23 @@ server_seen keeper log = record { keeper = keeper; log = log }
 abbrev pub service_limits : JournalLimits
 service_limits = record { entries = MAX_ENTRIES; bytes = MAX_JOURNAL_BYTES }
 
--- A boot of the site was started over a keeper with these fault plans, and it has grown. The keeper that it left, where
--- it tells, holds just the rows that the journal of the boot leaves. Its start was told, and what happened in it.
+-- What is so of a container at any time: its boot is sound, its history has no second start and at most one stop, the
+-- journal is the entries of its history, and its keeper, where it tells, holds just the rows that the journal leaves.
+pub record IsSoundContainer (c : ContainerValue) : Type 0 where
+  pub boot : IsSound c.boot
+  pub history : IsHistory c.since
+  pub journal : entries_in c.since ≡ c.boot.entries
+  pub rows : HoldsRows c.told c.boot
+
+-- A boot of the site was started over a keeper with these fault plans, it has grown into a sound container, and left the
+-- keeper of that one. Its start was told, and what happened in it.
 pub record RanBoot (plans : List FaultPlan) (before after : ServerSeen) : Type 0 where
   pub started : ContainerValue
   pub is_started : IsStarted site_parts plans service_limits before.keeper.told started
   pub ended : ContainerValue
   pub grown : HasGrownBy started ended
+  pub sound : IsSoundContainer ended
   pub left : after.keeper ≡ seen ended.told ended.faults
-  pub rows : HoldsRows ended.told ended.boot
   pub told : HasToldBoot started before.log after.log
 
 -- the fault plans of a boot, by how many came before it: a restart leaves those that no reboot cures
@@ -61,7 +72,8 @@ RanBoots plans zero before after = after ≡ before
 RanBoots plans (suc boots) before after =
     (between : ServerSeen) × RanBoots plans boots before between × RanBoot (plans_behind boots plans) between after
 
--- Why no more boots were run, by the keeper that the last one left and the one that is handed back.
+-- Why no more boots were run, by the keeper that the last one left and the one that is handed back. Memory ran out for a
+-- boot's threads, for a start, or for the line of a bad row.
 abbrev pub EndedOver : ServiceEnd → KeeperSeen → KeeperSeen → Type 0
 EndedOver Closed before after = after ≡ before
 EndedOver KeeperFailed before after =
@@ -69,7 +81,8 @@ EndedOver KeeperFailed before after =
 EndedOver (BadRow id) before after = IsRefusedStart (refusals.BadRow id) before.told after.told
 EndedOver BootsSpent before after = IsRefusedStart refusals.BootsSpent before.told after.told
 EndedOver OutOfMemory before after =
-    (after ≡ before) ⊎ ((refusal : StartRefusal) × IsRefusedStart refusal before.told after.told)
+    (after ≡ before) ⊎ (IsRefusedStart refusals.OutOfMemory before.told after.told
+    ⊎ ((id : RowId) × IsRefusedStart (refusals.BadRow id) before.told after.told))
 
 -- A container was started behind some boots, over the keeper that the last of them left. Nothing was told of it yet.
 pub record HasStarted (plans : List FaultPlan) (before : ServerSeen) (c : ContainerValue) (log : Log) : Type 0 where

@@ -1,5 +1,5 @@
 -- What the threads of a boot share, and the seats of one of them.
-use Rattle.std.specs.Prelude.{◌≡◌, ◌≤◌, ℕ}
+use Rattle.std.specs.Prelude.{◌≡◌, ◌≤◌, ℕ, List}
 use mathlib.Core.List.{IsPrefix}
 use Rattle.atomic_table.specs.Seated.{TableId}
 use Rattle.connection_server.specs.Seats.{AreSeatsOf, ids_of}
@@ -10,12 +10,13 @@ use Rattle.send_windows.specs.declared.history.WindowMark.{WindowMark}
 use Rattle.shared_words.specs.Words.{WordSeatValue, WordsValue}
 use Rattle.turn_lock.specs.Seats.{LockValue, SeatValue}
 
--- The locks of the container and of the windows, the words, the queue of reports, and the boot.
+-- The locks of the container and of the windows, the words, the queue of reports, the key, and the boot with its node.
 pub record SiteValue : Type 0 where
   pub container : LockValue
   pub windows : LockValue
   pub words : WordsValue
   pub reports : TableId
+  pub key : List ℕ
   pub home : HomeBoot
 
 -- The seats of a thread, and its pass to the queue.

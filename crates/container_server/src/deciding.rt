@@ -8,27 +8,29 @@ ghost use Rattle.container_server.specs.Telling.{HasTold};
 ghost use Rattle.service_log.specs.Logging.{log_of};
 
 use crate::gate::Gate;
+use crate::pace::is_due;
 use crate::planning::is_restart_due;
 use crate::seats::Seats;
 use crate::signals::Signals;
 use crate::site::Site;
 use crate::tools::ToolBox;
 use connection_server::Point;
-use crash_base::{Level, MAX_GROUPS, Scope};
+use crash_base::{Level, MAX_GROUPS, Moment, Scope};
 use deployment::Deployment;
 use failure_scores::FailureReport;
 use outside::{Clock, Keeper, Sink};
-use recovery_manager::{Decision, Manager};
+use recovery_manager::{Decision, Manager, WIDENED_MILLISECONDS};
 use service_log::{ServiceEvent, log_event};
 use std::alloc::Global;
 use std::sync::Wait;
 
-/// What the thread decides with, over all boots: what is told of reports, and where the operator is told of reboots. It
-/// owns nothing, so that what was written is known where it is let go.
+/// What the thread decides with, over all boots: what is told of reports, where the operator is told of reboots, and when
+/// a human was called last. It owns nothing, so that what was written is known where it is let go.
 #[derive(Drop)]
 pub(crate) struct Desk<'a, E: Sink> {
     pub errors: &'a mut E,
     pub manager: &'a mut Manager,
+    pub called: &'a mut Option<Moment>,
     pub deployment: &'a Deployment,
 }
 
@@ -116,6 +118,27 @@ fn stop<G: Gate, K: Keeper + Drop, E: Sink, W: Wait>(
     gate.pass(seats.worker(), Point::Rebooted(Level::Process));
 }
 
+/// Calls a human, unless one was called in the time for which an act counts.
+fn call_human<C: Clock, E: Sink>(alloc: Global, clock: &mut C, desk: &mut Desk<'_, E>)
+    requires names { desk.old.deployment.now ≡ site_parts }
+    ensures desk { desk.new.errors.ghost_name ≡ desk.old.errors.ghost_name }
+    ensures names { desk.new.deployment.now ≡ desk.old.deployment.now }
+    ensures told { HasTold (log_of (E.written desk.old.errors.now) (E.faults desk.old.errors.now))
+        (log_of (E.written desk.new.errors.now) (E.faults desk.new.errors.now)) }
+{
+    let now = clock.now();
+    if !is_due(*desk.called, WIDENED_MILLISECONDS, now) {
+        return;
+    }
+    *desk.called = Some(now);
+    log_event(
+        alloc,
+        desk.errors,
+        desk.deployment,
+        ServiceEvent::HumanNeeded,
+    );
+}
+
 /// Does what was decided.
 fn carry_out<G: Gate, K: Keeper + Drop, E: Sink, W: Wait>(
     rt: &W,
@@ -144,12 +167,7 @@ fn carry_out<G: Gate, K: Keeper + Drop, E: Sink, W: Wait>(
             }
         }
         Level::Process => stop::<G, K, E, W>(rt, alloc, gate, site, signals, seats, desk),
-        Level::Human => log_event(
-            alloc,
-            desk.errors,
-            desk.deployment,
-            ServiceEvent::HumanNeeded,
-        ),
+        Level::Human => call_human(alloc, clock, desk),
     }
 }
 

@@ -3,9 +3,8 @@
 ghost use Rattle.std.specs.Prelude.{◌≡◌, ◌≢◌, ◌+◌, ◌≤◌, ℕ, List, length, vec_len, IfErr, IfOk, IfSome, IsSome, MatchOption, MatchResult, None};
 ghost use Rattle.auction_rows.specs.Parts.{site_parts};
 ghost use Rattle.component_pool.specs.Plans.{left_by_process};
-ghost use Rattle.container_core.specs.Container.{HoldsRows};
 ghost use Rattle.container_core.specs.Start.{IsStarted};
-ghost use Rattle.container_server.specs.Running.{EndedOver, HasStarted, RanFrom, RanOver, ServerSeen, TellsClosed, end_of, seen, server_seen, service_limits};
+ghost use Rattle.container_server.specs.Running.{EndedOver, HasStarted, IsSoundContainer, RanFrom, RanOver, ServerSeen, TellsClosed, end_of, seen, server_seen, service_limits};
 ghost use Rattle.container_server.specs.Telling.{start_of, started_rows};
 ghost use Rattle.crash_base.specs.declared.fault_plans.FaultPlan.{FaultPlan};
 ghost use Rattle.service_log.specs.Ending.{status_of};
@@ -135,13 +134,20 @@ fn unstarted<C: Drop, K: Keeper + Drop>(fail: StartFail<K>) -> ServeResult<C, K>
     }
 }
 
+/// What is so of a container at any time.
+fn containers_are_sound<K: Keeper + Drop>(container: &Container<K>)
+    ensures sound { IsSoundContainer container.now }
+{
+    let _ = container.journal();
+    let _ = container.as_boot();
+}
+
 /// Goes on behind a boot: starts the container again, unless no more connections come.
 fn go_on<C: Drop, K: Keeper + Drop>(
     alloc: Global,
     container: Container<K>,
     closed: Option<C>,
 ) -> Result<Container<K>, ServeResult<C, K>>
-    ensures rows { HoldsRows container.told container.boot }
     ensures again { IfOk result (λ again. IsStarted container.boot.start.deployment
         (left_by_process container.boot.start.plans) container.boot.start.limits container.told again) }
     ensures ended { IfErr result (λ ended. EndedOver ended.end (seen container.told container.faults)
@@ -192,12 +198,17 @@ fn serve_once<'a, G: Gate + Sync, K: Keeper + Drop, E: Sink + Send, R: Threads +
         rt, alloc, gate, config, tools, workers, bricks, container, desk,
     );
     match served {
-        Ok((container, closed)) => (go_on(alloc, container, closed), desk),
+        Ok((container, closed)) => {
+            containers_are_sound(&container);
+            (go_on(alloc, container, closed), desk)
+        }
         Err(container) => {
+            containers_are_sound(&container);
+            let keeper = container.into_keeper();
             let ended = ServeResult {
                 end: ServiceEnd::OutOfMemory,
                 closed: None,
-                keeper: container.into_keeper(),
+                keeper,
             };
             (Err(ended), desk)
         }
@@ -285,10 +296,12 @@ fn serve_over<G: Gate + Sync, K: Keeper + Drop, E: Sink + Send, R: Threads + Wai
         Err(fail) => return unstarted(fail),
     };
     let mut manager = manager;
+    let mut called = None;
     let mut out = None;
     let desk = Desk {
         errors,
         manager: &mut manager,
+        called: &mut called,
         deployment: &names,
     };
     let _desk = serve_boots::<G, K, E, R>(

@@ -1,11 +1,12 @@
 //! What the threads of a boot share.
 
-ghost use Rattle.std.specs.Prelude.{◌≡◌, ◌+◌, ◌≤◌, false, length, IfErr, IfOk};
+ghost use Rattle.std.specs.Prelude.{◌≡◌, ◌+◌, ◌≤◌, false, [], ◌∷◌, length, IfErr, IfOk};
 ghost use mathlib.Core.List.{IsPrefix};
 ghost use Rattle.auction_rows.specs.Parts.{site_parts};
 ghost use Rattle.connection_server.specs.Seats.{IsOfSite};
 ghost use Rattle.container_server.specs.Seats.{AreOf, HaveParts};
 ghost use Rattle.report_queue.specs.Passes.{AreTo};
+ghost use Rattle.send_windows.specs.declared.history.WindowMark.TheVariants.{Opened};
 ghost use Rattle.site_locks.specs.Holds.{Tells};
 
 use crate::config::SiteConfig;
@@ -39,6 +40,7 @@ impl<K: Keeper + Drop> Model for Site<K> {
       windows = s.shared.windows;
       words = s.shared.words;
       reports = s.shared.reports;
+      key = s.shared.key;
       home = s.shared.home;
     } };
 }
@@ -56,7 +58,7 @@ struct Around {
     key: Items<u8>,
 }
 
-/// Windows under their lock, and the seat with all parts.
+/// Windows of these numbers under their lock, and the seat with all parts, which has seen that they were opened.
 fn lock_windows(
     alloc: Global,
     config: &SiteConfig,
@@ -65,7 +67,8 @@ fn lock_windows(
 ) -> Result<(WindowsLock, WindowsSeat), OutOfMemory>
     requires quorum { (1 ≤ config.now.wq) × (config.now.wq ≤ config.now.w) × (config.now.w ≤ bricks) × (bricks ≤ 16) }
     requires parts { 1 ≤ parts }
-    ensures { IfOk result (λ made. (made.1.lock ≡ made.0.id) × (made.1.holds ≡ false) × (made.1.parts ≡ parts)) }
+    ensures seat { IfOk result (λ made. (made.1.lock ≡ made.0.id) × (made.1.holds ≡ false) × (made.1.parts ≡ parts)) }
+    ensures opened { IfOk result (λ made. made.1.seen ≡ Opened bricks config.now.w config.now.wq false ∷ []) }
 {
     let windows = Windows::new(alloc, bricks, config.w, config.wq, false)?;
     match WindowsLock::new(alloc, windows, parts) {
@@ -102,8 +105,10 @@ fn open_around(
 ) -> Result<(Around, ReportPassList), OutOfMemory>
     requires quorum { (1 ≤ config.now.wq) × (config.now.wq ≤ config.now.w) × (config.now.w ≤ bricks) × (bricks ≤ 16) }
     requires threads { 1 ≤ threads }
+    ensures key { IfOk result (λ made. made.0.key ≡ config.now.key) }
     ensures windows { IfOk result (λ made. (made.0.windows_seat.lock ≡ made.0.windows.id)
         × (made.0.windows_seat.holds ≡ false) × (made.0.windows_seat.parts ≡ threads)) }
+    ensures opened { IfOk result (λ made. made.0.windows_seat.seen ≡ Opened bricks config.now.w config.now.wq false ∷ []) }
     ensures words { IfOk result (λ made. (made.0.word_seat.words ≡ made.0.words.id)
         × (made.0.word_seat.parts ≡ threads)) }
     ensures passes { IfOk result (λ made. (made.0.pass.queue ≡ made.0.reports)
@@ -140,7 +145,7 @@ fn assemble<K: Keeper + Drop>(
     ensures windows { (result.0.windows ≡ around.windows) × (result.1.windows ≡ around.windows_seat) }
     ensures words { (result.0.words ≡ around.words) × (result.1.words ≡ around.word_seat) }
     ensures reports { (result.0.reports ≡ around.reports) × (result.1.pass ≡ around.pass) }
-    ensures home { result.0.home ≡ home }
+    ensures serves { (result.0.key ≡ around.key) × (result.0.home ≡ home) }
 {
     let Around {
         windows,
@@ -172,7 +177,7 @@ fn assemble<K: Keeper + Drop>(
 }
 
 /// A site whose container is given, for so many threads; the seats with all parts; and the passes of the other threads.
-/// Without memory the container comes back.
+/// It is served with what is configured. Without memory the container comes back.
 pub(crate) fn open_site<K: Keeper + Drop>(
     alloc: Global,
     config: &SiteConfig,
@@ -189,6 +194,10 @@ pub(crate) fn open_site<K: Keeper + Drop>(
     ensures parts { IfOk result (λ made. HaveParts threads made.1 × (made.1.container.parts ≡ threads)
         × (made.0.container.parts ≡ threads)) }
     ensures passes { IfOk result (λ made. (length made.2 + 1 ≡ threads) × AreTo made.0.reports tt made.2) }
+    ensures key { IfOk result (λ made. made.0.key ≡ config.now.key) }
+    ensures home { IfOk result (λ made. (made.0.home.node ≡ config.now.node)
+        × (made.0.home.boot ≡ container.boot.start.boot)) }
+    ensures opened { IfOk result (λ made. made.1.windows.seen ≡ Opened bricks config.now.w config.now.wq false ∷ []) }
     ensures back { IfErr result (λ given. given ≡ container) }
 {
     let (around, others) = match open_around(alloc, config, bricks, threads) {

@@ -4,6 +4,7 @@ ghost use Rattle.std.specs.Prelude.{◌≡◌, ◌<◌, ◌≤◌, ◌^◌, leng
 ghost use Rattle.crash_base.specs.declared.items.TheConstants.{MAX_FRAME_BYTES};
 
 use crate::gate::Gate;
+use crate::pace::is_due;
 use crate::signals::Signals;
 use crate::tools::ToolBox;
 use crash_base::{BrickNo, FrameBytes, Moment, OutOfMemory, Version};
@@ -54,14 +55,6 @@ fn sweep_once<L: Link>(alloc: Global, link: &mut L, bricks: u16, home: HomeBoot,
     }
 }
 
-/// Whether a sweep is due, by the moment of the last one, if there was one.
-fn is_due(last: Option<Moment>, now: Moment) -> bool {
-    match last {
-        None => true,
-        Some(last) => now.0.saturating_sub(last.0) >= SWEPT_MILLISECONDS,
-    }
-}
-
 /// Sweeps bricks 1 to `bricks` again and again, until all workers have ended.
 pub(crate) fn sweep<G: Gate, W: Wait>(
     rt: &W,
@@ -81,7 +74,7 @@ pub(crate) fn sweep<G: Gate, W: Wait>(
             return;
         }
         let now = tools.clock.now();
-        if is_due(last, now) {
+        if is_due(last, SWEPT_MILLISECONDS, now) {
             sweep_once(alloc, &mut tools.link, bricks, home, now);
             last = Some(now);
         }

@@ -1,5 +1,5 @@
 -- How a server of a site ends: its status, and the line that it reports.
-use Rattle.std.specs.Prelude.{ℕ, List, [], ◌++◌, codes}
+use Rattle.std.specs.Prelude.{◌≡◌, ◌⊎◌, ℕ, List, [], ◌++◌, codes}
 use Rattle.std.specs.Fmt.{decimal}
 use Rattle.crash_base.specs.declared.row_id.RowId.{RowId}
 use Rattle.service_log.specs.declared.ending.ServiceEnd.{ServiceEnd}
@@ -24,3 +24,7 @@ end_line KeeperFailed = codes "keeper failed\n"
 end_line (BadRow id) = bad_row_line id
 end_line BootsSpent = codes "boots spent\n"
 end_line OutOfMemory = codes "out of memory\n"
+
+-- A server that ended so is told to have ended: so, or that memory ran out, where there is none for the line of a bad row.
+abbrev pub IsToldAs : ServiceEnd → ServiceEnd → Type 0
+IsToldAs end told = (told ≡ end) ⊎ ((id : RowId) × (end ≡ BadRow id) × (told ≡ OutOfMemory))

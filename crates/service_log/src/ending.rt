@@ -1,7 +1,7 @@
 //! How a server of a site ends.
 
-ghost use Rattle.std.specs.Prelude.{◌≡◌, ◌⊎◌, IfOk, string_bytes};
-ghost use Rattle.service_log.specs.Ending.{bad_row_line, end_line, status_of};
+ghost use Rattle.std.specs.Prelude.{◌≡◌, IfOk, string_bytes};
+ghost use Rattle.service_log.specs.Ending.{IsToldAs, bad_row_line, end_line, status_of};
 ghost use Rattle.service_log.specs.Logging.{WritesLine, log_of};
 
 use crash_base::{OutOfMemory, RowId};
@@ -58,7 +58,7 @@ fn write_line<E: Sink>(errors: &mut E, line: &str)
 
 /// Reports a bad row, or that there was no memory for it.
 fn report_bad_row<E: Sink>(alloc: Global, errors: &mut E, id: RowId) -> ServiceEnd
-    ensures end { (result ≡ ServiceEnd.BadRow id) ⊎ (result ≡ ServiceEnd.OutOfMemory) }
+    ensures end { IsToldAs (ServiceEnd.BadRow id) result }
     ensures line { WritesLine (end_line result) (log_of (E.written errors.old) (E.faults errors.old))
         (log_of (E.written errors.new) (E.faults errors.new)) }
 {
@@ -77,7 +77,7 @@ fn report_bad_row<E: Sink>(alloc: Global, errors: &mut E, id: RowId) -> ServiceE
 /// Reports how a server ended, and answers it: with the line of the end, which is empty where no more connections come.
 /// A fault changes nothing else. Where there is no memory for the numbers of a bad row, that is the end.
 pub fn report_end<E: Sink>(alloc: Global, errors: &mut E, end: ServiceEnd) -> ServiceEnd
-    ensures end { (result ≡ end) ⊎ (result ≡ ServiceEnd.OutOfMemory) }
+    ensures end { IsToldAs end result }
     ensures closed { end ≡ ServiceEnd.Closed → (result ≡ end) × (errors.new ≡ errors.old) }
     ensures line { WritesLine (end_line result) (log_of (E.written errors.old) (E.faults errors.old))
         (log_of (E.written errors.new) (E.faults errors.new)) }

@@ -14,7 +14,7 @@ returns-in-Ok-clause-on g c plans before s =
     let next = log_of (g.E.Sink.written c.log_start.new.errors) (g.E.Sink.faults c.log_start.new.errors) in
     let last = log_of (g.E.Sink.written c.serve_boot-served.result.1.errors.now) (g.E.Sink.faults c.serve_boot-served.result.1.errors.now) in
     let told = told_boot c.args.container first next last c.log_start.ensures.told c.serve_boot-served.ensures.told in
-    behind (λ ended. ended.end) (λ ended. seen (g.K.Keeper.told ended.keeper) (g.K.Keeper.faults ended.keeper)) plans before c.args.container c.in-Ok.container first last s grown c.go_on.ensures.rows told c.go_on.result c.go_on.ensures.again c.go_on.ensures.ended
+    behind (λ ended. ended.end) (λ ended. seen (g.K.Keeper.told ended.keeper) (g.K.Keeper.faults ended.keeper)) plans before c.args.container c.in-Ok.container first last s grown c.containers_are_sound.ensures.sound told c.go_on.result c.go_on.ensures.again c.go_on.ensures.ended
 
 pub returns-in-Err-clause-on : goal.returns-in-Err-clause-on
 returns-in-Err-clause-on g c plans before s =
@@ -24,6 +24,6 @@ returns-in-Err-clause-on g c plans before s =
     let next = log_of (g.E.Sink.written c.log_start.new.errors) (g.E.Sink.faults c.log_start.new.errors) in
     let last = log_of (g.E.Sink.written c.serve_boot-served.result.1.errors.now) (g.E.Sink.faults c.serve_boot-served.result.1.errors.now) in
     let told = told_boot c.args.container first next last c.log_start.ensures.told c.serve_boot-served.ensures.told in
-    let kept = c.into_keeper.ensures in
-    ends_behind plans before c.args.container c.in-Err.container first last OutOfMemory (seen (g.K.Keeper.told c.into_keeper.result) (g.K.Keeper.faults c.into_keeper.result)) s grown kept.rows told
-    (inl (seen_same c.in-Err.container.told (g.K.Keeper.told c.into_keeper.result) c.in-Err.container.faults (g.K.Keeper.faults c.into_keeper.result) kept.told kept.faults))
+    let kept = c.into_keeper-keeper.ensures in
+    ends_behind plans before c.args.container c.in-Err.container first last OutOfMemory (seen (g.K.Keeper.told c.into_keeper-keeper.result) (g.K.Keeper.faults c.into_keeper-keeper.result)) s grown c.containers_are_sound-in-Err.ensures.sound told
+    (inl (seen_same c.in-Err.container.told (g.K.Keeper.told c.into_keeper-keeper.result) c.in-Err.container.faults (g.K.Keeper.faults c.into_keeper-keeper.result) kept.told kept.faults))
