@@ -2,7 +2,7 @@
 
 use crate::words::{add_row, add_word, rows};
 use crash_base::RowWrite;
-use keeper_sqlite::{OpenFault, SqlKeeper};
+use keeper_sqlite::{OpenFault, RowsFault, SqlKeeper};
 use outside::{Keeper, KeeperFault};
 use sqlite::{Alter, Connection, MemStore};
 use std::alloc::Global;
@@ -25,9 +25,9 @@ pub fn database(rt: &impl Abort, alloc: Global, statements: &[&str]) -> Connecti
 pub fn opening(connection: Connection<MemStore>) -> &'static str {
     match SqlKeeper::new(connection) {
         Ok(_) => "ok",
-        Err(OpenFault::OutOfMemory) => "out_of_memory",
         Err(OpenFault::OtherSchema) => "other_schema",
-        Err(OpenFault::Failed) => "failed",
+        Err(OpenFault::Failed(RowsFault::OutOfMemory)) => "out_of_memory",
+        Err(OpenFault::Failed(_)) => "failed",
     }
 }
 
@@ -43,6 +43,14 @@ fn sent_keeper<S: Alter + Send>(keeper: SqlKeeper<S>) -> SqlKeeper<S> {
 /// A keeper over a database in memory, after these statements.
 pub fn keeper(rt: &impl Abort, alloc: Global, statements: &[&str]) -> SqlKeeper<MemStore> {
     sent_keeper(SqlKeeper::new(database(rt, alloc, statements)).expect(rt, "a keeper"))
+}
+
+/// What a keeper says of the call that it refused last, if it refused one.
+pub fn last_words(rt: &impl Abort, alloc: Global, keeper: &SqlKeeper<MemStore>) -> String {
+    match keeper.last_fault() {
+        Some(why) => why.to_string(alloc).expect(rt, "a text"),
+        None => String::new(alloc),
+    }
 }
 
 /// Adds why a keeper did not answer.

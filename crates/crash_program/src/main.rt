@@ -94,7 +94,10 @@ fn command<R: Threads + Wait + Clock + RandomSource + Sync>(
     words: &[WordText],
 ) -> u8 {
     match serve_words(words) {
-        Some(said) => serve(rt, host, &said, &mut OutputSink::new(host.stderr())),
+        Some(said) => {
+            let (status, _) = serve(rt, host, &said, OutputSink::new(host.stderr()));
+            status
+        }
         None => run_on_streams(host, words),
     }
 }

@@ -14,10 +14,13 @@
 //! The keeper tells nothing of its rows. That the database keeps what it is told and gives it back is
 //! trusted, and so are the texts of the statements and the few lines that turn a row into values and
 //! back. What is proved: `new` answers `OtherSchema` exactly where something else than this table
-//! stands under its name, and the count of faults rises by each `Failed` and by nothing else.
+//! stands under its name, the count of faults rises by each `Failed` and by nothing else, and
+//! `last_fault` is why a call was refused last.
 #![tactic(auto)]
 
+mod rows_fault;
 mod rows_table;
 mod sql_keeper;
 
+pub use rows_fault::RowsFault;
 pub use sql_keeper::{OpenFault, SqlKeeper};

@@ -3,9 +3,11 @@
 ghost use Rattle.std.specs.Prelude.{◌≡◌, ◌≢◌, ◌↔◌, ◌≤◌, None, OnOk, IfOk, IfErr};
 ghost use Rattle.outside.specs.Faults.{Rose};
 ghost use Rattle.sqlite.specs.Held.{state};
-ghost use Rattle.keeper_sqlite.specs.Faults.{count_after};
+ghost use Rattle.keeper_sqlite.specs.Faults.{after_fault, count_after, fault_of, last_after};
+ghost use Rattle.keeper_sqlite.specs.declared.rows_fault.RowsFault.{RowsFault};
 ghost use Rattle.keeper_sqlite.specs.RowsTable.{HasOther};
 
+use crate::rows_fault::RowsFault;
 use crate::rows_table::{MAKE_TABLE, has_other};
 use crash_base::{RowBytes, RowId, RowList, RowWrite, WriteList};
 use outside::{Keeper, KeeperFault};
@@ -25,76 +27,67 @@ const PUT_ROW: &str =
 /// Why no keeper was made over a database.
 #[derive(Clone, Copy, Debug)]
 pub enum OpenFault {
-    /// The allocator had no memory.
-    OutOfMemory,
     /// Something else than the table of the rows stands under its name.
     OtherSchema,
-    /// The database failed, or a transaction was open.
-    Failed,
+    /// The database failed, a transaction was open, or the allocator had no memory.
+    Failed(RowsFault),
 }
 
-/// A keeper over a connection, which tells nothing of its rows. Contracts see it as the count of its
-/// faults.
+/// A keeper over a connection, which tells nothing of its rows. Contracts see how often it has failed,
+/// and why it refused a call last.
 #[derive(Drop)]
 pub struct SqlKeeper<S: Alter> {
     connection: Connection<S>,
     /// Puts a row.
     put: Statement,
     faults: u64,
+    last: Option<RowsFault>,
 }
 
 impl<S: Alter> Model for SqlKeeper<S> {
-    ghost use Rattle.std.specs.Prelude.{ℕ};
+    ghost use Rattle.keeper_sqlite.specs.Faults.{KeeperValue};
 
-    ghost Value = { ℕ };
+    ghost Value = { KeeperValue };
 
-    ghost view = { λ k. k.faults };
+    ghost view = { λ k. record { faults = k.faults; last = k.last } };
 }
 
-/// What a keeper answers for an error of the database.
-fn fault_of(error: Error) -> KeeperFault {
-    match error {
-        Error::SqliteFailure(ErrorCode::OutOfMemory) => KeeperFault::OutOfMemory,
-        _ => KeeperFault::Failed,
-    }
-}
-
-/// The table that a value names. `Failed` where it is no integer from 0 to 255.
-fn table_of(value: ValueRef<'_>) -> Result<u8, KeeperFault> {
+/// The table that a value names. `NoRow` where it is no integer from 0 to 255.
+fn table_of(value: ValueRef<'_>) -> Result<u8, RowsFault> {
     match value {
-        ValueRef::Int(number) => u8::try_from(number).map_err(|_| KeeperFault::Failed),
-        _ => Err(KeeperFault::Failed),
+        ValueRef::Int(number) => u8::try_from(number).map_err(|_| RowsFault::NoRow),
+        _ => Err(RowsFault::NoRow),
     }
 }
 
-/// The bytes of a value. `Failed` where it is no BLOB.
-fn bytes_of<'a>(value: ValueRef<'a>) -> Result<&'a [u8], KeeperFault> {
+/// The bytes of a value. `NoRow` where it is no BLOB.
+fn bytes_of<'a>(value: ValueRef<'a>) -> Result<&'a [u8], RowsFault> {
     match value {
         ValueRef::Blob(bytes) => Ok(bytes),
-        _ => Err(KeeperFault::Failed),
+        _ => Err(RowsFault::NoRow),
     }
 }
 
-/// The key that a value spells. `Failed` where it is no BLOB of eight bytes.
-fn key_of(value: ValueRef<'_>) -> Result<u64, KeeperFault> {
+/// The key that a value spells. `NoRow` where it is no BLOB of eight bytes.
+fn key_of(value: ValueRef<'_>) -> Result<u64, RowsFault> {
     match <[u8; 8]>::try_from(bytes_of(value)?) {
         Ok(eight) => Ok(u64::from_be_bytes(eight)),
-        Err(_) => Err(KeeperFault::Failed),
+        Err(_) => Err(RowsFault::NoRow),
     }
 }
 
 /// The row that the three values of a row spell.
-fn row_of(alloc: Global, row: &Row) -> Result<RowWrite, KeeperFault> {
-    let table = table_of(row.get_ref(0).map_err(fault_of)?)?;
-    let key = key_of(row.get_ref(1).map_err(fault_of)?)?;
-    let bytes = bytes_of(row.get_ref(2).map_err(fault_of)?)?;
+fn row_of(alloc: Global, row: &Row) -> Result<RowWrite, RowsFault> {
+    let table = table_of(row.get_ref(0)?)?;
+    let key = key_of(row.get_ref(1)?)?;
+    let bytes = bytes_of(row.get_ref(2)?)?;
     Ok(RowWrite {
         id: RowId { table, key },
         bytes: RowBytes::copied(alloc, bytes)?,
     })
 }
 
-fn rows_of(alloc: Global, found: &[Row]) -> Result<RowList, KeeperFault> {
+fn rows_of(alloc: Global, found: &[Row]) -> Result<RowList, RowsFault> {
     let mut rows = RowList::new(alloc);
     for row in found {
         rows.push(row_of(alloc, row)?)?;
@@ -102,11 +95,8 @@ fn rows_of(alloc: Global, found: &[Row]) -> Result<RowList, KeeperFault> {
     Ok(rows)
 }
 
-fn all_rows<S: Alter>(
-    alloc: Global,
-    connection: &mut Connection<S>,
-) -> Result<RowList, KeeperFault> {
-    let found = connection.query_all(ALL_ROWS, &[]).map_err(fault_of)?;
+fn all_rows<S: Alter>(alloc: Global, connection: &mut Connection<S>) -> Result<RowList, RowsFault> {
+    let found = connection.query_all(ALL_ROWS, &[])?;
     rows_of(alloc, found.as_slice())
 }
 
@@ -117,7 +107,7 @@ fn put_all<S: Alter>(
     writes: &[RowWrite],
 ) -> Result<(), Error> {
     if !connection.is_autocommit() {
-        return Err(Error::SqliteFailure(ErrorCode::TransactionState));
+        return Err(IN_TRANSACTION);
     }
     let mut transaction = connection.transaction();
     for write in writes {
@@ -132,14 +122,14 @@ fn put_all<S: Alter>(
     transaction.commit()
 }
 
+/// A text that begins or ends no transaction, where one is open.
+const IN_TRANSACTION: Error = Error::SqliteFailure(ErrorCode::TransactionState);
+
 /// Why no keeper was made, for an error of the database.
 fn open_fault_of(error: Error) -> OpenFault
     ensures { result ≢ OpenFault.OtherSchema }
 {
-    match error {
-        Error::SqliteFailure(ErrorCode::OutOfMemory) => OpenFault::OutOfMemory,
-        _ => OpenFault::Failed,
-    }
+    OpenFault::Failed(RowsFault::from(error))
 }
 
 /// Makes the table where nothing stands under its name. `Failed` where a transaction is open.
@@ -147,7 +137,7 @@ fn make_table<S: Alter>(connection: &mut Connection<S>) -> Result<(), OpenFault>
     ensures { IfErr result (λ fault. fault ≢ OpenFault.OtherSchema) }
 {
     if !connection.is_autocommit() {
-        return Err(OpenFault::Failed);
+        return Err(open_fault_of(IN_TRANSACTION));
     }
     match connection.execute(MAKE_TABLE, &[]) {
         Ok(_) => Ok(()),
@@ -165,6 +155,26 @@ fn prepare_put<S: Alter>(connection: &mut Connection<S>) -> Result<Statement, Op
     }
 }
 
+/// The count of faults behind a call that was refused with this fault.
+fn count_after(fault: KeeperFault, count: u64) -> u64
+    ensures { result ≡ count_after fault count }
+{
+    match fault {
+        KeeperFault::OutOfMemory => count,
+        KeeperFault::Failed => count.saturating_add(1),
+    }
+}
+
+/// Why a call was refused last, behind one that was refused for this.
+fn last_after(why: RowsFault, last: Option<RowsFault>) -> Option<RowsFault>
+    ensures { result ≡ last_after why last }
+{
+    match (why, last) {
+        (RowsFault::Closed, Some(earlier)) => Some(earlier),
+        _ => Some(why),
+    }
+}
+
 impl<S: Alter> SqlKeeper<S> {
     /// A keeper of the rows that the database has. It makes their table where nothing stands under
     /// its name, and visits each object of the schema.
@@ -174,7 +184,7 @@ impl<S: Alter> SqlKeeper<S> {
     pub fn new(mut connection: Connection<S>) -> Result<SqlKeeper<S>, OpenFault>
     where
         S: Drop,
-        ensures count { IfOk result (λ keeper. keeper ≡ 0) }
+        ensures fresh { IfOk result (λ keeper. keeper ≡ record { faults = 0; last = None }) }
         ensures other { (result ≡ Err OpenFault.OtherSchema)
             ↔ HasOther (state S.Store connection).now.schema }
     {
@@ -187,26 +197,33 @@ impl<S: Alter> SqlKeeper<S> {
             connection,
             put,
             faults: 0,
+            last: None,
         })
     }
 
     /// How often it has failed.
     pub fn faults(&self) -> u64
-        ensures { result ≡ self.now }
+        ensures { result ≡ self.now.faults }
     {
         self.faults
     }
 
-    /// Counts a fault, and answers it.
-    fn count(&mut self, fault: KeeperFault) -> KeeperFault
-        ensures same { result ≡ fault }
-        ensures count { self.new ≡ count_after fault self.old }
-        ensures later { self.old ≤ self.new }
+    /// Why it refused a call last, if it did: where the database was closed by a failure, that failure.
+    pub fn last_fault(&self) -> Option<RowsFault>
+        ensures { result ≡ self.now.last }
     {
-        match fault {
-            KeeperFault::OutOfMemory => {}
-            KeeperFault::Failed => self.faults = self.faults.saturating_add(1),
-        }
+        self.last
+    }
+
+    /// Keeps why a call is refused, counts it, and answers the fault of the call.
+    fn refuse(&mut self, why: RowsFault) -> KeeperFault
+        ensures answer { result ≡ fault_of why }
+        ensures after { self.new ≡ after_fault why self.old }
+        ensures later { self.old.faults ≤ self.new.faults }
+    {
+        self.last = last_after(why, self.last);
+        let fault = why.fault();
+        self.faults = count_after(fault, self.faults);
         fault
     }
 }
@@ -214,19 +231,20 @@ impl<S: Alter> SqlKeeper<S> {
 impl<S: Alter + Send> Keeper for SqlKeeper<S> {
     ghost told = { λ _. None };
 
-    ghost faults = { λ keeper. keeper };
+    ghost faults = { λ keeper. keeper.faults };
 
     /// As of the trait. A row whose table is not from 0 to 255, or whose key has not eight bytes, is
     /// `Failed`. It holds all rows twice, and copies each byte.
     fn load(&mut self, alloc: Global) -> Result<RowList, KeeperFault>
         ensures kept { OnOk result (self.new ≡ self.old) }
-        ensures fault { IfErr result (λ fault. self.new ≡ count_after fault self.old) }
-        ensures cause { result ≡ Err KeeperFault.Failed → Rose self.old self.new }
-        ensures count { self.old ≤ self.new }
+        ensures refused { IfErr result (λ fault. (why : RowsFault) × (fault ≡ fault_of why)
+            × (self.new ≡ after_fault why self.old)) }
+        ensures cause { result ≡ Err KeeperFault.Failed → Rose self.old.faults self.new.faults }
+        ensures count { self.old.faults ≤ self.new.faults }
     {
         match all_rows(alloc, &mut self.connection) {
             Ok(rows) => Ok(rows),
-            Err(fault) => Err(self.count(fault)),
+            Err(why) => Err(self.refuse(why)),
         }
     }
 
@@ -234,13 +252,14 @@ impl<S: Alter + Send> Keeper for SqlKeeper<S> {
     /// the table's index by its key.
     fn apply(&mut self, _alloc: Global, writes: &WriteList) -> Result<(), KeeperFault>
         ensures kept { OnOk result (self.new ≡ self.old) }
-        ensures fault { IfErr result (λ fault. self.new ≡ count_after fault self.old) }
-        ensures cause { result ≡ Err KeeperFault.Failed → Rose self.old self.new }
-        ensures count { self.old ≤ self.new }
+        ensures refused { IfErr result (λ fault. (why : RowsFault) × (fault ≡ fault_of why)
+            × (self.new ≡ after_fault why self.old)) }
+        ensures cause { result ≡ Err KeeperFault.Failed → Rose self.old.faults self.new.faults }
+        ensures count { self.old.faults ≤ self.new.faults }
     {
         match put_all(&mut self.connection, &self.put, writes.as_slice()) {
             Ok(()) => Ok(()),
-            Err(error) => Err(self.count(fault_of(error))),
+            Err(error) => Err(self.refuse(RowsFault::from(error))),
         }
     }
 }

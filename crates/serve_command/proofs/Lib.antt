@@ -1,3 +1,4 @@
 mod Pieces
 mod Spelled
 mod Crossing
+mod Telling

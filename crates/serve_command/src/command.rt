@@ -1,14 +1,19 @@
 //! The command.
 
-ghost use Rattle.std.specs.Prelude.{◌≡◌, ◌==◌, ◌≤◌, [], ◌∷◌, IfOk, string_bytes, true};
-ghost use Rattle.std.specs.List.{list_any};
-ghost use Rattle.serve_command.specs.Opening.{place_text, serving_line};
+ghost use Rattle.std.specs.Prelude.{◌≡◌, ◌≢◌, ◌≤◌, IfOk, MatchOption, None, OnErr, string_bytes};
+ghost use Rattle.outside.specs.Sink.{AppendsOrFails};
+ghost use Rattle.service_log.specs.Logging.{WritesLine, log_of};
+ghost use Rattle.serve_command.specs.Ending.{report_of, status_of};
+ghost use Rattle.serve_command.specs.Opening.{TellsServing, place_text, serving_line};
+ghost use Rattle.serve_command.specs.Serving.{HasRun, HasServed, RanToEnd};
 
 use crate::ending::{StartFault, report_fault};
-use crate::file_keeper::FileKeeper;
+use crate::file_keeper::{Explains, FileKeeper};
 use crate::gate::SystemGate;
 use crate::house::{BRICKS, make_kits, open_house};
+use crate::last_line::LastLine;
 use crate::opening::{open_door, open_keeper, open_key, port_failed};
+use crate::reasons::reason_of_end;
 use crate::words::ServeWords;
 use client_sockets::Door;
 use container_server::{Gate, SiteConfig, run_serve};
@@ -84,74 +89,137 @@ fn serving_line(alloc: Global, file: &[u8], port: u16, workers: u16) -> Result<V
     Ok(line)
 }
 
-/// Tells what is served, and where. Where there is no memory for the line, nothing is told.
-fn tell_serving<E: Sink>(alloc: Global, errors: &mut E, words: &ServeWords<'_>) {
-    if let Ok(line) = serving_line(alloc, words.file, words.port, words.workers) {
+/// Writes a line that there is, if there is one.
+fn write_found<E: Sink>(errors: &mut E, line: Result<Vec<u8>, OutOfMemory>)
+    ensures some { IfOk line (λ line. WritesLine line.items (log_of (E.written errors.old) (E.faults errors.old))
+        (log_of (E.written errors.new) (E.faults errors.new))) }
+    ensures none { OnErr line (log_of (E.written errors.new) (E.faults errors.new)
+        ≡ log_of (E.written errors.old) (E.faults errors.old)) }
+{
+    if let Ok(line) = line {
         let _ = write_all(errors, line.as_slice());
     }
 }
 
+/// Tells what is served, and where. Where there is no memory for the line, nothing is told.
+fn tell_serving<E: Sink>(alloc: Global, errors: &mut E, words: &ServeWords<'_>)
+    ensures { TellsServing words.now (log_of (E.written errors.old) (E.faults errors.old))
+        (log_of (E.written errors.new) (E.faults errors.new)) }
+{
+    let line = serving_line(alloc, words.file, words.port, words.workers);
+    write_found(errors, line);
+}
+
 /// Tells why no more connections came, where that is why a server ended.
-fn tell_closed<E: Sink>(alloc: Global, errors: &mut E, port: u16, closed: Option<io::Error>) {
+fn tell_closed<E: Sink>(alloc: Global, errors: &mut E, port: u16, closed: Option<io::Error>)
+    ensures { closed ≡ None → errors.new ≡ errors.old }
+{
     if let Some(error) = closed {
         let fault = port_failed(alloc, port, error);
         let _ = write_all(errors, fault.reason());
     }
 }
 
+/// Runs a server through a gate to its end, and writes the line of the end behind its reason. The status, and that no
+/// more connections come, if that is why.
+fn run_to_end<
+    R: Threads + Wait + Sync,
+    G: Gate<Closed = io::Error> + Sync,
+    E: Sink + Send + Drop,
+    K: Keeper + Explains + Drop,
+>(
+    rt: &R,
+    alloc: Global,
+    gate: &G,
+    words: &ServeWords<'_>,
+    config: &SiteConfig,
+    errors: E,
+    keeper: K,
+) -> (u8, Option<io::Error>, E)
+    requires some { 1 ≤ words.now.workers }
+    requires few { words.now.workers ≤ 64 }
+    requires bricks { (config.now.w ≡ 3) × (config.now.wq ≡ 2) }
+    ensures ran { HasRun (G.plans gate.now) result.0 (log_of (E.written errors) (E.faults errors))
+        (log_of (E.written result.2) (E.faults result.2)) }
+    ensures closed { MatchOption result.1 (result.0 ≢ 0) (λ _. result.0 ≡ 0) }
+{
+    let mut last_line = LastLine::new(alloc, errors);
+    let (status, closed, keeper) = run_serve(
+        rt,
+        alloc,
+        gate,
+        words.workers,
+        config,
+        BRICKS,
+        &mut last_line,
+        keeper,
+    );
+    let reason = reason_of_end(alloc, words.file, status, keeper.last_fault());
+    let errors = last_line.end(reason.as_slice());
+    (status, closed, errors)
+}
+
 /// Serves through a gate to the end, and answers the status.
 fn serve_through<
     R: Threads + Wait + Sync,
     G: Gate<Closed = io::Error> + Sync + Drop,
-    E: Sink + Send,
-    K: Keeper + Drop,
+    E: Sink + Send + Drop,
+    K: Keeper + Explains + Drop,
 >(
     rt: &R,
     alloc: Global,
     gate: G,
     words: &ServeWords<'_>,
     key: Items<u8>,
-    errors: &mut E,
+    errors: E,
     keeper: K,
-) -> u8
+) -> (u8, E)
     requires some { 1 ≤ words.now.workers }
     requires few { words.now.workers ≤ 64 }
+    ensures { RanToEnd (G.plans gate) result.0 (log_of (E.written errors) (E.faults errors))
+        (log_of (E.written result.1) (E.faults result.1)) }
 {
     let config = site_config(key);
-    let (status, closed, keeper) = run_serve(
-        rt,
-        alloc,
-        &gate,
-        words.workers,
-        &config,
-        BRICKS,
-        errors,
-        keeper,
-    );
-    drop(keeper);
-    tell_closed(alloc, errors, words.port, closed);
-    status
+    let (status, closed, errors) = run_to_end(rt, alloc, &gate, words, &config, errors, keeper);
+    let mut errors = errors;
+    tell_closed(alloc, &mut errors, words.port, closed);
+    (status, errors)
+}
+
+/// Tells why a server was not started, and answers the status.
+fn not_started<E: Sink>(errors: E, fault: StartFault) -> (u8, E)
+    ensures status { result.0 ≡ status_of fault }
+    ensures told { AppendsOrFails (E.written errors) (E.written result.1)
+        (E.faults errors) (E.faults result.1) (report_of fault) }
+{
+    let mut errors = errors;
+    let status = report_fault(&mut errors, &fault);
+    (status, errors)
 }
 
 /// Serves what was opened, to its end, and answers the status.
-fn serve_opened<R: Threads + Wait + Clock + RandomSource + Sync, E: Sink + Send, K: Keeper + Drop>(
-    rt: &R,
-    alloc: Global,
-    words: &ServeWords<'_>,
-    errors: &mut E,
-    opened: Opened<K>,
-) -> Result<u8, StartFault>
+fn serve_opened<
+    R: Threads + Wait + Clock + RandomSource + Sync,
+    E: Sink + Send + Drop,
+    K: Keeper + Explains + Drop,
+>(rt: &R, alloc: Global, words: &ServeWords<'_>, errors: E, opened: Opened<K>) -> (u8, E)
     requires some { 1 ≤ words.now.workers }
     requires few { words.now.workers ≤ 64 }
 {
     let Opened { key, keeper, door } = opened;
     let links = words.workers as u32 + 2;
-    let (house, seats) = open_house(rt, alloc, links)?;
-    let kits = make_kits(rt, alloc, &house, seats, links)?;
+    let (house, seats) = match open_house(rt, alloc, links) {
+        Ok(made) => made,
+        Err(fault) => return not_started(errors, fault),
+    };
+    let kits = match make_kits(rt, alloc, &house, seats, links) {
+        Ok(kits) => kits,
+        Err(fault) => return not_started(errors, fault),
+    };
     let gate = SystemGate::new(rt, alloc, &door, kits);
-    tell_serving(alloc, errors, words);
-    let status = serve_through(rt, alloc, gate, words, key, errors, keeper);
-    Ok(status)
+    let mut errors = errors;
+    tell_serving(alloc, &mut errors, words);
+    serve_through(rt, alloc, gate, words, key, errors, keeper)
 }
 
 /// Serves the shop as the words say: on this port of 127.0.0.1, over the database in this file, which is made where there
@@ -168,23 +236,20 @@ fn serve_opened<R: Threads + Wait + Clock + RandomSource + Sync, E: Sink + Send,
 /// - 14: the file of the key, the database or the port was not opened, or the key not read, or the system gave no random
 ///   words.
 ///
-/// On `errors` the operator is told what is served once all is open, then what `run_serve` of `container_server` tells;
-/// and of 13 and 14 first the file or the port and the reason, and then the line of the status.
-pub fn serve<R: Threads + Wait + Clock + RandomSource + Sync, E: Sink + Send>(
+/// On `errors`, which is given back, the operator is told what is served once all is open, then what `run_serve` of
+/// `container_server` tells. The line of the status is the last one, and the one before it names the file or the port,
+/// and the reason; but for 9, which has one only where the database wanted memory.
+pub fn serve<R: Threads + Wait + Clock + RandomSource + Sync, E: Sink + Send + Drop>(
     rt: &R,
     host: &HostRuntime,
     words: &ServeWords<'_>,
-    errors: &mut E,
-) -> u8
+    errors: E,
+) -> (u8, E)
     requires some { 1 ≤ words.now.workers }
     requires few { words.now.workers ≤ 64 }
 {
-    let served = match open(host, words) {
+    match open(host, words) {
         Ok(opened) => serve_opened(rt, host.alloc(), words, errors, opened),
-        Err(fault) => Err(fault),
-    };
-    match served {
-        Ok(status) => status,
-        Err(fault) => report_fault(errors, &fault),
+        Err(fault) => not_started(errors, fault),
     }
 }

@@ -31,7 +31,7 @@ fn line_about(alloc: Global, name: &[u8], why: &[u8]) -> Result<Items<u8>, OutOf
 }
 
 /// The reason that names a file or a port and says why it is of no use.
-fn reason_about(alloc: Global, name: &[u8], why: &[u8]) -> Items<u8>
+pub(crate) fn reason_about(alloc: Global, name: &[u8], why: &[u8]) -> Items<u8>
     ensures { IsAbout name.now why.now result }
 {
     match line_about(alloc, name, why) {
@@ -91,7 +91,7 @@ impl StartFault {
 }
 
 /// Writes two pieces. Where the first is not written whole, the second is not written.
-fn write_both<E: Sink>(errors: &mut E, first: &[u8], second: &[u8])
+pub(crate) fn write_both<E: Sink>(errors: &mut E, first: &[u8], second: &[u8])
     ensures { AppendsOrFails (E.written errors.old) (E.written errors.new)
         (E.faults errors.old) (E.faults errors.new) (first.now ++ second.now) }
 {

@@ -1,13 +1,14 @@
 //! The command `serve PORT FILE KEYFILE WORKERS`: the shop on a port of 127.0.0.1, over a database in a file.
 //!
 //! ```text
-//! let Some(said) = serve_words(words) else { .. };      // `serve 8080 shop.db shop.key 8`
-//! let status = serve(&rt, &rt, &said, &mut errors);     // to its end, which it need not have
+//! let Some(said) = serve_words(words) else { .. };        // `serve 8080 shop.db shop.key 8`
+//! let (status, errors) = serve(&rt, &rt, &said, errors);  // to its end, which it need not have
 //! ```
 //!
 //! `words` says which words spell it, `key` what a key is, `ending` why a server is not started, with its status and its
 //! lines, and `command` what is done in which order: the file of the key, the database and the port are opened, bricks
-//! and links are made, and `run_serve` of `container_server` serves over them.
+//! and links are made, and `run_serve` of `container_server` serves over them. `last_line` keeps the line of its end
+//! back, until `reasons` has said why.
 //!
 //! What is promised is of these words, keys, statuses and lines, exactly: `serve_words` with the law
 //! `serve_is_spelled_by_five_words`, `read_key` and `report_fault`. What the system opens, reads, accepts, tells and draws
@@ -22,8 +23,10 @@ mod file_keeper;
 mod gate;
 mod house;
 mod key;
+mod last_line;
 mod laws;
 mod opening;
+mod reasons;
 mod words;
 
 pub use command::serve;

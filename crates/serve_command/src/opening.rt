@@ -7,15 +7,15 @@ use crate::file_keeper::FileKeeper;
 use crate::key::{KeyFault, read_key};
 use client_sockets::Door;
 use crash_base::Items;
-use keeper_sqlite::{OpenFault, SqlKeeper};
+use keeper_sqlite::{OpenFault, RowsFault, SqlKeeper};
 use outside::InputSource;
 use sqlite::{Alter, Connection, Error, ErrorCode};
-use sqlite_std_file::File as DatabaseFile;
+use sqlite_std_file::{File as DatabaseFile, OpenError, Unknown};
 use sqlite_store::FileStore;
 use std::alloc::Global;
 use std::fmt::Display;
 use std::fs::File;
-use std::io::{self, ErrorKind};
+use std::io::{self, ErrorKind, Read};
 
 /// The text of a word; nothing where it is none, of which nothing can be opened.
 fn text_of(word: &[u8]) -> &str {
@@ -33,6 +33,21 @@ fn failed<D: Display + Drop>(alloc: Global, name: &[u8], error: D) -> StartFault
     }
 }
 
+/// Reads the first byte of a file.
+fn first_byte(host: &HostRuntime, path: &str) -> io::Result<usize> {
+    let mut file = File::open(host, path)?;
+    let mut first = [0];
+    file.read(&mut first)
+}
+
+/// A file was not read: what the system says where it is read once more.
+fn unread(host: &HostRuntime, path: &[u8]) -> StartFault {
+    match first_byte(host, text_of(path)) {
+        Ok(_) => start_failed(host.alloc(), path, b"not read"),
+        Err(error) => failed(host.alloc(), path, error),
+    }
+}
+
 /// Opens the file of the key, and reads it.
 pub(crate) fn open_key(host: &HostRuntime, path: &[u8]) -> Result<Items<u8>, StartFault> {
     let alloc = host.alloc();
@@ -43,8 +58,32 @@ pub(crate) fn open_key(host: &HostRuntime, path: &[u8]) -> Result<Items<u8>, Sta
     match read_key(alloc, &mut InputSource::new(file)) {
         Ok(key) => Ok(key),
         Err(KeyFault::Length) => Err(key_refused(alloc, path)),
-        Err(KeyFault::Failed) => Err(start_failed(alloc, path, b"not read")),
+        Err(KeyFault::Failed) => Err(unread(host, path)),
         Err(KeyFault::OutOfMemory) => Err(StartFault::OutOfMemory),
+    }
+}
+
+/// What the system says of files that were not opened. The database crate keeps its word to itself, so they are opened
+/// once more.
+fn unopened(alloc: Global, path: &[u8], error: OpenError) -> StartFault {
+    match error {
+        OpenError::OutOfMemory => StartFault::OutOfMemory,
+        OpenError::Io(error) if error.kind() == ErrorKind::Unsupported => {
+            start_failed(alloc, path, b"it is no file, or has another name as well")
+        }
+        error => failed(alloc, path, error),
+    }
+}
+
+/// Why the database crate cannot open the files of a path.
+fn why_unopened(host: &HostRuntime, path: &[u8]) -> StartFault {
+    let text = text_of(path);
+    if text == ":memory:" || text.starts_with("file:") {
+        return start_failed(host.alloc(), path, b"it is no path of a file");
+    }
+    match sqlite_std_file::open(host, text, Unknown) {
+        Ok(_) => start_failed(host.alloc(), path, b"not opened"),
+        Err(error) => unopened(host.alloc(), path, error),
     }
 }
 
@@ -56,6 +95,7 @@ fn open_database(
     match Connection::open(host, text_of(path)) {
         Ok(connection) => Ok(connection),
         Err(Error::SqliteFailure(ErrorCode::OutOfMemory)) => Err(StartFault::OutOfMemory),
+        Err(Error::SqliteFailure(ErrorCode::CannotOpen)) => Err(why_unopened(host, path)),
         Err(error) => Err(failed(host.alloc(), path, error)),
     }
 }
@@ -71,13 +111,11 @@ fn keeper_over<S: Alter + Send + Drop>(
             Ok(keeper) => Ok(keeper),
             Err(_) => Err(StartFault::OutOfMemory),
         },
-        Err(OpenFault::OutOfMemory) => Err(StartFault::OutOfMemory),
         Err(OpenFault::OtherSchema) => {
             Err(start_failed(alloc, path, b"crash_rows is another table in it"))
         }
-        Err(OpenFault::Failed) => {
-            Err(start_failed(alloc, path, b"the table crash_rows was not made"))
-        }
+        Err(OpenFault::Failed(RowsFault::OutOfMemory)) => Err(StartFault::OutOfMemory),
+        Err(OpenFault::Failed(why)) => Err(failed(alloc, path, why)),
     }
 }
 
