@@ -131,27 +131,31 @@ def is_sent(connection, data):
         return False
 
 
-def sends_late(connection, begun):
-    """Sends a request that takes too long to come, and much of it at last. When its connection is ended."""
-    connection.send(b"POST /bid HTTP/1.1\r\nContent-Length: 60000\r\n\r\n")
+def ends_late(connection, begun):
+    """Trickles on, and sends much at last. When its connection is ended, since its request takes too long to come."""
     connection.socket.settimeout(PAUSE)
-    data = b"x"
+    much, data = [b"x" * 5000], b"x"
     while not connection.is_ended() and is_sent(connection, data):
-        is_last = len(data) == 1 and time.monotonic() > begun + PATIENCE - 2 * PAUSE
-        data = b"x" * (5000 if is_last else 1)
-    return time.monotonic()
+        data = much.pop() if much and time.monotonic() > begun + PATIENCE - 2 * PAUSE else b"x"
+    ended = time.monotonic()
+    if ended < begun + PATIENCE - 1:
+        raise Wrong(f"a client that trickles is cut after {ended - begun:.1f} seconds")
+    return ended
 
 
-def sends_too_much(connection, begun):
-    """Sends a body that is refused by its size. When it is answered, and so its connection is ended."""
-    connection.send(b"POST /bid HTTP/1.1\r\nContent-Length: 70000\r\n\r\n" + b"x" * 60_000)
+def ends_refused(connection, begun):
+    """When it is answered that its body is too large, and so its connection is ended."""
     answer = connection.response()
     if (answer.status, answer.field("connection")) != (413, "close"):
         raise Wrong(f"a body over the limit is answered {answer}")
     return time.monotonic()
 
 
-def goes_on_sending(service, until_ended):
+LATE_POST = (b"POST /bid HTTP/1.1\r\nContent-Length: 60000\r\n\r\n", ends_late)
+LARGE_POST = (b"POST /bid HTTP/1.1\r\nContent-Length: 70000\r\n\r\n" + b"x" * 60_000, ends_refused)
+
+
+def goes_on_sending(service, first, until_ended):
     """Sends on when its connection was ended. It holds its worker for little longer: the only one of this server, by
     which another client is answered soon."""
     answered = []
@@ -161,6 +165,7 @@ def goes_on_sending(service, until_ended):
         answered.append(time.monotonic())
 
     connection, other = Connection(service.port), threading.Thread(target=ask)
+    connection.send(first)
     begun = time.monotonic()
     time.sleep(PAUSE)
     other.start()
@@ -204,7 +209,7 @@ def check(program, room):
     patient = Service(program, f"{room}/slow").start()
     late, much = (Service(program, f"{room}/{it}", workers=1).start() for it in ("late", "much"))
     calls = [trickles_head, trickles_body, takes_nothing, idles, never_asks, asks_much]
-    on = [partial(goes_on_sending, late, sends_late), partial(goes_on_sending, much, sends_too_much)]
+    on = [partial(goes_on_sending, late, *LATE_POST), partial(goes_on_sending, much, *LARGE_POST)]
     in_threads([partial(it, patient) for it in calls] + on)
     expect(Browser(patient.port).get("/"), 200, *HOME)
     for service in (patient, late, much):
