@@ -14,7 +14,8 @@ TOGETHER = 100
 # 7/8 and 31/32 of the entries that a journal may have.
 FIRST, LAST = 229_376, 253_952
 PAGES = b"GET / HTTP/1.1\r\n\r\n" * TOGETHER
-POST = b"POST /bid HTTP/1.1\r\nContent-Length: 60000\r\n\r\n"
+# How many of these a client sends that takes none, and how long it pauses then.
+UNREAD, PAUSE = 200, 0.05
 
 
 def loads(service, deadline, faults):
@@ -35,17 +36,18 @@ def loads(service, deadline, faults):
 
 
 def goes_on_sending(service, deadline, faults):
-    """Sends a request, a byte now and then, also when its connection was ended, until the server has restarted."""
+    """Asks for many pages and takes none, and sends on where its connection was ended, until the server has restarted.
+    So there is always something on its way that nobody has read."""
     connection = None
     while service.boots() == 1 and time.monotonic() < deadline:
         try:
             if not connection:
                 connection = Connection(service.port)
-                connection.send(POST)
-            connection.send(b"x")
-            time.sleep(0.05)
+                connection.send(PAGES * UNREAD)
+            connection.send(b"G")
+            time.sleep(PAUSE)
         except (Closed, OSError):
-            connection = None
+            connection = connection and connection.close()
 
 
 def looks(service, deadline, faults):
