@@ -11,7 +11,11 @@ from service import HOST, Browser, Service, Wrong, expect, sqlite3
 
 USAGE = "usage: crash drive | groups | workload NUMBER COUNT | serve PORT FILE KEYFILE WORKERS"
 MOST_SECONDS = 20
-NOT_THERE, NOT_OPENED = "No such file or directory (os error 2)", "unable to open database file"
+NOT_THERE, IS_FOLDER = "No such file or directory (os error 2)", "Is a directory (os error 21)"
+NO_FILE, NO_PATH = "it is no file, or has another name as well", "it is no path of a file"
+NOT_FIT = "a row has at most 4096 bytes, and table 0 has one row alone, the number of the last boot in 4 bytes"
+NO_ROW = "crash_rows has a row whose t is not from 0 to 255 or whose k is not 8 bytes"
+IS_LAST = "the number of its last boot is the greatest, 4294967295"
 LAST_BOOT = (2**32 - 1).to_bytes(4, "big")
 # The file of the database, or its log, may not grow past this, and then fewer categories than so many are taken.
 LARGEST_FILE, MOST_CATEGORIES = 400_000, 2_000
@@ -32,10 +36,10 @@ WORDS = (
 )
 
 
-def ends(service, status, *lines, words=None):
+def ends(service, status, *lines, words=None, **how):
     """That the program ends with a status, and writes just these lines."""
     words = words or service.words()
-    ran = subprocess.run(words, stdin=subprocess.DEVNULL, capture_output=True, timeout=MOST_SECONDS)
+    ran = subprocess.run(words, stdin=subprocess.DEVNULL, capture_output=True, timeout=MOST_SECONDS, **how)
     wrote = ran.stderr.decode(errors="replace").splitlines()
     if (ran.returncode, wrote, ran.stdout) != (status, list(lines), b""):
         raise Wrong(f"{words} ends with status {ran.returncode} and writes {wrote}; and not {status} and {lines}")
@@ -64,7 +68,7 @@ def keys_are_refused(service):
     os.remove(service.key)
     fails(service, service.key, NOT_THERE)
     os.mkdir(service.key)
-    fails(service, service.key, "not read")
+    fails(service, service.key, IS_FOLDER)
     os.rmdir(service.key)
     for size in (0, 15, 1025, 5000):
         write(service.key, os.urandom(size))
@@ -78,9 +82,10 @@ def keys_are_refused(service):
 
 def files_are_refused(service):
     kept, service.file = service.file, os.path.join(service.room, "nowhere", "shop.db")
-    fails(service, service.file, NOT_OPENED)
-    service.file = service.room
-    fails(service, service.file, NOT_OPENED)
+    fails(service, service.file, NOT_THERE)
+    for file, reason in ((service.room, NO_FILE), ("/dev/null", NO_FILE), (":memory:", NO_PATH), ("file:x", NO_PATH)):
+        service.file = file
+        fails(service, file, reason)
     service.file = os.path.join(service.room, "text.db")
     write(service.file, b"no database, but a text that is long enough to be looked at as one\n" * 100)
     fails(service, service.file, "file is not a database that obeys its schema")
@@ -104,15 +109,15 @@ def rows_are_refused(service):
     if not sqlite3:
         return
     kept = service.rows()
-    for table, key, data, status, line in (
-        (0, 0, LAST_BOOT, 11, "boots spent"),
-        (0, 0, b"12345", 7, "bad row 0 0"),
-        (0, 9, b"1234", 7, "bad row 0 9"),
-        (4, 1, b"x" * 4097, 7, "bad row 4 1"),
-        (300, 1, b"", 6, "keeper failed"),
+    for table, key, data, status, reason, line in (
+        (0, 0, LAST_BOOT, 11, IS_LAST, "boots spent"),
+        (0, 0, b"12345", 7, NOT_FIT, "bad row 0 0"),
+        (0, 9, b"1234", 7, NOT_FIT, "bad row 0 9"),
+        (4, 1, b"x" * 4097, 7, NOT_FIT, "bad row 4 1"),
+        (300, 1, b"", 6, NO_ROW, "keeper failed"),
     ):
         service.put(table, key, data)
-        ends(service, status, serving(service), line)
+        ends(service, status, serving(service), f"{service.file}: {reason}", line)
         other = sqlite3.connect(service.file)
         other.execute("DELETE FROM crash_rows WHERE t = ? AND k = ?", (table, key.to_bytes(8, "big")))
         other.commit()
@@ -146,17 +151,23 @@ def the_key_comes_first(service):
     taken.bind((HOST, service.port))
     taken.listen()
     service.file = os.path.join(service.room, "nowhere", "shop.db")
-    fails(service, service.file, NOT_OPENED)
+    fails(service, service.file, NOT_THERE)
     service.key = os.path.join(service.room, "no_key")
     fails(service, service.key, NOT_THERE)
     taken.close()
     service.key, service.file = key, file
 
 
-def limit_files():
-    """Lets no file of the process grow past `LARGEST_FILE`: a write past it fails as on a full disk."""
+def limit_files(size=LARGEST_FILE):
+    """Lets no file of the process grow past a size: a write past it fails as on a full disk."""
     signal.signal(signal.SIGXFSZ, signal.SIG_IGN)
-    resource.setrlimit(resource.RLIMIT_FSIZE, (LARGEST_FILE, LARGEST_FILE))
+    resource.setrlimit(resource.RLIMIT_FSIZE, (size, size))
+
+
+def a_full_disk_stops_a_start(service):
+    """Where the file cannot grow, the number of the boot is not written."""
+    line = f"{service.file}: disk I/O error"
+    ends(service, 6, serving(service), line, "keeper failed", preexec_fn=lambda: limit_files(0))
 
 
 def a_full_disk_loses_nothing(program, service):
@@ -195,5 +206,6 @@ def check(program, room):
     ports_are_refused(service)
     the_key_comes_first(service)
     a_file_has_one_server(program, service)
+    a_full_disk_stops_a_start(service)
     a_full_disk_loses_nothing(program, service)
     return "errors of an operator"
