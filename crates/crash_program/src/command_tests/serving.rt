@@ -150,12 +150,12 @@ fn faults_have_a_reason_and_a_line(rt: HostRuntime) {
 /// that does not end; and a key, but no database.
 const STARTS: &str =
     "shop.db /nowhere/key 4=14|/nowhere/key: No such file or directory (os error 2);start failed;
-shop.db /dev 4=14|/dev: not read;start failed;
+shop.db /dev 4=14|/dev: Is a directory (os error 21);start failed;
 shop.db /dev/null 4=13|/dev/null: a key has 16 to 1024 bytes;key refused;
 shop.db /dev/zero 4=13|/dev/zero: a key has 16 to 1024 bytes;key refused;
-/nowhere/shop.db /proc/version 4=14|/nowhere/shop.db: unable to open database file;start failed;
-:memory: /proc/version 4=14|:memory:: unable to open database file;start failed;
- /proc/version 4=14|: unable to open database file;start failed;";
+/nowhere/shop.db /proc/version 4=14|/nowhere/shop.db: No such file or directory (os error 2);start failed;
+:memory: /proc/version 4=14|:memory:: it is no path of a file;start failed;
+ /proc/version 4=14|: No such file or directory (os error 2);start failed;";
 
 #[test]
 fn what_is_not_opened_is_told(rt: HostRuntime) {
@@ -165,8 +165,7 @@ fn what_is_not_opened_is_told(rt: HostRuntime) {
         let words = format!(in alloc; "serve 8080 {words}").expect(&rt, row);
         let words = words_of(&rt, alloc, &words);
         let said = serve_words(words.as_slice()).expect(&rt, row);
-        let mut errors = sink_of(&rt, alloc, 256, 0);
-        let status = serve(&rt, &rt, &said, &mut errors);
+        let (status, errors) = serve(&rt, &rt, &said, sink_of(&rt, alloc, 256, 0));
         expect_told(&rt, alloc, status, &errors, want);
     }
 }
