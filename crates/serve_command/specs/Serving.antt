@@ -32,8 +32,8 @@ RanToEnd gives status before after =
     (ended : Log) × HasRun gives status before ended × (status ≢ 0 → after ≡ ended)
 
 -- A server was not started, for this fault, which was told; or what it serves was told, and it ran, with no fault plans.
-abbrev pub HasServed : ServeValue → ℕ → Log → Log → Type 0
-HasServed words status before after =
+abbrev pub HasServedShop : ServeValue → ℕ → Log → Log → Type 0
+HasServedShop words status before after =
     ((fault : StartFault) × (status ≡ start.status_of fault)
     × AppendsOrFails before.written after.written before.faults after.faults (report_of fault))
     ⊎ ((serving : Log) × TellsServing words before serving

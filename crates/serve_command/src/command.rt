@@ -5,7 +5,7 @@ ghost use Rattle.outside.specs.Sink.{AppendsOrFails};
 ghost use Rattle.service_log.specs.Logging.{WritesLine, log_of};
 ghost use Rattle.serve_command.specs.Ending.{report_of, status_of};
 ghost use Rattle.serve_command.specs.Opening.{TellsServing, place_text, serving_line};
-ghost use Rattle.serve_command.specs.Serving.{HasRun, HasServed, RanToEnd};
+ghost use Rattle.serve_command.specs.Serving.{HasRun, HasServedShop, RanToEnd};
 
 use crate::ending::{StartFault, report_fault};
 use crate::file_keeper::{Explains, FileKeeper};
@@ -205,6 +205,8 @@ fn serve_opened<
 >(rt: &R, alloc: Global, words: &ServeWords<'_>, errors: E, opened: Opened<K>) -> (u8, E)
     requires some { 1 ≤ words.now.workers }
     requires few { words.now.workers ≤ 64 }
+    ensures { HasServedShop words.now result.0 (log_of (E.written errors) (E.faults errors))
+        (log_of (E.written result.1) (E.faults result.1)) }
 {
     let Opened { key, keeper, door } = opened;
     let links = words.workers as u32 + 2;
@@ -247,6 +249,8 @@ pub fn serve<R: Threads + Wait + Clock + RandomSource + Sync, E: Sink + Send + D
 ) -> (u8, E)
     requires some { 1 ≤ words.now.workers }
     requires few { words.now.workers ≤ 64 }
+    ensures { HasServedShop words.now result.0 (log_of (E.written errors) (E.faults errors))
+        (log_of (E.written result.1) (E.faults result.1)) }
 {
     match open(host, words) {
         Ok(opened) => serve_opened(rt, host.alloc(), words, errors, opened),
