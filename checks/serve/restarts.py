@@ -8,14 +8,14 @@ from service import Browser, Closed, Connection, Service, Wrong, expect
 
 MOST_SECONDS = 300
 # How long the shop may be down; a busy machine takes its time.
-MOST_DOWN = 5
+MOST_DOWN = 8
 LOADERS = 2
 TOGETHER = 100
 # 7/8 and 31/32 of the entries that a journal may have.
 FIRST, LAST = 229_376, 253_952
 PAGES = b"GET / HTTP/1.1\r\n\r\n" * TOGETHER
 # How many of these a client sends that takes none, and how long it pauses then.
-UNREAD, PAUSE = 200, 0.05
+UNREAD, PAUSE = 400, 0.05
 
 
 def loads(service, deadline, faults):
