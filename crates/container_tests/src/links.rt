@@ -1,11 +1,13 @@
-//! What the threads of a server work with: links to one house of bricks, clocks that stand, and words that are counted.
+//! What the threads of a server work with: links to one house of bricks, clocks that stand or step, and words that are
+//! counted.
 
-ghost use Rattle.std.specs.Prelude.{◌≡◌};
+ghost use Rattle.std.specs.Prelude.{◌≡◌, ◌<◌};
+ghost use Rattle.outside.specs.declared.clock.TheConstants.{MOMENTS_END};
 ghost use Rattle.container_tests.specs.declared.links.TheConstants.{LINKS};
 
 use brick_house::{BrickHouse, HouseLink, HouseSeats};
 use crash_base::{Moment, OutOfMemory, WorkerNo};
-use outside::{PlainClock, PlainRandom};
+use outside::{Clock, PlainClock, PlainRandom};
 use std::alloc::Global;
 use std::sync::{Mutex, Wait};
 
@@ -15,11 +17,51 @@ pub const BRICKS: u16 = 3;
 /// How many links to the house there are.
 pub const LINKS: u32 = 4;
 
-/// What each clock shows.
+/// What each clock shows at first.
 pub const NOW: u64 = 7;
+
+/// The last moment from which a clock steps on.
+const LAST_STEP: u64 = 1_000_000_000;
+
+/// A clock that shows one second more each time that it was looked at.
+#[derive(Drop)]
+pub struct StepClock {
+    clock: PlainClock,
+}
+
+impl StepClock {
+    /// A clock that shows this moment.
+    pub fn new(now: Moment) -> StepClock
+        requires { now.0 < MOMENTS_END }
+    {
+        StepClock {
+            clock: PlainClock::new(now),
+        }
+    }
+}
+
+impl Clock for StepClock {
+    ghost told = { λ c. c.clock.told.0 };
+
+    fn now(&mut self) -> Moment {
+        let now = self.clock.now();
+        if now.0 <= LAST_STEP {
+            self.clock.set(Moment(now.0 + 1000));
+        }
+        now
+    }
+}
 
 /// What a thread works with.
 pub type Kit<'a, W> = (HouseLink<'a, W>, PlainClock, PlainRandom);
+
+/// What a thread works with whose clock steps.
+pub type StepKit<'a, W> = (HouseLink<'a, W>, StepClock, PlainRandom);
+
+/// The words of a thread, which are none of another thread's.
+fn words_of(worker: WorkerNo) -> PlainRandom {
+    PlainRandom::new(u64::from(worker.0).wrapping_mul(1_000_000_000))
+}
 
 /// Links that nobody has taken yet.
 #[derive(Drop)]
@@ -69,7 +111,15 @@ impl<'a, W: Wait> LinkShelf<'a, W> {
     /// `OutOfMemory` where no link is left.
     pub fn kit(&self, worker: WorkerNo) -> Result<Kit<'a, W>, OutOfMemory> {
         let link = self.take()?;
-        let words = u64::from(worker.0).wrapping_mul(1_000_000_000);
-        Ok((link, PlainClock::new(Moment(NOW)), PlainRandom::new(words)))
+        Ok((link, PlainClock::new(Moment(NOW)), words_of(worker)))
+    }
+
+    /// The same with a clock that steps.
+    ///
+    /// # Errors
+    /// `OutOfMemory` where no link is left.
+    pub fn step_kit(&self, worker: WorkerNo) -> Result<StepKit<'a, W>, OutOfMemory> {
+        let link = self.take()?;
+        Ok((link, StepClock::new(Moment(NOW)), words_of(worker)))
     }
 }

@@ -16,6 +16,9 @@ use std::thread::yield_now;
 /// How often threads rest before the gate gives up.
 const RESTS: u64 = 1_000_000;
 
+/// How often a worker that is held looks whether it may go on, before it gives up.
+const LOOKS: u64 = 20_000_000;
+
 /// What the first client asks.
 const HOME: &str = "GET / HTTP/1.1\r\nHost: localhost\r\n\r\n";
 
@@ -81,15 +84,16 @@ impl<'a, W: Wait> HoldingGate<'a, W> {
             || (self.is_rebooted.load(Ordering::SeqCst) && self.answers.load(Ordering::SeqCst) >= 3)
     }
 
-    /// Holds a worker until it may go on.
+    /// Holds a worker until it may go on, or the gate gives up.
     fn hold(&self) {
         self.is_held.store(true, Ordering::SeqCst);
-        for _ in self.rt.forever() {
+        for _ in 0..LOOKS {
             if self.may_go_on() {
                 return;
             }
             yield_now();
         }
+        self.rests.store(RESTS, Ordering::SeqCst);
     }
 
     /// Whether this worker has the first connection.

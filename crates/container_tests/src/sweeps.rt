@@ -1,13 +1,13 @@
-//! A server whose gate waits until each brick was swept.
+//! A server whose gate waits until each brick was swept twice.
 
 ghost use Rattle.std.specs.Prelude.{◌≡◌, []};
 
 use crate::clients::{Connection, EarSink, Ended};
-use crate::links::{BRICKS, Kit, LinkShelf, NOW};
+use crate::links::{BRICKS, LinkShelf, NOW, StepClock, StepKit};
 use brick_house::HouseLink;
 use container_server::{Gate, Point, Points};
 use crash_base::{BrickNo, FaultList, FrameBytes, OutOfMemory, SessionKey, Version, WorkerNo};
-use outside::{Link, PlainClock, PlainRandom, Received, Sent, SureSource};
+use outside::{Link, PlainRandom, Received, Sent, SureSource};
 use ssm_frames::{Frame, decode, encode};
 use std::alloc::Global;
 use std::sync::atomic::{AtomicBool, AtomicU64, Ordering};
@@ -17,7 +17,8 @@ use std::thread::yield_now;
 /// How often the gate looks before it gives up.
 const LOOKS: u64 = 1_000_000;
 
-/// A gate that gives no connection. It asks each brick, over a link of its own, until each was swept.
+/// A gate that gives no connection. It asks each brick, over a link of its own, until each was swept at what the clocks
+/// show at first or later, and then until each was swept at a later moment still.
 #[derive(Drop)]
 pub struct SweptGate<'a, W: Wait> {
     rt: &'a W,
@@ -25,6 +26,8 @@ pub struct SweptGate<'a, W: Wait> {
     shelf: LinkShelf<'a, W>,
     own: Mutex<HouseLink<'a, W>>,
     looks: AtomicU64,
+    /// The least moment at which a brick was swept when each had been swept once; 0 before that.
+    first: AtomicU64,
     are_swept: AtomicBool,
 }
 
@@ -57,15 +60,16 @@ fn swept_at<L: Link>(
     }
 }
 
-/// Whether each brick was swept at what the clocks show, or later.
-fn are_swept<L: Link>(alloc: Global, link: &mut L) -> Result<bool, OutOfMemory> {
+/// The least moment at which a brick was swept last. None where one does not answer so.
+fn least_swept<L: Link>(alloc: Global, link: &mut L) -> Result<Option<u64>, OutOfMemory> {
+    let mut least = u64::MAX;
     for at in 0..BRICKS {
         match swept_at(alloc, link, BrickNo(at + 1))? {
-            Some(swept) if swept >= NOW => {}
-            _ => return Ok(false),
+            Some(swept) => least = least.min(swept),
+            None => return Ok(None),
         }
     }
-    Ok(true)
+    Ok(Some(least))
 }
 
 impl<'a, W: Wait> SweptGate<'a, W> {
@@ -85,19 +89,32 @@ impl<'a, W: Wait> SweptGate<'a, W> {
             shelf,
             own,
             looks: AtomicU64::new(0),
+            first: AtomicU64::new(0),
             are_swept: AtomicBool::new(false),
         })
     }
 
-    /// Whether it found each brick swept.
+    /// Whether it found each brick swept twice.
     pub fn are_swept(&self) -> bool {
         self.are_swept.load(Ordering::SeqCst)
     }
 
-    /// Looks once. Whether each brick was swept.
+    /// Whether each brick was swept twice, where each was swept at this moment or later.
+    fn is_second(&self, least: u64) -> bool {
+        let first = self.first.load(Ordering::SeqCst);
+        if first == 0 && least >= NOW {
+            self.first.store(least, Ordering::SeqCst);
+        }
+        first != 0 && least > first
+    }
+
+    /// Looks once. Whether each brick was swept twice.
     fn look(&self) -> bool {
         let mut own = self.own.lock(self.rt);
-        are_swept(self.alloc, &mut *own).unwrap_or(false)
+        match least_swept(self.alloc, &mut *own) {
+            Ok(Some(least)) => self.is_second(least),
+            _ => false,
+        }
     }
 }
 
@@ -114,7 +131,7 @@ impl<'a, W: Wait + Sync> Gate for SweptGate<'a, W> {
 
     type L = HouseLink<'a, W>;
 
-    type C = PlainClock;
+    type C = StepClock;
 
     type R = PlainRandom;
 
@@ -132,8 +149,8 @@ impl<'a, W: Wait + Sync> Gate for SweptGate<'a, W> {
         Ok(None)
     }
 
-    fn tools(&self, worker: WorkerNo) -> Result<Kit<'a, W>, OutOfMemory> {
-        self.shelf.kit(worker)
+    fn tools(&self, worker: WorkerNo) -> Result<StepKit<'a, W>, OutOfMemory> {
+        self.shelf.step_kit(worker)
     }
 
     fn plan(&self) -> Result<FaultList, OutOfMemory> {

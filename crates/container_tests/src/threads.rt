@@ -8,7 +8,7 @@ use crate::sweeps::SweptGate;
 use crash_base::{GroupNo, Level};
 
 #[test]
-fn each_brick_is_swept(rt: HostRuntime) {
+fn each_brick_is_swept_again_and_again(rt: HostRuntime) {
     let alloc = rt.alloc();
     let (house, seats) = house(&rt, alloc);
     let shelf = LinkShelf::new(&rt, alloc, &house, seats).expect(&rt, "links");
