@@ -5,7 +5,7 @@ ghost use Rattle.boot_core.specs.Fits.{FitsIn};
 
 use crate::boot_fixtures::boot_over_rows;
 use crate::boot_steps::{add_marks, begin, call, commit, do_steps};
-use crate::words::{cut, expect_so, expect_words, number};
+use crate::words::{cut, expect_words, number};
 use boot_core::{Boot, Ticket, calls_go_on_fitting};
 use std::alloc::Global;
 use std::process::Abort;
@@ -57,7 +57,12 @@ fn expect_call(rt: &impl Abort, alloc: Global, row: &str) {
 }
 
 /// A call reads its puts and the rows of its begin. Over the rows 3.7, 3.2 and 4.1.
-const READS: &str = ";e1 r3.7 r3.7 r3.9 r4.1;;|a a none z [ 3.7=a 3.9 4.1=z ] 0
+///
+/// A commit is refused for what was written since. The last words are the place, or what refuses the commit: where the
+/// request has committed, or what was written since, with the length of the journal at the begin and after that commit.
+///
+/// A call has 64 marks: after these the row of a mark and an own put are read, and no other row and no table.
+const CALLS: &str = ";e1 r3.7 r3.7 r3.9 r4.1;;|a a none z [ 3.7=a 3.9 4.1=z ] 0
 ;e1 l3 l3 l4;;|( 3.2=b 3.7=a ) ( 3.2=b 3.7=a ) ( 4.1=z ) [ t3 t4 ] 0
 ;e1 p3.7=x r3.7 p3.9=y r3.9;;|x y [ ] 0
 ;e1 r3.7 p3.7=x r3.7;;|a x [ 3.7=a ] 0
@@ -65,11 +70,8 @@ const READS: &str = ";e1 r3.7 r3.7 r3.9 r4.1;;|a a none z [ 3.7=a 3.9 4.1=z ] 0
 ;e1 r3.7 p3.7= r3.7;;|a  [ 3.7=a ] 0
 71:e1 p3.7=m p3.3=n;e1 r3.7 l3;;|0 m ( 3.2=b 3.3=n 3.7=m ) [ 3.7=m t3 ] 1
 ;e1;71:e1 p3.7=m p3.3=n;r3.7 r3.3 l3|0 a none ( 3.2=b 3.7=a ) [ 3.7=a 3.3 t3 ] 3.7 0<1
-;e1 p3.4=x;71:e1 p3.7=m p3.3=n;l3 r3.4|0 ( 3.2=b 3.4=x 3.7=a ) x [ t3 ] t3 0<1";
-
-/// A commit is refused for what was written since. The last words are the place, or what refuses the commit: where the
-/// request has committed, or what was written since, with the length of the journal at the begin and after that commit.
-const COMMITS: &str = ";e1 p3.7=x;70:e1 p3.8=y;|0 [ ] already 0
+;e1 p3.4=x;71:e1 p3.7=m p3.3=n;l3 r3.4|0 ( 3.2=b 3.4=x 3.7=a ) x [ t3 ] t3 0<1
+;e1 p3.7=x;70:e1 p3.8=y;|0 [ ] already 0
 ;e1 r3.7 p3.7=x;70:e1 p3.7=y;|a 0 [ 3.7=a ] already 0
 70:e1 p3.8=y;e1;;|0 [ ] already 0
 ;e1 r3.7;71:e1 p3.7=y;|a 0 [ 3.7=a ] 3.7 0<1
@@ -88,49 +90,28 @@ const COMMITS: &str = ";e1 p3.7=x;70:e1 p3.8=y;|0 [ ] already 0
 ;e1 r3.7 l3;71:e1 p3.7=y;|a ( 3.2=b 3.7=a ) 0 [ 3.7=a t3 ] 3.7 0<1
 ;e1 p3.9=x p3.8=x;71:e1 p3.8=y p3.9=y;|0 [ ] 3.9 0<1
 71:e1 p3.7=m p3.9=n;e1 r3.7 l3 p3.9=x;;|0 m ( 3.2=b 3.7=m 3.9=n ) [ 3.7=m t3 ] 1
-71:e1 p3.7=m;e1 r3.7;72:e1 p3.7=n;|0 m 1 [ 3.7=m ] 3.7 1<2";
+71:e1 p3.7=m;e1 r3.7;72:e1 p3.7=n;|0 m 1 [ 3.7=m ] 3.7 1<2
+;e1 l4 \
+r3.100 r3.101 r3.102 r3.103 r3.104 r3.105 r3.106 r3.107 r3.108 r3.109 r3.110 r3.111 \
+r3.112 r3.113 r3.114 r3.115 r3.116 r3.117 r3.118 r3.119 r3.120 r3.121 r3.122 r3.123 \
+r3.124 r3.125 r3.126 r3.127 r3.128 r3.129 r3.130 r3.131 r3.132 r3.133 r3.134 r3.135 \
+r3.136 r3.137 r3.138 r3.139 r3.140 r3.141 r3.142 r3.143 r3.144 r3.145 r3.146 r3.147 \
+r3.148 r3.149 r3.150 r3.151 r3.152 r3.153 r3.154 r3.155 r3.156 r3.157 r3.158 r3.159 \
+r3.160 r3.161 r3.162;;r3.163 r3.7 l3 p3.7=x r3.7 r3.100 r3.162 l4 r3.163|( 4.1=z ) \
+none none none none none none none none none none none none none none none none none none none none none \
+none none none none none none none none none none none none none none none none none none none none none \
+none none none none none none none none none none none none none none none none none none none none none \
+reads reads reads x none none ( 4.1=z ) reads [ t4 \
+3.100 3.101 3.102 3.103 3.104 3.105 3.106 3.107 3.108 3.109 3.110 3.111 \
+3.112 3.113 3.114 3.115 3.116 3.117 3.118 3.119 3.120 3.121 3.122 3.123 \
+3.124 3.125 3.126 3.127 3.128 3.129 3.130 3.131 3.132 3.133 3.134 3.135 \
+3.136 3.137 3.138 3.139 3.140 3.141 3.142 3.143 3.144 3.145 3.146 3.147 \
+3.148 3.149 3.150 3.151 3.152 3.153 3.154 3.155 3.156 3.157 3.158 3.159 \
+3.160 3.161 3.162 ] 0";
 
 #[test]
 fn calls_read_and_commit(rt: HostRuntime) {
-    for table in [READS, COMMITS] {
-        for row in table.split('\n') {
-            expect_call(&rt, rt.alloc(), row);
-        }
+    for row in CALLS.split('\n') {
+        expect_call(&rt, rt.alloc(), row);
     }
-}
-
-/// Reads so many rows of table 3, from key 100 on.
-fn read_many(
-    rt: &impl Abort,
-    alloc: Global,
-    words: &mut String,
-    boot: &mut Boot,
-    ticket: &mut Ticket,
-    count: u64,
-)
-    requires { FitsIn boot.old ticket.old.call }
-    ensures { FitsIn boot.new ticket.new.call }
-{
-    for i in 0..count {
-        let step = format!(in alloc; "r3.1{i:02}").expect(rt, "a step");
-        do_steps(rt, alloc, words, boot, ticket, step.as_str());
-    }
-}
-
-/// After 64 marks the row of a mark and an own put are read, and no other row and no table.
-#[test]
-fn a_call_has_sixty_four_marks(rt: HostRuntime) {
-    let mut boot = boot_over_rows(&rt, rt.alloc());
-    let mut found = String::new(rt.alloc());
-    let mut ticket = begin(&rt, rt.alloc(), &mut boot, 70, 4);
-    do_steps(&rt, rt.alloc(), &mut found, &mut boot, &mut ticket, "e1 l4");
-    read_many(&rt, rt.alloc(), &mut found, &mut boot, &mut ticket, 63);
-    let mut words = String::new(rt.alloc());
-    let steps = "r3.163 r3.7 l3 p3.7=x r3.7 r3.100 r3.162 l4 r3.163";
-    do_steps(&rt, rt.alloc(), &mut words, &mut boot, &mut ticket, steps);
-    expect_so(&rt, ticket.marks().len() == 64, steps);
-    commit(&rt, rt.alloc(), &mut words, &mut boot, ticket);
-    drop(boot);
-    let want = "reads reads reads x none none ( 4.1=z ) reads 0";
-    expect_words(&rt, &words, want, steps);
 }

@@ -1,16 +1,16 @@
-//! Deployments, fault plans, rows and boots that tests begin with, and the numbers of requests.
+//! Fault plans, rows and boots that tests begin with, and the numbers of requests.
 
 ghost use Rattle.std.specs.Prelude.{◌≡◌, ◌≤◌, All, length};
 ghost use Rattle.crash_base.specs.declared.rows.RowWrite.{RowWrite};
 ghost use Rattle.call_ticket.specs.Within.{IsShortWrite};
 
+use crate::parts::deployment_of;
 use crate::words::{cut, id};
 use boot_core::{Boot, JournalLimits, Start};
 use crash_base::{
-    ComponentName, ComponentNo, FaultList, FaultPlan, MAX_FAULT_PLANS, MAX_ROW_BYTES, RequestNo,
-    RowBytes, RowList, RowWrite,
+    ComponentName, FaultList, FaultPlan, MAX_FAULT_PLANS, MAX_ROW_BYTES, RequestNo, RowBytes,
+    RowList, RowWrite,
 };
-use deployment::{ComponentPart, Deployment, MethodList, Parts, TablePart};
 use std::alloc::Global;
 use std::process::Abort;
 
@@ -28,38 +28,6 @@ pub fn request(serial: u64) -> RequestNo {
 /// The name that is these bytes.
 pub fn name(rt: &impl Abort, alloc: Global, bytes: &[u8]) -> ComponentName {
     ComponentName::copied(alloc, bytes).expect(rt, "a name")
-}
-
-/// Adds a component of this name, without methods.
-pub fn add_component(rt: &impl Abort, alloc: Global, parts: &mut Parts, word: &str) {
-    let component = ComponentPart {
-        name: name(rt, alloc, word.as_bytes()),
-        methods: MethodList::new(alloc),
-    };
-    parts.components.push(component).expect(rt, word);
-}
-
-/// Makes component 1 the owner of a table.
-pub fn add_table(rt: &impl Abort, parts: &mut Parts, table: u8) {
-    let owner = ComponentNo(1);
-    parts
-        .tables
-        .push(TablePart { table, owner })
-        .expect(rt, "a table");
-}
-
-/// The deployment of components of these names. Component 1 owns the tables 3 and 4.
-pub fn deployment_of(rt: &impl Abort, alloc: Global, names: &str) -> Deployment {
-    let mut parts = Parts::new(alloc);
-    for word in names.split(' ') {
-        add_component(rt, alloc, &mut parts, word);
-    }
-    add_table(rt, &mut parts, 3);
-    add_table(rt, &mut parts, 4);
-    match Deployment::check(parts) {
-        Ok(deployment) => deployment,
-        Err(_) => panic!(rt; "refused: {names}"),
-    }
 }
 
 /// The list of these fault plans.
@@ -80,23 +48,23 @@ pub fn write(rt: &impl Abort, alloc: Global, text: &str) -> RowWrite
     RowWrite { id, bytes }
 }
 
-/// A boot over these rows.
-fn boot_over(rt: &impl Abort, alloc: Global, names: &str, base: RowList) -> Boot
+/// A boot of the parts that a text spells, over these rows.
+fn boot_over(rt: &impl Abort, alloc: Global, parts: &str, base: RowList) -> Boot
     requires { All IsShortWrite base }
 {
     let start = Start {
         boot: 1,
         base,
-        deployment: deployment_of(rt, alloc, names),
+        deployment: deployment_of(rt, alloc, parts),
         plans: plan_list(rt, alloc, &[]),
         limits: LIMITS,
     };
     Boot::start(alloc, start).expect(rt, "a boot")
 }
 
-/// A boot over no rows.
-pub fn boot_of(rt: &impl Abort, alloc: Global, names: &str) -> Boot {
-    boot_over(rt, alloc, names, RowList::new(alloc))
+/// A boot of the parts that a text spells, over no rows.
+pub fn boot_of(rt: &impl Abort, alloc: Global, parts: &str) -> Boot {
+    boot_over(rt, alloc, parts, RowList::new(alloc))
 }
 
 /// A boot of a cart and a stock over three rows, which are not in order.
@@ -105,5 +73,5 @@ pub fn boot_over_rows(rt: &impl Abort, alloc: Global) -> Boot {
     base.push(write(rt, alloc, "3.7=a")).expect(rt, "a row");
     base.push(write(rt, alloc, "3.2=b")).expect(rt, "a row");
     base.push(write(rt, alloc, "4.1=z")).expect(rt, "a row");
-    boot_over(rt, alloc, "cart stock", base)
+    boot_over(rt, alloc, "+cart +stock 3=1 4=1", base)
 }

@@ -15,6 +15,9 @@ use deployment::MAX_METHODS;
 use std::alloc::Global;
 use std::process::Abort;
 
+/// A cart and a stock, which owns two tables.
+const SHOP: &str = "+cart +stock 3=1 4=1";
+
 /// Adds the current rows.
 fn add_current(rt: &impl Abort, alloc: Global, words: &mut String, boot: &Boot) {
     let at = Place(boot.journal().len());
@@ -95,13 +98,13 @@ fn expect_limits(rt: &impl Abort) {
 
 #[test]
 fn boots_commit_give_up_and_reboot(rt: HostRuntime) {
-    let mut boot = boot_of(&rt, rt.alloc(), "cart stock");
+    let mut boot = boot_of(&rt, rt.alloc(), SHOP);
     make_calls(&rt, rt.alloc(), &mut boot);
     drop(boot);
-    let mut boot = boot_of(&rt, rt.alloc(), "cart stock");
+    let mut boot = boot_of(&rt, rt.alloc(), SHOP);
     give_up(&rt, rt.alloc(), &mut boot);
     drop(boot);
-    let mut boot = boot_of(&rt, rt.alloc(), "cart stock");
+    let mut boot = boot_of(&rt, rt.alloc(), SHOP);
     reboot(&rt, rt.alloc(), &mut boot);
     drop(boot);
     expect_limits(&rt);

@@ -3,14 +3,14 @@
 ghost use Rattle.boot_core.specs.Fits.{FitsIn};
 
 use crate::boot_fixtures::{LIMITS, plan_list, request};
-use crate::container_fixtures::shop;
+use crate::container_fixtures::{SHOP, over_failing};
 use crate::container_steps::{add_commit, do_steps};
-use crate::keepers::{add_kept, failing_keeper};
+use crate::keepers::add_kept;
 use crate::starts::{add_boot, add_calls};
 use crate::words::{add_named, add_pair, add_word, cut, expect_words, number};
 use container_core::{Binding, Container, Ticket};
-use crash_base::{ComponentName, GroupNo, RequestNo, RowList, Scope, WorkerNo};
-use outside::{Keeper, MapKeeper};
+use crash_base::{ComponentName, GroupNo, RequestNo, Scope, WorkerNo};
+use outside::Keeper;
 use std::alloc::Global;
 use std::process::Abort;
 
@@ -41,16 +41,6 @@ pub fn call<K: Keeper + Drop>(
     do_steps(rt, alloc, words, container, &mut ticket, steps);
     let answer = container.commit(alloc, ticket, None);
     add_commit(rt, words, answer);
-}
-
-/// A container over a keeper that holds no rows, and of whose calls the one of this number fails.
-fn container(rt: &impl Abort, alloc: Global, failing: u64) -> Container<MapKeeper> {
-    let deployment = shop(rt, alloc);
-    let keeper = failing_keeper(rt, alloc, RowList::new(alloc), failing);
-    match Container::start(alloc, deployment, keeper, plan_list(rt, alloc, &[]), LIMITS) {
-        Ok(container) => container,
-        Err(_) => panic!(rt; "the start is refused"),
-    }
 }
 
 /// Adds the number of the events after a `.`, or after a `!` where the container was stopped.
@@ -174,7 +164,8 @@ fn expect_history(rt: &impl Abort, alloc: Global, row: &str) {
     let (before, text) = cut(rt, text, '|');
     let (after, want) = cut(rt, text, '|');
     let mut words = String::new(alloc);
-    let mut first = container(rt, alloc, number(rt, failing));
+    let plans = plan_list(rt, alloc, &[]);
+    let mut first = over_failing(rt, alloc, SHOP, number(rt, failing), plans, LIMITS);
     do_lines(rt, alloc, &mut words, &mut first, before);
     let mut second = reopen(rt, alloc, &mut words, first);
     do_lines(rt, alloc, &mut words, &mut second, after);

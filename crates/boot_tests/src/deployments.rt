@@ -4,7 +4,9 @@ ghost use Rattle.std.specs.Prelude.{◌<◌};
 
 use crate::deploy_words::{add_methods, add_refusal};
 use crate::parts::{add_reference, checked, deployment_of, parts_of};
-use crate::words::{add_number, add_text, add_word, byte, component, cut, expect_words, short};
+use crate::words::{
+    add_number, add_text, add_word, byte, component, cut, expect_words, is_heading, short,
+};
 use crash_base::{ComponentNo, GroupNo, MAX_GROUPS, Scope};
 use deployment::{Deployment, Parts, one_call};
 use std::alloc::Global;
@@ -26,83 +28,82 @@ fn add_check(rt: &impl Abort, words: &mut String, parts: Parts) {
     }
 }
 
+/// A row has parts, and after a bar the group of each component in turn, or why the parts are refused.
 fn expect_check(rt: &impl Abort, alloc: Global, row: &str) {
+    if is_heading(row) {
+        return;
+    }
     let (text, want) = cut(rt, row, '|');
     let mut words = String::new(alloc);
     add_check(rt, &mut words, parts_of(rt, alloc, text));
     expect_words(rt, &words, want, row);
 }
 
-/// A row has parts, and after a bar the group of each component in turn, or why the parts are refused.
-fn expect_checks(rt: &impl Abort, alloc: Global, table: &str) {
-    for row in table.split('\n') {
-        expect_check(rt, alloc, row);
-    }
-}
-
-/// Components without references are their own groups.
-const NO_REFERENCES: &str = "|
+/// Parts that are accepted, and then parts that are refused, which also have faults that are looked for later.
+const CHECKS: &str = "# Components without references are their own groups.
+|
 *1|0
-*3|0 1 2";
-
-/// Chains are one group: pairs, chains forward and back, and chains that are declared from their far end.
-const CHAINS: &str = "*2 0-1|0 0
+*3|0 1 2
+# Chains are one group: pairs, chains forward and back, and chains that are declared from their far end.
+*2 0-1|0 0
 *2 1-0|0 0
 *4 0-1 1-2 2-3|0 0 0 0
 *4 3-2 2-1 1-0|0 0 0 0
 *4 2-3 1-2 0-1|0 0 0 0
-*6 4-5 3-4 2-3 1-2 0-1|0 0 0 0 0 0";
-
-/// Needless references change nothing: those to itself, and the same one twice.
-const NEEDLESS: &str = "*3 1-1|0 1 2
+*6 4-5 3-4 2-3 1-2 0-1|0 0 0 0 0 0
+# Needless references change nothing: those to itself, and the same one twice.
+*3 1-1|0 1 2
 *3 1-1 2-2 1-2|0 1 1
-*3 1-2 1-2 2-1|0 1 1";
-
-/// Soft references join nothing, alone and between groups.
-const SOFT: &str = "*4 0~1 1~2 2~3 3~0|0 1 2 3
+*3 1-2 1-2 2-1|0 1 1
+# Soft references join nothing, alone and between groups.
+*4 0~1 1~2 2~3 3~0|0 1 2 3
 *4 0-1 1~2 2-3|0 0 2 2
-*5 0-1 3-4 1~2|0 0 2 3 3";
-
-/// Rings are one group.
-const RINGS: &str = "*4 0-1 1-2 2-3 3-0|0 0 0 0
-*6 1-3 3-5 5-1 0~1 2~3|0 1 2 1 4 1";
-
-/// Stars are one group.
-const STARS: &str = "*7 6-5 6-4 6-3 6-2|0 1 2 2 2 2 2
-*7 5-6 4-6 3-6 2-6|0 1 2 2 2 2 2";
-
-/// Groups are joined in any order: groups that the last reference joins, and the highest numbers joined first.
-const JOINED_LATE: &str = "*6 0-1 1-2 3-4 4-5 5-0|0 0 0 0 0 0
+*5 0-1 3-4 1~2|0 0 2 3 3
+# Rings are one group.
+*4 0-1 1-2 2-3 3-0|0 0 0 0
+*6 1-3 3-5 5-1 0~1 2~3|0 1 2 1 4 1
+# Stars are one group.
+*7 6-5 6-4 6-3 6-2|0 1 2 2 2 2 2
+*7 5-6 4-6 3-6 2-6|0 1 2 2 2 2 2
+# Groups are joined in any order: groups that the last reference joins, and the highest numbers joined first.
+*6 0-1 1-2 3-4 4-5 5-0|0 0 0 0 0 0
 *6 2-1 1-0 5-4 4-3 2-5|0 0 0 0 0 0
 *6 5-4 4-3 5-3 2-5 1~2 0~1|0 1 2 2 2 2
 *8 7-0 6-1 5-2 4-3|0 1 2 3 3 2 1 0
-*8 7-0 6-1 5-2 4-3 7-6 5-4|0 0 2 2 2 2 0 0";
-
-/// Paths through hard references join: two paths to one component, and one through a component that is reached by
-/// soft ones too.
-const PATHS: &str = "*5 4-1 1-3 4-2 2-3|0 1 1 1 1
-*5 4-2 2~3 3-1|0 1 2 1 2";
-
-/// Sixty-four components are accepted.
-const ALL: &str =
-    "*64 63-62|0 1 2 3 4 5 6 7 8 9 10 11 12 13 14 15 16 17 18 19 20 21 22 23 24 25 26 27 28 29 30 31 32 33 34 35 36 37 38 39 40 41 42 43 44 45 46 47 48 49 50 51 52 53 54 55 56 57 58 59 60 61 62 62";
-
-#[test]
-fn components_have_groups(rt: HostRuntime) {
-    for table in [
-        NO_REFERENCES,
-        CHAINS,
-        NEEDLESS,
-        SOFT,
-        RINGS,
-        STARS,
-        JOINED_LATE,
-        PATHS,
-        ALL,
-    ] {
-        expect_checks(&rt, rt.alloc(), table);
-    }
-}
+*8 7-0 6-1 5-2 4-3 7-6 5-4|0 0 2 2 2 2 0 0
+# Paths through hard references join: two paths to one component, and one through a component that is reached by soft ones too.
+*5 4-1 1-3 4-2 2-3|0 1 1 1 1
+*5 4-2 2~3 3-1|0 1 2 1 2
+# Sixty-four components are accepted.
+*64 63-62|0 1 2 3 4 5 6 7 8 9 10 11 12 13 14 15 16 17 18 19 20 21 22 23 24 25 26 27 28 29 30 31 32 33 34 35 36 37 38 39 40 41 42 43 44 45 46 47 48 49 50 51 52 53 54 55 56 57 58 59 60 61 62 62
+# More than sixty-four components are refused.
+*65 0-70 0=0|too_many 65
+*100 +a.abcdefghijklmnopq|too_many 101
+# More than sixteen methods are refused.
++a +b.abcdefghijklmnopq +a +c.abcdefghijklmnopqr|too_many_methods 1
++b.aaaaaaaaaaaaaaaaa|too_many_methods 0
+# Components of one name are refused.
++a +b +c +b +a|duplicate_name 1 3
++a +b.mm +b +b|duplicate_name 1 2
++x +x|duplicate_name 0 1
+# Methods of one name are refused.
++a +b.xyzyx +c.mm 0-3|duplicate_method 1 3
++a.mm|duplicate_method 0 1
++a.m +b.m +c.xyzXYZmmm 9=9|duplicate_method 2 7
+# References to no component are refused.
+*2 0-1 2-0 0-2 0=0|unknown_reference 1
+*2 0~1 1-0 1~2 5=5|unknown_reference 2
+0-0|unknown_reference 0
+*64 63-64|unknown_reference 0
+# Tables of no component are refused.
+*2 5=1 5=2 0=0|unknown_owner 1
+5=0|unknown_owner 0
+# The service's own table is refused.
+*1 5=0 5=0 0=0 0=0|system_table 2
+*1 0=0 0=0|system_table 0
+# Tables of two parts are refused.
+*2 7=0 8=1 9=0 8=0 7=1|table_twice 8
+*2 255=0 1=1 255=1|table_twice 255";
 
 /// 64 components, each of which needs the one so many before it.
 fn in_steps(rt: &impl Abort, alloc: Global, step: u16) -> Parts {
@@ -137,68 +138,24 @@ fn expect_remainders(rt: &impl Abort, alloc: Global, deployment: &Deployment, by
     expect_words(rt, &words, want.trim_start(), case);
 }
 
-/// In steps of n, a component's group is its remainder by n. A star is one group.
-#[test]
-fn sixty_four_components_are_joined(rt: HostRuntime) {
-    for n in 1..MAX_GROUPS {
-        let steps = checked(&rt, in_steps(&rt, rt.alloc(), n), "steps");
-        expect_remainders(&rt, rt.alloc(), &steps, n, "steps");
-        let star = checked(&rt, star(&rt, rt.alloc(), n), "a star");
-        expect_remainders(&rt, rt.alloc(), &star, 1, "a star");
-    }
+/// Asserts that in steps of n a component's group is its remainder by n, and that a star is one group.
+fn expect_joined(rt: &impl Abort, alloc: Global, n: u16)
+    requires { 0 < n }
+{
+    let steps = checked(rt, in_steps(rt, alloc, n), "steps");
+    expect_remainders(rt, alloc, &steps, n, "steps");
+    let star = checked(rt, star(rt, alloc, n), "a star");
+    expect_remainders(rt, alloc, &star, 1, "a star");
 }
 
-// Parts that are refused also have faults that are looked for later.
-
-/// More than sixty-four components are refused.
-const TOO_MANY: &str = "*65 0-70 0=0|too_many 65
-*100 +a.abcdefghijklmnopq|too_many 101";
-
-/// More than sixteen methods are refused.
-const TOO_MANY_METHODS: &str = "+a +b.abcdefghijklmnopq +a +c.abcdefghijklmnopqr|too_many_methods 1
-+b.aaaaaaaaaaaaaaaaa|too_many_methods 0";
-
-/// Components of one name are refused.
-const NAMES_TWICE: &str = "+a +b +c +b +a|duplicate_name 1 3
-+a +b.mm +b +b|duplicate_name 1 2
-+x +x|duplicate_name 0 1";
-
-/// Methods of one name are refused.
-const METHODS_TWICE: &str = "+a +b.xyzyx +c.mm 0-3|duplicate_method 1 3
-+a.mm|duplicate_method 0 1
-+a.m +b.m +c.xyzXYZmmm 9=9|duplicate_method 2 7";
-
-/// References to no component are refused.
-const UNKNOWN_ENDS: &str = "*2 0-1 2-0 0-2 0=0|unknown_reference 1
-*2 0~1 1-0 1~2 5=5|unknown_reference 2
-0-0|unknown_reference 0
-*64 63-64|unknown_reference 0";
-
-/// Tables of no component are refused.
-const UNKNOWN_OWNERS: &str = "*2 5=1 5=2 0=0|unknown_owner 1
-5=0|unknown_owner 0";
-
-/// The service's own table is refused.
-const SERVICE_TABLES: &str = "*1 5=0 5=0 0=0 0=0|system_table 2
-*1 0=0 0=0|system_table 0";
-
-/// Tables of two parts are refused.
-const TABLES_TWICE: &str = "*2 7=0 8=1 9=0 8=0 7=1|table_twice 8
-*2 255=0 1=1 255=1|table_twice 255";
-
+/// Tables of rows, and sixty-four components.
 #[test]
-fn other_parts_are_refused(rt: HostRuntime) {
-    for table in [
-        TOO_MANY,
-        TOO_MANY_METHODS,
-        NAMES_TWICE,
-        METHODS_TWICE,
-        UNKNOWN_ENDS,
-        UNKNOWN_OWNERS,
-        SERVICE_TABLES,
-        TABLES_TWICE,
-    ] {
-        expect_checks(&rt, rt.alloc(), table);
+fn parts_have_groups_or_are_refused(rt: HostRuntime) {
+    for row in CHECKS.split('\n') {
+        expect_check(&rt, rt.alloc(), row);
+    }
+    for n in 1..MAX_GROUPS {
+        expect_joined(&rt, rt.alloc(), n);
     }
 }
 
@@ -248,54 +205,43 @@ fn add_answer(rt: &impl Abort, words: &mut String, deployment: &Deployment, ques
 }
 
 fn expect_answer(rt: &impl Abort, alloc: Global, deployment: &Deployment, row: &str) {
+    if is_heading(row) {
+        return;
+    }
     let (question, want) = cut(rt, row, '|');
     let mut words = String::new(alloc);
     add_answer(rt, &mut words, deployment, question);
     expect_words(rt, &words, want, row);
 }
 
-/// Components are found by name.
-const NAMED: &str = "named stock|1
-named sto|none";
-
-/// Tables have owners.
-const OWNERS: &str = "owner 40|1
+/// Questions to the shop, each with the answer after a bar.
+const ANSWERS: &str = "# Components are found by name.
+named stock|1
+named sto|none
+# Tables have owners.
+owner 40|1
 owner 7|0
 owner 255|0
 owner 0|none
-owner 41|none";
-
-/// Components call what they refer to.
-const CALLS: &str = "call 0 1|true
+owner 41|none
+# Components call what they refer to.
+call 0 1|true
 call 1 0|true
 call 0 2|true
 call 2 0|false
-call 0 0|false";
-
-/// Idempotent methods are called again.
-const REPEATS: &str = "again 0 0|false
+call 0 0|false
+# Idempotent methods are called again.
+again 0 0|false
 again 0 1|true
 again 0 2|false
 again 1 0|false
 again 2 0|true
-again 3 0|false";
-
-/// Scopes hold groups: whether the scope of the application or of group 2 holds one.
-const SCOPES: &str = "app 63|true
+again 3 0|false
+# Scopes hold groups: whether the scope of the application or of group 2 holds one.
+app 63|true
 app 64|false
 group 2|true
 group 0|false";
-
-/// A row has a question to the shop, and after a bar the answer.
-#[test]
-fn a_deployment_answers(rt: HostRuntime) {
-    let shop = deployment_of(&rt, rt.alloc(), SHOP);
-    for table in [NAMED, OWNERS, CALLS, REPEATS, SCOPES] {
-        for row in table.split('\n') {
-            expect_answer(&rt, rt.alloc(), &shop, row);
-        }
-    }
-}
 
 /// Adds the numbers of components and of references, and the name of component 2.
 fn add_parts(rt: &impl Abort, words: &mut String, shop: &Deployment) {
@@ -311,11 +257,19 @@ fn add_one_call(rt: &impl Abort, alloc: Global, words: &mut String) {
     add_methods(rt, words, methods.as_slice());
 }
 
+/// Asserts what the parts of the shop are.
+fn expect_parts(rt: &impl Abort, alloc: Global, shop: &Deployment) {
+    let mut words = String::new(alloc);
+    add_parts(rt, &mut words, shop);
+    add_one_call(rt, alloc, &mut words);
+    expect_words(rt, &words, "3 3 mail.call!", "the parts of the shop");
+}
+
 #[test]
-fn a_deployment_has_its_parts(rt: HostRuntime) {
+fn a_deployment_answers(rt: HostRuntime) {
     let shop = deployment_of(&rt, rt.alloc(), SHOP);
-    let mut words = String::new(rt.alloc());
-    add_parts(&rt, &mut words, &shop);
-    add_one_call(&rt, rt.alloc(), &mut words);
-    expect_words(&rt, &words, "3 3 mail.call!", "the parts of the shop");
+    for row in ANSWERS.split('\n') {
+        expect_answer(&rt, rt.alloc(), &shop, row);
+    }
+    expect_parts(&rt, rt.alloc(), &shop);
 }

@@ -4,7 +4,9 @@
 //! reference, `0~1` a soft one, and `40=1` says that component 1 owns table 40.
 
 use crate::deploy_words::{add_methods, add_refusal};
-use crate::words::{add_marked, add_number, add_pair, add_text, add_word, expect_words};
+use crate::words::{
+    add_marked, add_number, add_pair, add_text, add_word, expect_words, is_heading,
+};
 use crash_base::ComponentNo;
 use deployment::{Deployment, Parts};
 use descriptor_text::{FieldName, TextRefusal, read_descriptors};
@@ -75,33 +77,36 @@ fn add_answer(rt: &impl Abort, alloc: Global, words: &mut String, bytes: &[u8]) 
     }
 }
 
-/// A row has on its first line what it says, and then the text.
-fn expect_text(rt: &impl Abort, alloc: Global, row: &str) {
-    let (want, text) = row.split_once('\n').unwrap_or((row, ""));
+/// Asserts what bytes say.
+fn expect_answer(rt: &impl Abort, alloc: Global, bytes: &[u8], want: &str, row: &str) {
     let mut words = String::new(alloc);
-    add_answer(rt, alloc, &mut words, text.as_bytes());
+    add_answer(rt, alloc, &mut words, bytes);
     expect_words(rt, &words, want, row);
 }
 
-/// The rows of a table have lines of three hyphens between them.
-fn expect_texts(rt: &impl Abort, alloc: Global, table: &str) {
-    for row in table.split("\n---\n") {
-        expect_text(rt, alloc, row);
+/// A row has on its first line what it says, and then the text.
+fn expect_text(rt: &impl Abort, alloc: Global, row: &str) {
+    if !is_heading(row) {
+        let (want, text) = row.split_once('\n').unwrap_or((row, ""));
+        expect_answer(rt, alloc, text.as_bytes(), want, row);
     }
 }
 
-/// Texts without components are deployments.
-const NO_COMPONENTS: &str = "
+/// The rows have lines of three hyphens between them.
+const TEXTS: &str = "# Texts without components are deployments.
+---
+
 ---
 
 # no component
 title = 'shop'
 ---
 
-component = []";
-
-/// Texts that are no documents are refused.
-const NO_DOCUMENTS: &str = "not_toml
+component = []
+---
+# Texts that are no documents are refused.
+---
+not_toml
 = 1
 ---
 not_toml
@@ -109,10 +114,11 @@ a = 1
 a = 2
 ---
 not_toml
-component = [{ name = 'A' }";
-
-/// Components are an array of tables.
-const NO_TABLES: &str = "wrong 0 component
+component = [{ name = 'A' }
+---
+# Components are an array of tables.
+---
+wrong 0 component
 component = 5
 ---
 wrong 0 component
@@ -126,10 +132,11 @@ component = [{ name = 5 }, { name = 'B' }, 'C']
 ---
 wrong 0 component
 [component]
-name = 'A'";
-
-/// Components have two forms. Keys of other names are passed over.
-const FORMS: &str = "A#0.call!
+name = 'A'
+---
+# Components have two forms. Keys of other names are passed over.
+---
+A#0.call!
 [[component]]
 name = 'A'
 ---
@@ -141,18 +148,20 @@ name = 5
 tables = 'x'
 component = [{ colour = 1, name = 'A', Hard = 3, soft = ['B'], tables = [7], methods = [{ name = 'm', idempotent = true, cost = [] }] }, { name = 'B' }]
 [other]
-hard = 1";
-
-/// Names have up to 32 bytes, and may resemble `app`.
-const NAMES: &str = "abcdefghijklmnopqrstuvwxyz_ABC09#0.call!
+hard = 1
+---
+# Names have up to 32 bytes, and may resemble `app`.
+---
+abcdefghijklmnopqrstuvwxyz_ABC09#0.call!
 [[component]]
 name = 'abcdefghijklmnopqrstuvwxyz_ABC09'
 ---
 App#0.call! apps#1.call! ap#2.call!
-component = [{ name = 'App' }, { name = 'apps' }, { name = 'ap' }]";
-
-/// Other names are refused.
-const WRONG_NAMES: &str = "wrong 0 name
+component = [{ name = 'App' }, { name = 'apps' }, { name = 'ap' }]
+---
+# Other names are refused.
+---
+wrong 0 name
 [[component]]
 name = 'abcdefghijklmnopqrstuvwxyz_ABC099'
 ---
@@ -177,10 +186,11 @@ name = 'ä'
 ---
 wrong 0 name
 [[component]]
-name = 'app'";
-
-/// References are arrays of texts.
-const WRONG_REFERENCES: &str = "wrong 0 hard
+name = 'app'
+---
+# References are arrays of texts.
+---
+wrong 0 hard
 component = [{ name = 'A', hard = 'A' }]
 ---
 wrong 0 hard
@@ -190,14 +200,16 @@ wrong 0 soft
 component = [{ name = 'A', soft = { A = 1 } }]
 ---
 wrong 0 soft
-component = [{ name = 'A', soft = [['A']] }]";
-
-/// Tables are numbered up to 255.
-const TABLES: &str = "A#0.call! 255=0 1=0
-component = [{ name = 'A', tables = [0xff, 1] }]";
-
-/// Other tables are refused.
-const WRONG_TABLES: &str = "wrong 0 tables
+component = [{ name = 'A', soft = [['A']] }]
+---
+# Tables are numbered up to 255.
+---
+A#0.call! 255=0 1=0
+component = [{ name = 'A', tables = [0xff, 1] }]
+---
+# Other tables are refused.
+---
+wrong 0 tables
 component = [{ name = 'A', tables = 5 }]
 ---
 wrong 0 tables
@@ -207,10 +219,11 @@ wrong 0 tables
 component = [{ name = 'A', tables = [-1] }]
 ---
 wrong 0 tables
-component = [{ name = 'A', tables = [1.0] }]";
-
-/// Methods are written in two ways.
-const METHODS: &str = "A#0 B#1.get!.app
+component = [{ name = 'A', tables = [1.0] }]
+---
+# Methods are written in two ways.
+---
+A#0 B#1.get!.app
 [[component]]
 name = 'A'
 methods = []
@@ -221,10 +234,11 @@ name = 'get'
 idempotent = true
 [[component.methods]]
 name = 'app'
-idempotent = false";
-
-/// Other methods are refused.
-const WRONG_METHODS: &str = "wrong 0 methods
+idempotent = false
+---
+# Other methods are refused.
+---
+wrong 0 methods
 component = [{ name = 'A', methods = true }]
 ---
 wrong 0 methods
@@ -240,17 +254,19 @@ wrong 0 methods
 component = [{ name = 'A', methods = [{ name = 'm', idempotent = 1 }] }]
 ---
 wrong 0 methods
-component = [{ name = 'A', methods = [{ name = 'm', idempotent = true }, { name = 'a b', idempotent = true }] }]";
-
-/// The first wrong key is reported.
-const FIRST_WRONG: &str = "wrong 1 hard
+component = [{ name = 'A', methods = [{ name = 'm', idempotent = true }, { name = 'a b', idempotent = true }] }]
+---
+# The first wrong key is reported.
+---
+wrong 1 hard
 component = [{ name = 'A' }, { methods = 1, tables = 1, soft = 1, hard = 1, name = 'B' }, { name = 1 }]
 ---
 wrong 1 tables
-component = [{ name = 'A' }, { methods = 1, tables = 1, name = 'B' }, { name = 1 }]";
-
-/// References and tables are in order.
-const LINKS: &str = "A#0.call! B#0.call! C#2.call! 0-1 0~2 1~2 1~0 2~2 3=0 2=0 1=2
+component = [{ name = 'A' }, { methods = 1, tables = 1, name = 'B' }, { name = 1 }]
+---
+# References and tables are in order.
+---
+A#0.call! B#0.call! C#2.call! 0-1 0~2 1~2 1~0 2~2 3=0 2=0 1=2
 [[component]]
 name = 'A'
 soft = ['C']
@@ -262,10 +278,11 @@ soft = ['C', 'A']
 [[component]]
 name = 'C'
 soft = ['C']
-tables = [1]";
-
-/// Parts that are no deployment are refused.
-const NO_DEPLOYMENTS: &str = "deploy unknown_reference 1
+tables = [1]
+---
+# Parts that are no deployment are refused.
+---
+deploy unknown_reference 1
 component = [{ name = 'A', hard = ['A'], soft = ['B'] }]
 ---
 deploy unknown_reference 0
@@ -285,29 +302,8 @@ component = [{ name = 'A', tables = [9] }, { name = 'B', tables = [9] }]";
 
 #[test]
 fn texts_are_deployments_or_refused(rt: HostRuntime) {
-    for table in [
-        NO_COMPONENTS,
-        NO_DOCUMENTS,
-        NO_TABLES,
-        FORMS,
-        NAMES,
-        WRONG_NAMES,
-        WRONG_REFERENCES,
-        TABLES,
-        WRONG_TABLES,
-        METHODS,
-        WRONG_METHODS,
-        FIRST_WRONG,
-        LINKS,
-        NO_DEPLOYMENTS,
-    ] {
-        expect_texts(&rt, rt.alloc(), table);
+    for row in TEXTS.split("\n---\n") {
+        expect_text(&rt, rt.alloc(), row);
     }
-}
-
-#[test]
-fn bytes_that_are_no_text_are_refused(rt: HostRuntime) {
-    let mut words = String::new(rt.alloc());
-    add_answer(&rt, rt.alloc(), &mut words, b"a = '\xff'");
-    expect_words(&rt, &words, "not_toml", "a = '\\xff'");
+    expect_answer(&rt, rt.alloc(), b"a = '\xff'", "not_toml", "a = '\\xff'");
 }

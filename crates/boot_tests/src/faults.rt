@@ -1,84 +1,30 @@
 //! Components of a container that fail by fault plans, and what cures them.
 //!
-//! A row has the fault plans, joined by commas, what is done, and after another bar what that answers. The components
-//! are a, b and c, of which a needs b. A plan is as `a 1 raise app`: component a raises once it was entered once, until
-//! the application is rebooted. `a` begins a call that enters component a, and stays open. `reboot:a` reboots the group
-//! of a, and `reboot:app` the application; `down:a` begins the reboot of a group that is not ended; `reopen` starts the
-//! container again, where all calls are gone.
+//! A row has the fault plans, what is done, and after another bar what that answers. The components are a, b and c, of
+//! which a needs b. `a` begins a call that enters component a, and stays open. `reboot:a` reboots the group of a, and
+//! `reboot:app` the application; `down:a` begins the reboot of a group that is not ended; `reopen` starts the container
+//! again, where all calls are gone.
 //!
 //! A call answers `in`, or why it is refused: `raised0.1` is component 0 by plan 1, and `0!2` group 0 by the Down at
 //! place 2. Last comes how many instances are left once all calls are given up.
 
 ghost use Rattle.commit_journal.specs.Journal.{IsScope};
 
-use crate::boot_fixtures::{LIMITS, plan_list, request};
+use crate::boot_fixtures::{LIMITS, request};
 use crate::boot_steps::add_refusal;
+use crate::container_fixtures::started;
 use crate::container_steps::enter;
 use crate::containers::begin;
-use crate::parts::deployment_of;
-use crate::pool::GROUP;
-use crate::words::{add_named, add_number, add_pair, add_word, cut, expect_words, number};
+use crate::plans::{component_of, plans_of};
+use crate::words::{add_named, add_number, add_pair, add_word, cut, expect_words};
 use container_core::{Container, Ticket};
-use crash_base::{
-    ComponentNo, FaultKind, FaultList, FaultPlan, GroupNo, Level, Place, RowList, Scope,
-};
+use crash_base::{ComponentNo, GroupNo, Place, RowList, Scope};
 use outside::{Keeper, SureKeeper};
 use std::alloc::Global;
 use std::process::Abort;
 
-/// The component of this name.
-fn component_of(rt: &impl Abort, name: &str) -> ComponentNo {
-    match name {
-        "a" => ComponentNo(0),
-        "b" => ComponentNo(1),
-        "c" => ComponentNo(2),
-        _ => panic!(rt; "no component {name}"),
-    }
-}
-
-fn kind_of(rt: &impl Abort, word: &str) -> FaultKind {
-    match word {
-        "raise" => FaultKind::Raise,
-        "hang" => FaultKind::Hang,
-        "leak" => FaultKind::Leak,
-        _ => panic!(rt; "no kind {word}"),
-    }
-}
-
-fn level_of(rt: &impl Abort, word: &str) -> Level {
-    match word {
-        "group" => GROUP,
-        "app" => Level::App,
-        "process" => Level::Process,
-        "human" => Level::Human,
-        _ => panic!(rt; "no level {word}"),
-    }
-}
-
-/// The plan that a text spells.
-fn plan_of(rt: &impl Abort, text: &str) -> FaultPlan {
-    let (name, text) = cut(rt, text, ' ');
-    let (after, text) = cut(rt, text, ' ');
-    let (kind, level) = cut(rt, text, ' ');
-    FaultPlan {
-        component: component_of(rt, name),
-        after: number(rt, after),
-        kind: kind_of(rt, kind),
-        cured_by: level_of(rt, level),
-    }
-}
-
-/// The plans that a text spells.
-fn plans_of(rt: &impl Abort, alloc: Global, text: &str) -> FaultList {
-    let mut plans = Vec::new(alloc);
-    for part in text.split(',') {
-        plans.push(plan_of(rt, part)).expect(rt, part);
-    }
-    plan_list(rt, alloc, plans.as_slice())
-}
-
 /// The application, or the group of a component.
-fn scope_of(name: &str) -> Scope
+pub fn scope_of(name: &str) -> Scope
     ensures { IsScope result }
 {
     match name {
@@ -90,13 +36,9 @@ fn scope_of(name: &str) -> Scope
 
 /// A container with these plans, over a keeper that holds no rows.
 fn container(rt: &impl Abort, alloc: Global, plans: &str) -> Container<SureKeeper> {
-    let deployment = deployment_of(rt, alloc, "+a +b +c 0-1");
     let keeper = SureKeeper::new(RowList::new(alloc));
     let plans = plans_of(rt, alloc, plans);
-    match Container::start(alloc, deployment, keeper, plans, LIMITS) {
-        Ok(container) => container,
-        Err(_) => panic!(rt; "the start is refused"),
-    }
+    started(rt, alloc, "+a +b +c 0-1", keeper, plans, LIMITS)
 }
 
 /// Begins a call that enters a component, and adds what that answers.
@@ -213,8 +155,10 @@ fn give_up<K: Keeper + Drop>(
     add_number(rt, words, container.as_boot().pool().instances() as u64);
 }
 
-/// Each level of cure beside each level of reboot that a container makes.
-const CURES: &str = "a 0 raise group|a reboot:a a|raised0.0 0-1 in 1
+/// Each level of cure beside each level of reboot that a container makes. Then plans of one component and of several:
+/// the first that is active counts, by the enterings of its component that were not refused. A group that is down is
+/// told before a plan.
+const ROWS: &str = "a 0 raise group|a reboot:a a|raised0.0 0-1 in 1
 a 0 raise group|a reboot:app a|raised0.0 0-1 in 1
 a 0 raise group|a reopen a|raised0.0 boot2 in 1
 a 0 raise app|a reboot:a a|raised0.0 0-1 raised0.0 0
@@ -225,11 +169,8 @@ a 0 raise process|a reboot:app a|raised0.0 0-1 raised0.0 0
 a 0 raise process|a reopen a|raised0.0 boot2 in 1
 a 0 raise human|a reboot:a a|raised0.0 0-1 raised0.0 0
 a 0 raise human|a reboot:app a|raised0.0 0-1 raised0.0 0
-a 0 raise human|a reopen a|raised0.0 boot2 raised0.0 0";
-
-/// Plans of one component and of several: the first that is active counts, by the enterings of its component that were
-/// not refused. A group that is down is told before a plan.
-const PLANS: &str = "a 1 raise app|a a reboot:a a reboot:app a|in raised0.0 0-1 raised0.0 2-3 in 1
+a 0 raise human|a reopen a|raised0.0 boot2 raised0.0 0
+a 1 raise app|a a reboot:a a reboot:app a|in raised0.0 0-1 raised0.0 2-3 in 1
 a 1 raise app|a b c b c a|in in in in in raised0.0 5
 a 2 hang app|a a a c|in in hung0.0 in 3
 b 0 hang group|b reboot:c b a reboot:a b|hung1.0 0-1 hung1.0 in 2-3 in 1
@@ -256,9 +197,7 @@ fn expect_row(rt: &impl Abort, alloc: Global, row: &str) {
 
 #[test]
 fn components_fail_until_they_are_cured(rt: HostRuntime) {
-    for table in [CURES, PLANS] {
-        for row in table.split('\n') {
-            expect_row(&rt, rt.alloc(), row);
-        }
+    for row in ROWS.split('\n') {
+        expect_row(&rt, rt.alloc(), row);
     }
 }

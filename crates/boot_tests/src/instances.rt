@@ -3,14 +3,14 @@
 
 ghost use Rattle.boot_core.specs.Fits.{FitsIn};
 
-use crate::boot_fixtures::{LIMITS, plan_list, request};
+use crate::boot_fixtures::{boot_of, plan_list, request};
 use crate::boot_steps::{add_commit, begin as begin_in, commit, do_steps};
+use crate::container_fixtures::started;
 use crate::container_steps::{enter, exit};
 use crate::containers::begin;
 use crate::faults::reboot;
-use crate::parts::deployment_of;
 use crate::words::{add_number, expect_words};
-use boot_core::{Boot, Start};
+use boot_core::Boot;
 use container_core::{Container, JournalLimits, Ticket};
 use crash_base::{ComponentNo, GroupNo, RowList, Scope};
 use outside::{Keeper, SureKeeper};
@@ -28,16 +28,13 @@ const MOST: usize = 4;
 
 /// A container of the components a, b and c, of which a needs b, and b uses c.
 fn container(rt: &impl Abort, alloc: Global) -> Container<SureKeeper> {
-    let deployment = deployment_of(rt, alloc, "+a +b +c 0-1 1~2");
     let keeper = SureKeeper::new(RowList::new(alloc));
     let limits = JournalLimits {
         entries: 1_000,
         bytes: 0,
     };
-    match Container::start(alloc, deployment, keeper, plan_list(rt, alloc, &[]), limits) {
-        Ok(container) => container,
-        Err(_) => panic!(rt; "the start is refused"),
-    }
+    let plans = plan_list(rt, alloc, &[]);
+    started(rt, alloc, "+a +b +c 0-1 1~2", keeper, plans, limits)
 }
 
 /// Enters a component, which is not refused.
@@ -132,18 +129,6 @@ fn instances_serve_one_call_after_another(rt: HostRuntime) {
     drop(container);
 }
 
-/// A boot of the components a and b, of which a needs b.
-fn boot(rt: &impl Abort, alloc: Global) -> Boot {
-    let start = Start {
-        boot: 1,
-        base: RowList::new(alloc),
-        deployment: deployment_of(rt, alloc, "+a +b 0-1"),
-        plans: plan_list(rt, alloc, &[]),
-        limits: LIMITS,
-    };
-    Boot::start(alloc, start).expect(rt, "a boot")
-}
-
 /// Begins a call that is left inside of two components, and adds how many instances there are.
 fn stay_inside(
     rt: &impl Abort,
@@ -179,7 +164,7 @@ fn refuse_inside(rt: &impl Abort, alloc: Global, words: &mut String, boot: &mut 
 fn calls_that_end_give_their_instances_back(rt: HostRuntime) {
     let alloc = rt.alloc();
     let mut words = String::new(alloc);
-    let mut boot = boot(&rt, alloc);
+    let mut boot = boot_of(&rt, alloc, "+a +b 0-1");
     commit_inside(&rt, alloc, &mut words, &mut boot, 70);
     commit_inside(&rt, alloc, &mut words, &mut boot, 70);
     refuse_inside(&rt, alloc, &mut words, &mut boot, 70);

@@ -160,7 +160,7 @@ fn expect_answer(rt: &impl Abort, alloc: Global, journal: &Journal, row: &str) {
 
 /// A row has a question to the journal of these entries, and after a bar the answer.
 fn expect_answers(rt: &impl Abort, alloc: Global, entries: &str, table: &str) {
-    let mut boot = boot_of(rt, alloc, "a b c");
+    let mut boot = boot_of(rt, alloc, "+a +b +c 3=1 4=1");
     for word in entries.split(' ') {
         do_word(rt, alloc, &mut boot, word);
     }

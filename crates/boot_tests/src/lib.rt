@@ -42,9 +42,12 @@ mod kept_words;
 mod managers;
 #[cfg(test)]
 mod names;
+#[cfg(test)]
 mod notes;
 #[cfg(test)]
 mod parts;
+#[cfg(test)]
+mod plans;
 #[cfg(test)]
 mod pool;
 #[cfg(test)]
@@ -59,6 +62,7 @@ mod rows;
 mod scores;
 #[cfg(test)]
 mod scripts;
+#[cfg(test)]
 mod stamps;
 #[cfg(test)]
 mod starts;
@@ -70,6 +74,3 @@ mod tries;
 mod words;
 #[cfg(test)]
 mod workloads;
-
-pub use notes::Note;
-pub use stamps::Stamp;

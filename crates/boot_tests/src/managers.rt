@@ -46,121 +46,121 @@ fn journal_full(rt: &impl Abort, manager: &mut Manager, moment: u64) -> Decision
         .expect(rt, "a decision")
 }
 
-/// Does what a word says. `3x1.2@5` is three reports of a path at 5, and `full@5` a full journal at 5.
-fn do_word(rt: &impl Abort, alloc: Global, manager: &mut Manager, words: &mut String, word: &str) {
-    let (event, moment) = cut(rt, word, '@');
-    let moment = number(rt, moment);
-    if event == "full" {
-        add_decision(rt, words, journal_full(rt, manager, moment));
-        return;
-    }
-    let (times, path) = cut(rt, event, 'x');
-    let path = path_of(rt, alloc, path);
-    for _ in 0..number(rt, times) {
-        add_decision(rt, words, report(rt, alloc, manager, &path, moment));
-    }
-}
-
 /// What is decided on a report that is handed on.
-fn hear(rt: &impl Abort, manager: &mut Manager, words: &mut String, report: FailureReport) {
-    add_decision(rt, words, manager.hear(report).expect(rt, "a decision"));
+fn hear(rt: &impl Abort, manager: &mut Manager, report: FailureReport) -> Decision {
+    manager.hear(report).expect(rt, "a decision")
 }
 
-/// Hands on what a word says, as `do_word` reads it.
-fn hear_word(
+/// What is decided on a report of the path that a text spells, which is handed on.
+fn hear_path(
+    rt: &impl Abort,
+    alloc: Global,
+    manager: &mut Manager,
+    text: &str,
+    at: u64,
+) -> Decision {
+    let path = path_of(rt, alloc, text);
+    let moment = Moment(at);
+    hear(
+        rt,
+        manager,
+        FailureReport::Path(PathReport { path, moment }),
+    )
+}
+
+/// What is decided on a report of the path that a text spells.
+fn report_path(
+    rt: &impl Abort,
+    alloc: Global,
+    manager: &mut Manager,
+    text: &str,
+    at: u64,
+) -> Decision {
+    let path = path_of(rt, alloc, text);
+    report(rt, alloc, manager, &path, at)
+}
+
+/// Adds what is decided on reports of a path, as often as a text says: `3x1.2` is three reports, and `3h1.2` three that
+/// are handed on.
+fn add_reports(
     rt: &impl Abort,
     alloc: Global,
     manager: &mut Manager,
     words: &mut String,
-    word: &str,
+    event: &str,
+    at: u64,
 ) {
-    let (event, moment) = cut(rt, word, '@');
-    let moment = Moment(number(rt, moment));
-    if event == "full" {
-        hear(rt, manager, words, FailureReport::JournalFull(moment));
-        return;
-    }
-    let (times, path) = cut(rt, event, 'x');
+    let mark = if event.contains('h') { 'h' } else { 'x' };
+    let (times, path) = cut(rt, event, mark);
     for _ in 0..number(rt, times) {
-        let path = path_of(rt, alloc, path);
-        hear(
-            rt,
-            manager,
-            words,
-            FailureReport::Path(PathReport { path, moment }),
-        );
+        let decision = if mark == 'h' {
+            hear_path(rt, alloc, manager, path, at)
+        } else {
+            report_path(rt, alloc, manager, path, at)
+        };
+        add_decision(rt, words, decision);
     }
 }
 
-fn expect_heard(rt: &impl Abort, alloc: Global, row: &str) {
-    let (script, want) = cut(rt, row, '|');
-    let deployment = deployment_of(rt, alloc, SHOP);
+/// Does what a word says. `3x1.2@5` is three reports of a path at 5, and `full@5` a full journal at 5; `3h1.2@5` and
+/// `heard@5` are the same where they are handed on, which may be later than others.
+fn do_word(rt: &impl Abort, alloc: Global, manager: &mut Manager, words: &mut String, word: &str) {
+    let (event, moment) = cut(rt, word, '@');
+    let moment = number(rt, moment);
+    match event {
+        "full" => add_decision(rt, words, journal_full(rt, manager, moment)),
+        "heard" => {
+            let report = FailureReport::JournalFull(Moment(moment));
+            add_decision(rt, words, hear(rt, manager, report));
+        }
+        _ => add_reports(rt, alloc, manager, words, event, moment),
+    }
+}
+
+/// A row has the parts of a deployment, what its manager is told, and after another bar what that decides.
+fn expect_row(rt: &impl Abort, alloc: Global, row: &str) {
+    let (parts, text) = cut(rt, row, '|');
+    let (script, want) = cut(rt, text, '|');
+    let deployment = deployment_of(rt, alloc, parts);
     let mut manager = Manager::new(alloc, &deployment).expect(rt, "a manager");
     let mut words = String::new(alloc);
     for word in script.split(' ') {
-        if !word.is_empty() {
-            hear_word(rt, alloc, &mut manager, &mut words, word);
-        }
+        do_word(rt, alloc, &mut manager, &mut words, word);
     }
-    expect_words(rt, &words, want.trim_start(), row);
+    expect_words(rt, &words, want, row);
 }
 
-#[test]
-fn earlier_reports_are_taken_as_of_the_last(rt: HostRuntime) {
-    let rows = [
-        "2x0@20000 1x0@5 | none none group0",
-        "3x0.5@20000 3x5@0 3x0@30001 | none none group0 none none group3 none none app",
-        "full@20000 3x2@5 full@7 3x2@50001 | process none none human process none none group2",
-        "2x0@0 1x0@10001 2x0@10000 | none none none none group0",
-    ];
-    for row in rows {
-        expect_heard(&rt, rt.alloc(), row);
-    }
-}
-
-fn expect_row(rt: &impl Abort, alloc: Global, shop: &str, row: &str) {
-    let (script, want) = cut(rt, row, '|');
-    let deployment = deployment_of(rt, alloc, shop);
-    let mut manager = Manager::new(alloc, &deployment).expect(rt, "a manager");
-    let mut words = String::new(alloc);
-    for word in script.split(' ') {
-        if !word.is_empty() {
-            do_word(rt, alloc, &mut manager, &mut words, word);
-        }
-    }
-    expect_words(rt, &words, want.trim_start(), row);
-}
+/// Decisions widen and consume. In the shop of the auction, components that need one another are one group. At last
+/// there, earlier reports are taken as of the last one's moment.
+const ROWS: &str =
+    "+a +b +c 0-1|3x0@0 9x0@29999 3x0@60000|none none group0 none none app none none process none none human none none group0
++a +b +c 0-1|3x0@0 3x0@30000 3x0@60001|none none group0 none none app none none group0
++a +b +c 0-1|3x0@0 3x0@30001|none none group0 none none group0
++a +b +c 0-1|3x0@0 3x2@1 3x1@2|none none group0 none none group2 none none app
++a +b +c 0-1|3x0@0 3x0@1 3x2@2|none none group0 none none app none none process
++a +b +c 0-1|2x0@0 1x0@10000|none none group0
++a +b +c 0-1|2x0@0 1x0@10001 2x0@10002|none none none none group0
++a +b +c 0-1|2x0.2@0 1x2@1 2x0@2|none none group2 none none
++a +b +c 0-1|2x2.1@0 1x1.2@1|none none group0
++a +b +c 0-1|1x2.2.2@0 2x2@1|none none group2
++a +b +c 0-1|9x3@0 2x3.2@1 1x2.3@2|none none none none none none none none none none none group2
++a +b +c 0-1|9x-@0|none none none none none none none none none
++a +b +c 0-1|full@0 3x2@30000 full@30000 3x2@60000|process none none human process none none human
++a +b +c 0-1|full@0 3x2@30001|process none none group2
++a +b +c 0-1|2x0@0 full@0 1x0@0|none none process human
+*8 5-3 6-3 7-1|1x0@0|none
+*8 5-3 6-3 7-1|full@0|process
+*8 5-3 6-3 7-1|3x6@0|none none group3
+*8 5-3 6-3 7-1|3x0.5@0|none none group0
+*8 5-3 6-3 7-1|2h0@20000 1h0@5|none none group0
+*8 5-3 6-3 7-1|3h0.5@20000 3h5@0 3h0@30001|none none group0 none none group3 none none app
+*8 5-3 6-3 7-1|heard@20000 3h2@5 heard@7 3h2@50001|process none none human process none none group2
+*8 5-3 6-3 7-1|2h0@0 1h0@10001 2h0@10000|none none none none group0";
 
 #[test]
 fn decisions_widen_and_consume(rt: HostRuntime) {
-    let rows = [
-        "3x0@0 9x0@29999 3x0@60000 | none none group0 none none app none none process none none human none none group0",
-        "3x0@0 3x0@30000 3x0@60001 | none none group0 none none app none none group0",
-        "3x0@0 3x0@30001 | none none group0 none none group0",
-        "3x0@0 3x2@1 3x1@2 | none none group0 none none group2 none none app",
-        "3x0@0 3x0@1 3x2@2 | none none group0 none none app none none process",
-        "2x0@0 1x0@10000 | none none group0",
-        "2x0@0 1x0@10001 2x0@10002 | none none none none group0",
-        "2x0.2@0 1x2@1 2x0@2 | none none group2 none none",
-        "2x2.1@0 1x1.2@1 | none none group0",
-        "1x2.2.2@0 2x2@1 | none none group2",
-        "9x3@0 2x3.2@1 1x2.3@2 | none none none none none none none none none none none group2",
-        "9x-@0 | none none none none none none none none none",
-        "full@0 3x2@30000 full@30000 3x2@60000 | process none none human process none none human",
-        "full@0 3x2@30001 | process none none group2",
-        "2x0@0 full@0 1x0@0 | none none process human",
-    ];
-    for row in rows {
-        expect_row(&rt, rt.alloc(), "+a +b +c 0-1", row);
-    }
-    let in_shop = [
-        "1x0@0 | none",
-        "full@0 | process",
-        "3x6@0 | none none group3",
-        "3x0.5@0 | none none group0",
-    ];
-    for row in in_shop {
-        expect_row(&rt, rt.alloc(), SHOP, row);
+    for row in ROWS.split('\n') {
+        expect_row(&rt, rt.alloc(), row);
     }
 }
 

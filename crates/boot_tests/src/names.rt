@@ -40,8 +40,12 @@ pub fn add_binding(rt: &impl Abort, words: &mut String, binding: Option<Binding>
 /// Asserts what a, b, c and d are bound to, and how often the last group was rebooted.
 fn expect_names(rt: &impl Abort, alloc: Global, names: &Names, want: &str, case: &str) {
     let mut words = String::new(alloc);
-    for letter in [b'a', b'b', b'c', b'd'] {
-        add_binding(rt, &mut words, names.look(&name(rt, alloc, &[letter])));
+    for letter in "a b c d".split(' ') {
+        add_binding(
+            rt,
+            &mut words,
+            names.look(&name(rt, alloc, letter.as_bytes())),
+        );
     }
     add_number(
         rt,

@@ -1,35 +1,30 @@
 //! Which fault plans are active after reboots, and which instances a pool has.
+//!
+//! A row has the fault plans, what is done with a pool of the components a, b and c, of which a needs b, and after
+//! another bar what that answers. `take:a` takes an instance of component a, and tells its number; `give:1` gives back
+//! the second of those that are still taken, and `all` all of them; `count` asks how many instances there are, and
+//! `active` which plan of component a is active. `reboot:a` reboots the group of a, `reboot:app` the application, and
+//! `level:process` the group of a and b at the level of the process. Last comes how many plans the pool tells, how many
+//! it hands out at its end, and how many of these a reboot of the process leaves.
 
 ghost use Rattle.std.specs.Prelude.{◌<◌};
 
-use crate::boot_fixtures::plan_list;
+use crate::faults::scope_of;
 use crate::parts::deployment_of;
-use crate::words::{add_named, add_number, add_word, expect_so, expect_words};
+use crate::plans::{component_of, level_of, plans_of};
+use crate::words::{add_named, add_number, add_word, cut, expect_so, expect_words, number};
 use component_pool::{InstanceNo, Pool, left_by_process};
-use crash_base::{ComponentNo, FaultKind, FaultPlan, GroupNo, Level, MAX_GROUPS, Scope};
+use crash_base::{ComponentNo, FaultKind, GroupNo, Level, MAX_GROUPS, Scope};
 use std::alloc::Global;
 use std::process::Abort;
-
-/// A reboot of the group of components a and b. No plan looks at the number.
-pub const GROUP: Level = Level::Group(GroupNo(7));
 
 /// The most instances that are taken at once where calls go by chance.
 const MOST_HELD: usize = 8;
 
-/// A plan of component a.
-fn plan_of_a(after: u64, kind: FaultKind, cured_by: Level) -> FaultPlan {
-    FaultPlan {
-        component: ComponentNo(0),
-        after,
-        kind,
-        cured_by,
-    }
-}
-
 /// A pool of the components a, b and c, of which a needs b.
-fn pool_of(rt: &impl Abort, alloc: Global, plans: &[FaultPlan]) -> Pool {
+fn pool_of(rt: &impl Abort, alloc: Global, plans: &str) -> Pool {
     let deployment = deployment_of(rt, alloc, "+a +b +c 0-1");
-    Pool::new(alloc, &deployment, plan_list(rt, alloc, plans))
+    Pool::new(alloc, &deployment, plans_of(rt, alloc, plans))
 }
 
 /// Takes an instance of a component.
@@ -37,6 +32,30 @@ pub fn take(rt: &impl Abort, pool: &mut Pool, c: ComponentNo) -> InstanceNo {
     assert!(rt; c.0 < MAX_GROUPS);
     let generation = pool.generation(c);
     pool.take(c, generation).expect(rt, "an instance")
+}
+
+/// Takes an instance of a component, and adds its number.
+fn take_named(
+    rt: &impl Abort,
+    words: &mut String,
+    pool: &mut Pool,
+    taken: &mut Vec<InstanceNo>,
+    c: ComponentNo,
+) {
+    let instance = take(rt, pool, c);
+    add_number(rt, words, instance.number());
+    taken.push(instance).expect(rt, "room");
+}
+
+/// Gives back the instance at a place of those that are taken.
+fn give_at(rt: &impl Abort, pool: &mut Pool, taken: &mut Vec<InstanceNo>, place: usize) {
+    assert!(rt; place < taken.len());
+    pool.give(taken.remove(place));
+}
+
+fn give_all(rt: &impl Abort, pool: &mut Pool, taken: &mut Vec<InstanceNo>) {
+    pool.give_all(taken);
+    expect_so(rt, taken.is_empty(), "all are given back");
 }
 
 /// Reboots the group of a and b at a level.
@@ -61,118 +80,71 @@ fn add_active(rt: &impl Abort, words: &mut String, pool: &Pool) {
     }
 }
 
-/// Asserts which plan of component a is active once its group was rebooted at each of three levels, the first time.
-fn expect_cured(rt: &impl Abort, alloc: Global, cured_by: Level, want: &str, case: &str) {
-    let mut words = String::new(alloc);
-    for level in [GROUP, Level::App, Level::Process] {
-        let mut pool = pool_of(rt, alloc, &[plan_of_a(0, FaultKind::Raise, cured_by)]);
-        reboot_at(rt, &mut pool, level);
-        add_active(rt, &mut words, &pool);
+/// Does what a word says, and adds what it answers.
+fn do_word(
+    rt: &impl Abort,
+    words: &mut String,
+    pool: &mut Pool,
+    taken: &mut Vec<InstanceNo>,
+    word: &str,
+) {
+    let (what, rest) = word.split_once(':').unwrap_or((word, ""));
+    match what {
+        "take" => take_named(rt, words, pool, taken, component_of(rt, rest)),
+        "give" => give_at(rt, pool, taken, number(rt, rest) as usize),
+        "all" => give_all(rt, pool, taken),
+        "count" => add_number(rt, words, pool.instances() as u64),
+        "active" => add_active(rt, words, pool),
+        "reboot" => reboot(rt, pool, scope_of(rest)),
+        _ => reboot_at(rt, pool, level_of(rt, rest)),
     }
-    expect_words(rt, &words, want, case);
 }
 
-/// Asserts that a reboot of the process leaves a plan, or that it does not.
-fn expect_left(rt: &impl Abort, alloc: Global, cured_by: Level, want: usize, case: &str) {
-    let plans = plan_list(rt, alloc, &[plan_of_a(0, FaultKind::Raise, cured_by)]);
-    let left = left_by_process(plans);
-    expect_so(rt, left.as_slice().len() == want, case);
-}
-
-#[test]
-fn plans_are_cured_by_level(rt: HostRuntime) {
-    let alloc = rt.alloc();
-    expect_cured(&rt, alloc, GROUP, "- - -", "group");
-    expect_cured(&rt, alloc, Level::App, "raise:0 - -", "app");
-    expect_cured(&rt, alloc, Level::Process, "raise:0 raise:0 -", "process");
-    expect_cured(&rt, alloc, Level::Human, "raise:0 raise:0 raise:0", "human");
-    expect_left(&rt, alloc, GROUP, 0, "group");
-    expect_left(&rt, alloc, Level::App, 0, "app");
-    expect_left(&rt, alloc, Level::Process, 0, "process");
-    expect_left(&rt, alloc, Level::Human, 1, "human");
-}
-
-#[test]
-fn plans_wait_and_go_by_number(rt: HostRuntime) {
-    let alloc = rt.alloc();
-    let mut words = String::new(alloc);
-    let mut pool = pool_of(&rt, alloc, &[plan_of_a(1, FaultKind::Raise, Level::App)]);
-    add_active(&rt, &mut words, &pool);
-    let _first = take(&rt, &mut pool, ComponentNo(0));
-    add_active(&rt, &mut words, &pool);
-    reboot(&rt, &mut pool, Scope::Group(GroupNo(2)));
-    reboot(&rt, &mut pool, Scope::Group(GroupNo(0)));
-    add_active(&rt, &mut words, &pool);
-    reboot(&rt, &mut pool, Scope::App);
-    add_active(&rt, &mut words, &pool);
-    expect_words(&rt, &words, "- raise:0 raise:0 -", "one entering");
-    let mut words = String::new(alloc);
-    let other = FaultPlan {
-        component: ComponentNo(2),
-        ..plan_of_a(0, FaultKind::Raise, GROUP)
-    };
-    let plans = [
-        other,
-        plan_of_a(0, FaultKind::Leak, GROUP),
-        plan_of_a(0, FaultKind::Hang, Level::App),
-    ];
-    let mut pool = pool_of(&rt, alloc, &plans);
-    for scope in [
-        Scope::Group(GroupNo(2)),
-        Scope::Group(GroupNo(0)),
-        Scope::App,
-    ] {
-        add_active(&rt, &mut words, &pool);
-        reboot(&rt, &mut pool, scope);
-    }
-    add_active(&rt, &mut words, &pool);
-    expect_words(&rt, &words, "leak:1 leak:1 hang:2 -", "several plans");
-    expect_so(
-        &rt,
-        pool.plans().as_slice().len() == 3,
-        "as they were given",
-    );
+/// Adds how many plans a pool tells, how many it hands out, and how many of these a reboot of the process leaves.
+fn add_plans(rt: &impl Abort, words: &mut String, pool: Pool) {
+    add_number(rt, words, pool.plans().as_slice().len() as u64);
     let plans = pool.into_plans();
-    expect_so(&rt, plans.as_slice().len() == 3, "handed out");
+    add_number(rt, words, plans.as_slice().len() as u64);
+    let left = left_by_process(plans);
+    add_number(rt, words, left.as_slice().len() as u64);
 }
 
-#[test]
-fn instances_are_idle_or_stale(rt: HostRuntime) {
-    let alloc = rt.alloc();
+fn expect_row(rt: &impl Abort, alloc: Global, row: &str) {
+    let (plans, text) = cut(rt, row, '|');
+    let (script, want) = cut(rt, text, '|');
     let mut words = String::new(alloc);
-    let mut pool = pool_of(&rt, alloc, &[]);
-    let a = take(&rt, &mut pool, ComponentNo(0));
-    let b = take(&rt, &mut pool, ComponentNo(1));
-    let c = take(&rt, &mut pool, ComponentNo(2));
-    let first = a.number();
-    expect_so(
-        &rt,
-        first != b.number() && (b.number() != c.number() && first != c.number()),
-        "three at once",
-    );
-    add_number(&rt, &mut words, pool.instances() as u64);
-    pool.give(a);
-    add_number(&rt, &mut words, pool.instances() as u64);
-    let again = take(&rt, &mut pool, ComponentNo(0));
-    expect_so(&rt, again.number() == first, "taken again");
-    let other = take(&rt, &mut pool, ComponentNo(0));
-    expect_so(&rt, other.number() != first, "another one");
-    pool.give(again);
-    reboot(&rt, &mut pool, Scope::Group(GroupNo(0)));
-    add_number(&rt, &mut words, pool.instances() as u64);
-    pool.give(b);
-    pool.give(c);
-    add_number(&rt, &mut words, pool.instances() as u64);
-    reboot(&rt, &mut pool, Scope::App);
-    add_number(&rt, &mut words, pool.instances() as u64);
-    let more = take(&rt, &mut pool, ComponentNo(1));
-    let mut rest = Vec::new(alloc);
-    rest.push(other).expect(&rt, "the stale one");
-    rest.push(more).expect(&rt, "the new one");
-    pool.give_all(&mut rest);
-    expect_so(&rt, rest.is_empty(), "all are given back");
-    add_number(&rt, &mut words, pool.instances() as u64);
-    expect_words(&rt, &words, "3 3 3 2 1 1", "how many there are");
+    let mut taken = Vec::new(alloc);
+    let mut pool = pool_of(rt, alloc, plans);
+    for word in script.split(' ') {
+        do_word(rt, &mut words, &mut pool, &mut taken, word);
+    }
+    add_plans(rt, &mut words, pool);
+    expect_words(rt, &words, want, row);
+}
+
+/// Plans are cured by level, each beside a first reboot at three levels. They wait, and go by number. Instances are
+/// taken again where they are idle, and are stale after a reboot.
+const ROWS: &str = "a 0 raise group|level:group active|- 1 1 0
+a 0 raise group|level:app active|- 1 1 0
+a 0 raise group|level:process active|- 1 1 0
+a 0 raise app|level:group active|raise:0 1 1 0
+a 0 raise app|level:app active|- 1 1 0
+a 0 raise app|level:process active|- 1 1 0
+a 0 raise process|level:group active|raise:0 1 1 0
+a 0 raise process|level:app active|raise:0 1 1 0
+a 0 raise process|level:process active|- 1 1 0
+a 0 raise human|level:group active|raise:0 1 1 1
+a 0 raise human|level:app active|raise:0 1 1 1
+a 0 raise human|level:process active|raise:0 1 1 1
+a 1 raise app|active take:a active reboot:c reboot:a active reboot:app active|- 0 raise:0 raise:0 - 1 1 0
+c 0 raise group,a 0 leak group,a 0 hang app|active reboot:c active reboot:a active reboot:app active|leak:1 leak:1 hang:2 - 3 3 0
+-|take:a take:b take:c count give:0 count take:a take:a give:2 reboot:a count give:0 give:0 count reboot:app count take:b all count|0 1 2 3 3 0 3 3 2 1 2 1 0 0 0";
+
+#[test]
+fn pools_have_plans_and_instances(rt: HostRuntime) {
+    for row in ROWS.split('\n') {
+        expect_row(&rt, rt.alloc(), row);
+    }
 }
 
 /// An instance that is taken.
@@ -261,7 +233,7 @@ fn step_counted(rt: &impl Abort, pool: &mut Pool, count: &mut Count, draw: u64) 
 
 #[test]
 fn instances_are_used_again(rt: HostRuntime) {
-    let mut pool = pool_of(&rt, rt.alloc(), &[]);
+    let mut pool = pool_of(&rt, rt.alloc(), "-");
     let mut count = Count {
         held: Vec::new(rt.alloc()),
         idle: [0; 3],

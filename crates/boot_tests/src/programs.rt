@@ -1,6 +1,6 @@
 //! The steps of a program, in order.
 
-use crate::Stamp;
+use crate::stamps::Stamp;
 use crate::words::{add_dotted, add_named, add_text, add_word, expect_words};
 use action_plans::Through;
 use call_ticket::{Answer, AnswerList, Next, Program};

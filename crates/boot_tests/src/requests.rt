@@ -96,9 +96,9 @@ fn expect_commits(rt: &impl Abort, journal: &Journal) {
     }
 }
 
-#[test]
-fn commits_are_those_of_a_scan(rt: HostRuntime) {
-    let mut journal = journal_of(rt.alloc());
+/// Asserts that the commits of requests by chance are those of a scan.
+fn expect_chance(rt: &impl Abort, alloc: Global) {
+    let mut journal = journal_of(alloc);
     let mut number = 1u64;
     for _ in 0..FEW {
         number = number
@@ -109,9 +109,9 @@ fn commits_are_those_of_a_scan(rt: HostRuntime) {
             boot: (high % 3) as u32,
             serial: high / 8 % 20,
         };
-        reserve(&rt, &mut journal);
-        commit(&rt, rt.alloc(), &mut journal, request);
-        expect_commits(&rt, &journal);
+        reserve(rt, &mut journal);
+        commit(rt, alloc, &mut journal, request);
+        expect_commits(rt, &journal);
     }
 }
 
@@ -138,12 +138,10 @@ fn expect_serials(rt: &impl Abort, alloc: Global, count: u64, is_falling: bool) 
     }
 }
 
+/// Requests come by chance, in any order, and in falling order.
 #[test]
-fn requests_come_in_any_order(rt: HostRuntime) {
+fn commits_are_found_by_their_requests(rt: HostRuntime) {
+    expect_chance(&rt, rt.alloc());
     expect_serials(&rt, rt.alloc(), MAX_ENTRIES, false);
-}
-
-#[test]
-fn requests_come_in_falling_order(rt: HostRuntime) {
     expect_serials(&rt, rt.alloc(), FALLING, true);
 }

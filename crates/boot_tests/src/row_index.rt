@@ -3,6 +3,7 @@
 ghost use Rattle.std.specs.Prelude.{ℕ, ◌<◌, All};
 ghost use Rattle.row_store.specs.declared.noted.Noted.{Noted};
 
+use crate::rows::add_rows;
 use crate::words::{add_row, expect_so, expect_words};
 use crash_base::{Place, RowBytes, RowId, RowList, RowWrite};
 use row_store::Rows;
@@ -96,12 +97,6 @@ fn add_table(rt: &impl Abort, words: &mut String, all: &[Written], table: u8, at
         if let Some(row) = last_before(all, RowId { table, key }, at) {
             add_row(rt, words, row);
         }
-    }
-}
-
-fn add_rows(rt: &impl Abort, words: &mut String, rows: &[&RowWrite]) {
-    for row in rows {
-        add_row(rt, words, row);
     }
 }
 

@@ -58,7 +58,7 @@ fn add_bytes(rt: &impl Abort, words: &mut String, bytes: Option<&RowBytes>) {
     }
 }
 
-fn add_rows(rt: &impl Abort, words: &mut String, rows: &[&RowWrite]) {
+pub fn add_rows(rt: &impl Abort, words: &mut String, rows: &[&RowWrite]) {
     for row in rows {
         add_row(rt, words, row);
     }

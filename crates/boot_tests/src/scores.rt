@@ -51,30 +51,28 @@ fn expect_row(rt: &impl Abort, alloc: Global, row: &str) {
     let mut scores = Scores::new(alloc);
     let mut words = String::new(alloc);
     for word in script.split(' ') {
-        if !word.is_empty() {
-            do_word(rt, alloc, &mut scores, &mut words, word);
-        }
+        do_word(rt, alloc, &mut scores, &mut words, word);
     }
-    expect_words(rt, &words, want.trim_start(), row);
+    expect_words(rt, &words, want, row);
 }
+
+/// A row has what is done with scores that begin empty, and after a bar what that answers.
+const ROWS: &str = "top?0 7?0|- 0
+1@0 1?0 1?10000 1?10001 2?0|1 1 0 0
+1.1.1@0 1?0 top?0|1 1x1
+1.2@0 2.3@5 2?5 top?5 top?10001 top?10005 top?10006|2 2x2 2x1 2x1 -
+9.4@0 4.9@0 top?0|4x2
+65535@0 top?0|65535x1
+-@0 top?0|-
+1@7 1@3 1?10003 1?10004|2 1
+1@50 1?0|1
+1@0 1@1 forget?10001 1?10001 1?0|1 1
+1@0 clear? top?0 1@0 1?0|- 1
+back? 1@0 2@0 back? 2?0 1?0|0 1";
 
 #[test]
 fn scores_count_recent_reports(rt: HostRuntime) {
-    let rows = [
-        "top?0 7?0 | - 0",
-        "1@0 1?0 1?10000 1?10001 2?0 | 1 1 0 0",
-        "1.1.1@0 1?0 top?0 | 1 1x1",
-        "1.2@0 2.3@5 2?5 top?5 top?10001 top?10005 top?10006 | 2 2x2 2x1 2x1 -",
-        "9.4@0 4.9@0 top?0 | 4x2",
-        "65535@0 top?0 | 65535x1",
-        "-@0 top?0 | -",
-        "1@7 1@3 1?10003 1?10004 | 2 1",
-        "1@50 1?0 | 1",
-        "1@0 1@1 forget?10001 1?10001 1?0 | 1 1",
-        "1@0 clear? top?0 1@0 1?0 | - 1",
-        "back? 1@0 2@0 back? 2?0 1?0 | 0 1",
-    ];
-    for row in rows {
+    for row in ROWS.split('\n') {
         expect_row(&rt, rt.alloc(), row);
     }
 }

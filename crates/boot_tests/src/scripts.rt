@@ -1,10 +1,11 @@
 //! Commits and starts over keepers of which one call fails, against rows that are worked out here.
 
 use crate::boot_fixtures::{LIMITS, plan_list, request};
-use crate::container_fixtures::shop;
+use crate::container_fixtures::{SHOP, started};
 use crate::containers::call;
 use crate::keepers::{SilentKeeper, add_kept, failing_keeper};
 use crate::kept_words::add_bytes;
+use crate::parts::deployment_of;
 use crate::starts::{add_rows, add_start_refusal};
 use crate::words::{add_named, add_pair, add_word, cut, expect_so, expect_words, number};
 use container_core::{Container, StartFail};
@@ -111,21 +112,12 @@ fn start_again<K: Keeper + Drop>(
     add_start_refusal(rt, &mut words, fail.refusal);
     expect_words(rt, &words, "keeper_failed", "a start");
     expect_so(rt, !expected.start(), "a second start");
-    let deployment = shop(rt, alloc);
-    match Container::start(
-        alloc,
-        deployment,
-        fail.keeper,
-        plan_list(rt, alloc, &[]),
-        LIMITS,
-    ) {
-        Ok(container) => container,
-        Err(_) => panic!(rt; "the second start is refused"),
-    }
+    let plans = plan_list(rt, alloc, &[]);
+    started(rt, alloc, SHOP, fail.keeper, plans, LIMITS)
 }
 
 /// The container that a start answered, or that a second one does.
-fn started<K: Keeper + Drop>(
+fn answered<K: Keeper + Drop>(
     rt: &impl Abort,
     alloc: Global,
     answer: Result<Container<K>, StartFail<K>>,
@@ -171,7 +163,7 @@ fn do_step<K: Keeper + Drop>(
 ) -> Container<K> {
     let mut container = container;
     if step == "reopen" {
-        return started(rt, alloc, container.reopen(alloc), expected);
+        return answered(rt, alloc, container.reopen(alloc), expected);
     }
     commit(rt, alloc, &mut container, step, expected);
     container
@@ -189,9 +181,9 @@ fn do_steps<K: Keeper + Drop>(
     count: u64,
     expected: &mut Expected,
 ) -> K {
-    let deployment = shop(rt, alloc);
+    let deployment = deployment_of(rt, alloc, SHOP);
     let answer = Container::start(alloc, deployment, keeper, plan_list(rt, alloc, &[]), LIMITS);
-    let mut container = started(rt, alloc, answer, expected);
+    let mut container = answered(rt, alloc, answer, expected);
     let mut done = 0;
     for step in SCRIPT.split(';') {
         if done < count {

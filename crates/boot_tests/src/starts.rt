@@ -1,9 +1,10 @@
 //! Over which rows a container starts, and what its keeper holds then.
 
 use crate::boot_fixtures::{LIMITS, plan_list};
-use crate::container_fixtures::shop;
+use crate::container_fixtures::SHOP;
 use crate::keepers::{GivenKeeper, add_kept, failing_keeper};
 use crate::kept_words::add_short_row;
+use crate::parts::deployment_of;
 use crate::words::{add_id, add_named, add_pair, add_word, byte, cut, expect_words, id, number};
 use container_core::{Container, StartFail, StartRefusal};
 use crash_base::{Place, RowBytes, RowList, RowWrite};
@@ -69,7 +70,7 @@ pub fn add_boot<K: Keeper + Drop>(
 
 /// Starts a container and adds its boot, or why there is none. The keeper is handed back in each case.
 fn add_start<K: Keeper + Drop>(rt: &impl Abort, alloc: Global, words: &mut String, keeper: K) -> K {
-    let deployment = shop(rt, alloc);
+    let deployment = deployment_of(rt, alloc, SHOP);
     match Container::start(alloc, deployment, keeper, plan_list(rt, alloc, &[]), LIMITS) {
         Ok(container) => {
             add_boot(rt, alloc, words, &container);

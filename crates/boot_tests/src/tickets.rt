@@ -169,35 +169,30 @@ fn new_ticket(rt: &impl Abort, alloc: Global) -> Ticket {
     Ticket::new(alloc, request(70), WorkerNo(4), Place(9)).expect(rt, "a ticket")
 }
 
-#[test]
-fn a_ticket_holds_its_call_and_is_used_again(rt: HostRuntime) {
-    let mut pool = new_pool(&rt, rt.alloc());
-    let mut words = String::new(rt.alloc());
-    let mut ticket = new_ticket(&rt, rt.alloc());
-    add_call(&rt, rt.alloc(), &mut words, &mut pool, &mut ticket);
+/// Makes a ticket, does what a word says with it, and asserts what it holds.
+fn expect_ticket(rt: &impl Abort, alloc: Global, pool: &mut Pool, what: &str, want: &str) {
+    let mut words = String::new(alloc);
+    let mut ticket = new_ticket(rt, alloc);
+    match what {
+        "a call" => add_call(rt, alloc, &mut words, pool, &mut ticket),
+        "closed" => add_closed(rt, alloc, &mut words, pool, &mut ticket),
+        "renewed" => add_renewed(rt, alloc, &mut words, pool, &mut ticket),
+        _ => add_two_frames(rt, &mut words, pool, &mut ticket),
+    }
     drop(ticket);
-    let call = "none unread xyz read 70 4@9 1 3 5 1";
-    expect_words(&rt, &words, call, "a ticket");
-    let mut words = String::new(rt.alloc());
-    let mut ticket = new_ticket(&rt, rt.alloc());
-    add_closed(&rt, rt.alloc(), &mut words, &mut pool, &mut ticket);
-    drop(ticket);
-    let closed = "70 4@9 0 3 5 2";
-    expect_words(&rt, &words, closed, "a ticket");
-    let mut words = String::new(rt.alloc());
-    let mut ticket = new_ticket(&rt, rt.alloc());
-    add_renewed(&rt, rt.alloc(), &mut words, &mut pool, &mut ticket);
-    drop(ticket);
-    let again = "3 2#4 ab 3.7=xyz 70 4@9 0 0 0 71 5@10 0 0 0";
-    expect_words(&rt, &words, again, "a ticket");
+    expect_words(rt, &words, want, what);
 }
 
+/// A ticket holds its call and is used again, and its frames are left with their own instances.
 #[test]
-fn frames_are_left_with_their_own_instances(rt: HostRuntime) {
-    let mut pool = new_pool(&rt, rt.alloc());
-    let mut words = String::new(rt.alloc());
-    let mut ticket = new_ticket(&rt, rt.alloc());
-    add_two_frames(&rt, &mut words, &mut pool, &mut ticket);
-    drop(ticket);
-    expect_words(&rt, &words, "2 1", "two frames");
+fn tickets_hold_their_calls(rt: HostRuntime) {
+    let alloc = rt.alloc();
+    let mut pool = new_pool(&rt, alloc);
+    let call = "none unread xyz read 70 4@9 1 3 5 1";
+    expect_ticket(&rt, alloc, &mut pool, "a call", call);
+    expect_ticket(&rt, alloc, &mut pool, "closed", "70 4@9 0 3 5 2");
+    let again = "3 2#4 ab 3.7=xyz 70 4@9 0 0 0 71 5@10 0 0 0";
+    expect_ticket(&rt, alloc, &mut pool, "renewed", again);
+    let mut pool = new_pool(&rt, alloc);
+    expect_ticket(&rt, alloc, &mut pool, "two frames", "2 1");
 }

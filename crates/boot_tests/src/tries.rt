@@ -1,11 +1,11 @@
 //! Requests in a container: reboots and commits of others between any two of their steps.
 //!
-//! A row has the method by which the request enters the stock, what others do, and after a mark how the request ends.
-//! The stock may be entered by method 0 again, and by method 1 only once. `reboot@2` reboots the stock after step 2 of
-//! the request, `down@1` takes it down after step 1, `write@5` has another request write the same row after step 5, and
-//! `ask@6` asks the program again. Where the program is done, its commit comes after what others do after that step. An
-//! end tells how many steps came before the last one, what became of the request, with the path of one that failed,
-//! `from` and `front`, and the number of events; and of a page that was there already its status.
+//! A request enters the stock by a method: by method 0 it may be entered again, and by method 1 only once. `reboot@2`
+//! reboots the stock after step 2 of the request, `down@1` takes it down after step 1, `write@5` has another request
+//! write the same row after step 5, and `ask@6` asks the program again. Where the program is done, its commit comes
+//! after what others do after that step. An end tells how many steps came before the last one, what became of the
+//! request, with the path of one that failed, `from` and `front`, and the number of events; and of a page that was
+//! there already its status.
 
 ghost use Rattle.std.specs.Prelude.{◌≡◌, List, None, Some};
 ghost use Rattle.call_ticket.specs.declared.next.Answer.{Answer};
@@ -16,68 +16,23 @@ ghost use Rattle.boot_tests.specs.Notes.{CanNote, note};
 ghost use Rattle.request_tries.specs.Serving.{IsServing, wanted_by};
 ghost use Rattle.request_tries.specs.Steps.{IfDone, end_of};
 
-use crate::Note;
-use crate::boot_fixtures::{LIMITS, add_table, name, plan_list, request};
-use crate::keepers::failing_keeper;
+use crate::boot_fixtures::{LIMITS, request};
+use crate::container_fixtures::over_failing;
+use crate::notes::Note;
+use crate::plans::plans_of;
 use crate::words::{
-    add_dotted, add_marked, add_named, add_number, add_pair, add_word, cut, expect_words, number,
+    add_dotted, add_marked, add_named, add_number, add_pair, add_word, byte, cut, expect_words,
+    number,
 };
 use container_core::{Container, DoneText, JournalLimits};
-use crash_base::{
-    ActionText, ComponentNo, FaultKind, FaultPlan, GroupNo, Level, PathList, RequestNo, RowList,
-    Scope, WorkerNo,
-};
-use deployment::{ComponentPart, Deployment, MethodList, MethodPart, Parts};
+use crash_base::{ActionText, ComponentNo, GroupNo, PathList, RequestNo, Scope, WorkerNo};
 use outside::{Keeper, MapKeeper};
 use request_tries::{Ended, Progress, RequestOutcome, RequestTries, ends_stay_true};
 use std::alloc::Global;
 use std::process::Abort;
 
-/// Adds a component with two methods, the second of which may not be called again.
-fn add_part(rt: &impl Abort, alloc: Global, parts: &mut Parts, word: &str) {
-    let mut methods = MethodList::new(alloc);
-    for (letter, idempotent) in [("m", true), ("n", false)] {
-        let name = name(rt, alloc, letter.as_bytes());
-        methods
-            .push(MethodPart { name, idempotent })
-            .expect(rt, "a method");
-    }
-    let name = name(rt, alloc, word.as_bytes());
-    parts
-        .components
-        .push(ComponentPart { name, methods })
-        .expect(rt, word);
-}
-
-/// A container of a cart and a stock with these fault plans, over a keeper that holds no rows and of whose calls the
-/// one of this number fails.
-fn container(
-    rt: &impl Abort,
-    alloc: Global,
-    plans: &[FaultPlan],
-    limits: JournalLimits,
-    failing: u64,
-) -> Container<MapKeeper> {
-    let mut parts = Parts::new(alloc);
-    add_part(rt, alloc, &mut parts, "cart");
-    add_part(rt, alloc, &mut parts, "stock");
-    add_table(rt, &mut parts, 3);
-    let deployment = match Deployment::check(parts) {
-        Ok(deployment) => deployment,
-        Err(_) => panic!(rt; "the shop is refused"),
-    };
-    let keeper = failing_keeper(rt, alloc, RowList::new(alloc), failing);
-    match Container::start(
-        alloc,
-        deployment,
-        keeper,
-        plan_list(rt, alloc, plans),
-        limits,
-    ) {
-        Ok(container) => container,
-        Err(_) => panic!(rt; "the start is refused"),
-    }
-}
+/// A cart and a stock, which owns the table. The second method of each may not be called again.
+const SHOP: &str = "+cart.Mn +stock.Mn 3=1";
 
 /// Asserts that the program may run here.
 fn expect_stock<K: Keeper + Drop>(rt: &impl Abort, container: &Container<K>)
@@ -396,146 +351,135 @@ fn serve<K: Keeper + Drop>(
     words
 }
 
-/// Serves a request in a container of its own, with these fault plans.
-fn expect_end(rt: &impl Abort, alloc: Global, plans: &[FaultPlan], method: u8, row: &str) {
-    let (events, want) = cut(rt, row, '>');
-    let mut container = container(rt, alloc, plans, LIMITS, 0);
-    let found = serve(
-        rt,
-        alloc,
-        &mut container,
-        1,
-        Note { method },
-        events.trim_end(),
-    );
-    expect_words(rt, &found, want.trim_start(), row);
+/// Serves a request in a container of its own. A row has the method, the fault plans, in which b is the stock, what
+/// others do, and how the request ends.
+fn expect_end(rt: &impl Abort, alloc: Global, row: &str) {
+    let (setting, text) = cut(rt, row, '|');
+    let (method, plans) = cut(rt, setting, ' ');
+    let (events, want) = cut(rt, text, '|');
+    let plans = plans_of(rt, alloc, plans);
+    let program = Note {
+        method: byte(rt, method),
+    };
+    let mut container = over_failing(rt, alloc, SHOP, 0, plans, LIMITS);
+    let found = serve(rt, alloc, &mut container, 1, program, events);
+    drop(container);
+    expect_words(rt, &found, want, row);
 }
 
-/// What may be called again is, after a reboot that the request met; and each conflict is tried again.
-const AGAIN: &str = "ask@0 > 5 page0 0-1 2
-ask@6 > 5 page0 0-1 2
-reboot@1 > 5 page2 0-3 4
-reboot@2 > 8 page2 0-3 4
-reboot@3 > 9 page2 0-3 4
-reboot@4 > 10 page2 0-3 4
-reboot@5 > 11 page2 0-3 4
-reboot@6 > 11 page2 0-3 4
-reboot@6 ask@6 > 11 page2 0-3 4
-reboot@2 reboot@5 > 11 page4 0-5 6
-reboot@2 reboot@5 reboot@8 > 8 revoked3 0-6 7
-reboot@6 reboot@12 reboot@18 > 17 revoked3 0-6 7
-down@1 > 1 1down0 0-1 2
-down@2 > 4 1down0 0-1 2
-down@6 > 7 1down0 0-1 2
-write@1 > 11 page1 0-2 3
-write@4 > 11 page1 0-2 3
-write@6 > 11 page1 0-2 3
-write@6 ask@6 > 11 page1 0-2 3
-write@1 write@7 > 17 page2 0-3 4
-write@1 write@7 write@13 > 17 conflict3 0-3 4
-write@6 write@12 write@18 > 17 conflict3 0-3 4
-write@1 reboot@8 > 14 page3 0-4 5
-write@6 reboot@6 > 11 page3 0-4 5
-reboot@2 write@4 reboot@11 > 11 revoked3 0-5 6
-";
-
-/// What may be called only once is not tried again after a reboot of what was entered; a conflict is.
-const ONCE: &str = "ask@0 > 5 page0 0-1 2
-reboot@1 > 5 page2 0-3 4
-reboot@2 > 2 revoked1 0-2 3
-reboot@3 > 3 revoked1 0-2 3
-reboot@4 > 4 revoked1 0-2 3
-reboot@5 > 5 revoked1 0-2 3
-reboot@6 > 5 revoked1 0-2 3
-reboot@6 ask@6 > 5 revoked1 0-2 3
-down@1 > 1 1down0 0-1 2
-down@6 > 5 revoked1 0-1 2
-write@1 > 11 page1 0-2 3
-write@6 > 11 page1 0-2 3
-write@6 reboot@6 > 5 revoked1 0-3 4
-write@1 reboot@8 > 8 revoked2 0-3 4
-write@1 write@7 write@13 > 17 conflict3 0-3 4
-";
+/// By method 0, what may be called again is, after a reboot that the request met; and each conflict is tried again. By
+/// method 1, what may be called only once is not tried again after a reboot of what was entered; a conflict is. Where
+/// the stock fails until its group is rebooted, that it is down is told before that; and it fails from its second
+/// entering on, whoever makes it, until the application is rebooted.
+const ROWS: &str = "0 -|ask@0|5 page0 0-1 2
+0 -|ask@6|5 page0 0-1 2
+0 -|reboot@1|5 page2 0-3 4
+0 -|reboot@2|8 page2 0-3 4
+0 -|reboot@3|9 page2 0-3 4
+0 -|reboot@4|10 page2 0-3 4
+0 -|reboot@5|11 page2 0-3 4
+0 -|reboot@6|11 page2 0-3 4
+0 -|reboot@6 ask@6|11 page2 0-3 4
+0 -|reboot@2 reboot@5|11 page4 0-5 6
+0 -|reboot@2 reboot@5 reboot@8|8 revoked3 0-6 7
+0 -|reboot@6 reboot@12 reboot@18|17 revoked3 0-6 7
+0 -|down@1|1 1down0 0-1 2
+0 -|down@2|4 1down0 0-1 2
+0 -|down@6|7 1down0 0-1 2
+0 -|write@1|11 page1 0-2 3
+0 -|write@4|11 page1 0-2 3
+0 -|write@6|11 page1 0-2 3
+0 -|write@6 ask@6|11 page1 0-2 3
+0 -|write@1 write@7|17 page2 0-3 4
+0 -|write@1 write@7 write@13|17 conflict3 0-3 4
+0 -|write@6 write@12 write@18|17 conflict3 0-3 4
+0 -|write@1 reboot@8|14 page3 0-4 5
+0 -|write@6 reboot@6|11 page3 0-4 5
+0 -|reboot@2 write@4 reboot@11|11 revoked3 0-5 6
+1 -|ask@0|5 page0 0-1 2
+1 -|reboot@1|5 page2 0-3 4
+1 -|reboot@2|2 revoked1 0-2 3
+1 -|reboot@3|3 revoked1 0-2 3
+1 -|reboot@4|4 revoked1 0-2 3
+1 -|reboot@5|5 revoked1 0-2 3
+1 -|reboot@6|5 revoked1 0-2 3
+1 -|reboot@6 ask@6|5 revoked1 0-2 3
+1 -|down@1|1 1down0 0-1 2
+1 -|down@6|5 revoked1 0-1 2
+1 -|write@1|11 page1 0-2 3
+1 -|write@6|11 page1 0-2 3
+1 -|write@6 reboot@6|5 revoked1 0-3 4
+1 -|write@1 reboot@8|8 revoked2 0-3 4
+1 -|write@1 write@7 write@13|17 conflict3 0-3 4
+0 b 0 raise group|ask@0|1 raised1.0>1 0-0 1
+0 b 0 raise group|reboot@1|5 page2 0-3 4
+0 b 0 raise group|down@1|1 1down0 0-1 2
+0 b 1 hang app|ask@0|5 page0 0-1 2
+0 b 1 hang app|reboot@1|5 page2 0-3 4
+0 b 1 hang app|reboot@2|4 hung1.0>1 0-2 3
+0 b 1 hang app|write@1|1 hung1.0>1 0-1 2";
 
 #[test]
 fn requests_are_tried_again(rt: HostRuntime) {
-    let alloc = rt.alloc();
-    for row in AGAIN.lines() {
-        expect_end(&rt, alloc, &[], 0, row);
-    }
-    for row in ONCE.lines() {
-        expect_end(&rt, alloc, &[], 1, row);
+    for row in ROWS.split('\n') {
+        expect_end(&rt, rt.alloc(), row);
     }
 }
 
-/// The stock fails until its group is rebooted. That it is down is told before that.
-const FAILS: &str = "ask@0 > 1 raised1.0>1 0-0 1
-reboot@1 > 5 page2 0-3 4
-down@1 > 1 1down0 0-1 2
-";
-
-/// The stock fails from its second entering on, whoever makes it, until the application is rebooted.
-const FAILS_LATER: &str = "ask@0 > 5 page0 0-1 2
-reboot@1 > 5 page2 0-3 4
-reboot@2 > 4 hung1.0>1 0-2 3
-write@1 > 1 hung1.0>1 0-1 2
-";
-
-#[test]
-fn components_that_fail_end_requests(rt: HostRuntime) {
-    let alloc = rt.alloc();
-    let mut plan = FaultPlan {
-        component: ComponentNo(1),
-        after: 0,
-        kind: FaultKind::Raise,
-        cured_by: Level::Group(GroupNo(1)),
-    };
-    for row in FAILS.lines() {
-        expect_end(&rt, alloc, &[plan], 0, row);
-    }
-    plan = FaultPlan {
-        after: 1,
-        kind: FaultKind::Hang,
-        cured_by: Level::App,
-        ..plan
-    };
-    for row in FAILS_LATER.lines() {
-        expect_end(&rt, alloc, &[plan], 0, row);
-    }
+/// Serves a request by method 0, and asserts how it ends.
+fn expect_served(
+    rt: &impl Abort,
+    alloc: Global,
+    container: &mut Container<MapKeeper>,
+    serial: u64,
+    events: &str,
+    want: &str,
+) {
+    let found = serve(rt, alloc, container, serial, Note { method: 0 }, events);
+    expect_words(rt, &found, want, events);
 }
 
 /// A request that is sent again is shown its page, and no reboot between changes that.
-#[test]
-fn pages_are_shown_again(rt: HostRuntime) {
-    let alloc = rt.alloc();
-    let mut container = container(&rt, alloc, &[], LIMITS, 0);
-    let look = Note { method: 0 };
-    let first = serve(&rt, alloc, &mut container, 1, look, "ask@0");
-    expect_words(&rt, &first, "5 page0 0-1 2", "the first");
-    let again = serve(&rt, alloc, &mut container, 1, look, "reboot@2");
-    expect_words(&rt, &again, "8 again0 1-3 4 200", "the same again");
-    let other = serve(&rt, alloc, &mut container, 2, look, "ask@0");
-    expect_words(&rt, &other, "5 page3 3-4 5", "another one");
-    drop(container);
+fn expect_page_again(rt: &impl Abort, alloc: Global, container: &mut Container<MapKeeper>) {
+    expect_served(rt, alloc, container, 1, "ask@0", "5 page0 0-1 2");
+    expect_served(rt, alloc, container, 1, "reboot@2", "8 again0 1-3 4 200");
+    expect_served(rt, alloc, container, 2, "ask@0", "5 page3 3-4 5");
 }
 
-/// A journal without room and a keeper that failed end a request.
+/// A container without fault plans, of whose keeper the call of this number fails.
+fn container(
+    rt: &impl Abort,
+    alloc: Global,
+    failing: u64,
+    limits: JournalLimits,
+) -> Container<MapKeeper> {
+    over_failing(rt, alloc, SHOP, failing, plans_of(rt, alloc, "-"), limits)
+}
+
+/// A page is shown again. A journal without room and a keeper that failed end a request, which is served by that keeper
+/// then.
 #[test]
-fn what_is_full_or_fails_ends_a_request(rt: HostRuntime) {
+fn what_stands_before_a_request_ends_it(rt: HostRuntime) {
     let alloc = rt.alloc();
-    let look = Note { method: 0 };
+    let mut kept = container(&rt, alloc, 0, LIMITS);
+    expect_page_again(&rt, alloc, &mut kept);
+    drop(kept);
     let none = JournalLimits {
         entries: 0,
         bytes: 0,
     };
-    let mut full = container(&rt, alloc, &[], none, 0);
-    let found = serve(&rt, alloc, &mut full, 1, look, "ask@0");
-    expect_words(&rt, &found, "5 0/0 0-0 1", "full");
+    let mut full = container(&rt, alloc, 0, none);
+    expect_served(&rt, alloc, &mut full, 1, "ask@0", "5 0/0 0-0 1");
     drop(full);
-    let mut failing = container(&rt, alloc, &[], LIMITS, 3);
-    let found = serve(&rt, alloc, &mut failing, 1, look, "ask@0");
-    expect_words(&rt, &found, "5 keeper_failed 0-0 2", "failed");
-    let found = serve(&rt, alloc, &mut failing, 1, look, "ask@0");
-    expect_words(&rt, &found, "5 page0 0-1 3", "and kept then");
+    let mut failing = container(&rt, alloc, 3, LIMITS);
+    expect_served(
+        &rt,
+        alloc,
+        &mut failing,
+        1,
+        "ask@0",
+        "5 keeper_failed 0-0 2",
+    );
+    expect_served(&rt, alloc, &mut failing, 1, "ask@0", "5 page0 0-1 3");
     drop(failing);
 }

@@ -67,30 +67,26 @@ fn expect_summary(rt: &impl Abort, alloc: Global, row: &str) {
     }
 }
 
+/// A workload whose keeper fails at its start has no summary.
+fn expect_unstarted(rt: &impl Abort, alloc: Global, failing: u64) {
+    let (answer, rows) = run(rt, alloc, 7, 10, failing);
+    assert!(rt;
+        matches!(
+            answer,
+            Err(WorkloadFailure::Unstarted(StartRefusal::KeeperFailed))
+        )
+    );
+    assert!(rt; rows == 0);
+}
+
+/// A workload hands its rows back: sixteen rows of either table, and that of the boot's number.
 #[test]
 fn workloads_come_to_their_summaries(rt: HostRuntime) {
     for row in WORKLOADS.split('\n') {
         expect_summary(&rt, rt.alloc(), row);
     }
-}
-
-/// Sixteen rows of either table, and that of the boot's number.
-#[test]
-fn a_workload_hands_its_rows_back(rt: HostRuntime) {
     let (_, rows) = run(&rt, rt.alloc(), 7, 20_000, 0);
     assert!(rt; rows == 33);
-}
-
-#[test]
-fn a_workload_whose_keeper_fails_at_its_start_has_no_summary(rt: HostRuntime) {
-    for failing in 1..3 {
-        let (answer, rows) = run(&rt, rt.alloc(), 7, 10, failing);
-        assert!(rt;
-            matches!(
-                answer,
-                Err(WorkloadFailure::Unstarted(StartRefusal::KeeperFailed))
-            )
-        );
-        assert!(rt; rows == 0);
-    }
+    expect_unstarted(&rt, rt.alloc(), 1);
+    expect_unstarted(&rt, rt.alloc(), 2);
 }
