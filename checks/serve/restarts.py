@@ -11,8 +11,9 @@ MOST_SECONDS = 300
 MOST_DOWN = 8
 LOADERS = 2
 TOGETHER = 100
-# 7/8 and 31/32 of the entries that a journal may have.
-FIRST, LAST = 229_376, 253_952
+# 7/8 and 31/32 of the entries that a journal may have, and how many may come until the thread that decides looks again,
+# which rests for five milliseconds.
+FIRST, LAST, BETWEEN_LOOKS = 229_376, 253_952, 2_000
 PAGES = b"GET / HTTP/1.1\r\n\r\n" * TOGETHER
 # How many of these a client sends that takes none, and how long it pauses then.
 UNREAD, PAUSE = 400, 0.05
@@ -89,6 +90,7 @@ def check(program, room):
     told = service.lines()
     service.kill()
     found = re.fullmatch(r"restarting behind ([0-9]+) entries", told[2]) if len(told) == 4 else None
-    if not found or not FIRST <= int(found[1]) <= LAST + 64 or not told[3].startswith("boot 2 started over "):
+    is_planned = found and FIRST <= int(found[1]) <= LAST + BETWEEN_LOOKS
+    if not is_planned or not told[3].startswith("boot 2 started over "):
         raise Wrong(f"the operator is told {told}")
     return f"a restart behind {found[1]} entries"
