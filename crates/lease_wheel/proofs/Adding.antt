@@ -118,6 +118,23 @@ sound_new e (x ∷ es) w full all = go (nat_cmp e x.0) (sound_new e es w full al
     go Equal rest = (full, all.1)
     go Greater rest = (all.0, rest)
 
+below_not : (e k : ℕ) → nat_cmp k e ≡ Less → nat_cmp e k ≡ Less → ⊥
+below_not e k one two = grind (arith, nat_tests)
+
+-- where an expiry has a list, an entry of it takes the place of that one
+pub insert_there : (e : ℕ) (es : Lists) (l w : Items) → IsStrictlySortedBy nat_cmp (keys_of es) → lookup (at e) es ≡ Some l → insert_entry nat_cmp es e w ≡ set_value (at e) es w
+insert_there e [] l w sorted is = absurd (cc)
+insert_there e (x ∷ es) l w sorted is = go (nat_cmp e x.0) refl (λ there. insert_there e es l w (sorted_tail nat_cmp x.0 (keys_of es) sorted) there)
+  where
+    found : (o : Ordering) → is_eq o ≡ false → nat_cmp e x.0 ≡ o → lookup (at e) es ≡ Some l
+    found o off same = sym (ap (λ y. cond (is_eq y) (Some x.1) (lookup (at e) es)) same ∙ ap (λ b. cond b (Some x.1) (lookup (at e) es)) off) ∙ is
+
+    go : (o : Ordering) → nat_cmp e x.0 ≡ o → (lookup (at e) es ≡ Some l → insert_entry nat_cmp es e w ≡ set_value (at e) es w)
+        → match_ordering o ((e, w) ∷ x ∷ es) ((x.0, w) ∷ es) (x ∷ insert_entry nat_cmp es e w) ≡ cond (is_eq o) ((x.0, w) ∷ es) (x ∷ set_value (at e) es w)
+    go Less less rest = absurd (below_not e x.0 (under x.0 e es l (sorted_head nat_cmp x.0 (keys_of es) sorted) (found Less refl less)) less)
+    go Equal same rest = refl
+    go Greater more rest = ap (λ fs. x ∷ fs) (rest (found Greater refl more))
+
 pub filled_push : (ns : List (Lease WheelItem)) (n : Lease WheelItem) → is_filled (ns ++ n ∷ []) ≡ true
 filled_push [] n = refl
 filled_push (m ∷ ns) n = refl

@@ -129,6 +129,16 @@ sound_left e (x ∷ es) w all = go (at e x.0) refl (sound_left e es w all.1)
         subst (λ y. P (cond y ((x.0, w) ∷ es) (x ∷ set_value (at e) es w))) (sym off)
         (subst (λ y. AreSound (cond y (set_value (at e) es w) (x ∷ remove_entry (at e) (set_value (at e) es w)))) (sym off) (all.0, rest))
 
+-- a list that was written before it goes leaves the others
+pub remove_set : (e : ℕ) (es : Lists) (w : Items) → remove_entry (at e) (set_value (at e) es w) ≡ remove_entry (at e) es
+remove_set e [] w = refl
+remove_set e (x ∷ es) w = go (at e x.0) refl (remove_set e es w)
+  where
+    go : (b : Bool) → at e x.0 ≡ b → remove_entry (at e) (set_value (at e) es w) ≡ remove_entry (at e) es
+        → remove_entry (at e) (cond b ((x.0, w) ∷ es) (x ∷ set_value (at e) es w)) ≡ cond b es (x ∷ remove_entry (at e) es)
+    go true on rest = ap (λ y. cond y es ((x.0, w) ∷ remove_entry (at e) es)) on
+    go false off rest = ap (λ y. cond y (set_value (at e) es w) (x ∷ remove_entry (at e) (set_value (at e) es w))) off ∙ ap (λ fs. x ∷ fs) rest
+
 -- an element of two lists, one behind the other, stands in one of them
 pub in_either : {X : Type 0} (cs bs xs : List X) (d : X) (ys : List X) → cs ++ bs ≡ xs ++ d ∷ ys
     → ((zs : List X) × (cs ≡ xs ++ d ∷ zs)) ⊎ ((zs : List X) × (bs ≡ zs ++ d ∷ ys))

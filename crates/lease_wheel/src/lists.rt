@@ -17,6 +17,7 @@ use lease_list::{LeaseList, Node};
 use ssm_frames::SWEEP_GRACE;
 use std::alloc::Global;
 use std::collections::BTreeMap;
+use std::collections::btree_map::Entry;
 
 /// The items of each expiry.
 pub(crate) type Lists = BTreeMap<u64, LeaseList<WheelItem>>;
@@ -60,12 +61,14 @@ pub(crate) fn push_at(
     ensures sound { AreSound lists.old.entries → AreSound lists.new.entries }
     ensures ordered { IsOrdered nat_cmp lists.new }
 {
-    if let Some(list) = lists.get_mut(&expiry) {
-        return push_on(list, item);
+    match lists.entry(expiry)? {
+        Entry::Occupied(entry) => push_on(entry.into_mut(), item),
+        Entry::Vacant(entry) => {
+            let (list, node) = list_of(alloc, item)?;
+            entry.insert(list);
+            Ok(node)
+        }
     }
-    let (list, node) = list_of(alloc, item)?;
-    lists.insert(expiry, list)?;
-    Ok(node)
 }
 
 /// Takes a node out of a list, and says whether it was the last one.
@@ -99,14 +102,18 @@ pub(crate) fn unlink_at(lists: &mut Lists, expiry: u64, node: Node<WheelItem>) -
     ensures sound { AreSound lists.old.entries → AreSound lists.new.entries }
     ensures ordered { IsOrdered nat_cmp lists.old }
 {
-    let (item, is_empty) = match lists.get_mut(&expiry) {
-        Some(list) => unlink_from(list, node),
-        None => unreachable!(),
-    };
-    if is_empty {
-        lists.remove(&expiry);
+    match lists.entry(expiry) {
+        Ok(Entry::Occupied(entry)) => {
+            let mut entry = entry;
+            let (item, is_empty) = unlink_from(entry.get_mut(), node);
+            if is_empty {
+                entry.remove();
+            }
+            item
+        }
+        Ok(Entry::Vacant(_)) => unreachable!(),
+        Err(_) => unreachable!(),
     }
-    item
 }
 
 /// Whether what ends at an expiry is due at a moment.
