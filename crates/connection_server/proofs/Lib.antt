@@ -1,5 +1,6 @@
 mod Beginning
 mod Drawn
+mod Full
 mod Growing
 mod Heeding
 mod Kept

@@ -100,7 +100,8 @@ counted_for last counts i (stages.Serving v call) after takes h = subst (λ (c :
 counted_for last counts i (stages.Refusing why bytes) after takes h = absurd takes
 counted_for last counts i (stages.Over end) after takes h = absurd takes
 
-last_is : (begin : LinkCounts) (items : List Item) (i : Item) → last_counts begin (items ++ i ∷ []) ≡ i.counts
+-- what the last item tells that the link counted
+pub last_is : (begin : LinkCounts) (items : List Item) (i : Item) → last_counts begin (items ++ i ∷ []) ≡ i.counts
 last_is begin [] i = refl
 last_is begin (j ∷ items) i = last_is j.counts items i
 

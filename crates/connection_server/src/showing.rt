@@ -1,16 +1,19 @@
 //! The law of what a call that served a connection tells of its end. It is the contract of a function that does nothing:
 //! a caller that needs the law calls the function.
 
-ghost use Rattle.std.specs.Prelude.{◌≡◌, ◌⊎◌, ◌+◌, ◌<◌, ◌≤◌, ℕ, All, List, [], ◌∷◌, ◌++◌, Some, false, filter, length, map, not, slice_get, take, true};
+ghost use Rattle.std.specs.Prelude.{◌≡◌, ◌⊎◌, ◌+◌, ◌<◌, ◌≤◌, ℕ, All, Bool, List, [], ◌∷◌, ◌++◌, Some, false, filter, length, map, nat_lt, not, slice_get, take, true};
+ghost use Rattle.std.specs.List.{range_with_len};
 ghost use Rattle.auction_rows.specs.Parts.{site_parts};
 ghost use Rattle.auction_site.specs.Actions.{steps_of};
 ghost use Rattle.boot_core.specs.declared.boot.Start.{Start};
 ghost use Rattle.container_core.specs.History.{is_stopped};
 ghost use Rattle.container_core.specs.declared.history.Event.{Event};
 ghost use Rattle.container_core.specs.declared.history.Event.TheVariants.{Started};
+ghost use Rattle.crash_base.specs.declared.numbers.Place.{Place};
 ghost use Rattle.http_wire.specs.Requests.{requests};
 ghost use Rattle.http_wire.specs.declared.taken.Head.{Head};
 ghost use Rattle.outcome_items.specs.declared.item.Item.{Item};
+ghost use Rattle.outcome_items.specs.declared.outcome.ItemOutcome.TheVariants as item;
 ghost use Rattle.outside.specs.Faults.{Rose};
 ghost use Rattle.outside.specs.Link.{Made};
 ghost use Rattle.outside.specs.Sink.{appended, AppendsPrefix};
@@ -20,6 +23,10 @@ ghost use Rattle.request_decisions.specs.Draws.{is_serial};
 ghost use Rattle.request_decisions.specs.declared.draws.Draw.{Draw};
 ghost use Rattle.request_intake.specs.Intakes.{serials_in};
 ghost use Rattle.seat_serials.specs.Drawing.{SeatLooks};
+ghost use Rattle.send_windows.specs.declared.fact.TheConstants.{LARGEST_WINDOW, LEAST_WINDOW, MAX_BRICKS};
+ghost use Rattle.send_windows.specs.declared.fact.WindowFact.{WindowFact};
+ghost use Rattle.send_windows.specs.declared.history.WindowMark.{WindowMark};
+ghost use Rattle.send_windows.specs.declared.history.WindowMark.TheVariants as mark;
 ghost use Rattle.served_items.specs.Attributing.{Service, TakenIn, drawn_for_all, taken_heads};
 ghost use Rattle.served_items.specs.Served.{IsServedFor};
 ghost use Rattle.shepherd.specs.Standing.{ending_of};
@@ -53,6 +60,13 @@ use std::marker::Brand;
 /// numbers: just those that were drawn for these requests, in order, each once. Where memory was wanted, one more
 /// request may have been taken in, and bytes, words and serial numbers behind may be lost; else none are, and the words
 /// lead to where the source is.
+///
+/// However the call ended, also where memory was wanted: its seat of words is the one that it began with, but for the
+/// numbers that it drew and for what it saw of serial words, which did not fall (`words`). A serial number that an item
+/// tells of as spent was seen by that seat (`spent`). Full windows that an item tells of were so where passes were
+/// refused in the history of the windows: fewer were open then than a write needs, and these are all others (`full`).
+/// The link has counted at least what the last item tells; or, where there is none, what it had when the call began
+/// (`counted`).
 pub fn served_connections_tell_how_they_ended<L: Link, C: Clock, R: Random>()
     ensures cut { (from to : L) (random random_after : R) (service : Service SiteMaker)
         (begun now : Stand) (told : ServedValue)
@@ -140,6 +154,37 @@ pub fn served_connections_tell_how_they_ended<L: Link, C: Clock, R: Random>()
         → (places : List ℕ) × (now.container.own ≡ begun.container.own ++ places)
         × ((before behind : List ℕ) (place : ℕ) → places ≡ before ++ place ∷ behind
         → (length begun.container.seen ≤ place) × (place < length now.container.seen)) }
+    ensures words { (from to : L) (random random_after : R) (service : Service SiteMaker)
+        (begun now : Stand) (told : ServedValue)
+        → HasServedConnection L.makes from to R.gives random random_after service begun now told
+        → (now.words.words ≡ begun.words.words) × (now.words.parts ≡ begun.words.parts)
+        × (now.words.sights ≡ begun.words.sights) × (begun.words.seen ≤ now.words.seen) }
+    ensures spent { (from to : L) (random random_after : R) (service : Service SiteMaker)
+        (begun now : Stand) (told : ServedValue)
+        → HasServedConnection L.makes from to R.gives random random_after service begun now told
+        → All (λ (i : Item). (serial : ℕ) → i.outcome ≡ item.SerialsSpent serial → serial ≤ now.words.seen)
+        told.items }
+    ensures full { (from to : L) (random random_after : R) (service : Service SiteMaker)
+        (begun now : Stand) (told : ServedValue)
+        → HasServedConnection L.makes from to R.gives random random_after service begun now told
+        → All (λ (i : Item). (place : Place) (again : Bool) (full : List WindowFact)
+        → i.outcome ≡ item.Overload place again full
+        → (before : List WindowMark) × (since : List WindowMark)
+        × (now.windows.seen ≡ before ++ mark.Refused ∷ since)
+        × ((facts : List WindowFact) × (w : ℕ) × (wq : ℕ) × (holds : Bool)
+        × (slice_get before 0 ≡ Some (mark.Opened (length facts) w wq holds))
+        × (1 ≤ wq) × (wq ≤ w) × (w ≤ length facts) × (length facts ≤ MAX_BRICKS)
+        × (map (λ (fact : WindowFact). fact.brick.0) facts ≡ range_with_len 1 (length facts))
+        × All (λ (fact : WindowFact). (LEAST_WINDOW ≤ fact.window) × (fact.window ≤ LARGEST_WINDOW)
+        × (fact.in_flight ≤ LARGEST_WINDOW)) facts
+        × (length (filter (λ (fact : WindowFact). nat_lt fact.in_flight fact.window) facts) < wq)
+        × (full ≡ filter (λ (fact : WindowFact). not (nat_lt fact.in_flight fact.window)) facts))) told.items }
+    ensures counted { (from to : L) (random random_after : R) (service : Service SiteMaker)
+        (begun now : Stand) (told : ServedValue)
+        → HasServedConnection L.makes from to R.gives random random_after service begun now told
+        → (told.items ≡ [] → (begun.counts.hushed ≤ now.counts.hushed) × (begun.counts.got ≤ now.counts.got))
+        × ((before : List Item) (last : Item) → told.items ≡ before ++ last ∷ []
+        → (last.counts.hushed ≤ now.counts.hushed) × (last.counts.got ≤ now.counts.got)) }
 {
     courses_show_what_was_served::<
         ActionProgram,

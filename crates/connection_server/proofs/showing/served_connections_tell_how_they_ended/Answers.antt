@@ -1,10 +1,11 @@
-use Rattle.std.proofs.Common.{◌≡◌, Option, Some, ◌⊎◌, inl, inr, ◌≤◌, ◌<◌, ◌+◌, ◌∙◌, ℕ, suc, zero, false, List, [], ◌∷◌, ◌++◌, All, ap, append-nil, arith, length, map, refl, slice_get, subst, sym, take}
+use Rattle.std.proofs.Common.{◌≡◌, Bool, Option, Some, ◌⊎◌, inl, inr, ◌≤◌, ◌<◌, ◌+◌, ◌∙◌, ℕ, suc, zero, false, List, [], ◌∷◌, ◌++◌, All, ap, append-nil, arith, length, map, refl, slice_get, subst, sym, take}
 use Rattle.std.proofs.lemmas.List.{append_assoc, length-map}
 use Rattle.std.proofs.lemmas.List.Elements.{All-head, All-tail, All-weaker}
 use Rattle.container_core.specs.History.{is_stopped}
 use Rattle.container_core.specs.declared.history.Event.{Event}
 use Rattle.boot_core.specs.declared.boot.Start.{Start}
 use Rattle.outside.specs.Source.{HasEnded, prepended}
+use Rattle.outside.specs.declared.link.LinkCounts.{LinkCounts}
 use Rattle.outside.specs.declared.link.LinkEvent.{LinkEvent}
 use Rattle.auction_calls.specs.declared.action.ActionCall.{ActionCall}
 use Rattle.call_ticket.specs.declared.next.Answer.{Answer}
@@ -12,7 +13,11 @@ use Rattle.call_ticket.specs.declared.next.Next.{Next}
 use Rattle.request_decisions.specs.declared.draws.Draw.{Draw}
 use Rattle.request_intake.specs.Intakes.{Gives, Looks, serials_in}
 use Rattle.served_connections.specs.Courses.{Course}
+use Rattle.served_connections.specs.Findings.{AreFoundFor, found_in_all}
+use Rattle.served_connections.specs.Full.{full_in}
 use Rattle.served_connections.specs.Heard.{HeardIn}
+use Rattle.served_connections.specs.Spent.{spent_in}
+use Rattle.served_items.specs.Counting.{AreReached, last_counts}
 use Rattle.served_items.specs.Attributing.{Service, TakenIn, WasTakenIn, taken_heads}
 use Rattle.served_items.specs.Served.{AreServed, IsServedFor, ServedItem}
 use Rattle.shepherd.specs.Answering.{AreResponses, Response}
@@ -21,26 +26,33 @@ use Rattle.site_programs.specs.declared.maker.SiteMaker.{SiteMaker}
 use Rattle.crash_base.specs.declared.numbers.Place.{Place}
 use Rattle.http_wire.specs.Requests.{Requests, requests}
 use Rattle.outcome_items.specs.declared.item.Item.{Item}
+use Rattle.outcome_items.specs.declared.outcome.ItemOutcome.{ItemOutcome}
+use Rattle.outcome_items.specs.declared.outcome.ItemOutcome.TheVariants as item
 use Rattle.shepherd.specs.Standing.{last_front, last_of}
 use Rattle.shepherd.specs.declared.shepherd.EndKind.TheVariants as ends
 use Rattle.connection_server.specs.Closing.{AllHaveCome, EndsBy}
 use Rattle.connection_server.specs.Ending.{AllServed, FirstServed, HasServedAllOf, HasTakenAll, ServedBy, WroteAll}
 use Rattle.connection_server.specs.Heeding.{WasFound}
+use Rattle.connection_server.specs.Refusing.{WereRefused}
 use Rattle.connection_server.specs.Seats.{RiseFrom}
-use Rattle.connection_server.specs.Stands.{GivesAll, Stand, began_at}
+use Rattle.connection_server.specs.Stands.{GivesAll, HasSeen, Stand, began_at}
 use Rattle.connection_server.specs.declared.served.ServedEnd.{ServedEnd}
 use Rattle.connection_server.specs.declared.served.ServedEnd.TheVariants.{Closed, Cut, Refused, Stopped, ReadFault, WriteFault, OutOfMemory}
 use Rattle.shared_words.specs.Words.{WordSeatValue}
 use Rattle.auction_site.specs.Actions.{steps_of}
 use Rattle.http_wire.specs.declared.taken.Head.{Head}
+use Rattle.send_windows.specs.declared.fact.WindowFact.{WindowFact}
 use Rattle.send_windows.specs.declared.history.WindowMark.{WindowMark}
 use Rattle.served_connections.specs.Telling.{HasServed}
 use Rattle.served_connections.proofs.Among.{AreAmong}
+use Rattle.served_connections.proofs.Findings.{IsAmong, among_more, each_found}
 use Rattle.served_connections.proofs.Heard.{item_among}
 use Rattle.served_connections.proofs.Shown.{next_there}
 use Rattle.seat_serials.specs.Drawing.{SeatLooks}
 use Rattle.site_programs.specs.Errands.{IsMadeOf}
 use Rattle.site_responses.specs.declared.answer.Untaken.{Untaken}
+use Rattle.connection_server.proofs.Full.{FullAtRefusal, full_at}
+use Rattle.connection_server.proofs.Seen.{last_is as last_counted}
 use Rattle.connection_server.proofs.showing.served_connections_tell_how_they_ended.Goals as goal
 
 running : (history : List Event) (items : List Item) → All (λ (i : Item). WasFound history i.holds false) items
@@ -96,6 +108,19 @@ module _ {L R : Type 0} (calls : L → LinkEvent → L → Type 0) (gives : Give
     by (inr all) = took_all course ReadFault all.took
   took_so start course WriteFault h = took_all course WriteFault h.took
   took_so start course OutOfMemory h = record { lost = h.lost; read = h.read; more = h.drew.0; drew = h.drew.1; just = λ not. absurd (not refl) }
+
+  -- What the course tells of was seen, however the call ended.
+  saw_so : (start : Start) (course : Course) (end : ServedEnd) → ServedBy calls gives service begun now start course end → HasSeen begun now course
+  saw_so start course Closed h = h.all.took.saw
+  saw_so start course Cut h = h.all.took.saw
+  saw_so start course (Refused why) h = h.all.took.saw
+  saw_so start course Stopped h = h.took.saw
+  saw_so start course ReadFault h = by h.all where
+    by : HasServedAllOf calls gives service begun now start course ends.Closed ⊎ HasServedAllOf calls gives service begun now start course ends.Cut → HasSeen begun now course
+    by (inl all) = all.took.saw
+    by (inr all) = all.took.saw
+  saw_so start course WriteFault h = h.took.saw
+  saw_so start course OutOfMemory h = h.saw
 
   -- where the sink did not fail, all was written
   wrote_all : (start : Start) (course : Course) (end : ServedEnd) → (end ≡ WriteFault → ⊥) → ServedBy calls gives service begun now start course end → WroteAll calls gives service begun now course
@@ -356,4 +381,64 @@ returns-clause-items g c = λ from to random random_after service begun now told
           ),
         ),
       ),
+    )
+
+pub returns-clause-words : goal.returns-clause-words
+returns-clause-words g c = λ from to random random_after service begun now told h.
+    let words = h.served.so.so.come.words in
+    (words.0, words.1, words.2, words.3)
+
+-- what is so of all of these is so of one that is among them
+one_of : {A : Type 0} (So : A → Type 0) (all before behind : List A) (a : A) → all ≡ before ++ a ∷ behind → All So all → So a
+one_of {A} So all before behind a is h = within before (subst (λ (l : List A). All So l) is h) where
+  within : (first : List A) → All So (first ++ a ∷ behind) → So a
+  within [] h = All-head So a behind h
+  within (b ∷ first) h = within first (All-tail So b (first ++ a ∷ behind) h)
+
+-- each that an item tells of is one of those that the course of its connection tells of, and what is so of these is so of it
+told_so : {A : Type 0} (tell : ItemOutcome → Option A) (So : A → Type 0) (found : List A) (items : List Item) (opened : List Head) → AreFoundFor tell found items opened → All So found
+    → All (λ (i : Item). (one : A) → tell i.outcome ≡ Some one → So one) items
+told_so {A} tell So found items opened h all =
+    All-weaker (λ (i : Item). (one : A) → tell i.outcome ≡ Some one → IsAmong (found_in_all tell items) one) (λ (i : Item). (one : A) → tell i.outcome ≡ Some one → So one)
+    (λ i among one is. let at = among_more tell found (found_in_all tell items) h.more one h.found_are (among one is) in one_of So found at.0 at.1 one at.2 all)
+    items (each_found tell items)
+
+pub returns-clause-spent : goal.returns-clause-spent
+returns-clause-spent g c = λ from to random random_after service begun now told h.
+    let there = h.served.so.so in
+    let course : Course = there.course in
+    let end : Stand = record now { heard = h.served.heard; given = h.served.so.given } in
+    let all = served_so g.L.Link.makes g.R.Random.gives service begun end told.items there.start course told.ended there.served in
+    let saw = saw_so g.L.Link.makes g.R.Random.gives service begun end told.items there.start course told.ended there.served in
+    subst (λ (items : List Item). All (λ (i : Item). (serial : ℕ) → i.outcome ≡ item.SerialsSpent serial → serial ≤ now.words.seen) items) (sym there.items_are)
+    (All-weaker (λ (i : Item). (serial : ℕ) → spent_in i.outcome ≡ Some serial → serial ≤ now.words.seen) (λ (i : Item). (serial : ℕ) → i.outcome ≡ item.SerialsSpent serial → serial ≤ now.words.seen)
+    (λ i so serial is. so serial (ap spent_in is))
+    course.items (told_so spent_in (λ (n : ℕ). n ≤ now.words.seen) course.looked course.items all.opened all.so.looked saw.spent))
+
+pub returns-clause-full : goal.returns-clause-full
+returns-clause-full g c = λ from to random random_after service begun now told h.
+    let there = h.served.so.so in
+    let course : Course = there.course in
+    let end : Stand = record now { heard = h.served.heard; given = h.served.so.given } in
+    let all = served_so g.L.Link.makes g.R.Random.gives service begun end told.items there.start course told.ended there.served in
+    let saw = saw_so g.L.Link.makes g.R.Random.gives service begun end told.items there.start course told.ended there.served in
+    let So : Item → Type 0 = λ i. (place : Place) (again : Bool) (full : List WindowFact) → i.outcome ≡ item.Overload place again full → FullAtRefusal now.windows.seen full in
+    subst (λ (items : List Item). All So items) (sym there.items_are)
+    (All-weaker (λ (i : Item). (full : List WindowFact) → full_in i.outcome ≡ Some full → WereRefused now.windows.seen full) So
+    (λ i so place again full is. full_at now.windows.seen full (so full (ap full_in is)))
+    course.items (told_so full_in (λ (full : List WindowFact). WereRefused now.windows.seen full) course.full course.items all.opened all.so.full saw.full))
+
+pub returns-clause-counted : goal.returns-clause-counted
+returns-clause-counted g c = λ from to random random_after service begun now told h.
+    let there = h.served.so.so in
+    let course : Course = there.course in
+    let end : Stand = record now { heard = h.served.heard; given = h.served.so.given } in
+    let saw = saw_so g.L.Link.makes g.R.Random.gives service begun end told.items there.start course told.ended there.served in (
+      λ none.
+          let least = subst (λ (items : List Item). AreReached (last_counts begun.counts items) now.counts) (sym there.items_are ∙ none) saw.counted in
+          (least.hushed, least.got),
+      λ before last is.
+          let least = subst (λ (items : List Item). AreReached (last_counts begun.counts items) now.counts) (sym there.items_are ∙ is) saw.counted in
+          let told_last = subst (λ (counts : LinkCounts). AreReached counts now.counts) (last_counted begun.counts before last) least in
+          (told_last.hushed, told_last.got),
     )
