@@ -1,4 +1,5 @@
 mod Beginning
+pub mod Crossing
 mod Drawn
 mod Full
 mod Growing

@@ -1,10 +1,10 @@
 use mathlib.Core.List.{[], ◌∷◌}
+use Rattle.connection_server.proofs.Crossing.{captured, shared, worker_seat}
 use Rattle.connection_server.specs.contracts.shared.Shared as Shared
 use Rattle.connection_server.specs.contracts.shared.WorkerSeat as WorkerSeat
 use Rattle.outside.proofs.map_keeper.MapKeeper.TheSendSync as keeper
 use Rattle.outside.specs.contracts.map_keeper.MapKeeper as MapKeeper
 use Rattle.outside.specs.contracts.map_keeper.MapKeeperKeeper.TheImpl.{ghosts}
-use Rattle.serving_tests.proofs.Crossing.{captured, shared, worker_seat}
 use Rattle.serving_tests.proofs.bids.serve_both.Goals as goal
 use Rattle.serving_tests.specs.contracts.bids.serve_both.{R-row}
 use Rattle.std.proofs.Crossing.{crosses}
