@@ -4,7 +4,8 @@ use denote.Param.{param}
 use denote.Param.Send.{IsSend, sendable, shr_send}
 use denote.Ref.{ShrRef}
 use denote.Struct.Field.{u16-field}
-use Rattle.container_server.proofs.Crossing.{captured, passed_send, passed_sync, seats_send, site_sync}
+use Rattle.connection_server.proofs.Crossing.{captured}
+use Rattle.container_server.proofs.Crossing.{passed_send, passed_sync, seats_send, site_sync}
 use Rattle.container_server.proofs.deciding.Desk.TheSendSync as desk
 use Rattle.container_server.proofs.signals.Signals.TheSendSync as signals
 use Rattle.container_server.proofs.tools.Tools.TheSendSync as tools

@@ -8,7 +8,8 @@ use denote.Ref.{ShrRef}
 use denote.Struct.Tuple.{TupleAt}
 use Rattle.atomic_table.below.core.proofs.marker.ClosureMark.TheSendSync as mark
 use Rattle.atomic_table.below.core.specs.contracts.marker.ClosureMark as ClosureMark
-use Rattle.container_server.proofs.Crossing.{captured, seats_send, site_sync}
+use Rattle.connection_server.proofs.Crossing.{captured}
+use Rattle.container_server.proofs.Crossing.{seats_send, site_sync}
 use Rattle.container_server.proofs.signals.Signals.TheSendSync as signals
 use Rattle.container_server.proofs.tools.Tools.TheSendSync as tools
 use Rattle.container_server.specs.contracts.seats.Seats as Seats
