@@ -50,8 +50,8 @@ pub record IsSoundContainer (c : ContainerValue) : Type 0 where
   pub journal : entries_in c.since ≡ c.boot.entries
   pub rows : HoldsRows c.told c.boot
 
--- A boot of the site was started over a keeper with these fault plans, it has grown into a sound container, and left the
--- keeper of that one. Its start was told, and what happened in it.
+-- A boot of the site was started over a keeper with these fault plans, it has grown into a sound container, and left
+-- the keeper of that one. Its start was told, and what happened in it.
 pub record RanBoot (plans : List FaultPlan) (before after : ServerSeen) : Type 0 where
   pub started : ContainerValue
   pub is_started : IsStarted site_parts plans service_limits before.keeper.told started
@@ -72,8 +72,8 @@ RanBoots plans zero before after = after ≡ before
 RanBoots plans (suc boots) before after =
     (between : ServerSeen) × RanBoots plans boots before between × RanBoot (plans_behind boots plans) between after
 
--- Why no more boots were run, by the keeper that the last one left and the one that is handed back. Memory ran out for a
--- boot's threads, for a start, or for the line of a bad row.
+-- Why no more boots were run, by the keeper that the last one left and the one that is handed back. Memory ran out for
+-- a boot's threads, for a start, or for the line of a bad row.
 abbrev pub EndedOver : ServiceEnd → KeeperSeen → KeeperSeen → Type 0
 EndedOver Closed before after = after ≡ before
 EndedOver KeeperFailed before after =

@@ -24,8 +24,8 @@ use service_log::{ServiceEvent, log_event};
 use std::alloc::Global;
 use std::sync::Wait;
 
-/// What the thread decides with, over all boots: what is told of reports, where the operator is told of reboots, and when
-/// a human was called last. It owns nothing, so that what was written is known where it is let go.
+/// What the thread decides with, over all boots: what is told of reports, where the operator is told of reboots, and
+/// when a human was called last. It owns nothing, so that what was written is known where it is let go.
 #[derive(Drop)]
 pub(crate) struct Desk<'a, E: Sink> {
     pub errors: &'a mut E,

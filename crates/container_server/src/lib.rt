@@ -10,8 +10,8 @@
 //! container: then all threads end, and the container is started again over its keeper.
 //!
 //! What is promised is `RanOver` of `specs/Running`: there were boots, one after the other over the same keeper, each
-//! over just the rows that the one before left, as far as the keeper tells them; each left a sound container; and how it
-//! ended.
+//! over just the rows that the one before left, as far as the keeper tells them; each left a sound container; and how
+//! it ended.
 //!
 //! `is_restart_due` is the rule by which a restart is planned before a boot's journal is full.
 #![tactic(auto)]
@@ -21,6 +21,7 @@ mod config;
 mod crew;
 mod deciding;
 mod gate;
+mod laws;
 mod pace;
 mod planning;
 mod seats;
@@ -34,5 +35,6 @@ mod working;
 pub use config::SiteConfig;
 pub use connection_server::{Point, Points};
 pub use gate::Gate;
+pub use laws::{boots_follow_each_other, servers_end_over_their_last_boot};
 pub use planning::is_restart_due;
 pub use serve::run_serve;

@@ -25,6 +25,7 @@ end_line (BadRow id) = bad_row_line id
 end_line BootsSpent = codes "boots spent\n"
 end_line OutOfMemory = codes "out of memory\n"
 
--- A server that ended so is told to have ended: so, or that memory ran out, where there is none for the line of a bad row.
+-- A server that ended so is told to have ended so; or that memory ran out, where there is none for the line of a bad
+-- row.
 abbrev pub IsToldAs : ServiceEnd → ServiceEnd → Type 0
 IsToldAs end told = (told ≡ end) ⊎ ((id : RowId) × (end ≡ BadRow id) × (told ≡ OutOfMemory))
