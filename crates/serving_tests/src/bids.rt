@@ -180,6 +180,7 @@ fn each_acknowledged_bid_is_in_the_rows_once(rt: HostRuntime) {
     assert!(rt; rise(&made));
     assert!(rt; rise(&more));
     assert!(rt; amounts.len() == made.len() + more.len());
+    assert!(rt; !amounts.is_empty());
     for amount in made.iter() {
         assert!(rt; amounts.contains(amount));
     }
