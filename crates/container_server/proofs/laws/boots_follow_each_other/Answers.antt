@@ -3,8 +3,7 @@ use Rattle.container_server.proofs.laws.boots_follow_each_other.Goals as goal
 pub returns-clause-last : goal.returns-clause-last
 returns-clause-last c plans boots before after ran =
     let boot = ran.2 in
-    let sound = boot.sound in
-    (
+    let sound = boot.sound in (
       ran.0,
       boot.started,
       boot.ended,
