@@ -1,4 +1,5 @@
 mod Pieces
+mod Rest
 mod Spelled
 mod Crossing
 mod Telling

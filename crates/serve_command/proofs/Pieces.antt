@@ -1,5 +1,5 @@
 -- Two pieces that were written, one after the other.
-use Rattle.std.proofs.Common.{◌≡◌, ℕ, ◌+◌, ◌-◌, ◌^◌, ◌≤◌, ◌<◌, List, ◌++◌, Option, ap, ◌∙◌, inl, inr, arith}
+use Rattle.std.proofs.Common.{◌≡◌, ℕ, ◌≤◌, List, ◌++◌, Option, ap, ◌∙◌, inl, inr, arith}
 use Rattle.outside.specs.Faults.{Rose}
 use Rattle.outside.specs.Sink.{appended, AppendsOrFails}
 use Rattle.outside.proofs.Prefixes.{appended_more, prefix_more}

@@ -1,5 +1,5 @@
 -- What spells `serve`.
-use Rattle.std.proofs.Common.{◌≡◌, ℕ, ◌<◌, ◌≤◌, ◌^◌, ◌&&◌, nat_le, Bool, true, false, cond, List, [], ◌∷◌, Option, Some, None, option_and_then, codes, refl, ap, subst, ◌∙◌, arith}
+use Rattle.std.proofs.Common.{◌≡◌, ℕ, ◌<◌, ◌≤◌, ◌^◌, ◌&&◌, nat_le, Bool, true, false, cond, List, [], ◌∷◌, Option, Some, None, codes, refl, ap, subst, ◌∙◌, arith}
 use Rattle.std.specs.Fmt.{decimal}
 use Rattle.std.specs.Option.{option_map}
 use Rattle.std.specs.Str.{bytes_eq}
@@ -10,7 +10,7 @@ use Rattle.crash_base.proofs.Options.{then_some, map_some}
 use Rattle.decimal_digits.specs.Digits.{plain_number}
 use Rattle.decimal_digits.proofs.Written.{plain_is_decimal, decimal_reads}
 use Rattle.serve_command.specs.declared.words.TheConstants.{MAX_PORT, MAX_WORKERS}
-use Rattle.serve_command.specs.Words.{IsSaid, ServeValue, number_to, serve_behind, serve_of, serve_with, serve_words, words_saying}
+use Rattle.serve_command.specs.Words.{IsSaid, ServeValue, number_to, serve_of, serve_with, serve_words, words_saying}
 
 -- a test that gives something
 given : (b : Bool) (m n : ℕ) → cond b (Some m) None ≡ Some n → (b ≡ true) × (m ≡ n)

@@ -1,12 +1,11 @@
 -- The sink that keeps the line of an end.
-use Rattle.std.specs.Prelude.{ℕ, ◌==◌, ◌||◌, ◌&&◌, nat_le, Bool, if◌then◌else◌, List, [], ◌++◌, length, take, Option, codes}
+use Rattle.std.specs.Prelude.{ℕ, ◌||◌, ◌&&◌, nat_le, Bool, if◌then◌else◌, List, [], ◌++◌, length, take, Option, codes}
 use Rattle.std.specs.Str.{bytes_eq}
 
--- What is seen of the sink: what it handed on, as far as the sink below tells that, how often that one has failed, what
--- is kept, and how often this one has failed.
+-- What is seen of the sink: what it handed on, as far as the sink below tells, what is kept, and how often the sink
+-- below has failed.
 pub record LastLineValue : Type 0 where
   pub handed : Option (List ℕ)
-  pub below : ℕ
   pub kept : List ℕ
   pub faults : ℕ
 
@@ -20,6 +19,6 @@ is_last_line line =
     bytes_eq line (codes "keeper failed\n") || (bytes_eq line (codes "boots spent\n")
     || (bytes_eq line (codes "out of memory\n") || is_bad_row line))
 
--- what is written at the end: the reason, and then the line that was kept; nothing where none was
+-- what is written at the end: what was kept, and before it the reason, if it is the line of an end
 abbrev pub ending : List ℕ → List ℕ → List ℕ
-ending reason kept = if length kept == 0 then [] else reason ++ kept
+ending reason kept = (if is_last_line kept then reason else []) ++ kept

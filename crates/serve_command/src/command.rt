@@ -1,6 +1,7 @@
 //! The command.
 
-ghost use Rattle.std.specs.Prelude.{◌≡◌, ◌≢◌, ◌≤◌, IfOk, MatchOption, None, OnErr, string_bytes};
+ghost use Rattle.std.specs.Prelude.{◌≡◌, ◌≢◌, ◌≤◌, ℕ, List, IfOk, MatchOption, None, OnErr, string_bytes};
+ghost use Rattle.container_server.specs.Running.{seen};
 ghost use Rattle.outside.specs.Sink.{AppendsOrFails};
 ghost use Rattle.service_log.specs.Logging.{WritesLine, log_of};
 ghost use Rattle.serve_command.specs.Ending.{report_of, status_of};
@@ -112,16 +113,21 @@ fn tell_serving<E: Sink>(alloc: Global, errors: &mut E, words: &ServeWords<'_>)
 
 /// Tells why no more connections came, where that is why a server ended.
 fn tell_closed<E: Sink>(alloc: Global, errors: &mut E, port: u16, closed: Option<io::Error>)
-    ensures { closed ≡ None → errors.new ≡ errors.old }
+    ensures none { closed ≡ None → errors.new ≡ errors.old }
+    ensures told { (reason : List ℕ) × AppendsOrFails (E.written errors.old) (E.written errors.new)
+        (E.faults errors.old) (E.faults errors.new) reason }
 {
-    if let Some(error) = closed {
-        let fault = port_failed(alloc, port, error);
-        let _ = write_all(errors, fault.reason());
+    match closed {
+        Some(error) => {
+            let fault = port_failed(alloc, port, error);
+            let _ = write_all(errors, fault.reason());
+        }
+        None => {}
     }
 }
 
 /// Runs a server through a gate to its end, and writes the line of the end behind its reason. The status, and that no
-/// more connections come, if that is why.
+/// more connections come, if that is why; and the keeper.
 fn run_to_end<
     R: Threads + Wait + Sync,
     G: Gate<Closed = io::Error> + Sync,
@@ -135,11 +141,12 @@ fn run_to_end<
     config: &SiteConfig,
     errors: E,
     keeper: K,
-) -> (u8, Option<io::Error>, E)
+) -> (u8, Option<io::Error>, E, K)
     requires some { 1 ≤ words.now.workers }
     requires few { words.now.workers ≤ 64 }
     requires bricks { (config.now.w ≡ 3) × (config.now.wq ≡ 2) }
-    ensures ran { HasRun (G.plans gate.now) result.0 (log_of (E.written errors) (E.faults errors))
+    ensures ran { HasRun (G.plans gate.now) result.0 (seen (K.told keeper) (K.faults keeper))
+        (seen (K.told result.3) (K.faults result.3)) (log_of (E.written errors) (E.faults errors))
         (log_of (E.written result.2) (E.faults result.2)) }
     ensures closed { MatchOption result.1 (result.0 ≢ 0) (λ _. result.0 ≡ 0) }
 {
@@ -156,7 +163,7 @@ fn run_to_end<
     );
     let reason = reason_of_end(alloc, words.file, status, keeper.last_fault());
     let errors = last_line.end(reason.as_slice());
-    (status, closed, errors)
+    (status, closed, errors, keeper)
 }
 
 /// Serves through a gate to the end, and answers the status.
@@ -176,11 +183,14 @@ fn serve_through<
 ) -> (u8, E)
     requires some { 1 ≤ words.now.workers }
     requires few { words.now.workers ≤ 64 }
-    ensures { RanToEnd (G.plans gate) result.0 (log_of (E.written errors) (E.faults errors))
-        (log_of (E.written result.1) (E.faults result.1)) }
+    ensures { RanToEnd (G.plans gate) result.0 (seen (K.told keeper) (K.faults keeper))
+        (log_of (E.written errors) (E.faults errors)) (log_of (E.written result.1) (E.faults result.1)) }
 {
     let config = site_config(key);
-    let (status, closed, errors) = run_to_end(rt, alloc, &gate, words, &config, errors, keeper);
+    let (status, closed, errors, keeper) = run_to_end(
+        rt, alloc, &gate, words, &config, errors, keeper,
+    );
+    drop(keeper);
     let mut errors = errors;
     tell_closed(alloc, &mut errors, words.port, closed);
     (status, errors)
@@ -205,8 +215,8 @@ fn serve_opened<
 >(rt: &R, alloc: Global, words: &ServeWords<'_>, errors: E, opened: Opened<K>) -> (u8, E)
     requires some { 1 ≤ words.now.workers }
     requires few { words.now.workers ≤ 64 }
-    ensures { HasServedShop words.now result.0 (log_of (E.written errors) (E.faults errors))
-        (log_of (E.written result.1) (E.faults result.1)) }
+    ensures { HasServedShop words.now result.0 (seen (K.told opened.keeper) (K.faults opened.keeper))
+        (log_of (E.written errors) (E.faults errors)) (log_of (E.written result.1) (E.faults result.1)) }
 {
     let Opened { key, keeper, door } = opened;
     let links = words.workers as u32 + 2;
@@ -249,8 +259,8 @@ pub fn serve<R: Threads + Wait + Clock + RandomSource + Sync, E: Sink + Send + D
 ) -> (u8, E)
     requires some { 1 ≤ words.now.workers }
     requires few { words.now.workers ≤ 64 }
-    ensures { HasServedShop words.now result.0 (log_of (E.written errors) (E.faults errors))
-        (log_of (E.written result.1) (E.faults result.1)) }
+    ensures { (faults : ℕ) × HasServedShop words.now result.0 (seen None faults)
+        (log_of (E.written errors) (E.faults errors)) (log_of (E.written result.1) (E.faults result.1)) }
 {
     match open(host, words) {
         Ok(opened) => serve_opened(rt, host.alloc(), words, errors, opened),

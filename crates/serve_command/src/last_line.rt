@@ -1,7 +1,7 @@
 //! A sink that keeps the line back with which a server ends, so that the reason can be written before it.
 
-ghost use Rattle.std.specs.Prelude.{◌≡◌, ◌⊎◌, ◌<◌, ◌≤◌, [], true, false, length, take, IfOk, OnErr};
-ghost use Rattle.outside.specs.Faults.{Rose, counted};
+ghost use Rattle.std.specs.Prelude.{◌≡◌, ◌≤◌, [], true, false, if◌then◌else◌, drop, length, OnErr, OnOk};
+ghost use Rattle.outside.specs.Faults.{Rose};
 ghost use Rattle.outside.specs.Sink.{appended, AppendsOrFails};
 ghost use Rattle.serve_command.specs.LastLine.{ending, is_bad_row, is_last_line};
 
@@ -28,53 +28,80 @@ fn is_last_line(line: &[u8]) -> bool
         || is_bad_row(line)
 }
 
-/// Hands on what it is given, but keeps the line with which a server ends, behind which it takes no more. Where there is
-/// no memory to keep it, it is handed on as well.
+/// The reason, if this is a line with which a server ends, and else nothing.
+fn reason_before<'a>(reason: &'a [u8], line: &[u8]) -> &'a [u8]
+    ensures { result.now ≡ (if is_last_line line.now then reason.now else []) }
+{
+    if is_last_line(line) { reason } else { &[] }
+}
+
+/// Writes what is left of these bytes behind the first `at`, and counts in `at` how many are written.
+fn write_rest<E: Sink>(errors: &mut E, bytes: &[u8], at: &mut usize) -> Result<(), Failed>
+    requires { at.old ≤ length bytes.now }
+    ensures within { at.new ≤ length bytes.now }
+    ensures same { appended (E.written errors.new) (drop at.new bytes.now)
+        ≡ appended (E.written errors.old) (drop at.old bytes.now) }
+    ensures ok { OnOk result (at.new ≡ length bytes.now) }
+    ensures err { OnErr result (Rose (E.faults errors.old) (E.faults errors.new)) }
+    ensures count { E.faults errors.old ≤ E.faults errors.new }
+{
+    while *at < bytes.len() {
+        let n = errors.write(&bytes[*at..])?;
+        if n == 0 {
+            return Err(Failed);
+        }
+        *at += n;
+    }
+    Ok(())
+}
+
+/// Hands on what it is given, but keeps the line with which a server ends until more is given. Where there is no memory
+/// to keep it, it is handed on as well.
 #[derive(Drop)]
 pub(crate) struct LastLine<E: Sink + Drop> {
     alloc: Global,
     errors: E,
-    kept: Items<u8>,
-    faults: u64,
+    line: Items<u8>,
+    /// How many bytes of the line were handed on.
+    at: usize,
 }
 
 impl<E: Sink + Drop> Model for LastLine<E> {
-    ghost use Rattle.std.specs.Prelude.{◌≡◌, ◌⊎◌, [], true};
-    ghost use Rattle.serve_command.specs.LastLine.{LastLineValue, is_last_line};
+    ghost use Rattle.std.specs.Prelude.{◌≤◌, drop, length};
+    ghost use Rattle.serve_command.specs.LastLine.{LastLineValue};
 
     ghost Value = { LastLineValue };
 
     ghost view = { λ s. record {
       handed = E.written s.errors;
-      below = E.faults s.errors;
-      kept = s.kept;
-      faults = s.faults;
+      kept = drop s.at s.line;
+      faults = E.faults s.errors;
     } };
 
-    ghost invariant = { λ s. (s.kept ≡ []) ⊎ (is_last_line s.kept ≡ true) };
+    ghost invariant = { λ s. s.at ≤ length s.line };
 }
 
 impl<E: Sink + Drop> LastLine<E> {
     /// A sink that was given nothing yet.
     pub fn new(alloc: Global, errors: E) -> LastLine<E>
-        ensures { result ≡ record { handed = E.written errors; below = E.faults errors; kept = []; faults = 0 } }
+        ensures { result ≡ record { handed = E.written errors; kept = []; faults = E.faults errors } }
     {
         LastLine {
             alloc,
             errors,
-            kept: Items::new(alloc),
-            faults: 0,
+            line: Items::new(alloc),
+            at: 0,
         }
     }
 
-    /// Counts a fault.
-    fn fail(&mut self) -> Failed
-        ensures after { self.new ≡ record (self.old) { faults = counted self.old.faults } }
-        ensures rose { Rose self.old.faults self.new.faults }
+    /// Hands on what is kept.
+    fn release(&mut self) -> Result<(), Failed>
+        ensures same { appended self.new.handed self.new.kept ≡ appended self.old.handed self.old.kept }
+        ensures ok { OnOk result (self.new.kept ≡ []) }
+        ensures err { OnErr result (Rose self.old.faults self.new.faults) }
         ensures count { self.old.faults ≤ self.new.faults }
     {
-        self.faults = self.faults.saturating_add(1);
-        Failed
+        write_rest(&mut self.errors, self.line.as_slice(), &mut self.at)
     }
 
     /// Keeps a line, if it is one with which a server ends and there is memory to keep it.
@@ -86,52 +113,29 @@ impl<E: Sink + Drop> LastLine<E> {
             return false;
         }
         match Items::copied(self.alloc, line) {
-            Ok(kept) => {
-                self.kept = kept;
+            Ok(line) => {
+                self.line = line;
+                self.at = 0;
                 true
             }
             Err(_) => false,
         }
     }
 
-    /// Hands on a prefix of the bytes: at least one where there are any.
-    fn hand_on(&mut self, bytes: &[u8]) -> Result<usize, Failed>
-        ensures kept { self.new.kept ≡ self.old.kept }
-        ensures within { IfOk result (λ n. n ≤ length bytes.now) }
-        ensures some { IfOk result (λ n. 0 < length bytes.now → 0 < n) }
-        ensures taken { IfOk result (λ n. self.new.handed ≡ appended self.old.handed (take n bytes.now)) }
-        ensures err { OnErr result (self.new.handed ≡ self.old.handed) }
-        ensures cause { OnErr result (Rose self.old.faults self.new.faults) }
-        ensures count { self.old.faults ≤ self.new.faults }
-    {
-        match self.errors.write(bytes) {
-            Ok(n) => {
-                if n == 0 && !bytes.is_empty() {
-                    return Err(self.fail());
-                }
-                Ok(n)
-            }
-            Err(_) => Err(self.fail()),
-        }
-    }
-
-    /// Writes the reason of the end, and then its line, to the sink below, and gives that back. Where no line is kept,
-    /// nothing is written.
+    /// Writes what is kept to the sink below, and gives that back; before it the reason, if it is the line of an end.
     pub fn end(self, reason: &[u8]) -> E
-        ensures told { AppendsOrFails self.handed (E.written result) self.below (E.faults result)
+        ensures { AppendsOrFails self.handed (E.written result) self.faults (E.faults result)
             (ending reason.now self.kept) }
-        ensures last { (self.kept ≡ []) ⊎ (is_last_line self.kept ≡ true) }
     {
         let LastLine {
             alloc: _,
             errors,
-            kept,
-            faults: _,
+            line,
+            at,
         } = self;
         let mut errors = errors;
-        if !kept.is_empty() {
-            write_both(&mut errors, reason, kept.as_slice());
-        }
+        let kept = &line.as_slice()[at..];
+        write_both(&mut errors, reason_before(reason, kept), kept);
         errors
     }
 }
@@ -141,14 +145,11 @@ impl<E: Sink + Drop> Sink for LastLine<E> {
 
     ghost faults = { λ s. s.faults };
 
-    /// As of the trait. Behind the line of an end it takes nothing, and counts a fault.
     fn write(&mut self, bytes: &[u8]) -> Result<usize, Failed> {
-        if !self.kept.is_empty() {
-            return Err(self.fail());
-        }
+        self.release()?;
         if self.keep(bytes) {
             return Ok(bytes.len());
         }
-        self.hand_on(bytes)
+        self.errors.write(bytes)
     }
 }
