@@ -97,84 +97,6 @@ fn expect_asked(rt: &impl Abort, alloc: Global, row: &str) {
     expect_words(rt, words.as_str(), want, row);
 }
 
-/// What asks for an action.
-const ASKED: &[&str] = &[
-    "home|page=x|name=|home",
-    "register||name=Ann_1&password=pw|register Ann_1 pw",
-    "signin||password=p+w&name=z|signin z p w",
-    "signout|||signout",
-    "categories|||categories",
-    "add||name=Old+%26+rare|add Old & rare",
-    "browse|||browse 7 0",
-    "browse|page=0||browse 7 0",
-    "browse|page=9999||browse 7 9999",
-    "browse|page=2&page=x|page=3|browse 7 2",
-    "item|||item 7",
-    "user|||user 7",
-    "about|||about",
-    "sell||title=Chair&category=3&start=100&buy_now=0&hours=24|sell Chair 3 100 0 24",
-    "sell||hours=720&buy_now=4000000000&start=4000000000&category=4294967295&title=T|sell T 4294967295 4000000000 4000000000 720",
-    "sell||title=T&category=1&start=1&buy_now=4000000000&hours=1|sell T 1 1 4000000000 1",
-    "bid||item=7&amount=500|bid 7 500",
-    "bid||item=4294967295&amount=4000000000|bid 4294967295 4000000000",
-    "buy||item=1|buy 1",
-    "close||item=9|close 9",
-    "feedback||item=2&good=1&text=fine|feedback 2 true fine",
-    "feedback||item=2&good=0&text=|feedback 2 false ",
-    "form|||form bid",
-];
-
-#[test]
-fn an_action_has_the_fields_of_its_form(rt: HostRuntime) {
-    for row in ASKED {
-        expect_asked(&rt, rt.alloc(), row);
-    }
-}
-
-/// What has a bad field.
-const BAD: &[&str] = &[
-    "register|||bad name",
-    "register|name=a&password=b||bad name",
-    "register||name=&password=|bad name",
-    "register||name=a+b&password=pw|bad name",
-    "register||name=%C3%A4&password=pw|bad name",
-    "register||name=abcdefghijklmnopqrstuvwxy&password=pw|bad name",
-    "register||name=abcdefghijklmnopqrstuvwx|bad password",
-    "register||name=a&password=|bad password",
-    "signin||password=pw|bad name",
-    "signin||name=a|bad password",
-    "add|||bad name",
-    "add||name=|bad name",
-    "add||name=12345678901234567890123456789012345678901|bad name",
-    "browse|page=10000||bad page",
-    "browse|page=||bad page",
-    "browse|page=01||bad page",
-    "sell||title=&category=0&start=0&buy_now=x&hours=0|bad title",
-    "sell||title=T&category=0&start=0&buy_now=x&hours=0|bad category",
-    "sell||title=T&category=1&start=0&buy_now=x&hours=0|bad start",
-    "sell||title=T&category=1&start=4000000001&buy_now=x&hours=0|bad start",
-    "sell||title=T&category=1&start=1&buy_now=x&hours=0|bad buy_now",
-    "sell||title=T&category=1&start=1&buy_now=4000000001&hours=0|bad buy_now",
-    "sell||title=T&category=1&start=1&buy_now=1&hours=0|bad hours",
-    "sell||title=T&category=1&start=1&buy_now=1&hours=721|bad hours",
-    "bid||amount=0|bad item",
-    "bid||item=4294967296&amount=1|bad item",
-    "bid||item=7|bad amount",
-    "bid||item=7&amount=4000000001|bad amount",
-    "buy||item=0|bad item",
-    "close||item=x|bad item",
-    "feedback||item=0&good=2|bad item",
-    "feedback||item=1&good=2|bad good",
-    "feedback||item=1&good=1|bad text",
-];
-
-#[test]
-fn the_first_bad_field_is_named(rt: HostRuntime) {
-    for row in BAD {
-        expect_asked(&rt, rt.alloc(), row);
-    }
-}
-
 /// Adds whether an action is read of a form, or the field that is bad.
 fn add_taken(rt: &impl Abort, alloc: Global, words: &mut String, word: &str, form: &str) {
     match asked_action(alloc, asked(word), b"", form.as_bytes()) {
@@ -202,19 +124,78 @@ fn expect_most(rt: &impl Abort, alloc: Global, row: &str) {
     expect_words(rt, words.as_str(), want, row);
 }
 
+/// What asks for an action with the fields of its form, and what has a bad field, of which the first is named.
+const ASKED: &str = "home|page=x|name=|home
+register||name=Ann_1&password=pw|register Ann_1 pw
+signin||password=p+w&name=z|signin z p w
+signout|||signout
+categories|||categories
+add||name=Old+%26+rare|add Old & rare
+browse|||browse 7 0
+browse|page=0||browse 7 0
+browse|page=9999||browse 7 9999
+browse|page=2&page=x|page=3|browse 7 2
+item|||item 7
+user|||user 7
+about|||about
+sell||title=Chair&category=3&start=100&buy_now=0&hours=24|sell Chair 3 100 0 24
+sell||hours=720&buy_now=4000000000&start=4000000000&category=4294967295&title=T|sell T 4294967295 4000000000 4000000000 720
+sell||title=T&category=1&start=1&buy_now=4000000000&hours=1|sell T 1 1 4000000000 1
+bid||item=7&amount=500|bid 7 500
+bid||item=4294967295&amount=4000000000|bid 4294967295 4000000000
+buy||item=1|buy 1
+close||item=9|close 9
+feedback||item=2&good=1&text=fine|feedback 2 true fine
+feedback||item=2&good=0&text=|feedback 2 false 
+form|||form bid
+register|||bad name
+register|name=a&password=b||bad name
+register||name=&password=|bad name
+register||name=a+b&password=pw|bad name
+register||name=%C3%A4&password=pw|bad name
+register||name=abcdefghijklmnopqrstuvwxy&password=pw|bad name
+register||name=abcdefghijklmnopqrstuvwx|bad password
+register||name=a&password=|bad password
+signin||password=pw|bad name
+signin||name=a|bad password
+add|||bad name
+add||name=|bad name
+add||name=12345678901234567890123456789012345678901|bad name
+browse|page=10000||bad page
+browse|page=||bad page
+browse|page=01||bad page
+sell||title=&category=0&start=0&buy_now=x&hours=0|bad title
+sell||title=T&category=0&start=0&buy_now=x&hours=0|bad category
+sell||title=T&category=1&start=0&buy_now=x&hours=0|bad start
+sell||title=T&category=1&start=4000000001&buy_now=x&hours=0|bad start
+sell||title=T&category=1&start=1&buy_now=x&hours=0|bad buy_now
+sell||title=T&category=1&start=1&buy_now=4000000001&hours=0|bad buy_now
+sell||title=T&category=1&start=1&buy_now=1&hours=0|bad hours
+sell||title=T&category=1&start=1&buy_now=1&hours=721|bad hours
+bid||amount=0|bad item
+bid||item=4294967296&amount=1|bad item
+bid||item=7|bad amount
+bid||item=7&amount=4000000001|bad amount
+buy||item=0|bad item
+close||item=x|bad item
+feedback||item=0&good=2|bad item
+feedback||item=1&good=2|bad good
+feedback||item=1&good=1|bad text";
+
 /// How many bytes a text has at most.
-const MOST: &[&str] = &[
-    "register|password=p&name=|24|taken bad name",
-    "register|name=a&password=|72|taken bad password",
-    "signin|name=a&password=|72|taken bad password",
-    "add|name=|40|taken bad name",
-    "sell|category=1&start=1&buy_now=0&hours=1&title=|80|taken bad title",
-    "feedback|item=1&good=0&text=|200|taken bad text",
-];
+const MOST: &str = "register|password=p&name=|24|taken bad name
+register|name=a&password=|72|taken bad password
+signin|name=a&password=|72|taken bad password
+add|name=|40|taken bad name
+sell|category=1&start=1&buy_now=0&hours=1&title=|80|taken bad title
+feedback|item=1&good=0&text=|200|taken bad text";
 
 #[test]
-fn a_text_has_so_many_bytes_at_most(rt: HostRuntime) {
-    for row in MOST {
+fn actions_have_the_fields_of_their_forms(rt: HostRuntime) {
+    for row in ASKED.split('\n') {
+        expect_asked(&rt, rt.alloc(), row);
+    }
+    for row in MOST.split('\n') {
         expect_most(&rt, rt.alloc(), row);
     }
 }

@@ -1,6 +1,6 @@
 //! What is decided of a request, and what is drawn for it.
 
-use crate::words::{add_bytes, add_number, add_text, add_word, cut, expect_words};
+use crate::words::{add_bytes, add_number, add_text, add_word, cut, expect_words, number};
 use auction_calls::ActionCall;
 use crash_base::{FieldText, Moment, RequestNo, SessionBytes};
 use http_wire::{BodyBytes, Head, MethodKind};
@@ -160,63 +160,42 @@ fn expect_decision(rt: &impl Abort, alloc: Global, router: &SiteRouter, row: &st
     expect_words(rt, words.as_str(), want, row);
 }
 
-/// Requests that are refused.
-const REFUSED: &[&str] = &[
-    "PUT /nope none none parts x|404",
-    "POST /item/0 none none parts x|404",
-    "PUT /bid none none parts x|405/2",
-    "GET /bid none none parts x|405/2",
-    "POST /about good token parts x|405/1",
-    "DELETE /categories none none parts x|405/3",
-    "POST /bid none none parts item=0|415",
-    "GET / none none parts x|415",
-    "HEAD /item/7 none none parts x|415",
-    "POST /bid none none whole item=0|400 item",
-    "POST /bid good old whole item=7&amount=0|400 amount",
-    "POST /bid none token whole item=7&amount=5|400 token",
-    "POST /bid broken token whole item=7&amount=5|400 token",
-    "POST /bid foreign token whole item=7&amount=5|400 token",
-    "POST /bid good none whole item=7&amount=5|400 token",
-    "POST /bid good none whole item=7&amount=5&token=ab|400 token",
-    "POST /bid good strange whole item=7&amount=5|400 token",
-    "POST /bid good short whole item=7&amount=5|400 token",
-    "POST /bid good long whole item=7&amount=5|400 token",
-    "POST /bid good upper whole item=7&amount=5|400 token",
-    "POST /bid good old whole item=7&amount=5|409 2/3",
-    "POST /bid good later whole item=7&amount=5|409 4/3",
-    "GET /category/7?page=x good none whole |400 page",
-];
-
-#[test]
-fn the_earlier_refusal_is_told(rt: HostRuntime) {
-    let router = SiteRouter::new(rt.alloc()).expect(&rt, "the routes");
-    for row in REFUSED {
-        expect_decision(&rt, rt.alloc(), &router, row);
-    }
-}
-
-/// Requests that are taken, and what is drawn for them.
-const ORDERS: &[&str] = &[
-    "GET / none none whole |draws request fresh write",
-    "HEAD /?page=x none none whole |draws request fresh write",
-    "GET / broken none whole |draws request fresh write",
-    "GET / good none whole |cookie draws request fresh read write",
-    "GET /form/bid none none whole |draws request token key key fresh write",
-    "HEAD /form/bid none none whole |draws request token key key fresh write",
-    "GET /form/bid foreign none whole |draws request token key key fresh write",
-    "GET /form/bid good none whole |cookie draws request token fresh read write",
-    "POST /bid good token whole item=7&amount=5|3:9 cookie draws fresh read write",
-    "POST /bid good escaped whole item=7&amount=5|3:9 cookie draws fresh read write",
-    "POST /signout good token whole |3:9 cookie draws fresh read write",
-];
-
-#[test]
-fn an_order_draws_what_it_needs(rt: HostRuntime) {
-    let router = SiteRouter::new(rt.alloc()).expect(&rt, "the routes");
-    for row in ORDERS {
-        expect_decision(&rt, rt.alloc(), &router, row);
-    }
-}
+/// Requests that are refused, of which the earlier refusal is told, and requests that are taken, with what is drawn for
+/// them.
+const DECIDED: &str = "PUT /nope none none parts x|404
+POST /item/0 none none parts x|404
+PUT /bid none none parts x|405/2
+GET /bid none none parts x|405/2
+POST /about good token parts x|405/1
+DELETE /categories none none parts x|405/3
+POST /bid none none parts item=0|415
+GET / none none parts x|415
+HEAD /item/7 none none parts x|415
+POST /bid none none whole item=0|400 item
+POST /bid good old whole item=7&amount=0|400 amount
+POST /bid none token whole item=7&amount=5|400 token
+POST /bid broken token whole item=7&amount=5|400 token
+POST /bid foreign token whole item=7&amount=5|400 token
+POST /bid good none whole item=7&amount=5|400 token
+POST /bid good none whole item=7&amount=5&token=ab|400 token
+POST /bid good strange whole item=7&amount=5|400 token
+POST /bid good short whole item=7&amount=5|400 token
+POST /bid good long whole item=7&amount=5|400 token
+POST /bid good upper whole item=7&amount=5|400 token
+POST /bid good old whole item=7&amount=5|409 2/3
+POST /bid good later whole item=7&amount=5|409 4/3
+GET /category/7?page=x good none whole |400 page
+GET / none none whole |draws request fresh write
+HEAD /?page=x none none whole |draws request fresh write
+GET / broken none whole |draws request fresh write
+GET / good none whole |cookie draws request fresh read write
+GET /form/bid none none whole |draws request token key key fresh write
+HEAD /form/bid none none whole |draws request token key key fresh write
+GET /form/bid foreign none whole |draws request token key key fresh write
+GET /form/bid good none whole |cookie draws request token fresh read write
+POST /bid good token whole item=7&amount=5|3:9 cookie draws fresh read write
+POST /bid good escaped whole item=7&amount=5|3:9 cookie draws fresh read write
+POST /signout good token whole |3:9 cookie draws fresh read write";
 
 /// Adds what comes of the draws of an order, whose words count from 1 and whose serial numbers from this one.
 fn add_drawn(rt: &impl Abort, alloc: Global, words: &mut String, order: &Order, serial: u64) {
@@ -239,43 +218,31 @@ fn add_draws(rt: &impl Abort, words: &mut String, word: &str, drawn: &[Draw]) {
     }
 }
 
-/// Asserts what is drawn for the request that a row spells, up to its `|`, where this many serial numbers are left.
-fn expect_drawn(rt: &impl Abort, alloc: Global, router: &SiteRouter, left: u64, row: &str) {
-    let (text, want) = cut(rt, row, '|');
+/// Asserts what is drawn for the request that a row spells, up to its `|`, behind how many serial numbers are left.
+fn expect_drawn(rt: &impl Abort, alloc: Global, router: &SiteRouter, row: &str) {
+    let (left, rest) = cut(rt, row, ' ');
+    let (text, want) = cut(rt, rest, '|');
     let head = request(rt, alloc, text);
     let mut words = String::new(alloc);
     match decide(alloc, router, KEY, 3, &head).expect(rt, row) {
         Decision::Refused(refusal) => add_refusal(rt, &mut words, refusal),
         Decision::Ordered(order) => {
-            let serial = SERIALS_END.wrapping_sub(left);
+            let serial = SERIALS_END.wrapping_sub(number(rt, left));
             add_drawn(rt, alloc, &mut words, &order, serial);
         }
     }
     expect_words(rt, words.as_str(), want, row);
 }
 
-/// How many serial numbers are left, and a request.
-const SPENT: &[(u64, &str)] = &[
-    (0, "GET / none none whole |spent"),
-    (1, "GET / none none whole |spent request fresh"),
-    (2, "GET / none none whole |all request fresh write"),
-    (1, "GET /form/bid none none whole |spent request"),
-    (
-        2,
-        "GET /form/bid none none whole |spent request token key key fresh",
-    ),
-    (0, "POST /signout good token whole |spent fresh"),
-    (1, "POST /signout good token whole |spent fresh read"),
-    (0, "GET /nope none none whole |404"),
-];
-
-#[test]
-fn nothing_is_drawn_behind_a_spent_serial(rt: HostRuntime) {
-    let router = SiteRouter::new(rt.alloc()).expect(&rt, "the routes");
-    for &(left, row) in SPENT {
-        expect_drawn(&rt, rt.alloc(), &router, left, row);
-    }
-}
+/// How many serial numbers are left, and a request. Nothing is drawn behind a spent serial number.
+const SPENT: &str = "0 GET / none none whole |spent
+1 GET / none none whole |spent request fresh
+2 GET / none none whole |all request fresh write
+1 GET /form/bid none none whole |spent request
+2 GET /form/bid none none whole |spent request token key key fresh
+0 POST /signout good token whole |spent fresh
+1 POST /signout good token whole |spent fresh read
+0 GET /nope none none whole |404";
 
 /// What is drawn for an order, where serial numbers and words count from 1.
 fn drawn_for(rt: &impl Abort, alloc: Global, order: &Order) -> DrawnList {
@@ -339,21 +306,23 @@ fn expect_call(rt: &impl Abort, alloc: Global, router: &SiteRouter, row: &str) {
 }
 
 /// Requests, and their calls.
-const CALLED: &[&str] = &[
-    "GET / none none whole |3:1 user 0 key 0 0 0 0 0 0 0 0 0 0 0 0 0 0 0 0 at 1000 fresh 1 no form 0 2",
-    "GET / good none whole |3:1 user 7 key 7 7 7 7 7 7 7 7 7 7 7 7 7 7 7 7 at 1000 fresh 1 no form 2 3",
-    "GET /form/bid none none whole |3:1 user 0 key 0 0 0 0 0 0 0 1 0 0 0 0 0 0 0 2 at 1000 fresh 3 \
-     00000003000000000000000266a8563b58bcd948a9a89c638f0306ae 0 3",
-    "GET /form/bid good none whole |3:1 user 7 key 7 7 7 7 7 7 7 7 7 7 7 7 7 7 7 7 at 1000 fresh 1 \
-     0000000300000000000000024e770db2c7138dee2b3c8ecaa6e48852 3 4",
-    "POST /bid good token whole item=7&amount=5|3:9 user 7 key 7 7 7 7 7 7 7 7 7 7 7 7 7 7 7 7 at 1000 fresh 1 \
-     no form 1 2",
-];
+const CALLED: &str =
+    "GET / none none whole |3:1 user 0 key 0 0 0 0 0 0 0 0 0 0 0 0 0 0 0 0 at 1000 fresh 1 no form 0 2
+GET / good none whole |3:1 user 7 key 7 7 7 7 7 7 7 7 7 7 7 7 7 7 7 7 at 1000 fresh 1 no form 2 3
+GET /form/bid none none whole |3:1 user 0 key 0 0 0 0 0 0 0 1 0 0 0 0 0 0 0 2 at 1000 fresh 3 00000003000000000000000266a8563b58bcd948a9a89c638f0306ae 0 3
+GET /form/bid good none whole |3:1 user 7 key 7 7 7 7 7 7 7 7 7 7 7 7 7 7 7 7 at 1000 fresh 1 0000000300000000000000024e770db2c7138dee2b3c8ecaa6e48852 3 4
+POST /bid good token whole item=7&amount=5|3:9 user 7 key 7 7 7 7 7 7 7 7 7 7 7 7 7 7 7 7 at 1000 fresh 1 no form 1 2";
 
 #[test]
-fn an_order_has_its_call(rt: HostRuntime) {
+fn requests_are_refused_or_ordered(rt: HostRuntime) {
     let router = SiteRouter::new(rt.alloc()).expect(&rt, "the routes");
-    for row in CALLED {
+    for row in DECIDED.split('\n') {
+        expect_decision(&rt, rt.alloc(), &router, row);
+    }
+    for row in SPENT.split('\n') {
+        expect_drawn(&rt, rt.alloc(), &router, row);
+    }
+    for row in CALLED.split('\n') {
         expect_call(&rt, rt.alloc(), &router, row);
     }
 }

@@ -39,76 +39,82 @@ fn expect_number(rt: &impl Abort, alloc: Global, row: &str) {
     expect_words(rt, words.as_str(), want, row);
 }
 
-/// Forms, and their field `a` as a text.
-const TEXTS: &[&str] = &[
-    "a=bc|=bc",
-    "a=b&a=c|=b",
-    "b=1&a=2|=2",
-    "%61=x|=x",
-    "a=b+c|=b c",
-    "a=b%2Bc|=b+c",
-    "a=%26%3D|=&=",
-    "a=%C3%A4|=ä",
-    "a=%FF|=\u{FFFD}",
-    "a=%F|=%F",
-    "a=b=c|=b=c",
-    "&&a=1|=1",
-    "a=abcd|=abcd",
-    "a=abcde|length 5",
-    "a=%FFx%FF|length 7",
-    "a=|length 0",
-    "a|length 0",
-    "|missing",
-    "A=1|missing",
-    "aa=1&b=a|missing",
-    "=1|missing",
-];
+/// Forms, and their field `a` as a text: that of the first pair of its name.
+const TEXTS: &str = "a=bc|=bc
+a=b&a=c|=b
+b=1&a=2|=2
+%61=x|=x
+a=b+c|=b c
+a=b%2Bc|=b+c
+a=%26%3D|=&=
+a=%C3%A4|=ä
+a=%FF|=\u{FFFD}
+a=%F|=%F
+a=b=c|=b=c
+&&a=1|=1
+a=abcd|=abcd
+a=abcde|length 5
+a=%FFx%FF|length 7
+a=|length 0
+a|length 0
+|missing
+A=1|missing
+aa=1&b=a|missing
+=1|missing";
+
+/// Forms, and their field `a` as a number, which has no zero before it.
+const NUMBERS: &str = "a=1|1
+a=65536|65536
+a=7&a=x|7
+a=%37|7
+a=65537|range 65537
+a=0|range 0
+a=9999999999999999999|range 9999999999999999999
+a=10000000000000000000|no number
+a=01|no number
+a=00|no number
+a=+1|no number
+a=-1|no number
+a=1.0|no number
+a= 1|no number
+a=|no number
+a=x&a=7|no number
+b=1|missing";
+
+/// Adds a number, where there is one.
+fn add_found(rt: &impl Abort, words: &mut String, found: Option<u64>) {
+    match found {
+        Some(number) => add_number(rt, words, number),
+        None => add_word(rt, words, "none"),
+    }
+}
+
+/// Asserts what number digits write, of which there are ten at most, and which one where a zero may not come first.
+fn expect_digits(rt: &impl Abort, alloc: Global, row: &str) {
+    let (digits, want) = cut(rt, row, '|');
+    let mut words = String::new(alloc);
+    add_found(rt, &mut words, number_of_digits(digits.as_bytes(), 10));
+    add_found(rt, &mut words, plain_number(digits.as_bytes()));
+    expect_words(rt, words.as_str(), want, row);
+}
+
+/// Zeros first, a letter, nothing, eleven digits, zero and seven.
+const DIGITS: &str = "007|7 none
+7a|none none
+|none none
+12345678901|none 12345678901
+0|0 0
+7|7 7";
 
 #[test]
-fn a_field_is_the_text_of_the_first_pair_of_its_name(rt: HostRuntime) {
-    for row in TEXTS {
+fn fields_are_texts_and_numbers(rt: HostRuntime) {
+    for row in TEXTS.split('\n') {
         expect_text(&rt, rt.alloc(), row);
     }
-}
-
-/// Forms, and their field `a` as a number.
-const NUMBERS: &[&str] = &[
-    "a=1|1",
-    "a=65536|65536",
-    "a=7&a=x|7",
-    "a=%37|7",
-    "a=65537|range 65537",
-    "a=0|range 0",
-    "a=9999999999999999999|range 9999999999999999999",
-    "a=10000000000000000000|no number",
-    "a=01|no number",
-    "a=00|no number",
-    "a=+1|no number",
-    "a=-1|no number",
-    "a=1.0|no number",
-    "a= 1|no number",
-    "a=|no number",
-    "a=x&a=7|no number",
-    "b=1|missing",
-];
-
-#[test]
-fn a_field_is_a_number_without_a_zero_before_it(rt: HostRuntime) {
-    for row in NUMBERS {
+    for row in NUMBERS.split('\n') {
         expect_number(&rt, rt.alloc(), row);
     }
-}
-
-#[test]
-fn digits_write_numbers(rt: HostRuntime) {
-    assert!(rt; number_of_digits(b"007", 10) == Some(7), "zeros first");
-    assert!(rt; number_of_digits(b"7a", 10).is_none(), "a letter");
-    assert!(rt; number_of_digits(b"", 10).is_none(), "nothing");
-    assert!(rt;
-        number_of_digits(b"12345678901", 10).is_none(),
-        "eleven digits"
-    );
-    assert!(rt; plain_number(b"007").is_none(), "zeros first");
-    assert!(rt; plain_number(b"0") == Some(0), "zero");
-    assert!(rt; plain_number(b"7") == Some(7), "seven");
+    for row in DIGITS.split('\n') {
+        expect_digits(&rt, rt.alloc(), row);
+    }
 }

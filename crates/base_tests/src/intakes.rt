@@ -124,52 +124,27 @@ fn expect_intake(rt: &impl Abort, alloc: Global, router: &SiteRouter, row: &str)
     expect_words(rt, words.as_str(), want, row);
 }
 
-/// Requests that are refused.
-const REFUSED: &[&str] = &[
-    "5 900 40 GET /nope good none whole |at 5 404 next 900 40",
-    "6 900 40 POST /about good token whole |at 6 405/1 next 900 40",
-    "7 900 40 POST /bid good old whole item=7&amount=5|at 7 409 2/3 next 900 40",
-    "8 900 4611686018427387904 GET /category/7?page=x good none whole |at 8 400 page next 900 none",
-];
+/// Requests that are refused, for which nothing is drawn; that are served with what is drawn; and for which too few
+/// serial numbers are left, behind which nothing is drawn.
+const INTAKES: &str = "5 900 40 GET /nope good none whole |at 5 404 next 900 40
+6 900 40 POST /about good token whole |at 6 405/1 next 900 40
+7 900 40 POST /bid good old whole item=7&amount=5|at 7 409 2/3 next 900 40
+8 900 4611686018427387904 GET /category/7?page=x good none whole |at 8 400 page next 900 none
+5 900 40 GET / none none whole |at 5 request=40 fresh=900 write=41 as 3:40 call 0 5 900 key 0 0 0 0 write 7.3.41 next 901 42
+6 900 40 GET / good none whole |at 6 request=40 fresh=900 read=41 write=42 as 3:40 call 0 6 900 key 7 7 7 7 read 7.3.41 write 7.3.42 next 901 43
+7 900 40 GET /form/bid none none whole |at 7 request=40 token=41 key=900 key=901 fresh=902 write=42 as 3:40 call 0 7 902 key 3 132 3 133 form 000000030000000000000029 write 7.3.42 next 903 43
+8 900 40 GET /form/bid good none whole |at 8 request=40 token=41 fresh=900 read=42 write=43 as 3:40 call 0 8 900 key 7 7 7 7 form 000000030000000000000029 read 7.3.42 write 7.3.43 next 901 44
+9 900 40 POST /bid good token whole item=7&amount=5|at 9 fresh=900 read=40 write=41 as 3:9 call 0 9 900 key 7 7 7 7 read 7.3.40 write 7.3.41 next 901 42
+5 900 4611686018427387904 GET / none none whole |at 5 unknown spent 4611686018427387904 next 900 none
+5 900 4611686018427387903 GET / none none whole |at 5 request=4611686018427387903 fresh=900 as 3:4611686018427387903 spent 4611686018427387904 next 901 none
+5 900 4611686018427387903 GET /form/bid none none whole |at 5 request=4611686018427387903 as 3:4611686018427387903 spent 4611686018427387904 next 900 none
+5 900 4611686018427387902 GET /form/bid none none whole |at 5 request=4611686018427387902 token=4611686018427387903 key=900 key=901 fresh=902 as 3:4611686018427387902 spent 4611686018427387904 next 903 none
+5 900 4611686018427387904 POST /bid good token whole item=7&amount=5|at 5 fresh=900 as 3:9 spent 4611686018427387904 next 901 none";
 
 #[test]
-fn a_refused_request_draws_nothing(rt: HostRuntime) {
+fn requests_are_taken_in_by_what_is_drawn(rt: HostRuntime) {
     let router = SiteRouter::new(rt.alloc()).expect(&rt, "the routes");
-    for row in REFUSED {
-        expect_intake(&rt, rt.alloc(), &router, row);
-    }
-}
-
-/// Requests that are served.
-const SERVED: &[&str] = &[
-    "5 900 40 GET / none none whole |at 5 request=40 fresh=900 write=41 as 3:40 call 0 5 900 key 0 0 0 0 write 7.3.41 next 901 42",
-    "6 900 40 GET / good none whole |at 6 request=40 fresh=900 read=41 write=42 as 3:40 call 0 6 900 key 7 7 7 7 read 7.3.41 write 7.3.42 next 901 43",
-    "7 900 40 GET /form/bid none none whole |at 7 request=40 token=41 key=900 key=901 fresh=902 write=42 as 3:40 call 0 7 902 key 3 132 3 133 form 000000030000000000000029 write 7.3.42 next 903 43",
-    "8 900 40 GET /form/bid good none whole |at 8 request=40 token=41 fresh=900 read=42 write=43 as 3:40 call 0 8 900 key 7 7 7 7 form 000000030000000000000029 read 7.3.42 write 7.3.43 next 901 44",
-    "9 900 40 POST /bid good token whole item=7&amount=5|at 9 fresh=900 read=40 write=41 as 3:9 call 0 9 900 key 7 7 7 7 read 7.3.40 write 7.3.41 next 901 42",
-];
-
-#[test]
-fn an_ordered_request_is_served_with_what_is_drawn(rt: HostRuntime) {
-    let router = SiteRouter::new(rt.alloc()).expect(&rt, "the routes");
-    for row in SERVED {
-        expect_intake(&rt, rt.alloc(), &router, row);
-    }
-}
-
-/// Requests for which too few serial numbers are left.
-const SPENT: &[&str] = &[
-    "5 900 4611686018427387904 GET / none none whole |at 5 unknown spent 4611686018427387904 next 900 none",
-    "5 900 4611686018427387903 GET / none none whole |at 5 request=4611686018427387903 fresh=900 as 3:4611686018427387903 spent 4611686018427387904 next 901 none",
-    "5 900 4611686018427387903 GET /form/bid none none whole |at 5 request=4611686018427387903 as 3:4611686018427387903 spent 4611686018427387904 next 900 none",
-    "5 900 4611686018427387902 GET /form/bid none none whole |at 5 request=4611686018427387902 token=4611686018427387903 key=900 key=901 fresh=902 as 3:4611686018427387902 spent 4611686018427387904 next 903 none",
-    "5 900 4611686018427387904 POST /bid good token whole item=7&amount=5|at 5 fresh=900 as 3:9 spent 4611686018427387904 next 901 none",
-];
-
-#[test]
-fn nothing_is_drawn_behind_a_spent_number(rt: HostRuntime) {
-    let router = SiteRouter::new(rt.alloc()).expect(&rt, "the routes");
-    for row in SPENT {
+    for row in INTAKES.split('\n') {
         expect_intake(&rt, rt.alloc(), &router, row);
     }
 }

@@ -341,19 +341,23 @@ fn add_draws<S: Serials>(rt: &impl Abort, words: &mut String, serials: &mut S) {
     }
 }
 
+/// The serial number that comes next, and after a colon what three draws answer.
+const SERIALS: &str = "0:0 1 2
+9:9 10 11
+4611686018427387902:4611686018427387902 4611686018427387903 spent 4611686018427387904
+18446744073709551615:spent 18446744073709551615 spent 18446744073709551615 spent 18446744073709551615";
+
+fn expect_serials(rt: &impl Abort, alloc: Global, row: &str) {
+    let (next, want) = cut(rt, row, ':');
+    let mut words = String::new(alloc);
+    add_draws(rt, &mut words, &mut PlainSerials::new(number(rt, next)));
+    expect_words(rt, &words, want, row);
+}
+
 #[test]
 fn serials_are_counted_until_they_are_spent(rt: HostRuntime) {
-    for row in [
-        "0:0 1 2",
-        "9:9 10 11",
-        "4611686018427387902:4611686018427387902 4611686018427387903 spent 4611686018427387904",
-        "18446744073709551615:spent 18446744073709551615 spent 18446744073709551615 spent \
-         18446744073709551615",
-    ] {
-        let (next, want) = cut(&rt, row, ':');
-        let mut words = String::new(rt.alloc());
-        add_draws(&rt, &mut words, &mut PlainSerials::new(number(&rt, next)));
-        expect_words(&rt, &words, want, row);
+    for row in SERIALS.split('\n') {
+        expect_serials(&rt, rt.alloc(), row);
     }
 }
 

@@ -1,6 +1,6 @@
 //! The bytes of responses, written by hand.
 
-use crate::words::expect_bytes;
+use crate::words::{byte, cut, expect_bytes, number};
 use crash_base::{CookieText, PageText};
 use http_wire::{CookieField, ExtraFields, response_bytes};
 use std::alloc::Global;
@@ -25,96 +25,82 @@ fn expect_response(rt: &impl Abort, alloc: Global, status: u16, extra: &ExtraFie
     expect_bytes(rt, bare.as_slice(), head.as_bytes(), head);
 }
 
-#[test]
-fn a_response_has_its_fields_in_order(rt: HostRuntime) {
-    let alloc = rt.alloc();
+/// A response has its fields in order.
+fn expect_order(rt: &impl Abort, alloc: Global) {
     let none = extra(CookieField::None, false, 0, false);
     let head =
         "HTTP/1.1 200 OK\r\nContent-Type: text/html; charset=utf-8\r\nContent-Length: 3\r\n\r\n";
-    expect_response(&rt, alloc, 200, &none, head);
-    let text = CookieText::copied(alloc, b"AbC-_9").expect(&rt, "a cookie");
+    expect_response(rt, alloc, 200, &none, head);
+    let text = CookieText::copied(alloc, b"AbC-_9").expect(rt, "a cookie");
     let all = extra(CookieField::Set(text), true, 3, true);
     let head =
         "HTTP/1.1 503 Service Unavailable\r\nContent-Type: text/html; charset=utf-8\r\nContent-Length: 3\r\n\
                 Set-Cookie: crash=AbC-_9; Path=/; Max-Age=1800; HttpOnly\r\nRetry-After: 2\r\n\
                 Allow: GET, HEAD, POST\r\nConnection: close\r\n\r\n";
-    expect_response(&rt, alloc, 503, &all, head);
+    expect_response(rt, alloc, 503, &all, head);
     let cleared = extra(CookieField::Clear, false, 0, false);
     let head =
         "HTTP/1.1 403 Forbidden\r\nContent-Type: text/html; charset=utf-8\r\nContent-Length: 3\r\n\
                 Set-Cookie: crash=; Path=/; Max-Age=0; HttpOnly\r\n\r\n";
-    expect_response(&rt, alloc, 403, &cleared, head);
+    expect_response(rt, alloc, 403, &cleared, head);
 }
 
-/// Methods that there are, and the field that names them.
-const METHODS: &[(u8, &str)] = &[
-    (1, "Allow: GET, HEAD\r\n"),
-    (2, "Allow: POST\r\n"),
-    (3, "Allow: GET, HEAD, POST\r\n"),
-    (0, ""),
-    (4, ""),
-    (255, ""),
-];
-
-#[test]
-fn a_response_names_the_methods_that_there_are(rt: HostRuntime) {
-    for &(allow, field) in METHODS {
-        let alloc = rt.alloc();
-        let head = format!(in alloc;
-            "HTTP/1.1 405 Method Not Allowed\r\nContent-Type: text/html; charset=utf-8\r\n\
-            Content-Length: 3\r\n{field}\r\n"
-        )
-        .expect(&rt, field);
-        let extra = extra(CookieField::None, false, allow, false);
-        expect_response(&rt, alloc, 405, &extra, head.as_str());
-    }
+/// Asserts that a response of a status, where these methods are there, has this reason and these fields.
+fn expect_head(rt: &impl Abort, alloc: Global, row: &str) {
+    let (status, rest) = cut(rt, row, '|');
+    let (reason, rest) = cut(rt, rest, '|');
+    let (allow, field) = cut(rt, rest, '|');
+    let head = format!(in alloc;
+        "HTTP/1.1 {status} {reason}\r\nContent-Type: text/html; charset=utf-8\r\nContent-Length: 3\r\n{field}\r\n"
+    ).expect(rt, row);
+    let status = number(rt, status);
+    assert!(rt; status < 0x1_0000);
+    let extra = extra(CookieField::None, false, byte(rt, allow), false);
+    expect_response(rt, alloc, status as u16, &extra, head.as_str());
 }
 
-/// Statuses, and their reasons.
-const REASONS: &[(u16, &str)] = &[
-    (200, "OK"),
-    (400, "Bad Request"),
-    (403, "Forbidden"),
-    (404, "Not Found"),
-    (405, "Method Not Allowed"),
-    (409, "Conflict"),
-    (413, "Content Too Large"),
-    (415, "Unsupported Media Type"),
-    (431, "Request Header Fields Too Large"),
-    (500, "Internal Server Error"),
-    (501, "Not Implemented"),
-    (503, "Service Unavailable"),
-    (204, ""),
-    (999, ""),
-    (0, ""),
-    (65_535, ""),
-];
-
-#[test]
-fn a_status_has_its_reason(rt: HostRuntime) {
-    for &(status, reason) in REASONS {
-        let alloc = rt.alloc();
-        let head = format!(in alloc;
-            "HTTP/1.1 {status} {reason}\r\nContent-Type: text/html; charset=utf-8\r\n\
-            Content-Length: 3\r\n\r\n"
-        )
-        .expect(&rt, reason);
-        let extra = extra(CookieField::None, false, 0, false);
-        expect_response(&rt, alloc, status, &extra, head.as_str());
-    }
-}
+/// Methods that there are, and the field that names them; then statuses, and their reasons.
+const HEADS: &str = "405|Method Not Allowed|1|Allow: GET, HEAD\r\n~\
+405|Method Not Allowed|2|Allow: POST\r\n~\
+405|Method Not Allowed|3|Allow: GET, HEAD, POST\r\n~\
+405|Method Not Allowed|0|~\
+405|Method Not Allowed|4|~\
+405|Method Not Allowed|255|~\
+200|OK|0|~\
+400|Bad Request|0|~\
+403|Forbidden|0|~\
+404|Not Found|0|~\
+405|Method Not Allowed|0|~\
+409|Conflict|0|~\
+413|Content Too Large|0|~\
+415|Unsupported Media Type|0|~\
+431|Request Header Fields Too Large|0|~\
+500|Internal Server Error|0|~\
+501|Not Implemented|0|~\
+503|Service Unavailable|0|~\
+204||0|~\
+999||0|~\
+0||0|~\
+65535||0|";
 
 /// The first page of who is signed out has 120 bytes.
-#[test]
-fn a_response_tells_the_length_of_its_page(rt: HostRuntime) {
-    let alloc = rt.alloc();
+fn expect_home(rt: &impl Abort, alloc: Global) {
     let home = "<!doctype html>\n<title>Auctions</title>\n<h1>Auctions</h1>\n<p>Signed out</p>\n\
                 <p><a href=\"/categories\">Categories</a></p>\n";
-    let page = PageText::copied(alloc, home.as_bytes()).expect(&rt, "a page");
+    let page = PageText::copied(alloc, home.as_bytes()).expect(rt, "a page");
     let none = extra(CookieField::None, false, 0, false);
-    let response = response_bytes(alloc, 200, &none, &page, false).expect(&rt, "a response");
+    let response = response_bytes(alloc, 200, &none, &page, false).expect(rt, "a response");
     let want = format!(in alloc;
         "HTTP/1.1 200 OK\r\nContent-Type: text/html; charset=utf-8\r\nContent-Length: 120\r\n\r\n{home}"
-    ).expect(&rt, "a response");
-    expect_bytes(&rt, response.as_slice(), want.as_bytes(), "the first page");
+    ).expect(rt, "a response");
+    expect_bytes(rt, response.as_slice(), want.as_bytes(), "the first page");
+}
+
+#[test]
+fn responses_have_their_bytes(rt: HostRuntime) {
+    expect_order(&rt, rt.alloc());
+    for row in HEADS.split('~') {
+        expect_head(&rt, rt.alloc(), row);
+    }
+    expect_home(&rt, rt.alloc());
 }

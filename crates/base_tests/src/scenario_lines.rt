@@ -133,24 +133,21 @@ report| a|4094|refused";
 
 #[test]
 fn lines_are_read_or_refused(rt: HostRuntime) {
-    expect_lines(&rt, rt.alloc(), FORMS);
-    for table in [
-        SPACES,
-        OTHER_BYTES,
-        OTHER_FORMS,
-        NUMBERS,
-        CALLERS,
-        HEX,
-        NAMES,
-        FAULTS,
-        MISSING,
-        FURTHER,
-    ] {
-        expect_refused(&rt, rt.alloc(), table);
-    }
-    for table in [NAME_LENGTHS, HEX_LENGTHS, LINE_LENGTHS] {
-        expect_lengths(&rt, rt.alloc(), table);
-    }
+    let alloc = rt.alloc();
+    expect_lines(&rt, alloc, FORMS);
+    expect_refused(&rt, alloc, SPACES);
+    expect_refused(&rt, alloc, OTHER_BYTES);
+    expect_refused(&rt, alloc, OTHER_FORMS);
+    expect_refused(&rt, alloc, NUMBERS);
+    expect_refused(&rt, alloc, CALLERS);
+    expect_refused(&rt, alloc, HEX);
+    expect_refused(&rt, alloc, NAMES);
+    expect_refused(&rt, alloc, FAULTS);
+    expect_refused(&rt, alloc, MISSING);
+    expect_refused(&rt, alloc, FURTHER);
+    expect_lengths(&rt, alloc, NAME_LENGTHS);
+    expect_lengths(&rt, alloc, HEX_LENGTHS);
+    expect_lengths(&rt, alloc, LINE_LENGTHS);
 }
 
 /// Texts, each with its first line that has ended and what is left. Commas are between them.

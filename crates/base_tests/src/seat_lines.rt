@@ -45,9 +45,13 @@ bytes s64 |0|7999|refused";
 
 #[test]
 fn lines_are_read_or_refused(rt: HostRuntime) {
-    expect_lines(&rt, rt.alloc(), FORMS);
-    for table in [SPACES, OTHER_FORMS, SEATS, HEX, MISSING, FURTHER] {
-        expect_refused(&rt, rt.alloc(), table);
-    }
-    expect_lengths(&rt, rt.alloc(), LENGTHS);
+    let alloc = rt.alloc();
+    expect_lines(&rt, alloc, FORMS);
+    expect_refused(&rt, alloc, SPACES);
+    expect_refused(&rt, alloc, OTHER_FORMS);
+    expect_refused(&rt, alloc, SEATS);
+    expect_refused(&rt, alloc, HEX);
+    expect_refused(&rt, alloc, MISSING);
+    expect_refused(&rt, alloc, FURTHER);
+    expect_lengths(&rt, alloc, LENGTHS);
 }

@@ -103,20 +103,17 @@ present |a|8185|refused";
 
 #[test]
 fn lines_are_read_or_refused(rt: HostRuntime) {
-    expect_lines(&rt, rt.alloc(), FORMS);
-    for table in [
-        SPACES,
-        OTHER_FORMS,
-        NUMBERS,
-        BRICKS,
-        KEYS,
-        HEX,
-        TEXTS,
-        OUTCOMES,
-        MISSING,
-        FURTHER,
-    ] {
-        expect_refused(&rt, rt.alloc(), table);
-    }
-    expect_lengths(&rt, rt.alloc(), LENGTHS);
+    let alloc = rt.alloc();
+    expect_lines(&rt, alloc, FORMS);
+    expect_refused(&rt, alloc, SPACES);
+    expect_refused(&rt, alloc, OTHER_FORMS);
+    expect_refused(&rt, alloc, NUMBERS);
+    expect_refused(&rt, alloc, BRICKS);
+    expect_refused(&rt, alloc, KEYS);
+    expect_refused(&rt, alloc, HEX);
+    expect_refused(&rt, alloc, TEXTS);
+    expect_refused(&rt, alloc, OUTCOMES);
+    expect_refused(&rt, alloc, MISSING);
+    expect_refused(&rt, alloc, FURTHER);
+    expect_lengths(&rt, alloc, LENGTHS);
 }

@@ -22,6 +22,11 @@ pub fn expect_bytes(rt: &impl Abort, found: &[u8], want: &[u8], row: &str) {
     expect_so(rt, found == want, row);
 }
 
+/// Whether a line of a table is no row, but says what the rows after it are about.
+pub fn is_heading(line: &str) -> bool {
+    line.starts_with("# ")
+}
+
 /// The parts of a row before a mark and after it.
 pub fn cut<'a>(rt: &impl Abort, row: &'a str, mark: char) -> (&'a str, &'a str) {
     row.split_once(mark).expect(rt, row)
