@@ -1,14 +1,14 @@
-//! What the threads of a server work with: links to one house of bricks, clocks that stand or step, and words that are
-//! counted.
+//! What the threads of a server work with: links to one house of bricks, clocks that stand or are moved, and words that
+//! are counted.
 
-ghost use Rattle.std.specs.Prelude.{◌≡◌, ◌<◌};
-ghost use Rattle.outside.specs.declared.clock.TheConstants.{MOMENTS_END};
+ghost use Rattle.std.specs.Prelude.{◌≡◌};
 ghost use Rattle.container_tests.specs.declared.links.TheConstants.{LINKS};
 
 use brick_house::{BrickHouse, HouseLink, HouseSeats};
 use crash_base::{Moment, OutOfMemory, WorkerNo};
-use outside::{Clock, PlainClock, PlainRandom};
+use outside::{Clock, MOMENTS_END, PlainClock, PlainRandom};
 use std::alloc::Global;
+use std::sync::atomic::{AtomicU64, Ordering};
 use std::sync::{Mutex, Wait};
 
 /// How many bricks the house has.
@@ -20,43 +20,76 @@ pub const LINKS: u32 = 4;
 /// What each clock shows at first.
 pub const NOW: u64 = 7;
 
-/// The last moment from which a clock steps on.
-const LAST_STEP: u64 = 1_000_000_000;
-
-/// A clock that shows one second more each time that it was looked at.
+/// The clock of a host, at which all threads look. It shows more behind each look of a thread that moves it.
 #[derive(Drop)]
-pub struct StepClock {
-    clock: PlainClock,
+pub struct HostClock {
+    shown: AtomicU64,
+    /// How many milliseconds more it shows behind each of these looks. The last number is that of each further look, too.
+    steps: &'static [u64],
+    looks: AtomicU64,
 }
 
-impl StepClock {
-    /// A clock that shows this moment.
-    pub fn new(now: Moment) -> StepClock
-        requires { now.0 < MOMENTS_END }
-    {
-        StepClock {
-            clock: PlainClock::new(now),
+impl HostClock {
+    /// A clock at which nobody has looked.
+    pub fn new(steps: &'static [u64]) -> HostClock {
+        HostClock {
+            shown: AtomicU64::new(NOW),
+            steps,
+            looks: AtomicU64::new(0),
         }
+    }
+
+    /// How many looks of threads that move it there were. It has moved by each of them.
+    pub fn looks(&self) -> u64 {
+        self.looks.load(Ordering::SeqCst)
+    }
+
+    /// What it shows.
+    fn look(&self) -> u64 {
+        self.shown.load(Ordering::SeqCst)
+    }
+
+    /// What it shows before it is moved.
+    fn look_and_move(&self) -> u64 {
+        let step = self.steps.get(self.looks() as usize).or(self.steps.last());
+        let step = step.copied().unwrap_or(0);
+        let shown = self.shown.fetch_add(step, Ordering::SeqCst);
+        self.looks.fetch_add(1, Ordering::SeqCst);
+        shown
     }
 }
 
-impl Clock for StepClock {
+/// The clock of a thread, which shows what its host's does.
+#[derive(Drop)]
+pub struct ThreadClock<'a> {
+    host: &'a HostClock,
+    moves: bool,
+    clock: PlainClock,
+}
+
+impl<'a> Clock for ThreadClock<'a> {
     ghost told = { λ c. c.clock.told.0 };
 
     fn now(&mut self) -> Moment {
-        let now = self.clock.now();
-        if now.0 <= LAST_STEP {
-            self.clock.set(Moment(now.0 + 1000));
+        let before = self.clock.now();
+        let shown = if self.moves {
+            self.host.look_and_move()
+        } else {
+            self.host.look()
+        };
+        if shown < before.0 || shown >= MOMENTS_END {
+            return before;
         }
-        now
+        self.clock.set(Moment(shown));
+        self.clock.now()
     }
 }
 
 /// What a thread works with.
 pub type Kit<'a, W> = (HouseLink<'a, W>, PlainClock, PlainRandom);
 
-/// What a thread works with whose clock steps.
-pub type StepKit<'a, W> = (HouseLink<'a, W>, StepClock, PlainRandom);
+/// What a thread works with that looks at its host's clock.
+pub type HostKit<'a, W> = (HouseLink<'a, W>, ThreadClock<'a>, PlainRandom);
 
 /// The words of a thread, which are none of another thread's.
 fn words_of(worker: WorkerNo) -> PlainRandom {
@@ -114,12 +147,22 @@ impl<'a, W: Wait> LinkShelf<'a, W> {
         Ok((link, PlainClock::new(Moment(NOW)), words_of(worker)))
     }
 
-    /// The same with a clock that steps.
+    /// The same with the clock of a host, which this thread moves or does not.
     ///
     /// # Errors
     /// `OutOfMemory` where no link is left.
-    pub fn step_kit(&self, worker: WorkerNo) -> Result<StepKit<'a, W>, OutOfMemory> {
+    pub fn host_kit(
+        &self,
+        worker: WorkerNo,
+        host: &'a HostClock,
+        moves: bool,
+    ) -> Result<HostKit<'a, W>, OutOfMemory> {
         let link = self.take()?;
-        Ok((link, StepClock::new(Moment(NOW)), words_of(worker)))
+        let clock = ThreadClock {
+            host,
+            moves,
+            clock: PlainClock::new(Moment(NOW)),
+        };
+        Ok((link, clock, words_of(worker)))
     }
 }

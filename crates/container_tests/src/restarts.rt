@@ -2,38 +2,35 @@
 
 use crate::clients::Ear;
 use crate::floods::{FloodGate, MORE, Tally};
-use crate::links::LinkShelf;
-use crate::served::{
-    categories_fail, empty_log, house, let_run, let_run_on, log_of, no_rows, of_row, responses,
-    text_of,
-};
-use crate::stories::{ActLog, Ask, StoryGate};
+use crate::links::{HostClock, LinkShelf};
+use crate::served::{categories_fail, house, let_run, log_of, no_rows, of_row, responses};
+use crate::stories::{Ask, StoryGate};
 use auction_rows::CATEGORY_TABLE;
 use crash_base::Level;
-use outside::BytesSink;
 use std::alloc::Global;
 use std::process::Abort;
 use std::sync::Wait;
-use std::sync::atomic::{AtomicU64, Ordering};
+use std::sync::atomic::Ordering;
 use std::thread::Threads;
 
 /// Ann registers. Then Categories fails: three times before its group is rebooted, three times before the application is,
-/// and three times before the process is. At last she looks whether she is known, and is signed in still.
-const ASKS: [Ask; 14] = [
+/// and three times before the process is. At last she looks whether she is known, and is signed in still. At each reboot
+/// but that of the process the clock is looked at twice.
+const ASKS: &[Ask] = &[
     ("/form/register", "", 0),
     ("/register", "name=ann&password=pw1", 0),
     ("/categories", "", 0),
     ("/categories", "", 0),
     ("/categories", "", 0),
-    ("/categories", "", 1),
-    ("/categories", "", 1),
-    ("/categories", "", 1),
-    ("/categories", "", 2),
-    ("/categories", "", 2),
-    ("/categories", "", 2),
-    ("/user/1", "", 3),
     ("/categories", "", 3),
-    ("/about", "", 3),
+    ("/categories", "", 3),
+    ("/categories", "", 3),
+    ("/categories", "", 6),
+    ("/categories", "", 6),
+    ("/categories", "", 6),
+    ("/user/1", "", 7),
+    ("/categories", "", 7),
+    ("/about", "", 7),
 ];
 
 /// What she hears.
@@ -61,87 +58,98 @@ restarting behind 6 entries
 boot 2 started over 3 rows
 ";
 
-/// What nothing helps: Categories fails before and behind each reboot, and goes on so once a person was called.
-const HELPLESS: [Ask; 18] = [
+/// The clock stands.
+const STANDS: &[u64] = &[0];
+
+/// What nothing helps: Categories fails before and behind each reboot, and goes on so behind each look whether a person is
+/// to be called.
+const HELPLESS: &[Ask] = &[
     ("/categories", "", 0),
     ("/categories", "", 0),
     ("/categories", "", 0),
-    ("/categories", "", 1),
-    ("/categories", "", 1),
-    ("/categories", "", 1),
-    ("/categories", "", 2),
-    ("/categories", "", 2),
-    ("/categories", "", 2),
     ("/categories", "", 3),
     ("/categories", "", 3),
     ("/categories", "", 3),
-    ("/categories", "", 4),
-    ("/categories", "", 4),
-    ("/categories", "", 4),
-    ("/categories", "", 4),
-    ("/categories", "", 4),
-    ("/categories", "", 4),
+    ("/categories", "", 6),
+    ("/categories", "", 6),
+    ("/categories", "", 6),
+    ("/categories", "", 7),
+    ("/categories", "", 7),
+    ("/categories", "", 7),
+    ("/categories", "", 8),
+    ("/categories", "", 8),
+    ("/categories", "", 8),
+    ("/categories", "", 9),
+    ("/categories", "", 9),
+    ("/categories", "", 9),
+    ("/categories", "", 10),
+    ("/categories", "", 10),
+    ("/categories", "", 10),
+    ("/", "", 11),
 ];
 
-/// What the operator is told of it: a person is called once, since no moment passes. The entries are that each reboot began
-/// and that it ended.
+/// By how much the clock is moved behind the four looks of the two reboots, and behind those whether a person is to be
+/// called: the second is 29,999 ms behind the first, the third a millisecond later, and the fourth at that moment still.
+const HELPLESS_STEPS: &[u64] = &[0, 0, 0, 0, 29_999, 1, 0];
+
+/// What the operator is told of it: a person is called at the first look and at the third. The entries are that each reboot
+/// began and that it ended.
 const HELPLESS_LOG: &str = "boot 1 started over 0 rows
 rebooted Web, down for 0 ms
 rebooted all, down for 0 ms
 restarting behind 4 entries
 boot 2 started over 0 rows
 human needed
+human needed
 ";
 
-/// Lets a server run to whose gate one client comes, to the end of what it asks. What the operator was told.
-fn run_story<R: Threads + Wait + Abort + Sync>(
+/// Lets a server run to whose gate one client comes that asks this, until Categories is cured so, over a clock that is moved
+/// so. Whether the operator is told this, and what the client hears.
+fn told_and_heard<R: Threads + Wait + Abort + Sync>(
     rt: &R,
     alloc: Global,
-    gate: &StoryGate<'_, R>,
-    acts: &AtomicU64,
-) -> BytesSink {
-    let log = empty_log(rt, alloc);
-    let mut told = ActLog { log, acts };
-    let (status, has_closed, _) = let_run_on(rt, alloc, gate, 1, no_rows(rt, alloc), &mut told);
+    asks: &'static [Ask],
+    cured_by: Level,
+    steps: &'static [u64],
+    want: &str,
+) -> String {
+    let (house, seats) = house(rt, alloc);
+    let shelf = LinkShelf::new(rt, alloc, &house, seats).expect(rt, "links");
+    let ear = Ear::new(alloc);
+    let host = HostClock::new(steps);
+    let fault = categories_fail(cured_by);
+    let gate = StoryGate::new(rt, alloc, shelf, fault, asks, &ear, &host);
+    let ran = let_run(rt, alloc, &gate, 1, no_rows(rt, alloc));
     assert!(rt; !gate.has_given_up());
-    assert!(rt; status == 0);
-    assert!(rt; has_closed);
-    told.log
+    assert!(rt; ran.status == 0);
+    assert!(rt; ran.has_closed);
+    let log = log_of(rt, &ran);
+    assert!(rt; log == want, "{log}");
+    responses(rt, alloc, &ear)
 }
 
 #[test]
 fn rows_stay_where_the_process_is_rebooted(rt: HostRuntime) {
-    let alloc = rt.alloc();
-    let (house, seats) = house(&rt, alloc);
-    let shelf = LinkShelf::new(&rt, alloc, &house, seats).expect(&rt, "links");
-    let fault = categories_fail(Level::Process);
-    let ear = Ear::new(alloc);
-    let acts = AtomicU64::new(0);
-    let gate = StoryGate::new(&rt, alloc, shelf, fault, &ASKS, &ear, &acts);
-    let log = run_story(&rt, alloc, &gate, &acts);
-    let log = text_of(&rt, &log);
-    assert!(rt; log == LOG, "{log}");
-    let found = responses(&rt, alloc, &ear);
+    let found = told_and_heard(&rt, rt.alloc(), ASKS, Level::Process, STANDS, LOG);
     assert!(rt; found.as_str() == RESPONSES, "{found}");
 }
 
 #[test]
-fn a_person_is_called_where_nothing_helps(rt: HostRuntime) {
+fn a_person_is_called_again_while_nothing_helps(rt: HostRuntime) {
     let alloc = rt.alloc();
-    let (house, seats) = house(&rt, alloc);
-    let shelf = LinkShelf::new(&rt, alloc, &house, seats).expect(&rt, "links");
-    let fault = categories_fail(Level::Human);
-    let ear = Ear::new(alloc);
-    let acts = AtomicU64::new(0);
-    let gate = StoryGate::new(&rt, alloc, shelf, fault, &HELPLESS, &ear, &acts);
-    let log = run_story(&rt, alloc, &gate, &acts);
-    let log = text_of(&rt, &log);
-    assert!(rt; log == HELPLESS_LOG, "{log}");
-    let found = responses(&rt, alloc, &ear);
-    let failed = "500 Internal Server Error: Failed\n"
-        .repeat(alloc, 18)
+    let found = told_and_heard(
+        &rt,
+        alloc,
+        HELPLESS,
+        Level::Human,
+        HELPLESS_STEPS,
+        HELPLESS_LOG,
+    );
+    let mut want = "500 Internal Server Error: Failed\n"
+        .repeat(alloc, 21)
         .expect(&rt, "lines");
-    assert!(rt; found == failed, "{found}");
+    want.push_str("200 OK: Auctions\n").expect(&rt, "a line");
+    assert!(rt; found == want, "{found}");
 }
 
 /// What an entry of a page that tells of the bad row counts for: the 4,096 bytes of the row, the 113 of the action's text,

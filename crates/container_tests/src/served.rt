@@ -11,7 +11,7 @@ use container_server::{Gate, SiteConfig, run_serve};
 use crash_base::{
     ComponentNo, FaultKind, FaultPlan, Items, Level, RowBytes, RowId, RowList, RowWrite,
 };
-use outside::{BytesSink, CallList, MapKeeper, Sink};
+use outside::{BytesSink, CallList, MapKeeper};
 use std::alloc::Global;
 use std::fmt::Write;
 use std::process::Abort;
@@ -65,36 +65,12 @@ pub fn of_row(rt: &impl Abort, alloc: Global, table: u8, key: u64, bytes: &[u8])
 /// The key of the service.
 const KEY: &[u8] = b"thirty-two bytes are this key's.";
 
-/// Lets a server run, with sessions that two of three bricks are to store, whose operator is told on this sink. Its
-/// status, whether it gave the last word of its gate back, and its keeper.
-pub fn let_run_on<R: Threads + Wait + Abort + Sync, G: Gate + Sync, E: Sink + Send>(
-    rt: &R,
-    alloc: Global,
-    gate: &G,
-    workers: u16,
-    keeper: MapKeeper,
-    log: &mut E,
-) -> (u8, bool, MapKeeper)
-    requires { (1 ≤ workers) × (workers ≤ 64) }
-{
-    let config = SiteConfig {
-        key: Items::copied(alloc, KEY).expect(rt, "a key"),
-        node: 1,
-        w: 3,
-        wq: 2,
-    };
-    let (status, closed, keeper) = run_serve(
-        rt, alloc, gate, workers, &config, BRICKS, log, keeper,
-    );
-    (status, closed.is_some(), keeper)
-}
-
 /// A log with room for all that a server tells here.
-pub fn empty_log(rt: &impl Abort, alloc: Global) -> BytesSink {
+fn empty_log(rt: &impl Abort, alloc: Global) -> BytesSink {
     BytesSink::new(alloc, 10_000, CallList::new(alloc)).expect(rt, "a log")
 }
 
-/// Lets a server run.
+/// Lets a server run, with sessions that two of three bricks are to store.
 pub fn let_run<R: Threads + Wait + Abort + Sync, G: Gate + Sync>(
     rt: &R,
     alloc: Global,
@@ -104,24 +80,27 @@ pub fn let_run<R: Threads + Wait + Abort + Sync, G: Gate + Sync>(
 ) -> Run
     requires { (1 ≤ workers) × (workers ≤ 64) }
 {
+    let config = SiteConfig {
+        key: Items::copied(alloc, KEY).expect(rt, "a key"),
+        node: 1,
+        w: 3,
+        wq: 2,
+    };
     let mut log = empty_log(rt, alloc);
-    let (status, has_closed, keeper) = let_run_on(rt, alloc, gate, workers, keeper, &mut log);
+    let (status, closed, keeper) = run_serve(
+        rt, alloc, gate, workers, &config, BRICKS, &mut log, keeper,
+    );
     Run {
         status,
-        has_closed,
+        has_closed: closed.is_some(),
         log,
         keeper,
     }
 }
 
-/// The text of a log.
-pub fn text_of<'a>(rt: &impl Abort, log: &'a BytesSink) -> &'a str {
-    std::str::from_utf8(log.as_slice()).expect(rt, "a log")
-}
-
 /// What the operator was told.
 pub fn log_of<'a>(rt: &impl Abort, ran: &'a Run) -> &'a str {
-    text_of(rt, &ran.log)
+    std::str::from_utf8(ran.log.as_slice()).expect(rt, "a log")
 }
 
 /// The status and the heading of each response that a client has heard, in a line each.

@@ -1,13 +1,13 @@
 //! A server to whose gate one client comes, a connection for each request.
 
-ghost use Rattle.std.specs.Prelude.{◌≡◌, [], ◌∷◌, Some};
+ghost use Rattle.std.specs.Prelude.{◌≡◌, [], ◌∷◌};
 
 use crate::clients::{Connection, Ear, EarSink, Ended, connection, request};
-use crate::links::{Kit, LinkShelf};
+use crate::links::{HostClock, HostKit, LinkShelf, ThreadClock};
 use brick_house::HouseLink;
 use container_server::{Gate, Point, Points};
 use crash_base::{FaultList, FaultPlan, OutOfMemory, WorkerNo};
-use outside::{BytesSink, Failed, PlainClock, PlainRandom, Sink, SureSource};
+use outside::{PlainRandom, SureSource};
 use std::alloc::Global;
 use std::sync::Wait;
 use std::sync::atomic::{AtomicU64, Ordering};
@@ -16,29 +16,31 @@ use std::thread::yield_now;
 /// How often the client waits before the gate gives up.
 const WAITS: u64 = 10_000_000;
 
-/// How often threads rest behind the last answer: long enough for what decides to heed the last reports.
-const LAST_RESTS: u64 = 10_000;
+/// The thread that decides, behind the one worker and the thread that sweeps.
+const DECIDER: u32 = 3;
 
-/// A target, the form of an action, if it is one, and how many acts of recovery there were before it is asked for.
+/// A target, the form of an action, if it is one, and how many acts there were of the thread that decides before it is
+/// asked for: its looks at the clock, and reboots once they are over.
 pub type Ask = (&'static str, &'static str, u64);
 
-/// A gate to which one client comes for what it asks, one after the other, and for no more. One worker is to serve it.
+/// A gate to which one client comes for what it asks, one after the other, and for no more. One worker is to serve it. The
+/// thread that decides moves the clock of the host.
 #[derive(Drop)]
 pub struct StoryGate<'a, W: Wait> {
     rt: &'a W,
     alloc: Global,
     shelf: LinkShelf<'a, W>,
     fault: FaultPlan,
-    asks: &'a [Ask],
+    asks: &'static [Ask],
     ear: &'a Ear,
     /// How much was asked for.
     asked: AtomicU64,
-    /// How many acts of recovery there were, and how many of them were seen.
-    acts: &'a AtomicU64,
+    host: &'a HostClock,
+    reboots: AtomicU64,
+    /// How many acts were seen.
     seen: AtomicU64,
-    /// How often the client waited, and how often a thread rested that had nothing to do.
+    /// How often the client waited.
     waits: AtomicU64,
-    rests: AtomicU64,
 }
 
 impl<'a, W: Wait> StoryGate<'a, W> {
@@ -48,9 +50,9 @@ impl<'a, W: Wait> StoryGate<'a, W> {
         alloc: Global,
         shelf: LinkShelf<'a, W>,
         fault: FaultPlan,
-        asks: &'a [Ask],
+        asks: &'static [Ask],
         ear: &'a Ear,
-        acts: &'a AtomicU64,
+        host: &'a HostClock,
     ) -> StoryGate<'a, W> {
         StoryGate {
             rt,
@@ -60,10 +62,10 @@ impl<'a, W: Wait> StoryGate<'a, W> {
             asks,
             ear,
             asked: AtomicU64::new(0),
-            acts,
+            host,
+            reboots: AtomicU64::new(0),
             seen: AtomicU64::new(0),
             waits: AtomicU64::new(0),
-            rests: AtomicU64::new(0),
         }
     }
 
@@ -79,24 +81,16 @@ impl<'a, W: Wait> StoryGate<'a, W> {
     }
 
     /// What is asked for next.
-    fn next_ask(&self) -> Option<&'a Ask> {
+    fn next_ask(&self) -> Option<&'static Ask> {
         self.asks.get(self.asked.load(Ordering::SeqCst) as usize)
     }
 
     /// Whether there were as many acts, and the worker has looked since whether it is to stop.
     fn has_seen(&self, acts: u64) -> bool {
-        let made = self.acts.load(Ordering::SeqCst);
+        let reboots = self.reboots.load(Ordering::SeqCst);
+        let made = self.host.looks().saturating_add(reboots);
         let seen = self.seen.swap(made, Ordering::SeqCst);
         seen == made && made >= acts
-    }
-
-    /// That no more connections come, once threads have rested for long.
-    fn end(&self) -> Result<Option<Connection<'a, W>>, Ended> {
-        if self.rests.load(Ordering::SeqCst) >= LAST_RESTS || self.has_given_up() {
-            return Err(Ended);
-        }
-        self.wait();
-        Ok(None)
     }
 
     /// The connection over which the client asks, by what it has heard.
@@ -111,7 +105,7 @@ impl<'a, W: Wait> StoryGate<'a, W> {
 impl<'a, W: Wait> Points for StoryGate<'a, W> {
     fn pass(&self, _worker: WorkerNo, point: Point) {
         if let Point::Rebooted(_) = point {
-            self.acts.fetch_add(1, Ordering::SeqCst);
+            self.reboots.fetch_add(1, Ordering::SeqCst);
         }
     }
 }
@@ -125,7 +119,7 @@ impl<'a, W: Wait + Sync> Gate for StoryGate<'a, W> {
 
     type L = HouseLink<'a, W>;
 
-    type C = PlainClock;
+    type C = ThreadClock<'a>;
 
     type R = PlainRandom;
 
@@ -133,7 +127,7 @@ impl<'a, W: Wait + Sync> Gate for StoryGate<'a, W> {
 
     fn next(&self, _worker: WorkerNo) -> Result<Option<Connection<'a, W>>, Ended> {
         let Some((target, form, acts)) = self.next_ask() else {
-            return self.end();
+            return Err(Ended);
         };
         if self.has_given_up() {
             return Err(Ended);
@@ -143,15 +137,15 @@ impl<'a, W: Wait + Sync> Gate for StoryGate<'a, W> {
             return Ok(None);
         }
         self.asked.fetch_add(1, Ordering::SeqCst);
-        self.rests.store(0, Ordering::SeqCst);
         match self.ask(target, form) {
             Ok(made) => Ok(Some(made)),
             Err(OutOfMemory) => Err(Ended),
         }
     }
 
-    fn tools(&self, worker: WorkerNo) -> Result<Kit<'a, W>, OutOfMemory> {
-        self.shelf.kit(worker)
+    fn tools(&self, worker: WorkerNo) -> Result<HostKit<'a, W>, OutOfMemory> {
+        let decides = worker.0 == DECIDER;
+        self.shelf.host_kit(worker, self.host, decides)
     }
 
     fn plan(&self) -> Result<FaultList, OutOfMemory> {
@@ -161,28 +155,6 @@ impl<'a, W: Wait + Sync> Gate for StoryGate<'a, W> {
     }
 
     fn rest(&self) {
-        self.rests.fetch_add(1, Ordering::SeqCst);
         yield_now();
-    }
-}
-
-/// A log on which the call of a person counts as an act.
-#[derive(Drop)]
-pub struct ActLog<'a> {
-    pub log: BytesSink,
-    pub acts: &'a AtomicU64,
-}
-
-impl<'a> Sink for ActLog<'a> {
-    ghost written = { λ s. Some s.log.written };
-
-    ghost faults = { λ s. s.log.faults };
-
-    fn write(&mut self, bytes: &[u8]) -> Result<usize, Failed> {
-        let written = self.log.write(bytes);
-        if bytes == b"human needed\n".as_slice() {
-            self.acts.fetch_add(1, Ordering::SeqCst);
-        }
-        written
     }
 }

@@ -3,7 +3,7 @@
 ghost use Rattle.std.specs.Prelude.{◌≡◌, []};
 
 use crate::clients::{Connection, EarSink, Ended};
-use crate::links::{BRICKS, LinkShelf, NOW, StepClock, StepKit};
+use crate::links::{BRICKS, HostClock, HostKit, LinkShelf, NOW, ThreadClock};
 use brick_house::HouseLink;
 use container_server::{Gate, Point, Points};
 use crash_base::{BrickNo, FaultList, FrameBytes, OutOfMemory, SessionKey, Version, WorkerNo};
@@ -24,6 +24,7 @@ pub struct SweptGate<'a, W: Wait> {
     rt: &'a W,
     alloc: Global,
     shelf: LinkShelf<'a, W>,
+    host: &'a HostClock,
     own: Mutex<HouseLink<'a, W>>,
     looks: AtomicU64,
     /// The least moment at which a brick was swept when each had been swept once; 0 before that.
@@ -81,12 +82,14 @@ impl<'a, W: Wait> SweptGate<'a, W> {
         rt: &'a W,
         alloc: Global,
         shelf: LinkShelf<'a, W>,
+        host: &'a HostClock,
     ) -> Result<SweptGate<'a, W>, OutOfMemory> {
         let own = Mutex::new(shelf.take()?);
         Ok(SweptGate {
             rt,
             alloc,
             shelf,
+            host,
             own,
             looks: AtomicU64::new(0),
             first: AtomicU64::new(0),
@@ -131,7 +134,7 @@ impl<'a, W: Wait + Sync> Gate for SweptGate<'a, W> {
 
     type L = HouseLink<'a, W>;
 
-    type C = StepClock;
+    type C = ThreadClock<'a>;
 
     type R = PlainRandom;
 
@@ -149,8 +152,8 @@ impl<'a, W: Wait + Sync> Gate for SweptGate<'a, W> {
         Ok(None)
     }
 
-    fn tools(&self, worker: WorkerNo) -> Result<StepKit<'a, W>, OutOfMemory> {
-        self.shelf.step_kit(worker)
+    fn tools(&self, worker: WorkerNo) -> Result<HostKit<'a, W>, OutOfMemory> {
+        self.shelf.host_kit(worker, self.host, true)
     }
 
     fn plan(&self) -> Result<FaultList, OutOfMemory> {

@@ -1,18 +1,22 @@
 //! Tests of the threads of a server: that bricks are swept, and that a group is rebooted while a request is held.
 
 use crate::clients::Ear;
-use crate::links::LinkShelf;
+use crate::links::{HostClock, LinkShelf};
 use crate::reboots::HoldingGate;
 use crate::served::{categories_fail, house, let_run, log_of, no_rows, responses};
 use crate::sweeps::SweptGate;
 use crash_base::{GroupNo, Level};
+
+/// Each look at the clock takes a second.
+const EACH_SECOND: &[u64] = &[1000];
 
 #[test]
 fn each_brick_is_swept_again_and_again(rt: HostRuntime) {
     let alloc = rt.alloc();
     let (house, seats) = house(&rt, alloc);
     let shelf = LinkShelf::new(&rt, alloc, &house, seats).expect(&rt, "links");
-    let gate = SweptGate::new(&rt, alloc, shelf).expect(&rt, "a gate");
+    let host = HostClock::new(EACH_SECOND);
+    let gate = SweptGate::new(&rt, alloc, shelf, &host).expect(&rt, "a gate");
     let ran = let_run(&rt, alloc, &gate, 1, no_rows(&rt, alloc));
     assert!(rt; gate.are_swept());
     assert!(rt; ran.status == 0);
