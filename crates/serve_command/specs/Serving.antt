@@ -1,5 +1,5 @@
 -- What a server did that was started, and what its operator was told.
-use Rattle.std.specs.Prelude.{◌≡◌, ◌≢◌, ◌⊎◌, ℕ, List, []}
+use Rattle.std.specs.Prelude.{◌≡◌, ◌≢◌, ◌⊎◌, ◌≤◌, ℕ, List, []}
 use Rattle.container_server.specs.Running.{KeeperSeen, RanOver, server_seen}
 use Rattle.crash_base.specs.declared.fault_plans.FaultPlan.{FaultPlan}
 use Rattle.outside.specs.Sink.{AppendsOrFails, appended}
@@ -15,7 +15,7 @@ use Rattle.serve_command.specs.declared.ending.StartFault.{StartFault}
 
 -- A server ran over this keeper and left it so, through a gate that gives such fault plans, and ended with this status.
 -- What it told was handed on, all but what the sink between kept; then came that, and before it a reason, if it is the
--- line of an end.
+-- line of an end. The sink between counted no more faults than came of the one below.
 pub record HasRun (gives : List FaultPlan → Type 0) (status : ℕ) (keeper left : KeeperSeen) (before after : Log) : Type 0 where
   pub end : ServiceEnd
   pub status_is : status ≡ status_of end
@@ -23,12 +23,13 @@ pub record HasRun (gives : List FaultPlan → Type 0) (status : ℕ) (keeper lef
   pub ran : RanOver gives end (server_seen keeper before) (server_seen left (log_of (appended sink.handed sink.kept) sink.faults))
   pub reason : List ℕ
   pub told : AppendsOrFails sink.handed after.written sink.faults after.faults (ending reason sink.kept)
+  pub count : sink.faults ≤ after.faults
 
 -- That no more connections come was told with a reason, if that is why a server ended.
 abbrev pub TellsClosed : ℕ → Log → Log → Type 0
 TellsClosed status before after =
     (reason : List ℕ) × AppendsOrFails before.written after.written before.faults after.faults reason
-    × (status ≢ 0 → after ≡ before)
+    × (before.faults ≤ after.faults) × (status ≢ 0 → after ≡ before)
 
 -- A server ran so over this keeper and left it in some way, and then it was told that no more connections come, if so.
 abbrev pub RanToEnd : (List FaultPlan → Type 0) → ℕ → KeeperSeen → Log → Log → Type 0

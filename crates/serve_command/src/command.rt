@@ -116,6 +116,7 @@ fn tell_closed<E: Sink>(alloc: Global, errors: &mut E, port: u16, closed: Option
     ensures none { closed ≡ None → errors.new ≡ errors.old }
     ensures told { (reason : List ℕ) × AppendsOrFails (E.written errors.old) (E.written errors.new)
         (E.faults errors.old) (E.faults errors.new) reason }
+    ensures count { E.faults errors.old ≤ E.faults errors.new }
 {
     match closed {
         Some(error) => {

@@ -1,6 +1,6 @@
 //! Why a server was not started.
 
-ghost use Rattle.std.specs.Prelude.{◌≡◌, ◌++◌, IfOk};
+ghost use Rattle.std.specs.Prelude.{◌≡◌, ◌≤◌, ◌++◌, IfOk};
 ghost use Rattle.outside.specs.Sink.{AppendsOrFails};
 ghost use Rattle.serve_command.specs.Ending.{IsAbout, key_rule, line_about, reason_in, report_of, status_line, status_of};
 
@@ -92,8 +92,9 @@ impl StartFault {
 
 /// Writes two pieces. Where the first is not written whole, the second is not written.
 pub(crate) fn write_both<E: Sink>(errors: &mut E, first: &[u8], second: &[u8])
-    ensures { AppendsOrFails (E.written errors.old) (E.written errors.new)
+    ensures told { AppendsOrFails (E.written errors.old) (E.written errors.new)
         (E.faults errors.old) (E.faults errors.new) (first.now ++ second.now) }
+    ensures count { E.faults errors.old ≤ E.faults errors.new }
 {
     match write_all(errors, first) {
         Ok(()) => {

@@ -124,8 +124,9 @@ impl<E: Sink + Drop> LastLine<E> {
 
     /// Writes what is kept to the sink below, and gives that back; before it the reason, if it is the line of an end.
     pub fn end(self, reason: &[u8]) -> E
-        ensures { AppendsOrFails self.handed (E.written result) self.faults (E.faults result)
+        ensures told { AppendsOrFails self.handed (E.written result) self.faults (E.faults result)
             (ending reason.now self.kept) }
+        ensures count { self.faults ≤ E.faults result }
     {
         let LastLine {
             alloc: _,

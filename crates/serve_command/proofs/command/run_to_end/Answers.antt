@@ -24,5 +24,6 @@ returns-clause-ran g c =
       sink = sink;
       ran = subst Over (ap (λ w. log_of w faults) (appended_nothing written)) (subst Of {y = new} c.new-last_line.ensures ran.2);
       reason = c.as_slice.result.now;
-      told = c.end-errors.ensures;
+      told = c.end-errors.ensures.told;
+      count = c.end-errors.ensures.count;
     }
