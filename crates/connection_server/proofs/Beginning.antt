@@ -37,7 +37,7 @@ use Rattle.connection_server.specs.declared.connection.Connection.{Connection}
 use Rattle.connection_server.specs.declared.served.ServedEnd.TheVariants.{OutOfMemory}
 use Rattle.connection_server.proofs.Drawn.{drawn_none, drew_just, drew_none}
 use Rattle.connection_server.proofs.Growing.{added_none}
-use Rattle.connection_server.proofs.Reading.{appended_none, prepended_none}
+use Rattle.outside.proofs.Prefixes.{appended_none, prepended_none}
 use Rattle.connection_server.proofs.Seen.{reached_here}
 
 come_none : (begun : Stand) → begun.container.holds ≡ false → begun.windows.holds ≡ false → HasCome begun begun no_course

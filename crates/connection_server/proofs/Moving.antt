@@ -16,6 +16,7 @@ use Rattle.outside.specs.Faults.{Rose}
 use Rattle.outside.specs.Link.{Made}
 use Rattle.outside.specs.Sink.{AppendsPrefix, appended}
 use Rattle.outside.specs.Source.{HasEnded, prepended}
+use Rattle.outside.proofs.Prefixes.{prefix_more}
 use Rattle.outside.specs.declared.link.LinkCounts.{LinkCounts}
 use Rattle.outside.specs.declared.link.LinkEvent.{LinkEvent}
 use Rattle.request_decisions.specs.declared.draws.Draw.{Draw}
@@ -48,7 +49,7 @@ use Rattle.connection_server.specs.declared.connection.Connection.{Connection}
 use Rattle.connection_server.proofs.Drawn.{drawn_on, drew_just, drew_on, seen_on}
 use Rattle.connection_server.proofs.Growing.{held_on, held_seen, held_still, prefix_trans}
 use Rattle.connection_server.proofs.Heeding.{meanwhile, still}
-use Rattle.connection_server.proofs.Reading.{part_on, prepended_none, read_on, written_on}
+use Rattle.connection_server.proofs.Reading.{read_on, written_on}
 use Rattle.connection_server.proofs.Refusing.{hold_refused, next_refused}
 use Rattle.connection_server.proofs.Seen.{reached_here, reached_on}
 
@@ -562,7 +563,7 @@ module _ {L R : Type 0} (calls : L → LinkEvent → L → Type 0) (gives : Give
           ended = λ is. k.served.ended (sym over ∙ is);
           serves = on start c k.served.serves;
         };
-        written = part_on begun.written now.written written c.written bytes k.writes.written part;
+        written = prefix_more begun.written now.written written c.written bytes k.writes.written part;
         failed = rose_on begun.write_faults now.write_faults faults k.served.come.write_faults rose;
         items_are = k.writes.items_are ∙ sym same.items;
         left = left;

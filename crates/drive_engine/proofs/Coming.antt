@@ -7,7 +7,7 @@ use Rattle.scenario_engine.specs.declared.failure.UnstartedCause.{UnstartedCause
 use Rattle.scenario_engine.specs.declared.failure.UnstartedCause.TheVariants as causes
 use Rattle.outside.specs.Sink.{appended}
 use Rattle.outside.specs.Source.{prepended, HasEnded}
-use Rattle.outside.proofs.Prefixes.{appended_more, prepended_more}
+use Rattle.outside.proofs.Prefixes.{appended_more, appended_none, prepended_more, prepended_none}
 use Rattle.scenario_text.specs.Cutting.{lines_of, text_of_lines, IsOneLine}
 use Rattle.scenario_text.specs.Reading.{line_of}
 use Rattle.scenario_text.specs.declared.line.TheConstants.{MAX_LINE_BYTES}
@@ -399,26 +399,18 @@ stops_past_limit left now written old held asked past p law some h =
       stands = law h.turns held asked h.asked;
     }
 
-nothing_read : (left : Option (List ℕ)) → left ≡ prepended [] left
-nothing_read None = refl
-nothing_read (Some bytes) = refl
-
-nothing_written : (written : Option (List ℕ)) → written ≡ appended written []
-nothing_written None = refl
-nothing_written (Some bytes) = ap Some (sym (append-nil bytes))
-
 -- nothing was read yet
 pub comes_first : (left written : Option (List ℕ)) (held : KeeperSeen) → HasCome (exchange left left written written held held) MAX_SCENARIO_BYTES [] [] (first_play held)
 comes_first left written held = record {
   turns = [];
-  taken = nothing_read left;
+  taken = sym (prepended_none left);
   plain = All-nil IsOneLine;
   one = All-nil (λ b. b ≢ 10);
   short = omega arith;
   within = omega arith;
   number = refl;
   done = refl;
-  written = nothing_written written;
+  written = sym (appended_none written);
   asked = none_done held;
 }
 
@@ -428,8 +420,8 @@ stops_at_first left written held law = record {
   before = [];
   state = first;
   between = held;
-  read = record { rest = []; taken = nothing_read left; plain = All-nil IsOneLine; within = omega arith };
-  done = record { done = refl; written = nothing_written written };
+  read = record { rest = []; taken = sym (prepended_none left); plain = All-nil IsOneLine; within = omega arith };
+  done = record { done = refl; written = sym (appended_none written) };
   stands = law [] held held (none_done held);
   last = inl refl;
 }

@@ -1,17 +1,8 @@
 -- What is written of a line, and what is left of it.
-use Rattle.std.proofs.Common.{◌≡◌, ℕ, ◌+◌, ◌-◌, List, [], ◌++◌, length, take, drop, Option, Some, None, append-nil, length-drop, refl, ap, sym, ◌∙◌}
+use Rattle.std.proofs.Common.{◌≡◌, ℕ, ◌+◌, ◌-◌, List, ◌++◌, length, take, drop, Option, ap, sym, ◌∙◌}
 use Rattle.std.proofs.lemmas.List.{drop-drop, take-append-drop}
-use Rattle.std.proofs.Math.Seq.{take-length}
 use Rattle.outside.specs.Sink.{appended}
-use Rattle.outside.proofs.Prefixes.{appended_more}
-
--- nothing was added
-pub appended_nothing : (o : Option (List ℕ)) → appended o [] ≡ o
-appended_nothing None = refl
-appended_nothing (Some xs) = ap Some (append-nil xs)
-
-rest_whole : (xs : List ℕ) (i : ℕ) → take (length xs - i) (drop i xs) ≡ drop i xs
-rest_whole xs i = ap (λ n. take n (drop i xs)) (sym (length-drop i xs)) ∙ take-length (drop i xs)
+use Rattle.outside.proofs.Prefixes.{appended_more, rest_whole}
 
 -- k bytes more were written of what was left behind the first i
 pub rest_step : (o n m : Option (List ℕ)) (bytes : List ℕ) (i k : ℕ) → appended n (drop i bytes) ≡ o

@@ -1,9 +1,10 @@
 //! A gate in front of the tickets. It decides how long a thread waits, and nothing else: no proof speaks of it.
 //!
 //! A lock that serves tickets in order hands over to a thread that does not run as soon as more threads have a ticket
-//! than there are processors, and then each hold waits for the system. So only the thread that holds has a ticket. The
-//! others look for its permit; then they let other threads run between two looks, the one that holds among them; and then
-//! they sleep. Who has slept goes through behind the holder, so nobody is passed by without end.
+//! than there are processors, and then each hold waits for the system. So there is one permit, and who has it takes a
+//! ticket. The others look for it; then they let other threads run between two looks, the one that holds among them;
+//! and then they try to sleep, once. Who tried goes through, with or without the permit: so nobody is passed by without
+//! end, and now and then a few threads have a ticket at once.
 
 use crossbeam_utils::CachePadded;
 use std::hint::spin_loop;
@@ -11,7 +12,7 @@ use std::sync::Wait;
 use std::sync::atomic::{AtomicU64, Ordering};
 use std::thread::yield_now;
 
-/// How many threads have a ticket at once, but for those that slept.
+/// How many permits there are. A thread that tried to sleep goes through without one.
 const PERMITS: u64 = 1;
 
 /// `left` where no permit is left. It is less where threads went through without one.
@@ -81,7 +82,7 @@ impl Gate {
         false
     }
 
-    /// Waits for a permit, and goes through without one behind a sleep.
+    /// Looks for a permit for a while, and goes through without one behind one try to sleep.
     pub fn enter<W: Wait>(&self, rt: &W) {
         if self.pass().is_ok() {
             return;
@@ -96,7 +97,7 @@ impl Gate {
         }
     }
 
-    /// Sleeps where no permit is left, and goes through.
+    /// Sleeps where no permit is left and `left` does not change meanwhile, and goes through.
     fn sleep<W: Wait>(&self, rt: &W) {
         match self.pass() {
             Ok(()) => return,
@@ -112,12 +113,12 @@ impl Gate {
     /// Gives the permit back behind a hold of the ticket, and wakes a thread that sleeps for one where a permit is left
     /// and nobody looks for it, and at each `ROUND`th ticket.
     ///
-    /// To wake a thread costs more than a hold. No sleeper is forgotten: it counts itself before it tries to pass for the
-    /// last time, and `park` returns at once unless `left` is still what it saw then. So whoever sleeps began while
-    /// others were inside, and the last of those to leave finds it counted. It wakes nobody only where another thread
-    /// looks, and that one tries to pass at least once more after this: so it goes through, or a third one has, and
-    /// either leaves as well, or a permit is left and it finds the sleeper counted. Where others come all the time, the
-    /// `ROUND`th ticket wakes.
+    /// To wake a thread costs more than a hold. No sleeper is forgotten: it counts itself before it tries to pass for
+    /// the last time, and `park` returns at once unless `left` is still what it saw then. So whoever sleeps began while
+    /// others were inside, and the last of those to leave finds it counted. That one wakes nobody only where another
+    /// thread looks. Each thread that looks tries to pass at least once more, in `sleep` if not before: so it takes the
+    /// permit that is left here, or another thread has taken it, and whoever took it leaves later and finds the sleeper
+    /// counted. Where others come all the time, the `ROUND`th ticket wakes.
     pub fn leave(&self, ticket: u64) {
         let left = self.left.fetch_add(1, Ordering::SeqCst);
         if self.sleepers.load(Ordering::SeqCst) == 0 {

@@ -9,7 +9,7 @@ use Rattle.connection_server.proofs.Heeding.{stepped}
 use Rattle.connection_server.proofs.Kept.{advance_keeps}
 use Rattle.connection_server.proofs.Drawn.{drawn_none}
 use Rattle.connection_server.proofs.Moving.{wanted, went_on}
-use Rattle.connection_server.proofs.Reading.{prepended_none}
+use Rattle.outside.proofs.Prefixes.{prepended_none}
 use Rattle.connection_server.proofs.Seen.{reached_here}
 use Rattle.connection_server.proofs.steps.advance.Goals as goal
 

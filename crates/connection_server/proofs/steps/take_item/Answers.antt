@@ -8,7 +8,7 @@ use Rattle.connection_server.proofs.Heeding.{still}
 use Rattle.connection_server.proofs.Leaving.{item_kept, item_last}
 use Rattle.connection_server.proofs.Drawn.{drawn_none}
 use Rattle.connection_server.proofs.Moving.{wanted}
-use Rattle.connection_server.proofs.Reading.{prepended_none}
+use Rattle.outside.proofs.Prefixes.{prepended_none}
 use Rattle.connection_server.proofs.Seen.{reached_here}
 use Rattle.connection_server.proofs.steps.take_item.Goals as goal
 

@@ -8,7 +8,7 @@ use Rattle.shepherd.specs.Steps.{TakesRequest}
 use Rattle.connection_server.proofs.Drawn.{drew_at_last, gave_at_last, given_behind, spent_seen}
 use Rattle.connection_server.proofs.Heeding.{still, taken, taken_ended}
 use Rattle.connection_server.proofs.Moving.{took, wanted}
-use Rattle.connection_server.proofs.Reading.{prepended_none}
+use Rattle.outside.proofs.Prefixes.{prepended_none}
 use Rattle.connection_server.proofs.Seen.{reached_here}
 use Rattle.connection_server.proofs.steps.take_request.Goals as goal
 

@@ -3,7 +3,7 @@ use Rattle.container_server.specs.Running.{RanOver, seen, server_seen}
 use Rattle.outside.specs.Sink.{appended}
 use Rattle.service_log.specs.Logging.{Log, log_of}
 use Rattle.serve_command.specs.LastLine.{LastLineValue}
-use Rattle.serve_command.proofs.Rest.{appended_nothing}
+use Rattle.outside.proofs.Prefixes.{appended_none}
 use Rattle.serve_command.proofs.command.run_to_end.Goals as goal
 
 pub returns-clause-ran : goal.returns-clause-ran
@@ -22,7 +22,7 @@ returns-clause-ran g c =
       end = ran.0;
       status_is = ran.1;
       sink = sink;
-      ran = subst Over (ap (λ w. log_of w faults) (appended_nothing written)) (subst Of {y = new} c.new-last_line.ensures ran.2);
+      ran = subst Over (ap (λ w. log_of w faults) (appended_none written)) (subst Of {y = new} c.new-last_line.ensures ran.2);
       reason = c.as_slice.result.now;
       told = c.end-errors.ensures.told;
       count = c.end-errors.ensures.count;
