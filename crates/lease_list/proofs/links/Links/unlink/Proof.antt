@@ -39,7 +39,7 @@ use Rattle.std_alloc.proofs.RcSteps.{Ptr-Good, word, word-Good}
 use Rattle.lease_list.specs.Leases.{Lease, lease, places, first_place, last_place, is_start, all_start}
 use Rattle.lease_list.specs.Ownership.{next_at, prev_at, path, list_owns}
 use Rattle.lease_list.proofs.Facts.{by_nodes, last_block}
-use Rattle.lease_list.proofs.Memory.{Row, args, R, τ, X, D, Lr, Nd, Rm, Z, vo, words, both, room_good, pointer_out, pointer_in, path_cut, stems_cut, Stem, Stems, al, word_had, says_both, links_opens, links_closes}
+use Rattle.lease_list.proofs.Memory.{Row, args, R, τ, X, D, Lr, Nd, Rm, Z, vo, words, any_pointer, both, room_good, pointer_out, pointer_in, path_cut, stems_cut, Stem, Stems, al, word_had, says_both, links_opens, links_closes}
 use Rattle.lease_list.specs.contracts.links.Links.unlink.Key.{name as #self}
 use Rattle.lease_list.proofs.links.Links.unlink.Statement as stated
 use Rattle.lease_list.proofs.links.Links.unlink.Code as code
@@ -147,9 +147,9 @@ module _ (E : Row) {M : Type 1} {𝓤 : Ura M} (𝓛 : Logic 𝓤) (C : Calls �
       rewrite ! 2 (λ (r : Ptr). ‵ (next_at r p)) ea refl $ rewrite ! 3 (λ (r : Ptr). ‵ (prev_at r p)) eq refl $
       sets ! (is ! (of_opd ! (load ! (through ! refl (fld ! refl (stop !))) (look ! 0 refl))) (ap ptr_val ea)) refl (Ptr-Good null_ptr) $ sets ! (is ! (of_opd ! (load ! (through ! refl (fld ! refl (stop !))) (look ! 1 refl))) (ap ptr_val eq)) refl (Ptr-Good null_ptr) $
       sets ! (bin ! (get ! refl) (lit ! tt) tt) refl (tt, tt) $ first ! $ branches ! (get ! refl)
-      (λ yes. assigns_last ! (of_opd ! (get ! refl)) (through ! refl (fld ! refl (stop !))) (store_in ! 5 (sub ! 0 refl (whole !)) (Ptr-Good null_ptr)) $ exec ! C Λ En (after 4 Inner) Then $
+      (λ yes. assigns_last ! (of_opd ! (get ! refl)) (through ! refl (fld ! refl (stop !))) (store_in ! 5 (sub ! 0 refl (whole !)) (search any_pointer)) $ exec ! C Λ En (after 4 Inner) Then $
       sets ! (bin ! (get ! refl) (lit ! tt) tt) refl (tt, tt) $ first ! $ branches ! (get ! refl)
-      (λ yes. assigns_last ! (of_opd ! (get ! refl)) (through ! refl (fld ! refl (stop !))) (store_in ! 5 (sub ! 1 refl (whole !)) (Ptr-Good null_ptr)) $ exec ! C Λ En (after 6 Inner) Then $
+      (λ yes. assigns_last ! (of_opd ! (get ! refl)) (through ! refl (fld ! refl (stop !))) (store_in ! 5 (sub ! 1 refl (whole !)) (search any_pointer)) $ exec ! C Λ En (after 6 Inner) Then $
       sets ! (addr ! (through ! refl (fld ! refl (stop !)))) refl (tt, tt) $ sets ! (of_opd ! (load ! (through ! refl (stop !)) (look ! 4 refl))) refl good $ sets ! (of_opd ! (get ! refl)) refl good $
       sets ! (agg ! (and_then ! (get ! refl) (and_then ! (get ! refl) (no_more !)))) refl (room_good b 0 h fits) $ sets_last ! (agg ! (and_then ! (get ! refl) (and_then ! (get ! refl) (no_more !)))) refl whole_good $ exec ! C Λ En (after 2 (function E).body) (at_ret En Post) $ sets ! (of_opd ! (get ! refl)) refl whole_good $
       rewrite ! 2 (λ (r : Ptr). ‵ (next_at r q)) (sym ea) refl $
@@ -167,10 +167,10 @@ module _ (E : Row) {M : Type 1} {𝓤 : Ura M} (𝓛 : Logic 𝓤) (C : Calls �
       move ! (3 ∷ []) $ pointer_out ! p s (0 + 0) $ move ! (1 ∷ 2 ∷ 3 ∷ 0 ∷ []) $
       sets ! (is ! (of_opd ! (load ! (through ! refl (fld ! refl (stop !))) (look ! 0 refl))) (ap ptr_val ea)) refl (Ptr-Good null_ptr) $ sets ! (is ! (of_opd ! (load ! (through ! refl (fld ! refl (stop !))) (look ! 1 refl))) (ap ptr_val eq)) refl (tt, tt) $
       sets ! (bin ! (get ! refl) (lit ! tt) tt) refl (tt, tt) $ first ! $ branches ! (get ! refl)
-      (λ yes. assigns_last ! (of_opd ! (get ! refl)) (through ! refl (fld ! refl (stop !))) (store_in ! 5 (sub ! 0 refl (whole !)) (tt, tt)) $ exec ! C Λ En (after 4 Inner) Then $
+      (λ yes. assigns_last ! (of_opd ! (get ! refl)) (through ! refl (fld ! refl (stop !))) (store_in ! 5 (sub ! 0 refl (whole !)) (search any_pointer)) $ exec ! C Λ En (after 4 Inner) Then $
       sets ! (bin ! (get ! refl) (lit ! tt) (tests_null (block_ptr s 0) (lit< tt))) refl (tt, tt) $ first ! $ branches ! (get ! refl)
       (λ yes. absurd yes)
-      (λ not. assigns_last ! (of_opd ! (get ! refl)) (through ! refl (fld ! refl (stop !))) (store ! 3 refl (Ptr-Good null_ptr)) $ exec ! C Λ En (after 6 Inner) Then $
+      (λ not. assigns_last ! (of_opd ! (get ! refl)) (through ! refl (fld ! refl (stop !))) (store ! 3 refl (search any_pointer)) $ exec ! C Λ En (after 6 Inner) Then $
       sets ! (addr ! (through ! refl (fld ! refl (stop !)))) refl (tt, tt) $ sets ! (of_opd ! (load ! (through ! refl (stop !)) (look ! 4 refl))) refl good $ sets ! (of_opd ! (get ! refl)) refl good $
       sets ! (agg ! (and_then ! (get ! refl) (and_then ! (get ! refl) (no_more !)))) refl (room_good b 0 h fits) $ sets_last ! (agg ! (and_then ! (get ! refl) (and_then ! (get ! refl) (no_more !)))) refl whole_good $ exec ! C Λ En (after 2 (function E).body) (at_ret En Post) $ sets ! (of_opd ! (get ! refl)) refl whole_good $
       rewrite ! 2 (λ (r : Ptr). ‵ (next_at r q)) (sym ea) refl $
@@ -189,9 +189,9 @@ module _ (E : Row) {M : Type 1} {𝓤 : Ura M} (𝓛 : Logic 𝓤) (C : Calls �
       sets ! (is ! (of_opd ! (load ! (through ! refl (fld ! refl (stop !))) (look ! 0 refl))) (ap ptr_val ea)) refl (tt, tt) $ sets ! (is ! (of_opd ! (load ! (through ! refl (fld ! refl (stop !))) (look ! 1 refl))) (ap ptr_val eq)) refl (Ptr-Good null_ptr) $
       sets ! (bin ! (get ! refl) (lit ! tt) (tests_null (block_ptr t 0) (lit< tt))) refl (tt, tt) $ first ! $ branches ! (get ! refl)
       (λ yes. absurd yes)
-      (λ not. assigns_last ! (of_opd ! (get ! refl)) (through ! refl (fld ! refl (stop !))) (store ! 2 refl (Ptr-Good null_ptr)) $ exec ! C Λ En (after 4 Inner) Then $
+      (λ not. assigns_last ! (of_opd ! (get ! refl)) (through ! refl (fld ! refl (stop !))) (store ! 2 refl (search any_pointer)) $ exec ! C Λ En (after 4 Inner) Then $
       sets ! (bin ! (get ! refl) (lit ! tt) tt) refl (tt, tt) $ first ! $ branches ! (get ! refl)
-      (λ yes. assigns_last ! (of_opd ! (get ! refl)) (through ! refl (fld ! refl (stop !))) (store_in ! 5 (sub ! 1 refl (whole !)) (tt, tt)) $ exec ! C Λ En (after 6 Inner) Then $
+      (λ yes. assigns_last ! (of_opd ! (get ! refl)) (through ! refl (fld ! refl (stop !))) (store_in ! 5 (sub ! 1 refl (whole !)) (search any_pointer)) $ exec ! C Λ En (after 6 Inner) Then $
       sets ! (addr ! (through ! refl (fld ! refl (stop !)))) refl (tt, tt) $ sets ! (of_opd ! (load ! (through ! refl (stop !)) (look ! 4 refl))) refl good $ sets ! (of_opd ! (get ! refl)) refl good $
       sets ! (agg ! (and_then ! (get ! refl) (and_then ! (get ! refl) (no_more !)))) refl (room_good b 0 h fits) $ sets_last ! (agg ! (and_then ! (get ! refl) (and_then ! (get ! refl) (no_more !)))) refl whole_good $ exec ! C Λ En (after 2 (function E).body) (at_ret En Post) $ sets ! (of_opd ! (get ! refl)) refl whole_good $
       move ! (2 ∷ []) $ pointer_in ! null_ptr t (0 + 8) $ rewrite ! 0 (λ (u : Ptr × Ptr). ‵ (next_at u.0 u.1)) (λ i. (sym ea i, sym eq i)) refl $ move ! (1 ∷ 2 ∷ 0 ∷ []) $
@@ -210,10 +210,10 @@ module _ (E : Row) {M : Type 1} {𝓤 : Ura M} (𝓛 : Logic 𝓤) (C : Calls �
       sets ! (is ! (of_opd ! (load ! (through ! refl (fld ! refl (stop !))) (look ! 0 refl))) (ap ptr_val ea)) refl (tt, tt) $ sets ! (is ! (of_opd ! (load ! (through ! refl (fld ! refl (stop !))) (look ! 1 refl))) (ap ptr_val eq)) refl (tt, tt) $
       sets ! (bin ! (get ! refl) (lit ! tt) (tests_null (block_ptr t 0) (lit< tt))) refl (tt, tt) $ first ! $ branches ! (get ! refl)
       (λ yes. absurd yes)
-      (λ not. assigns_last ! (of_opd ! (get ! refl)) (through ! refl (fld ! refl (stop !))) (store ! 2 refl (tt, tt)) $ exec ! C Λ En (after 4 Inner) Then $
+      (λ not. assigns_last ! (of_opd ! (get ! refl)) (through ! refl (fld ! refl (stop !))) (store ! 2 refl (search any_pointer)) $ exec ! C Λ En (after 4 Inner) Then $
       sets ! (bin ! (get ! refl) (lit ! tt) (tests_null (block_ptr s 0) (lit< tt))) refl (tt, tt) $ first ! $ branches ! (get ! refl)
       (λ yes. absurd yes)
-      (λ not. assigns_last ! (of_opd ! (get ! refl)) (through ! refl (fld ! refl (stop !))) (store ! 3 refl (tt, tt)) $ exec ! C Λ En (after 6 Inner) Then $
+      (λ not. assigns_last ! (of_opd ! (get ! refl)) (through ! refl (fld ! refl (stop !))) (store ! 3 refl (search any_pointer)) $ exec ! C Λ En (after 6 Inner) Then $
       sets ! (addr ! (through ! refl (fld ! refl (stop !)))) refl (tt, tt) $ sets ! (of_opd ! (load ! (through ! refl (stop !)) (look ! 4 refl))) refl good $ sets ! (of_opd ! (get ! refl)) refl good $
       sets ! (agg ! (and_then ! (get ! refl) (and_then ! (get ! refl) (no_more !)))) refl (room_good b 0 h fits) $ sets_last ! (agg ! (and_then ! (get ! refl) (and_then ! (get ! refl) (no_more !)))) refl whole_good $ exec ! C Λ En (after 2 (function E).body) (at_ret En Post) $ sets ! (of_opd ! (get ! refl)) refl whole_good $
       move ! (2 ∷ []) $ pointer_in ! (block_ptr s 0) t (0 + 8) $ rewrite ! 0 (λ (u : Ptr × Ptr). ‵ (next_at u.0 u.1)) (λ i. (sym ea i, sym eq i)) refl $ move ! (1 ∷ 2 ∷ 0 ∷ []) $
