@@ -19,9 +19,11 @@
 //! call visits about log n of n expiries, and a drop each item once.
 #![tactic(auto)]
 
+mod laws;
 mod lists;
 #[cfg(test)]
 mod tests;
 mod wheel;
 
+pub use laws::items_are_due_when_the_grace_is_over;
 pub use wheel::{LeaseWheel, WheelItem, WheelNode};
