@@ -1,3 +1,4 @@
+mod Added
 mod Beginning
 pub mod Crossing
 mod Drawn
@@ -6,6 +7,7 @@ mod Growing
 mod Heeding
 mod Kept
 mod Leaving
+mod Marked
 mod Moving
 mod Reading
 mod Refusing

@@ -12,6 +12,7 @@ ghost use Rattle.container_core.specs.declared.history.Event.TheVariants.{Starte
 ghost use Rattle.crash_base.specs.declared.numbers.Place.{Place};
 ghost use Rattle.http_wire.specs.Requests.{requests};
 ghost use Rattle.http_wire.specs.declared.taken.Head.{Head};
+ghost use Rattle.outcome_items.specs.Traces.{window_traces};
 ghost use Rattle.outcome_items.specs.declared.item.Item.{Item};
 ghost use Rattle.outcome_items.specs.declared.outcome.ItemOutcome.TheVariants as item;
 ghost use Rattle.outside.specs.Faults.{Rose};
@@ -29,6 +30,7 @@ ghost use Rattle.send_windows.specs.declared.history.WindowMark.{WindowMark};
 ghost use Rattle.send_windows.specs.declared.history.WindowMark.TheVariants as mark;
 ghost use Rattle.served_items.specs.Attributing.{Service, TakenIn, drawn_for_all, taken_heads};
 ghost use Rattle.served_items.specs.Served.{IsServedFor};
+ghost use Rattle.shepherd.specs.Accounting.{traces_in};
 ghost use Rattle.shepherd.specs.Standing.{ending_of};
 ghost use Rattle.shepherd.specs.declared.shepherd.EndKind.TheVariants as ends;
 ghost use Rattle.site_programs.specs.Errands.{IsMadeOf};
@@ -61,7 +63,13 @@ use std::marker::Brand;
 /// request may have been taken in, and bytes, words and serial numbers behind may be lost; else none are, and the words
 /// lead to where the source is.
 ///
-/// However the call ended, also where memory was wanted: its seat of words is the one that it began with, but for the
+/// However the call ended, also where memory was wanted: its seat of the container is of the lock that it was of, with
+/// its parts, and at home, and has seen what it had seen, and more behind it if there is more. It added events at
+/// places that rise, behind what it had seen: those that the items tell of, in order, and where memory was wanted one
+/// more at most (`added`). Its seat of the windows likewise left marks: those that the items tell of, which leave out
+/// how many passes were taken, and where memory was wanted those of one more request at most. Behind passes that it
+/// took, its next mark is that it spent them (`marked`). The last moment of its clock did not fall, nor did the counts
+/// of faults of its source and of its sink (`onward`). Its seat of words is the one that it began with, but for the
 /// numbers that it drew and for what it saw of serial words, which did not fall (`words`). A serial number that an item
 /// tells of as spent was seen by that seat (`spent`). Full windows that an item tells of were so where passes were
 /// refused in the history of the windows: fewer were open then than a write needs, and these are all others (`full`).
@@ -151,9 +159,41 @@ pub fn served_connections_tell_how_they_ended<L: Link, C: Clock, R: Random>()
     ensures added { (from to : L) (random random_after : R) (service : Service SiteMaker)
         (begun now : Stand) (told : ServedValue)
         → HasServedConnection L.makes from to R.gives random random_after service begun now told
-        → (places : List ℕ) × (now.container.own ≡ begun.container.own ++ places)
+        → (now.container.lock ≡ begun.container.lock) × (now.container.parts ≡ begun.container.parts)
+        × (now.container.holds ≡ false)
+        × ((since : List Event) × (now.container.seen ≡ begun.container.seen ++ since))
+        × ((places : List ℕ) × (now.container.own ≡ begun.container.own ++ places)
         × ((before behind : List ℕ) (place : ℕ) → places ≡ before ++ place ∷ behind
-        → (length begun.container.seen ≤ place) × (place < length now.container.seen)) }
+        → (length begun.container.seen ≤ place) × (place < length now.container.seen))
+        × ((before behind : List ℕ) (place next : ℕ) → places ≡ before ++ place ∷ next ∷ behind → place < next)
+        × ((more : List Event) × (length more ≤ 1) × ((told.ended ≡ ServedEnd.OutOfMemory → ⊥) → more ≡ [])
+        × (map (λ (place : ℕ). slice_get now.container.seen place) places
+        ≡ map (λ (event : Event). Some event) (traces_in now.container.seen told.items ++ more)))) }
+    ensures marked { (from to : L) (random random_after : R) (service : Service SiteMaker)
+        (begun now : Stand) (told : ServedValue)
+        → HasServedConnection L.makes from to R.gives random random_after service begun now told
+        → (now.windows.lock ≡ begun.windows.lock) × (now.windows.parts ≡ begun.windows.parts)
+        × (now.windows.holds ≡ false)
+        × ((since : List WindowMark) × (now.windows.seen ≡ begun.windows.seen ++ since))
+        × ((places : List ℕ) × (now.windows.own ≡ begun.windows.own ++ places)
+        × ((before behind : List ℕ) (place : ℕ) → places ≡ before ++ place ∷ behind
+        → (length begun.windows.seen ≤ place) × (place < length now.windows.seen))
+        × ((before behind : List ℕ) (place next : ℕ) → places ≡ before ++ place ∷ next ∷ behind → place < next)
+        × ((marks : List WindowMark)
+        × (map (λ (place : ℕ). slice_get now.windows.seen place) places ≡ map (λ (m : WindowMark). Some m) marks)
+        × ((first behind : List WindowMark) (passes : ℕ) → marks ≡ first ++ mark.Taken passes ∷ behind
+        → (rest : List WindowMark) × (behind ≡ mark.Spent ∷ rest))
+        × ((more : List WindowMark) × ((told.ended ≡ ServedEnd.OutOfMemory → ⊥) → more ≡ [])
+        × ((more ≡ []) ⊎ ((more ≡ mark.Refused ∷ []) ⊎ (more ≡ mark.Taken 0 ∷ mark.Spent ∷ [])))
+        × (length marks ≡ length (window_traces told.items ++ more))
+        × ((n : ℕ) (m t : WindowMark) → slice_get marks n ≡ Some m
+        → slice_get (window_traces told.items ++ more) n ≡ Some t
+        → (t ≡ m) ⊎ ((passes : ℕ) × (m ≡ mark.Taken passes) × (t ≡ mark.Taken 0)))))) }
+    ensures onward { (from to : L) (random random_after : R) (service : Service SiteMaker)
+        (begun now : Stand) (told : ServedValue)
+        → HasServedConnection L.makes from to R.gives random random_after service begun now told
+        → (begun.moment ≤ now.moment) × (begun.read_faults ≤ now.read_faults)
+        × (begun.write_faults ≤ now.write_faults) }
     ensures words { (from to : L) (random random_after : R) (service : Service SiteMaker)
         (begun now : Stand) (told : ServedValue)
         → HasServedConnection L.makes from to R.gives random random_after service begun now told

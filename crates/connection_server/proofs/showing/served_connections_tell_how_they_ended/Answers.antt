@@ -1,4 +1,4 @@
-use Rattle.std.proofs.Common.{◌≡◌, Bool, Option, Some, ◌⊎◌, inl, inr, ◌≤◌, ◌<◌, ◌+◌, ◌∙◌, ℕ, suc, zero, false, List, [], ◌∷◌, ◌++◌, All, ap, append-nil, arith, length, map, refl, slice_get, subst, sym, take}
+use Rattle.std.proofs.Common.{◌≡◌, Bool, Option, Some, ◌⊎◌, inl, inr, ◌≤◌, ◌+◌, ◌∙◌, ℕ, suc, zero, false, List, [], ◌∷◌, ◌++◌, All, ap, append-nil, arith, length, map, refl, slice_get, subst, sym, take}
 use Rattle.std.proofs.lemmas.List.{append_assoc, length-map}
 use Rattle.std.proofs.lemmas.List.Elements.{All-head, All-tail, All-weaker}
 use Rattle.container_core.specs.History.{is_stopped}
@@ -20,11 +20,13 @@ use Rattle.served_connections.specs.Spent.{spent_in}
 use Rattle.served_items.specs.Counting.{AreReached, last_counts}
 use Rattle.served_items.specs.Attributing.{Service, TakenIn, WasTakenIn, taken_heads}
 use Rattle.served_items.specs.Served.{AreServed, IsServedFor, ServedItem}
+use Rattle.shepherd.specs.Accounting.{traces_in}
 use Rattle.shepherd.specs.Answering.{AreResponses, Response}
 use Rattle.shepherd.specs.declared.shepherd.EndKind.{EndKind}
 use Rattle.site_programs.specs.declared.maker.SiteMaker.{SiteMaker}
 use Rattle.crash_base.specs.declared.numbers.Place.{Place}
 use Rattle.http_wire.specs.Requests.{Requests, requests}
+use Rattle.outcome_items.specs.Traces.{uncounted, window_traces}
 use Rattle.outcome_items.specs.declared.item.Item.{Item}
 use Rattle.outcome_items.specs.declared.outcome.ItemOutcome.{ItemOutcome}
 use Rattle.outcome_items.specs.declared.outcome.ItemOutcome.TheVariants as item
@@ -34,7 +36,7 @@ use Rattle.connection_server.specs.Closing.{AllHaveCome, EndsBy}
 use Rattle.connection_server.specs.Ending.{AllServed, FirstServed, HasServedAllOf, HasTakenAll, ServedBy, WroteAll}
 use Rattle.connection_server.specs.Heeding.{WasFound}
 use Rattle.connection_server.specs.Refusing.{WereRefused}
-use Rattle.connection_server.specs.Seats.{RiseFrom}
+use Rattle.connection_server.specs.Seats.{HasAdded}
 use Rattle.connection_server.specs.Stands.{GivesAll, HasSeen, Stand, began_at}
 use Rattle.connection_server.specs.declared.served.ServedEnd.{ServedEnd}
 use Rattle.connection_server.specs.declared.served.ServedEnd.TheVariants.{Closed, Cut, Refused, Stopped, ReadFault, WriteFault, OutOfMemory}
@@ -47,11 +49,13 @@ use Rattle.served_connections.specs.Telling.{HasServed}
 use Rattle.served_connections.proofs.Among.{AreAmong}
 use Rattle.served_connections.proofs.Findings.{IsAmong, among_more, each_found}
 use Rattle.served_connections.proofs.Heard.{item_among}
-use Rattle.served_connections.proofs.Shown.{next_there}
+use Rattle.served_connections.proofs.Shown.{next_there, none_unspent}
 use Rattle.seat_serials.specs.Drawing.{SeatLooks}
 use Rattle.site_programs.specs.Errands.{IsMadeOf}
 use Rattle.site_responses.specs.declared.answer.Untaken.{Untaken}
+use Rattle.connection_server.proofs.Added.{added_at}
 use Rattle.connection_server.proofs.Full.{FullAtRefusal, full_at}
+use Rattle.connection_server.proofs.Marked.{AreOfRequest, each_told, taken_are_spent}
 use Rattle.connection_server.proofs.Seen.{last_is as last_counted}
 use Rattle.connection_server.proofs.showing.served_connections_tell_how_they_ended.Goals as goal
 
@@ -63,18 +67,6 @@ running history items h = All-weaker (λ (i : Item). WasFound history i.holds fa
 last_is : (front : Place) (before : List Item) (last : Item) → last_front front (before ++ last ∷ []) ≡ last.holds.front
 last_is front [] last = refl
 last_is front (i ∷ before) last = last_is i.holds.front before last
-
--- places that rise are no less than the first
-risen : (least : ℕ) (before behind : List ℕ) (place : ℕ) → RiseFrom least (before ++ place ∷ behind) → least ≤ place
-risen least [] behind place rise = rise.0
-risen least (p ∷ before) behind place rise =
-    let first = rise.0 in
-    let rest = risen (p + 1) before behind place rise.1 in
-    omega (arith, first, rest)
-
-each_below : (top : ℕ) (before behind : List ℕ) (place : ℕ) → All (λ (p : ℕ). p < top) (before ++ place ∷ behind) → place < top
-each_below top [] behind place all = All-head (λ (p : ℕ). p < top) place behind all
-each_below top (p ∷ before) behind place all = each_below top before behind place (All-tail (λ (q : ℕ). q < top) p (before ++ place ∷ behind) all)
 
 some_same : (a b : ServedEnd) → Some a ≡ Some b → a ≡ b
 some_same a b is = cc
@@ -141,20 +133,23 @@ module _ {L R : Type 0} (calls : L → LinkEvent → L → Type 0) (gives : Give
   read_all start course all (inl h) is = (course.fed, h.took.read, ap length is ∙ all ends.Closed h.ended)
   read_all start course all (inr h) is = (course.fed, h.took.read, ap length is ∙ all ends.Cut h.ended)
 
-  -- A call has served what its course tells, up to here; and no request is open then, unless memory was wanted.
+  -- A call has served what its course tells, up to here; and no request is open then, unless memory was wanted: then it
+  -- has added one event at most, and left the marks of one request.
   record ServedSo (start : Start) (course : Course) (end : ServedEnd) : Type 0 where
     pub opened : List Head
     pub last : List ℕ
     pub own : List Event
     pub marks : List WindowMark
     pub so : HasServed steps_of calls (λ (maker : SiteMaker). IsMadeOf) gives SeatLooks service start (began_at begun) now.container.seen now.moment course opened last own marks
-    pub whole : (end ≡ OutOfMemory → ⊥) → opened ≡ []
+    pub whole : (end ≡ OutOfMemory → ⊥) → (opened ≡ []) × (own ≡ []) × (marks ≡ [])
+    pub few : length own ≤ 1
+    pub of_one : AreOfRequest marks
 
   all_so : (start : Start) (course : Course) (so_ended : EndKind) (end : ServedEnd) → AllServed calls gives service begun now start course so_ended → ServedSo start course end
-  all_so start course so_ended end h = record { opened = []; last = last_of so_ended; own = []; marks = []; so = h.whole; whole = λ not. refl }
+  all_so start course so_ended end h = record { opened = []; last = last_of so_ended; own = []; marks = []; so = h.whole; whole = λ not. (refl, refl, refl); few = omega arith; of_one = inl refl }
 
   first_so : (start : Start) (course : Course) (end : ServedEnd) → FirstServed calls gives service begun now start course → ServedSo start course end
-  first_so start course end h = record { opened = []; last = []; own = []; marks = []; so = h; whole = λ not. refl }
+  first_so start course end h = record { opened = []; last = []; own = []; marks = []; so = h; whole = λ not. (refl, refl, refl); few = omega arith; of_one = inl refl }
 
   served_so : (start : Start) (course : Course) (end : ServedEnd) → ServedBy calls gives service begun now start course end → ServedSo start course end
   served_so start course Closed h = all_so start course ends.Closed Closed h.all.ended
@@ -176,6 +171,8 @@ module _ {L R : Type 0} (calls : L → LinkEvent → L → Type 0) (gives : Give
     marks = h.stopped.open_marks;
     so = h.stopped.served;
     whole = λ not. absurd (not refl);
+    few = h.stopped.few;
+    of_one = none_unspent h.stopped.open_marks h.stopped.of_one h.stopped.spent;
   }
 
 -- a call stands among these
@@ -307,14 +304,56 @@ returns-clause-front g c = λ from to random random_after service begun now told
 
 pub returns-clause-added : goal.returns-clause-added
 returns-clause-added g c = λ from to random random_after service begun now told h.
-    let added = h.served.so.so.come.container in (
-      added.places,
-      added.own,
-      λ before behind place is. (
-        risen (length begun.container.seen) before behind place (subst (λ (ps : List ℕ). RiseFrom (length begun.container.seen) ps) is added.rise),
-        each_below (length now.container.seen) before behind place (subst (λ (ps : List ℕ). All (λ (p : ℕ). p < length now.container.seen) ps) is added.within),
+    let there = h.served.so.so in
+    let course : Course = there.course in
+    let end : Stand = record now { heard = h.served.heard; given = h.served.so.given } in
+    let all = served_so g.L.Link.makes g.R.Random.gives service begun end told.items there.start course told.ended there.served in
+    let traces : course.own ≡ traces_in now.container.seen told.items ++ all.own =
+    all.so.accounted.events ∙ ap (λ (items : List Item). traces_in now.container.seen items ++ all.own) (sym there.items_are) in
+    let added = added_at begun.container now.container (traces_in now.container.seen told.items ++ all.own) (subst (λ (own : List Event). HasAdded begun.container now.container own) traces there.come.container) in
+    let at = added.4 in
+    (added.0, added.1, added.2, added.3, (at.0, at.1, at.2, at.3, (all.own, all.few, λ not. (all.whole not).1, at.4)))
+
+pub returns-clause-marked : goal.returns-clause-marked
+returns-clause-marked g c = λ from to random random_after service begun now told h.
+    let there = h.served.so.so in
+    let course : Course = there.course in
+    let end : Stand = record now { heard = h.served.heard; given = h.served.so.given } in
+    let all = served_so g.L.Link.makes g.R.Random.gives service begun end told.items there.start course told.ended there.served in
+    let marks : List WindowMark = there.come.marks in
+    let tell : List WindowMark = window_traces told.items ++ all.marks in
+    let traces : map uncounted marks ≡ tell =
+    sym there.come.marks_are ∙ all.so.accounted.marks_are ∙ ap (λ (items : List Item). window_traces items ++ all.marks) (sym there.items_are) in
+    let added = added_at begun.windows now.windows marks there.come.windows in
+    let at = added.4 in (
+      added.0,
+      added.1,
+      added.2,
+      added.3,
+      (
+        at.0,
+        at.1,
+        at.2,
+        at.3,
+        (
+          marks,
+          at.4,
+          taken_are_spent marks all.marks told.items traces all.of_one,
+          (
+            all.marks,
+            λ not. (all.whole not).2,
+            all.of_one,
+            sym (length-map marks uncounted) ∙ ap length traces,
+            λ n m t is tells. each_told marks n m t is (ap (λ (l : List WindowMark). slice_get l n) traces ∙ tells),
+          ),
+        ),
       ),
     )
+
+pub returns-clause-onward : goal.returns-clause-onward
+returns-clause-onward g c = λ from to random random_after service begun now told h.
+    let come = h.served.so.so.come in
+    (come.moment, come.read_faults, come.write_faults)
 
 pub returns-clause-items : goal.returns-clause-items
 returns-clause-items g c = λ from to random random_after service begun now told h.
@@ -364,7 +403,7 @@ returns-clause-items g c = λ from to random random_after service begun now told
                     took.more,
                     took.drew,
                     λ not. (
-                      nothing_open all.so.responses all.so.served (all.whole not),
+                      nothing_open all.so.responses all.so.served (all.whole not).0,
                       (took.just not).0,
                       (took.just not).1,
                       words.leads ∙ given.stays (λ is. not (some_same told.ended OutOfMemory is)),
