@@ -16,7 +16,7 @@ use Rattle.outside.specs.Faults.{Rose}
 use Rattle.outside.specs.Link.{Made}
 use Rattle.outside.specs.Sink.{AppendsPrefix, appended}
 use Rattle.outside.specs.Source.{HasEnded, prepended}
-use Rattle.outside.proofs.Prefixes.{prefix_more}
+use Rattle.outside.proofs.Prefixes.{prefix_more, prepended_none}
 use Rattle.outside.specs.declared.link.LinkCounts.{LinkCounts}
 use Rattle.outside.specs.declared.link.LinkEvent.{LinkEvent}
 use Rattle.request_decisions.specs.declared.draws.Draw.{Draw}
