@@ -1,6 +1,6 @@
 //! The command.
 
-ghost use Rattle.std.specs.Prelude.{◌≡◌, ◌≢◌, ◌≤◌, ℕ, List, IfOk, MatchOption, None, OnErr, string_bytes};
+ghost use Rattle.std.specs.Prelude.{◌≡◌, ◌≢◌, ◌≤◌, ℕ, List, IfOk, MatchOption, None, OnErr, box_value, string_bytes};
 ghost use Rattle.container_server.specs.Running.{seen};
 ghost use Rattle.outside.specs.Sink.{AppendsOrFails};
 ghost use Rattle.service_log.specs.Logging.{WritesLine, log_of};
@@ -41,7 +41,9 @@ fn open_last<K: Keeper + Drop>(
     port: u16,
     key: Items<u8>,
     keeper: K,
-) -> Result<Opened<K>, StartFault> {
+) -> Result<Opened<K>, StartFault>
+    ensures { IfOk result (λ opened. opened.keeper ≡ keeper) }
+{
     match open_door(host, port) {
         Ok(door) => Ok(Opened { key, keeper, door }),
         Err(fault) => Err(fault),
@@ -49,7 +51,9 @@ fn open_last<K: Keeper + Drop>(
 }
 
 /// Opens what the words name: the file of the key, the database and the port, in this order.
-fn open(host: &HostRuntime, words: &ServeWords<'_>) -> Result<Opened<FileKeeper>, StartFault> {
+fn open(host: &HostRuntime, words: &ServeWords<'_>) -> Result<Opened<FileKeeper>, StartFault>
+    ensures { IfOk result (λ opened. (box_value opened.keeper.inner).faults ≡ 0) }
+{
     let key = open_key(host, words.key_file)?;
     match open_keeper(host, words.file) {
         Ok(keeper) => open_last(host, words.port, key, keeper),
@@ -260,7 +264,7 @@ pub fn serve<R: Threads + Wait + Clock + RandomSource + Sync, E: Sink + Send + D
 ) -> (u8, E)
     requires some { 1 ≤ words.now.workers }
     requires few { words.now.workers ≤ 64 }
-    ensures { (faults : ℕ) × HasServedShop words.now result.0 (seen None faults)
+    ensures { HasServedShop words.now result.0 (seen None 0)
         (log_of (E.written errors) (E.faults errors)) (log_of (E.written result.1) (E.faults result.1)) }
 {
     match open(host, words) {

@@ -11,8 +11,15 @@
 //! back, until `reasons` has said why.
 //!
 //! What is promised is of these words, keys, statuses and lines, exactly: `serve_words` with the law
-//! `serve_is_spelled_by_five_words`, `read_key` and `report_fault`. What the system opens, reads, accepts, tells and draws
-//! no contract can say: `opening`, `gate`, `house` and `command` are short, and to be read.
+//! `serve_is_spelled_by_five_words`, `read_key` and `report_fault`. Of `serve` it is `HasServedShop` of
+//! `specs/Serving`. It tells why nothing was started, as far as no write fails, and the status is that of the fault; or
+//! it tells what it serves, likewise and if there is memory for the line, and then a server ran as `run_serve`
+//! promises, over a keeper that tells nothing and has not failed yet, with no fault plans, and the status is that of
+//! its end. What stands between the server and `errors` counts no faults but those of that sink, and what it keeps is
+//! written last, behind the reason; or a part of this, or nothing of it, where a write failed.
+//!
+//! What the system opens, reads, accepts, tells and draws no contract can say, nor that what was opened is what is
+//! served with: `opening`, `gate`, `house` and the rest of `command` are short, and to be read.
 //!
 //! A keeper is on the heap, and each thread's link and random source are made before the first connection is taken.
 #![tactic(auto)]

@@ -1,6 +1,9 @@
 //! What a server opens: the file of the key, the database and the port.
 //!
-//! This file is trusted: no contract says what the system opens and reads.
+//! This file is trusted: no contract says what the system opens and reads, but that a keeper that was opened has not
+//! failed yet.
+
+ghost use Rattle.std.specs.Prelude.{◌≡◌, IfOk, box_value};
 
 use crate::ending::{StartFault, key_refused, start_failed};
 use crate::file_keeper::FileKeeper;
@@ -105,7 +108,9 @@ fn keeper_over<S: Alter + Send + Drop>(
     alloc: Global,
     path: &[u8],
     connection: Connection<S>,
-) -> Result<Box<SqlKeeper<S>>, StartFault> {
+) -> Result<Box<SqlKeeper<S>>, StartFault>
+    ensures { IfOk result (λ keeper. (box_value keeper).faults ≡ 0) }
+{
     match SqlKeeper::new(connection) {
         Ok(keeper) => match Box::new(alloc, keeper) {
             Ok(keeper) => Ok(keeper),
@@ -120,7 +125,9 @@ fn keeper_over<S: Alter + Send + Drop>(
 }
 
 /// Opens the keeper whose rows are in the database in a file.
-pub(crate) fn open_keeper(host: &HostRuntime, path: &[u8]) -> Result<FileKeeper, StartFault> {
+pub(crate) fn open_keeper(host: &HostRuntime, path: &[u8]) -> Result<FileKeeper, StartFault>
+    ensures { IfOk result (λ keeper. (box_value keeper.inner).faults ≡ 0) }
+{
     match open_database(host, path) {
         Ok(connection) => match keeper_over(host.alloc(), path, connection) {
             Ok(inner) => Ok(FileKeeper { inner }),
