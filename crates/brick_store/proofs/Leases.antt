@@ -17,7 +17,7 @@ use Rattle.lease_wheel.specs.Wheels.{is_due}
 use Rattle.brick_store.specs.declared.kept.Kept.{Kept}
 use Rattle.brick_store.specs.declared.kept_map.Pair.{Pair}
 use Rattle.brick_store.specs.declared.kept_map.Lease.{Lease}
-use Rattle.brick_store.specs.Kept.{kept_under, with_kept, bytes_of, size_of, is_late, outlives}
+use Rattle.brick_store.specs.Kept.{kept_under, with_kept, bytes_of, is_late, outlives}
 use Rattle.brick_store.specs.Pairs.{pair_of, kept_at, kept_in}
 use Rattle.brick_store.specs.Tied.{pair_order, is_pair, value_at, leased_by, Has, AreTied}
 use Rattle.brick_store.proofs.KeptOrder.{pair_exact, kept_total, is_eq-kept_order, query}
@@ -70,11 +70,6 @@ kept_in-found key version (e ∷ es) =
     let p = pair_of key version in
     found_step p e (lookup (is_at (pair_order p)) es) (pair_order p e.0) refl
     ∙ (λ l. cond (is_eq-kept_order (query key version) (kept_at e) l) (Some (kept_at e)) (kept_in-found key version es l))
-
--- how many bytes there are at a pair
-pub size_found : (key : SessionKey) (version : Version) (es : List Entry) (found : Option Lease) → value_at (pair_of key version) es ≡ found
-    → size_of (kept_under key version (kept_in es)) ≡ size_of (option_map (λ lease. kept_at (pair_of key version, lease)) found)
-size_found key version es found is = ap size_of (sym (kept_in-found key version es)) ∙ ap (λ f. size_of (option_map (λ lease. kept_at (pair_of key version, lease)) f)) is
 
 -- the bytes of the others, where a lease goes
 pub bytes_out : (p : Pair) (es : List Entry) (lease : Lease) → value_at p es ≡ Some lease → bytes_of (kept_in es) ≡ length lease.value + bytes_of (kept_in (remove_entry (is_pair p) es))

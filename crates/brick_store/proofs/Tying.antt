@@ -154,6 +154,13 @@ put_back node item other ds mid new ordered is left =
 pub stands_added : (node : WheelNode) (item : WheelItem) (ds mid : List Leased) → mid ≡ with_leased (named node item) ds → Stands mid node
 stands_added node item ds mid is = let a = added (named node item) ds in (item, (a.before, a.after, is ∙ a.new))
 
+-- what stands on the wheel stands there still where an item is added
+pub stands_still : (node : WheelNode) (item : WheelItem) (c : Leased) (ds mid : List Leased) → mid ≡ with_leased c ds → Has ds (named node item) → Stands mid node
+stands_still node item c ds mid is has =
+    let a = added c ds in
+    let r = has_more a.before c a.after (named node item) (subst (λ zs. Has zs (named node item)) a.old has) in
+    (item, (r.0, r.1, is ∙ a.new ∙ r.2))
+
 -- what follows where it is this pair, and where it is another
 by_pair : {Y : Type 0} (p q : Pair) → (is_pair p q ≡ true → Y) → (is_pair p q ≡ false → Y) → Y
 by_pair {Y = Y} p q same other = go (is_pair p q) refl

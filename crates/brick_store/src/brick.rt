@@ -10,7 +10,7 @@ ghost use Rattle.brick_store.specs.History.{later};
 ghost use Rattle.brick_store.specs.Standing.{StandsFor, heard};
 ghost use Rattle.brick_store.specs.Kept.{with_kept, kept_under, bytes_of, is_full};
 
-use crate::kept::{Kept, MAX_BRICK_BYTES, MAX_BRICK_VALUES};
+use crate::kept::{MAX_BRICK_BYTES, MAX_BRICK_VALUES, copied_value};
 use crate::kept_map::KeptMap;
 use crate::laws::bricks_stand_for_their_history;
 use crash_base::{BrickNo, Moment, OutOfMemory, SessionBytes, SessionKey, Version};
@@ -44,13 +44,6 @@ fn later(a: Moment, b: Moment) -> Moment
     ensures { result ≡ later a b }
 {
     if a.0 < b.0 { b } else { a }
-}
-
-/// A copy of a value.
-fn copied_value(alloc: Global, value: &SessionBytes) -> Result<SessionBytes, OutOfMemory>
-    ensures { IfOk result (λ copy. copy ≡ value.now) }
-{
-    Ok(SessionBytes::from_vec(Vec::from_slice(alloc, value.as_slice())?))
 }
 
 /// Whether a brick that keeps these values has no room for this one.
@@ -164,16 +157,6 @@ impl Brick {
         self.incarnation += 1;
     }
 
-    /// Keeps a value that it has room for.
-    fn keep(&mut self, kept: Kept) -> Result<(), OutOfMemory>
-        requires { is_full self.old.kept kept ≡ false }
-        ensures ok { OnOk result (self.new ≡ record (self.old) { kept = with_kept kept self.old.kept }) }
-        ensures err { OnErr result (self.new ≡ self.old) }
-    {
-        self.kept.put(kept)?;
-        Ok(())
-    }
-
     /// Keeps a copy of a value, if there is room, and replies.
     fn put(
         &mut self,
@@ -189,30 +172,23 @@ impl Brick {
         ensures err { OnErr result (self.new ≡ self.old) }
         ensures memory { OnErr result (is_full self.old.kept (put_value key version expiry value.now) ≡ false) }
     {
-        if is_full(&self.kept, key, version, expiry, value) {
-            return Ok(Frame::BrickFull {
+        if self.kept.put(alloc, key, version, expiry, value)? {
+            return Ok(Frame::Stored {
                 nonce,
                 key,
                 version,
                 brick: self.number,
                 incarnation: self.incarnation,
-                entries: self.kept.len() as u32,
-                bytes: self.kept.bytes(),
             });
         }
-        let value = copied_value(alloc, value)?;
-        self.keep(Kept {
-            key,
-            version,
-            expiry,
-            value,
-        })?;
-        Ok(Frame::Stored {
+        Ok(Frame::BrickFull {
             nonce,
             key,
             version,
             brick: self.number,
             incarnation: self.incarnation,
+            entries: self.kept.len() as u32,
+            bytes: self.kept.bytes(),
         })
     }
 

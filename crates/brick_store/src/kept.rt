@@ -1,6 +1,9 @@
 //! A value that a brick keeps, and the limits of a brick.
 
-use crash_base::{Moment, SessionBytes, SessionKey, Version};
+ghost use Rattle.std.specs.Prelude.{◌≡◌, IfOk};
+
+use crash_base::{Moment, OutOfMemory, SessionBytes, SessionKey, Version};
+use std::alloc::Global;
 
 /// The most values that a brick keeps.
 pub const MAX_BRICK_VALUES: u64 = 65_536;
@@ -19,4 +22,11 @@ pub struct Kept {
     pub expiry: Moment,
     /// The value.
     pub value: SessionBytes,
+}
+
+/// A copy of a value.
+pub(crate) fn copied_value(alloc: Global, value: &SessionBytes) -> Result<SessionBytes, OutOfMemory>
+    ensures { IfOk result (λ copy. copy ≡ value.now) }
+{
+    Ok(SessionBytes::from_vec(Vec::from_slice(alloc, value.as_slice())?))
 }

@@ -1,23 +1,27 @@
 //! Kept values in an ordered map, and the names of their nodes in a wheel, which finds what a sweep takes.
 
-ghost use Rattle.std.specs.Prelude.{◌≡◌, ◌≤◌, ◌^◌, ◌<◌, [], length, filter, option_map, IsSome, IfOk, OnOk, OnErr, Some, None, if◌then◌else◌};
+ghost use Rattle.std.specs.Prelude.{◌≡◌, ◌≤◌, ◌^◌, ◌<◌, ◌||◌, nat_lt, nat_le, false, not, [], length, filter, option_map, IsSome, IfOk, OnOk, OnErr, Some, None, if◌then◌else◌};
 ghost use Rattle.std.specs.BTreeMap as tree;
 ghost use Rattle.std.specs.Map.{remove_entry};
 ghost use Rattle.crash_base.specs.declared.bounded.TheConstants.{MAX_SESSION_BYTES};
 ghost use Rattle.lease_wheel.specs.declared.wheel.WheelItem.{WheelItem};
-ghost use Rattle.lease_wheel.specs.Wheels.{Stands, Leaves, AreInOrder as AreInTurn};
-ghost use Rattle.brick_store.specs.declared.kept.TheConstants.{MAX_BRICK_BYTES};
-ghost use Rattle.brick_store.specs.Kept.{with_kept, kept_under, bytes_of, size_of, outlives, AreInOrder};
+ghost use Rattle.lease_wheel.specs.Wheels.{named, with_leased, Stands, Leaves, AreInOrder as AreInTurn};
+ghost use Rattle.brick_store.specs.declared.kept.TheConstants.{MAX_BRICK_BYTES, MAX_BRICK_VALUES};
+ghost use Rattle.brick_store.specs.Bricks.{put_value};
+ghost use Rattle.brick_store.specs.Kept.{with_kept, kept_under, bytes_of, is_full, outlives, AreInOrder};
 ghost use Rattle.brick_store.specs.Pairs.{pair_of, kept_at, kept_in};
 ghost use Rattle.brick_store.specs.declared.kept_map.Pair.{Pair};
-ghost use Rattle.brick_store.specs.Tied.{pair_order, is_pair, value_at, AreTied};
+ghost use Rattle.brick_store.specs.Tied.{pair_order, is_pair, value_at, Has, AreTied};
+ghost use Rattle.brick_store.specs.Puts.{CanPut, PutEnds, RenewEnds};
 
-use crate::kept::Kept;
+use crate::kept::{MAX_BRICK_BYTES, MAX_BRICK_VALUES, copied_value};
 use crash_base::{Moment, OutOfMemory, SessionBytes, SessionKey, Version};
 use lease_wheel::{LeaseWheel, WheelItem, WheelNode};
 use std::alloc::Global;
 use std::collections::BTreeMap;
+use std::collections::btree_map::Entry;
 use std::marker::Model;
+use std::mem::replace;
 
 /// Where a value is kept: by key, and of one key by version.
 #[derive(Clone, Copy, PartialEq, Eq, PartialOrd, Ord)]
@@ -93,31 +97,93 @@ fn let_go(wheel: &mut LeaseWheel, lease: Lease) -> u64
     size
 }
 
-/// Keeps a value, in place of one under its key and version, and says how many bytes that one has. The new one is on
-/// the wheel and in the map before the old one leaves the wheel.
-fn put_in(leases: &mut Leases, wheel: &mut LeaseWheel, kept: Kept) -> Result<u64, OutOfMemory>
-    requires { AreTied leases.old.entries wheel.old }
-    ensures tied { AreTied leases.new.entries wheel.new }
-    ensures kept { OnOk result (kept_in leases.new.entries ≡ with_kept kept (kept_in leases.old.entries)) }
-    ensures size { IfOk result (λ less. less
-        ≡ size_of (kept_under kept.key kept.version (kept_in leases.old.entries))) }
-    ensures small { IfOk result (λ less. less ≤ MAX_SESSION_BYTES) }
-    ensures err { OnErr result (leases.new.entries ≡ leases.old.entries) }
+/// A lease of a copy of a value, which is on the wheel. Where memory runs out, the wheel is as it was.
+fn lease_of(
+    wheel: &mut LeaseWheel,
+    alloc: Global,
+    item: WheelItem,
+    expiry: Moment,
+    value: &SessionBytes,
+) -> Result<Lease, OutOfMemory>
+    ensures wheel { IfOk result (λ lease. wheel.new ≡ with_leased (named lease.node item) wheel.old) }
+    ensures lease { IfOk result (λ lease. (lease.node.expiry ≡ expiry) × (lease.value ≡ value.now)) }
+    ensures ordered { OnOk result (AreInTurn wheel.new) }
+    ensures err { OnErr result (wheel.new ≡ wheel.old) }
 {
-    let item = WheelItem {
-        key: kept.key,
-        version: kept.version,
-    };
-    let node = wheel.add(kept.expiry, item)?;
-    let pair = pair_of(kept.key, kept.version);
-    let value = kept.value;
-    match leases.insert(pair, Lease { node, value }) {
-        Ok(None) => Ok(0),
-        Ok(Some(old)) => Ok(let_go(wheel, old)),
-        Err(back) => {
-            let (_, lease) = back.value;
-            let _size = let_go(wheel, lease);
-            Err(OutOfMemory)
+    let value = copied_value(alloc, value)?;
+    let node = wheel.add(expiry, item)?;
+    Ok(Lease { node, value })
+}
+
+/// Puts a copy of a value in place of the one of a lease, and says how many bytes are kept then; None exactly where these
+/// would be too many. The new node is on the wheel before the old one leaves it.
+fn renew(
+    lease: &mut Lease,
+    wheel: &mut LeaseWheel,
+    bytes: u64,
+    alloc: Global,
+    item: WheelItem,
+    expiry: Moment,
+    value: &SessionBytes,
+) -> Result<Option<u64>, OutOfMemory>
+    requires stands { Has wheel.old (named lease.old.node item) }
+    requires less { length lease.old.value ≤ bytes }
+    requires few { bytes ≤ MAX_BRICK_BYTES }
+    ensures { RenewEnds lease.old lease.new wheel.old wheel.new bytes item expiry value.now result }
+{
+    let size = value.as_slice().len() as u64;
+    let less = lease.value.as_slice().len() as u64;
+    if bytes + size > MAX_BRICK_BYTES + less {
+        return Ok(None);
+    }
+    let renewed = lease_of(wheel, alloc, item, expiry, value)?;
+    let old = replace(lease, renewed);
+    let _size = let_go(wheel, old);
+    Ok(Some(bytes + size - less))
+}
+
+/// Whether so many values leave no room for one more, with which they have so many bytes.
+fn is_full_with(values: u64, bytes: u64) -> bool
+    ensures { result ≡ (nat_le MAX_BRICK_VALUES values || nat_lt MAX_BRICK_BYTES bytes) }
+{
+    values >= MAX_BRICK_VALUES || bytes > MAX_BRICK_BYTES
+}
+
+/// Keeps a copy of a value, in place of one under its key and version, and says how many bytes are kept then; None
+/// exactly where there is no room. It searches the pairs once, and the map makes room only for a pair that it gets.
+fn put_in(
+    leases: &mut Leases,
+    wheel: &mut LeaseWheel,
+    bytes: u64,
+    alloc: Global,
+    item: WheelItem,
+    expiry: Moment,
+    value: &SessionBytes,
+) -> Result<Option<u64>, OutOfMemory>
+    requires { CanPut leases.old.entries wheel.old bytes }
+    ensures tied { AreTied leases.new.entries wheel.new }
+    ensures ok { IfOk result (PutEnds (put_value item.key item.version expiry value.now)
+        (kept_in leases.old.entries) (kept_in leases.new.entries)) }
+    ensures err { OnErr result (leases.new.entries ≡ leases.old.entries) }
+    ensures memory { OnErr result (is_full (kept_in leases.old.entries)
+        (put_value item.key item.version expiry value.now) ≡ false) }
+{
+    let size = value.as_slice().len() as u64;
+    let pair = pair_of(item.key, item.version);
+    if is_full_with(leases.len() as u64, bytes + size) {
+        return match leases.get_mut(&pair) {
+            Some(lease) => renew(lease, wheel, bytes, alloc, item, expiry, value),
+            None => Ok(None),
+        };
+    }
+    match leases.entry(pair)? {
+        Entry::Occupied(entry) => {
+            renew(entry.into_mut(), wheel, bytes, alloc, item, expiry, value)
+        }
+        Entry::Vacant(entry) => {
+            let lease = lease_of(wheel, alloc, item, expiry, value)?;
+            entry.insert(lease);
+            Ok(Some(bytes + size))
         }
     }
 }
@@ -200,19 +266,31 @@ impl KeptMap {
         lease_under(&self.leases, key, version)
     }
 
-    /// Keeps a value, in place of one under its key and version. It visits about log n of n values.
-    pub(crate) fn put(&mut self, kept: Kept) -> Result<(), OutOfMemory>
-        requires { bytes_of (with_kept kept self.old) ≤ MAX_BRICK_BYTES }
-        ensures ok { OnOk result (self.new ≡ with_kept kept self.old) }
+    /// Keeps a copy of a value, in place of one under its key and version; false exactly where there is no room. It
+    /// visits about log n of n values.
+    pub(crate) fn put(
+        &mut self,
+        alloc: Global,
+        key: SessionKey,
+        version: Version,
+        expiry: Moment,
+        value: &SessionBytes,
+    ) -> Result<bool, OutOfMemory>
+        requires { length self.old ≤ MAX_BRICK_VALUES }
+        ensures room { IfOk result (λ room. room ≡ not (is_full self.old (put_value key version expiry value.now))) }
+        ensures new { IfOk result (λ room. self.new
+            ≡ (if room then with_kept (put_value key version expiry value.now) self.old else self.old)) }
         ensures err { OnErr result (self.new ≡ self.old) }
+        ensures memory { OnErr result (is_full self.old (put_value key version expiry value.now) ≡ false) }
     {
-        let size = kept.value.as_slice().len() as u64;
-        match put_in(&mut self.leases, &mut self.wheel, kept) {
-            Ok(less) => {
-                self.bytes = self.bytes + size - less;
-                Ok(())
+        let item = WheelItem { key, version };
+        let (leases, wheel) = (&mut self.leases, &mut self.wheel);
+        match put_in(leases, wheel, self.bytes, alloc, item, expiry, value)? {
+            Some(bytes) => {
+                self.bytes = bytes;
+                Ok(true)
             }
-            Err(e) => Err(e),
+            None => Ok(false),
         }
     }
 
