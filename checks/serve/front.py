@@ -15,6 +15,7 @@ from service import HOST, PAIRS, PATIENCE, Browser, Response, Service, Wrong, en
 TOP = os.path.dirname(os.path.dirname(os.path.dirname(os.path.realpath(__file__))))
 NAME = "shop.example"
 GUESSES = 16
+FORMS = 60
 ASIDE = "/usr/sbin/nginx"
 
 
@@ -93,6 +94,20 @@ def limits_guesses(port):
         raise Wrong("nginx limits pages")
 
 
+def limits_forms(port):
+    """Of many forms asked for at once some are not given, though each comes with a cookie, which nobody gave."""
+
+    def ask(_):
+        other = SecureBrowser(port)
+        other.cookie = "x"
+        return other.get("/form/signin").status
+
+    with ThreadPoolExecutor(GUESSES) as pool:
+        told = list(pool.map(ask, range(FORMS)))
+    if set(told) != {200, 429}:
+        raise Wrong(f"{FORMS} forms asked for with a cookie of no good are answered {told}")
+
+
 def check(program, room):
     """A customer by TLS, limits, a restart of the server, and a connection that it had ended."""
     if not (shutil.which("nginx") or os.path.exists(ASIDE)) or not shutil.which("openssl"):
@@ -138,5 +153,6 @@ def through(service, plain, secret):
     if ann.ask("POST", "/bid", {"text": "x" * 70_000}).status != 413:
         raise Wrong("nginx takes a body over its limit")
     limits_guesses(secret)
+    limits_forms(secret)
     service.kill()
     return "a customer by TLS through nginx"
