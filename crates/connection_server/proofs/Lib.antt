@@ -11,5 +11,6 @@ mod Marked
 mod Moving
 mod Reading
 mod Refusing
+mod Responding
 mod Seen
 mod Turned

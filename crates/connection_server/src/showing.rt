@@ -1,17 +1,18 @@
-//! The law of what a call that served a connection tells of its end. It is the contract of a function that does nothing:
-//! a caller that needs the law calls the function.
+//! The law of what a call that served a connection tells of its end. It is the contract of a function that does
+//! nothing: a caller that needs the law calls the function.
 
 ghost use Rattle.std.specs.Prelude.{◌≡◌, ◌⊎◌, ◌+◌, ◌<◌, ◌≤◌, ℕ, All, Bool, List, [], ◌∷◌, ◌++◌, Some, false, filter, length, map, nat_lt, not, slice_get, take, true};
-ghost use Rattle.std.specs.List.{range_with_len};
+ghost use Rattle.std.specs.List.{flat_map, range_with_len};
 ghost use Rattle.auction_rows.specs.Parts.{site_parts};
 ghost use Rattle.auction_site.specs.Actions.{steps_of};
 ghost use Rattle.boot_core.specs.declared.boot.Start.{Start};
-ghost use Rattle.container_core.specs.History.{is_stopped};
+ghost use Rattle.container_core.specs.History.{entries_in, is_stopped};
 ghost use Rattle.container_core.specs.declared.history.Event.{Event};
 ghost use Rattle.container_core.specs.declared.history.Event.TheVariants.{Started};
 ghost use Rattle.crash_base.specs.declared.numbers.Place.{Place};
 ghost use Rattle.http_wire.specs.Requests.{requests};
 ghost use Rattle.http_wire.specs.declared.taken.Head.{Head};
+ghost use Rattle.outcome_items.specs.Answers.{IsResponse};
 ghost use Rattle.outcome_items.specs.Traces.{window_traces};
 ghost use Rattle.outcome_items.specs.declared.item.Item.{Item};
 ghost use Rattle.outcome_items.specs.declared.outcome.ItemOutcome.TheVariants as item;
@@ -35,6 +36,7 @@ ghost use Rattle.shepherd.specs.Standing.{ending_of};
 ghost use Rattle.shepherd.specs.declared.shepherd.EndKind.TheVariants as ends;
 ghost use Rattle.site_programs.specs.Errands.{IsMadeOf};
 ghost use Rattle.site_programs.specs.declared.maker.SiteMaker.{SiteMaker};
+ghost use Rattle.site_responses.specs.Responses.{last_response};
 ghost use Rattle.site_responses.specs.declared.answer.Untaken.{Untaken};
 ghost use Rattle.connection_server.specs.Ending.{HasServedConnection};
 ghost use Rattle.connection_server.specs.Stands.{Stand};
@@ -50,10 +52,16 @@ use std::marker::Brand;
 
 /// What a call that served a connection tells of its end. Where the source ended inside a request, all requests of the
 /// bytes that were read have an item, nothing is left of the source, the container was not stopped for any of them, and
-/// all was written (`cut`). Where the container was stopped, it was so in the last hold for the last item and for no
-/// other, and the request of that one does not close the connection (`stopped`). Where the source failed, its count
-/// rose, and all requests have an item (`read_fault`); where the sink did, its count rose (`write_fault`). The front
-/// that is told is that of the last item (`front`).
+/// all was written (`cut`). Where the connection closed, nothing is left of the source either, and the container was
+/// not stopped for any item; or no more requests come, whatever bytes follow (`closed`). Where the container was
+/// stopped, it was so in the last hold for the last item and for no other, and the request of that one does not close
+/// the connection (`stopped`). Where the source failed, its count rose, and all requests have an item (`read_fault`);
+/// where the sink did, its count rose (`write_fault`). However the call ended, the container was stopped for no item
+/// before the last (`heeded`). The front that is told is that of the last item, and 0 where there is none (`front`).
+///
+/// What was written are the responses to the items, in order, each to the request in its place of the bytes that were
+/// read, and then, where the call ended with a refusal, the response to that. Where the sink failed, a part of this was
+/// written, and the call may have come to a refusal too (`responses`).
 ///
 /// Of all items at once (`items`): the history begins with a start of the site in the service's boot. Requests were
 /// taken in, whose heads are the first ones of the bytes that were read, in order, and each item is for the one in its
@@ -90,7 +98,9 @@ pub fn served_connections_tell_how_they_ended<L: Link, C: Clock, R: Random>()
         → told.ended ≡ ServedEnd.Closed
         → (fed : List ℕ) × (begun.left ≡ prepended fed now.left)
         × (length told.items ≡ length (requests fed).heads) × ((requests fed).ending ≡ ending_of ends.Closed)
-        × (HasEnded now.left ⊎ ((more : List ℕ) → requests (fed ++ more) ≡ requests fed)) }
+        × ((HasEnded now.left
+        × All (λ (i : Item). is_stopped (take i.holds.held now.container.seen) ≡ false) told.items)
+        ⊎ ((more : List ℕ) → requests (fed ++ more) ≡ requests fed)) }
     ensures refused { (from to : L) (random random_after : R) (service : Service SiteMaker)
         (begun now : Stand) (told : ServedValue)
         (why : Untaken) → HasServedConnection L.makes from to R.gives random random_after service begun now told
@@ -99,11 +109,27 @@ pub fn served_connections_tell_how_they_ended<L: Link, C: Clock, R: Random>()
         × (length told.items ≡ length (requests fed).heads)
         × ((requests fed).ending ≡ ending_of (ends.Refused why))
         × All (λ (i : Item). is_stopped (take i.holds.held now.container.seen) ≡ false) told.items }
-    ensures wrote { (from to : L) (random random_after : R) (service : Service SiteMaker)
+    ensures responses { (from to : L) (random random_after : R) (service : Service SiteMaker)
         (begun now : Stand) (told : ServedValue)
         → HasServedConnection L.makes from to R.gives random random_after service begun now told
-        → (told.ended ≡ ServedEnd.WriteFault → ⊥)
-        → (bytes : List ℕ) × (now.written ≡ appended begun.written bytes) }
+        → (fed : List ℕ) × (lost : List ℕ) × (begun.left ≡ prepended (fed ++ lost) now.left)
+        × ((told.ended ≡ ServedEnd.OutOfMemory → ⊥) → lost ≡ [])
+        × ((parts : List (List ℕ)) × (last : List ℕ) × (length parts ≡ length told.items)
+        × ((n : ℕ) (i : Item) (bytes : List ℕ) → slice_get told.items n ≡ Some i → slice_get parts n ≡ Some bytes
+        → (head : Head) × (slice_get (requests fed).heads n ≡ Some head)
+        × IsResponse service.key (entries_in (take i.holds.held now.container.seen)) i head bytes)
+        × ((told.ended ≡ ServedEnd.WriteFault → ⊥)
+        → now.written ≡ appended begun.written (flat_map (λ (bytes : List ℕ). bytes) parts ++ last))
+        × (told.ended ≡ ServedEnd.WriteFault
+        → AppendsPrefix begun.written now.written (flat_map (λ (bytes : List ℕ). bytes) parts ++ last))
+        × ((why : Untaken) → told.ended ≡ ServedEnd.Refused why → last ≡ last_response why)
+        × ((last ≡ []) ⊎ ((why : Untaken) × (last ≡ last_response why)
+        × ((told.ended ≡ ServedEnd.Refused why) ⊎ (told.ended ≡ ServedEnd.WriteFault))))) }
+    ensures heeded { (from to : L) (random random_after : R) (service : Service SiteMaker)
+        (begun now : Stand) (told : ServedValue)
+        → HasServedConnection L.makes from to R.gives random random_after service begun now told
+        → (before : List Item) (last : Item) → told.items ≡ before ++ last ∷ []
+        → All (λ (i : Item). is_stopped (take i.holds.held now.container.seen) ≡ false) before }
     ensures stopped { (from to : L) (random random_after : R) (service : Service SiteMaker)
         (begun now : Stand) (told : ServedValue)
         → HasServedConnection L.makes from to R.gives random random_after service begun now told
@@ -131,10 +157,9 @@ pub fn served_connections_tell_how_they_ended<L: Link, C: Clock, R: Random>()
         × ((bytes : List ℕ) × AppendsPrefix begun.written now.written bytes) }
     ensures front { (from to : L) (random random_after : R) (service : Service SiteMaker)
         (begun now : Stand) (told : ServedValue)
-        (before : List Item) (last : Item)
         → HasServedConnection L.makes from to R.gives random random_after service begun now told
-        → told.items ≡ before ++ last ∷ []
-        → told.front ≡ last.holds.front }
+        → (told.items ≡ [] → told.front.0 ≡ 0)
+        × ((before : List Item) (last : Item) → told.items ≡ before ++ last ∷ [] → told.front ≡ last.holds.front) }
     ensures items { (from to : L) (random random_after : R) (service : Service SiteMaker)
         (begun now : Stand) (told : ServedValue)
         → HasServedConnection L.makes from to R.gives random random_after service begun now told

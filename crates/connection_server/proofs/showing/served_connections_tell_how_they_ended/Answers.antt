@@ -1,9 +1,11 @@
 use Rattle.std.proofs.Common.{◌≡◌, Bool, Option, Some, ◌⊎◌, inl, inr, ◌≤◌, ◌+◌, ◌∙◌, ℕ, suc, zero, false, List, [], ◌∷◌, ◌++◌, All, ap, append-nil, arith, length, map, refl, slice_get, subst, sym, take}
+use Rattle.std.specs.List.{flat_map}
 use Rattle.std.proofs.lemmas.List.{append_assoc, length-map}
 use Rattle.std.proofs.lemmas.List.Elements.{All-head, All-tail, All-weaker}
 use Rattle.container_core.specs.History.{is_stopped}
 use Rattle.container_core.specs.declared.history.Event.{Event}
 use Rattle.boot_core.specs.declared.boot.Start.{Start}
+use Rattle.outside.specs.Sink.{AppendsPrefix, appended}
 use Rattle.outside.specs.Source.{HasEnded, prepended}
 use Rattle.outside.specs.declared.link.LinkCounts.{LinkCounts}
 use Rattle.outside.specs.declared.link.LinkEvent.{LinkEvent}
@@ -34,7 +36,7 @@ use Rattle.shepherd.specs.Standing.{last_front, last_of}
 use Rattle.shepherd.specs.declared.shepherd.EndKind.TheVariants as ends
 use Rattle.connection_server.specs.Closing.{AllHaveCome, EndsBy}
 use Rattle.connection_server.specs.Ending.{AllServed, FirstServed, HasServedAllOf, HasTakenAll, ServedBy, WroteAll}
-use Rattle.connection_server.specs.Heeding.{WasFound}
+use Rattle.connection_server.specs.Heeding.{AtMostLastStopped, WasFound}
 use Rattle.connection_server.specs.Refusing.{WereRefused}
 use Rattle.connection_server.specs.Seats.{HasAdded}
 use Rattle.connection_server.specs.Stands.{GivesAll, HasSeen, Stand, began_at}
@@ -52,10 +54,12 @@ use Rattle.served_connections.proofs.Heard.{item_among}
 use Rattle.served_connections.proofs.Shown.{next_there, none_unspent}
 use Rattle.seat_serials.specs.Drawing.{SeatLooks}
 use Rattle.site_programs.specs.Errands.{IsMadeOf}
+use Rattle.site_responses.specs.Responses.{last_response}
 use Rattle.site_responses.specs.declared.answer.Untaken.{Untaken}
 use Rattle.connection_server.proofs.Added.{added_at}
 use Rattle.connection_server.proofs.Full.{FullAtRefusal, full_at}
 use Rattle.connection_server.proofs.Marked.{AreOfRequest, each_told, taken_are_spent}
+use Rattle.connection_server.proofs.Responding.{each_responds, flat_parts, none_before}
 use Rattle.connection_server.proofs.Seen.{last_is as last_counted}
 use Rattle.connection_server.proofs.showing.served_connections_tell_how_they_ended.Goals as goal
 
@@ -70,6 +74,16 @@ last_is front (i ∷ before) last = last_is i.holds.front before last
 
 some_same : (a b : ServedEnd) → Some a ≡ Some b → a ≡ b
 some_same a b is = cc
+
+same_refusal : (why other : Untaken) → Refused why ≡ Refused other → why ≡ other
+same_refusal why other is = cc
+
+-- What is put out behind the responses to items: that to what is refused, where a call ended so, and else nothing; but
+-- where the sink failed, perhaps that to some refusal.
+abbrev IsLastOf : ServedEnd → List ℕ → Type 0
+IsLastOf end last =
+    ((why : Untaken) → end ≡ Refused why → last ≡ last_response why)
+    × ((last ≡ []) ⊎ ((why : Untaken) × (last ≡ last_response why) × ((end ≡ Refused why) ⊎ (end ≡ WriteFault))))
 
 module _ {L R : Type 0} (calls : L → LinkEvent → L → Type 0) (gives : Gives R) (service : Service SiteMaker) (begun now : Stand) (items : List Item) where
   -- What was read and drawn: just what the course tells, or more where memory was wanted.
@@ -144,26 +158,28 @@ module _ {L R : Type 0} (calls : L → LinkEvent → L → Type 0) (gives : Give
     pub whole : (end ≡ OutOfMemory → ⊥) → (opened ≡ []) × (own ≡ []) × (marks ≡ [])
     pub few : length own ≤ 1
     pub of_one : AreOfRequest marks
+    pub last_is : IsLastOf end last
 
-  all_so : (start : Start) (course : Course) (so_ended : EndKind) (end : ServedEnd) → AllServed calls gives service begun now start course so_ended → ServedSo start course end
-  all_so start course so_ended end h = record { opened = []; last = last_of so_ended; own = []; marks = []; so = h.whole; whole = λ not. (refl, refl, refl); few = omega arith; of_one = inl refl }
+  all_so : (start : Start) (course : Course) (so_ended : EndKind) (end : ServedEnd) → IsLastOf end (last_of so_ended) → AllServed calls gives service begun now start course so_ended → ServedSo start course end
+  all_so start course so_ended end last h = record { opened = []; last = last_of so_ended; own = []; marks = []; so = h.whole; whole = λ not. (refl, refl, refl); few = omega arith; of_one = inl refl; last_is = last }
 
-  first_so : (start : Start) (course : Course) (end : ServedEnd) → FirstServed calls gives service begun now start course → ServedSo start course end
-  first_so start course end h = record { opened = []; last = []; own = []; marks = []; so = h; whole = λ not. (refl, refl, refl); few = omega arith; of_one = inl refl }
+  first_so : (start : Start) (course : Course) (end : ServedEnd) → IsLastOf end [] → FirstServed calls gives service begun now start course → ServedSo start course end
+  first_so start course end last h = record { opened = []; last = []; own = []; marks = []; so = h; whole = λ not. (refl, refl, refl); few = omega arith; of_one = inl refl; last_is = last }
 
   served_so : (start : Start) (course : Course) (end : ServedEnd) → ServedBy calls gives service begun now start course end → ServedSo start course end
-  served_so start course Closed h = all_so start course ends.Closed Closed h.all.ended
-  served_so start course Cut h = all_so start course ends.Cut Cut h.all.ended
-  served_so start course (Refused why) h = all_so start course (ends.Refused why) (Refused why) h.all.ended
-  served_so start course Stopped h = first_so start course Stopped h.first
+  served_so start course Closed h = all_so start course ends.Closed Closed (λ why is. absurd (cc), inl refl) h.all.ended
+  served_so start course Cut h = all_so start course ends.Cut Cut (λ why is. absurd (cc), inl refl) h.all.ended
+  served_so start course (Refused why) h =
+      all_so start course (ends.Refused why) (Refused why) (λ other is. ap (λ (w : Untaken). last_response w) (same_refusal why other is), inr (why, refl, inl refl)) h.all.ended
+  served_so start course Stopped h = first_so start course Stopped (λ why is. absurd (cc), inl refl) h.first
   served_so start course ReadFault h = by h.all where
     by : HasServedAllOf calls gives service begun now start course ends.Closed ⊎ HasServedAllOf calls gives service begun now start course ends.Cut → ServedSo start course ReadFault
-    by (inl all) = all_so start course ends.Closed ReadFault all.ended
-    by (inr all) = all_so start course ends.Cut ReadFault all.ended
+    by (inl all) = all_so start course ends.Closed ReadFault (λ why is. absurd (cc), inl refl) all.ended
+    by (inr all) = all_so start course ends.Cut ReadFault (λ why is. absurd (cc), inl refl) all.ended
   served_so start course WriteFault h = by h.served where
     by : FirstServed calls gives service begun now start course ⊎ ((why : Untaken) × AllServed calls gives service begun now start course (ends.Refused why)) → ServedSo start course WriteFault
-    by (inl first) = first_so start course WriteFault first
-    by (inr (why, all)) = all_so start course (ends.Refused why) WriteFault all
+    by (inl first) = first_so start course WriteFault (λ why is. absurd (cc), inl refl) first
+    by (inr (why, all)) = all_so start course (ends.Refused why) WriteFault (λ other is. absurd (cc), inr (why, refl, inr refl)) all
   served_so start course OutOfMemory h = record {
     opened = h.stopped.opened;
     last = [];
@@ -173,7 +189,21 @@ module _ {L R : Type 0} (calls : L → LinkEvent → L → Type 0) (gives : Give
     whole = λ not. absurd (not refl);
     few = h.stopped.few;
     of_one = none_unspent h.stopped.open_marks h.stopped.of_one h.stopped.spent;
+    last_is = (λ why is. absurd (cc), inl refl);
   }
+
+  -- The container was stopped for the last item at most, however the call ended.
+  heeds_so : (start : Start) (course : Course) (end : ServedEnd) → ServedBy calls gives service begun now start course end → AtMostLastStopped now.container.seen course.items
+  heeds_so start course Closed h = by h.by where
+    by : EndsBy ends.Closed now.left course.fed now.container.seen course.items → AtMostLastStopped now.container.seen course.items
+    by (inl ended) = inl ended.1
+    by (inr come) = come.1
+  heeds_so start course Cut h = inl h.by.1
+  heeds_so start course (Refused why) h = inl h.by
+  heeds_so start course Stopped h = inr h.stopped
+  heeds_so start course ReadFault h = inl h.running
+  heeds_so start course WriteFault h = h.heeds
+  heeds_so start course OutOfMemory h = h.heeds
 
 -- a call stands among these
 abbrev StandsIn : List LinkEvent → Unit {0} → LinkEvent → Unit {0} → Type 0
@@ -247,16 +277,17 @@ returns-clause-cut g c = λ from to random random_after service begun now told h
     let all = c.courses_show_what_was_served.ensures.ended service there.start (began_at begun) now.container.seen now.moment there.course ends.Cut by.all.ended in
     (there.course.fed, by.all.took.read, by.by.0, ap length there.items_are ∙ all.0, all.1, (there.course.written, by.all.wrote), running now.container.seen told.items (subst (λ (is : List Item). All (λ (i : Item). WasFound now.container.seen i.holds false) is) (sym there.items_are) by.by.1))
 
-closed_by : (left : Option (List ℕ)) (fed : List ℕ) (history : List Event) (items : List Item) → EndsBy ends.Closed left fed history items → HasEnded left ⊎ AllHaveCome fed
-closed_by left fed history items (inl h) = inl h.0
-closed_by left fed history items (inr h) = inr h.0
+closed_by : (left : Option (List ℕ)) (fed : List ℕ) (history : List Event) (items told : List Item) → told ≡ items → EndsBy ends.Closed left fed history items
+    → (HasEnded left × All (λ (i : Item). is_stopped (take i.holds.held history) ≡ false) told) ⊎ AllHaveCome fed
+closed_by left fed history items told is (inl h) = inl (h.0, running history told (subst (λ (l : List Item). All (λ (i : Item). WasFound history i.holds false) l) (sym is) h.1))
+closed_by left fed history items told is (inr h) = inr h.0
 
 pub returns-clause-closed : goal.returns-clause-closed
 returns-clause-closed g c = λ from to random random_after service begun now told h is.
     let there = h.served.so.so in
     let by = subst (λ (e : ServedEnd). ServedBy g.L.Link.makes g.R.Random.gives service begun (record now { heard = h.served.heard; given = h.served.so.given }) there.start there.course e) is there.served in
     let all = c.courses_show_what_was_served.ensures.ended service there.start (began_at begun) now.container.seen now.moment there.course ends.Closed by.all.ended in
-    (there.course.fed, by.all.took.read, ap length there.items_are ∙ all.0, all.1, closed_by now.left there.course.fed now.container.seen there.course.items by.by)
+    (there.course.fed, by.all.took.read, ap length there.items_are ∙ all.0, all.1, closed_by now.left there.course.fed now.container.seen there.course.items told.items there.items_are by.by)
 
 pub returns-clause-refused : goal.returns-clause-refused
 returns-clause-refused g c = λ from to random random_after service begun now told why h is.
@@ -265,10 +296,48 @@ returns-clause-refused g c = λ from to random random_after service begun now to
     let all = c.courses_show_what_was_served.ensures.ended service there.start (began_at begun) now.container.seen now.moment there.course (ends.Refused why) by.all.ended in
     (there.course.fed, by.all.took.read, ap length there.items_are ∙ all.0, all.1, running now.container.seen told.items (subst (λ (is : List Item). All (λ (i : Item). WasFound now.container.seen i.holds false) is) (sym there.items_are) by.by))
 
-pub returns-clause-wrote : goal.returns-clause-wrote
-returns-clause-wrote g c = λ from to random random_after service begun now told h not.
+pub returns-clause-responses : goal.returns-clause-responses
+returns-clause-responses g c = λ from to random random_after service begun now told h.
     let there = h.served.so.so in
-    (there.course.written, wrote_all g.L.Link.makes g.R.Random.gives service begun (record now { heard = h.served.heard; given = h.served.so.given }) told.items there.start there.course told.ended not there.served)
+    let course : Course = there.course in
+    let end : Stand = record now { heard = h.served.heard; given = h.served.so.given } in
+    let all = served_so g.L.Link.makes g.R.Random.gives service begun end told.items there.start course told.ended there.served in
+    let took = took_so g.L.Link.makes g.R.Random.gives service begun end told.items there.start course told.ended there.served in
+    let first = all.so.requests_are [] in
+    let put = all.so.responses in
+    let parts : List (List ℕ) = map (λ (r : Response). r.bytes) put.responses in
+    let behind : List Head = all.opened ++ first.0.heads in
+    let heads : (requests course.fed).heads ≡ map (λ (r : Response). r.head) put.responses ++ behind =
+    ap (λ (l : List ℕ). (requests l).heads) (sym (append-nil course.fed)) ∙ ap (λ (r : Requests). r.heads) first.1 ∙ ap (λ (l : List Head). l ++ first.0.heads) put.heads_are
+    ∙ append_assoc (map (λ (r : Response). r.head) put.responses) all.opened first.0.heads in
+    let items : told.items ≡ map (λ (r : Response). r.item) put.responses = there.items_are ∙ put.items_are in
+    let whole : course.written ≡ flat_map (λ (bytes : List ℕ). bytes) parts ++ all.last = put.written_is ∙ ap (λ (l : List ℕ). l ++ all.last) (sym (flat_parts put.responses)) in (
+      course.fed,
+      took.lost,
+      took.read,
+      λ not. (took.just not).0,
+      (
+        parts,
+        all.last,
+        length-map put.responses (λ (r : Response). r.bytes) ∙ sym (ap length items ∙ length-map put.responses (λ (r : Response). r.item)),
+        λ n i bytes item part.
+            let responds = each_responds service.key now.container.seen put.responses behind n i bytes put.respond (ap (λ (l : List Item). slice_get l n) (sym items) ∙ item) part in
+            (responds.0, ap (λ (l : List Head). slice_get l n) heads ∙ responds.1, responds.2),
+        λ not. wrote_all g.L.Link.makes g.R.Random.gives service begun end told.items there.start course told.ended not there.served ∙ ap (λ (w : List ℕ). appended begun.written w) whole,
+        λ is.
+            let by = subst (λ (e : ServedEnd). ServedBy g.L.Link.makes g.R.Random.gives service begun end there.start course e) is there.served in
+            subst (λ (w : List ℕ). AppendsPrefix begun.written now.written w) whole by.wrote,
+        all.last_is.0,
+        all.last_is.1,
+      ),
+    )
+
+pub returns-clause-heeded : goal.returns-clause-heeded
+returns-clause-heeded g c = λ from to random random_after service begun now told h before last is.
+    let there = h.served.so.so in
+    let end : Stand = record now { heard = h.served.heard; given = h.served.so.given } in
+    let heeds = heeds_so g.L.Link.makes g.R.Random.gives service begun end told.items there.start there.course told.ended there.served in
+    running now.container.seen before (none_before now.container.seen there.course.items before last heeds (sym there.items_are ∙ is))
 
 pub returns-clause-stopped : goal.returns-clause-stopped
 returns-clause-stopped g c = λ from to random random_after service begun now told h is.
@@ -299,8 +368,10 @@ returns-clause-write_fault g c = λ from to random random_after service begun no
     (by.failed, (there.course.written, by.wrote))
 
 pub returns-clause-front : goal.returns-clause-front
-returns-clause-front g c = λ from to random random_after service begun now told before last h is.
-    h.front_is ∙ ap (λ (items : List Item). last_front (record { 0 = 0 }) items) is ∙ last_is (record { 0 = 0 }) before last
+returns-clause-front g c = λ from to random random_after service begun now told h. (
+  λ none. ap (λ (front : Place). front.0) (h.front_is ∙ ap (λ (items : List Item). last_front (record { 0 = 0 }) items) none),
+  λ before last is. h.front_is ∙ ap (λ (items : List Item). last_front (record { 0 = 0 }) items) is ∙ last_is (record { 0 = 0 }) before last,
+)
 
 pub returns-clause-added : goal.returns-clause-added
 returns-clause-added g c = λ from to random random_after service begun now told h.
@@ -434,7 +505,8 @@ one_of {A} So all before behind a is h = within before (subst (λ (l : List A). 
   within [] h = All-head So a behind h
   within (b ∷ first) h = within first (All-tail So b (first ++ a ∷ behind) h)
 
--- each that an item tells of is one of those that the course of its connection tells of, and what is so of these is so of it
+-- each that an item tells of is one of those that the course of its connection tells of, and what is so of these is so
+-- of it
 told_so : {A : Type 0} (tell : ItemOutcome → Option A) (So : A → Type 0) (found : List A) (items : List Item) (opened : List Head) → AreFoundFor tell found items opened → All So found
     → All (λ (i : Item). (one : A) → tell i.outcome ≡ Some one → So one) items
 told_so {A} tell So found items opened h all =
