@@ -86,13 +86,23 @@ fn filled_brick(alloc: Global) -> Result<Brick, OutOfMemory> {
     Ok(brick)
 }
 
-/// A brick that keeps as many values as it may, each with an expiry of its own.
-fn full_brick(alloc: Global) -> Result<Brick, OutOfMemory> {
+/// When the lease of a value ends that has an expiry of its own.
+fn own_expiry(number: u64) -> Moment {
+    Moment(EXPIRY.0.saturating_add(number))
+}
+
+/// A brick that keeps so many values, each with an expiry of its own.
+fn leased_brick(alloc: Global, values: u64) -> Result<Brick, OutOfMemory> {
     let mut brick = Brick::new(alloc, BrickNo(1), 1);
-    for number in 0..MAX_BRICK_VALUES {
-        brick.answer(alloc, &put_until(alloc, number, Moment(EXPIRY.0 + number))?)?;
+    for number in 0..values {
+        brick.answer(alloc, &put_until(alloc, number, own_expiry(number))?)?;
     }
     Ok(brick)
+}
+
+/// A brick that keeps as many values as it may, each with an expiry of its own.
+fn full_brick(alloc: Global) -> Result<Brick, OutOfMemory> {
+    leased_brick(alloc, MAX_BRICK_VALUES)
 }
 
 /// The number after this one of those that look random.
@@ -160,9 +170,25 @@ pub fn renewed(alloc: Global, count: u64) -> Result<u64, OutOfMemory> {
     let mut sum: u64 = 0;
     for round in 0..count {
         state = next(state);
-        let expiry = Moment((EXPIRY.0 + MAX_BRICK_VALUES).saturating_add(round));
+        let expiry = own_expiry(MAX_BRICK_VALUES.saturating_add(round));
         let request = put_until(alloc, (state >> 33) % MAX_BRICK_VALUES, expiry)?;
         sum = sum.wrapping_add(is_stored(&brick.answer(alloc, &request)?));
+    }
+    Ok(sum)
+}
+
+/// Makes a Put of a pair that is not kept and puts it, `count` times, each with an expiry of its own, and after each
+/// thousand of them sweeps the thousand that end first. How many were stored.
+pub fn freshened(alloc: Global, count: u64) -> Result<u64, OutOfMemory> {
+    let mut brick = leased_brick(alloc, VALUES)?;
+    let mut sum: u64 = 0;
+    for round in 0..count {
+        let number = VALUES.saturating_add(round);
+        let request = put_until(alloc, number, own_expiry(number))?;
+        sum = sum.wrapping_add(is_stored(&brick.answer(alloc, &request)?));
+        if round % 1000 == 999 {
+            brick.sweep(Moment((EXPIRY.0 + SWEEP_GRACE + 1).saturating_add(round)));
+        }
     }
     Ok(sum)
 }

@@ -1,15 +1,15 @@
 //! Loops over frames, a brick and a link in memory, whose time `bench/sessions` takes.
 //!
-//! The words are a loop, `encode`, `decode`, `put`, `renew`, `get`, `idle`, `sweep` or `pair`, and how often it goes
-//! round. What it writes is the loop and a sum, which is known beforehand: the bytes of the frames, the bytes of the
-//! values that were decoded, found or read back, or how many values were stored, or were kept after each sweep.
+//! The words are a loop, `encode`, `decode`, `put`, `renew`, `fresh`, `get`, `idle`, `sweep` or `pair`, and how often
+//! it goes round. What it writes is the loop and a sum, which is known beforehand: the bytes of the frames, the bytes
+//! of the values that were decoded, found or read back, or how many values were stored, or were kept after each sweep.
 #![tactic(auto)]
 
 mod loops;
 mod pairs;
 
 use crash_base::OutOfMemory;
-use loops::{decoded, encoded, got, renewed, stored, swept, swept_in_vain};
+use loops::{decoded, encoded, freshened, got, renewed, stored, swept, swept_in_vain};
 use pairs::paired;
 use std::alloc::Global;
 use std::env;
@@ -30,6 +30,7 @@ fn sum_of(alloc: Global, name: &str, count: u64) -> Result<Option<u64>, OutOfMem
         "decode" => Ok(Some(decoded(alloc, count)?)),
         "put" => Ok(Some(stored(alloc, count)?)),
         "renew" => Ok(Some(renewed(alloc, count)?)),
+        "fresh" => Ok(Some(freshened(alloc, count)?)),
         "get" => Ok(Some(got(alloc, count)?)),
         "idle" => Ok(Some(swept_in_vain(alloc, count)?)),
         "sweep" => Ok(Some(swept(alloc, count)?)),
