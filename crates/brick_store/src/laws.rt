@@ -102,3 +102,35 @@ pub fn held_values_are_under_their_pair()
         → held h key version ≡ Some s → (key ≡ s.key) × (version ≡ s.version) }
     ensures last { (h : List BrickEvent) (s : Kept) → held (Stored s ∷ h) s.key s.version ≡ Some s }
 {}
+
+/// A history says what came to its brick: of a Put that its value was stored, where there was room, and else nothing;
+/// nothing of a Get; and of a Sweep its moment. At first nothing is held, and a crash leaves nothing held. A value that
+/// is stored leaves each other pair what it holds. The incarnation is one more for each crash, and for nothing else. The
+/// moment swept is 0 at first and behind a crash; a sweep leaves it at least its own moment and at least what it was,
+/// and at one of the two. It refuses a brick that says Stored and keeps nothing, one whose values outlive a crash, and
+/// one that tells the last moment swept for the greatest.
+pub fn histories_say_what_came()
+    ensures stored { (h : List BrickEvent) (nonce : Version) (s : Kept) → is_full (all_held h) s ≡ false
+        → heard h (frame.Put nonce s.key s.version s.expiry s.value) ≡ Stored s ∷ h }
+    ensures full { (h : List BrickEvent) (nonce : Version) (s : Kept) → is_full (all_held h) s ≡ true
+        → heard h (frame.Put nonce s.key s.version s.expiry s.value) ≡ h }
+    ensures get { (h : List BrickEvent) (nonce : Version) (key : SessionKey) (version : Version)
+        → heard h (frame.Get nonce key version) ≡ h }
+    ensures sweep { (h : List BrickEvent) (nonce : Version) (moment : Moment)
+        → heard h (frame.Sweep nonce moment) ≡ Sweep moment ∷ h }
+    ensures new { (first : ℕ) (key : SessionKey) (version : Version)
+        → (held [] key version ≡ None) × (incarnation_after first [] ≡ first) }
+    ensures crash { (h : List BrickEvent) (key : SessionKey) (version : Version)
+        → held (Crash ∷ h) key version ≡ None }
+    ensures others { (h : List BrickEvent) (s : Kept) (key : SessionKey) (version : Version)
+        → ((key ≡ s.key) × (version ≡ s.version) → ⊥) → held (Stored s ∷ h) key version ≡ held h key version }
+    ensures incarnation { (first : ℕ) (h : List BrickEvent) (s : Kept) (moment : Moment)
+        → (incarnation_after first (Crash ∷ h) ≡ incarnation_after first h + 1)
+        × (incarnation_after first (Stored s ∷ h) ≡ incarnation_after first h)
+        × (incarnation_after first (Sweep moment ∷ h) ≡ incarnation_after first h) }
+    ensures swept { (h : List BrickEvent) (s : Kept) (moment : Moment)
+        → ((swept_after []).0 ≡ 0) × ((swept_after (Crash ∷ h)).0 ≡ 0)
+        × (moment.0 ≤ (swept_after (Sweep moment ∷ h)).0) × ((swept_after h).0 ≤ (swept_after (Sweep moment ∷ h)).0)
+        × ((swept_after (Sweep moment ∷ h) ≡ moment) ⊎ (swept_after (Sweep moment ∷ h) ≡ swept_after h))
+        × (swept_after (Stored s ∷ h) ≡ swept_after h) }
+{}

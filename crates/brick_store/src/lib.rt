@@ -32,5 +32,6 @@ pub use event::BrickEvent;
 pub use kept::{Kept, MAX_BRICK_BYTES, MAX_BRICK_VALUES};
 pub use laws::{
     bricks_keep_all_held, bricks_stand_for_their_history, held_values_are_found,
-    held_values_are_under_their_pair, late_values_go, limits_fill_bricks, replies_are_held,
+    held_values_are_under_their_pair, histories_say_what_came, late_values_go, limits_fill_bricks,
+    replies_are_held,
 };
