@@ -1,3 +1,4 @@
+mod Ended
 mod Pieces
 mod Rest
 mod Spelled

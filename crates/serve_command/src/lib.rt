@@ -5,10 +5,10 @@
 //! let (status, errors) = serve(&rt, &rt, &said, errors);  // to its end, which it need not have
 //! ```
 //!
-//! `words` says which words spell it, `key` what a key is, `ending` why a server is not started, with its status and its
-//! lines, and `command` what is done in which order: the file of the key, the database and the port are opened, bricks
-//! and links are made, and `run_serve` of `container_server` serves over them. `last_line` keeps the line of its end
-//! back, until `reasons` has said why.
+//! `words` says which words spell it, `key` what a key is, `ending` why a server is not started, with its status and
+//! its lines, and `command` what is done in which order: the file of the key, the database and the port are opened,
+//! bricks and links are made, and `run_serve` of `container_server` serves over them. `last_line` keeps the line of its
+//! end back, until `reasons` has said why.
 //!
 //! What is promised is of these words, keys, statuses and lines, exactly: `serve_words` with the law
 //! `serve_is_spelled_by_five_words`, `read_key` and `report_fault`. Of `serve` it is `HasServedShop` of
@@ -39,5 +39,5 @@ mod words;
 pub use command::serve;
 pub use ending::{StartFault, report_fault};
 pub use key::{KeyFault, MAX_KEY_BYTES, MIN_KEY_BYTES, read_key};
-pub use laws::serve_is_spelled_by_five_words;
+pub use laws::{serve_is_spelled_by_five_words, served_shops_tell_why_they_end};
 pub use words::{MAX_PORT, MAX_WORKERS, ServeWords, serve_words};
