@@ -22,10 +22,12 @@
 //! node once. A list, and a name, may be sent to another thread where its values may.
 #![tactic(auto)]
 
+mod laws;
 mod links;
 mod list;
 #[cfg(test)]
 mod tests;
 
+pub use laws::names_stand_until_they_leave;
 pub use links::Node;
 pub use list::LeaseList;

@@ -12,9 +12,10 @@ use Rattle.std.proofs.lemmas.Map.Keys.{sorted_head, sorted_tail}
 use Rattle.std.proofs.lemmas.Bool.Decides.{nat_tests}
 use Rattle.lease_list.specs.Leases.{Lease}
 use Rattle.lease_wheel.specs.declared.wheel.WheelItem.{WheelItem}
+use Rattle.lease_wheel.specs.declared.wheel.WheelNode.{WheelNode}
 use Rattle.lease_wheel.specs.Leased.{Leased}
 use Rattle.lease_wheel.specs.Lists.{leased_at, leased_of, leased_in, is_filled, IsSound, AreSound, at}
-use Rattle.lease_wheel.specs.Wheels.{with_leased}
+use Rattle.lease_wheel.specs.Wheels.{named, with_leased, Stands}
 use Rattle.lease_wheel.proofs.Finding.{Items, Lists, at_is, under, some_same}
 
 not_under_itself : (e : ℕ) → nat_lt e e ≡ false
@@ -138,3 +139,17 @@ insert_there e (x ∷ es) l w sorted is = go (nat_cmp e x.0) refl (λ there. ins
 pub filled_push : (ns : List (Lease WheelItem)) (n : Lease WheelItem) → is_filled (ns ++ n ∷ []) ≡ true
 filled_push [] n = refl
 filled_push (m ∷ ns) n = refl
+
+-- where an item is added
+added_at : (item : Leased) (ds : List Leased) → (xs : List Leased) × (ys : List Leased) × (with_leased item ds ≡ xs ++ item ∷ ys)
+added_at item [] = ([], [], refl)
+added_at item (x ∷ ds) = go (nat_lt item.expiry.0 x.expiry.0) refl (added_at item ds)
+  where
+    go : (b : Bool) → nat_lt item.expiry.0 x.expiry.0 ≡ b → (xs : List Leased) × (ys : List Leased) × (with_leased item ds ≡ xs ++ item ∷ ys)
+        → (xs : List Leased) × (ys : List Leased) × (with_leased item (x ∷ ds) ≡ xs ++ item ∷ ys)
+    go true less r = ([], x ∷ ds, ap (λ y. cond y (item ∷ x ∷ ds) (x ∷ with_leased item ds)) less)
+    go false off r = (x ∷ r.0, r.1, ap (λ y. cond y (item ∷ x ∷ ds) (x ∷ with_leased item ds)) off ∙ ap (λ zs. x ∷ zs) r.2)
+
+-- the name of an item that is added stands
+pub stands_added : (node : WheelNode) (item : WheelItem) (ds mid : List Leased) → mid ≡ with_leased (named node item) ds → Stands mid node
+stands_added node item ds mid is = let r = added_at (named node item) ds in (item, (r.0, r.1, is ∙ r.2))

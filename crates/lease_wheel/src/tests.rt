@@ -22,6 +22,12 @@ fn taken(wheel: &mut LeaseWheel, moment: u64) -> u64 {
     }
 }
 
+/// Adds an item and takes it out by its name: the serial of what is handed back.
+fn removed(wheel: &mut LeaseWheel, expiry: u64, serial: u64) -> Result<u64, OutOfMemory> {
+    let node = wheel.add(Moment(expiry), item(serial))?;
+    Ok(wheel.remove(node).version.serial)
+}
+
 /// Adds items, and then takes at each moment what is wanted.
 fn expect_taken(
     rt: &impl Abort,
@@ -59,6 +65,13 @@ fn takes_what_is_due_in_order(rt: HostRuntime) -> Result<(), OutOfMemory> {
     let added = [(10, 5), (u64::MAX, 6), (5, 7)];
     let wanted = [(70_000, 7), (70_000, 5), (u64::MAX, 0)];
     expect_taken(&rt, &mut wheel, &added, &wanted)?;
+    // What was taken out by its name does not come again, and the others of its expiry stay.
+    expect_taken(&rt, &mut wheel, &[(40, 8), (50, 9)], &[])?;
+    let tenth = removed(&mut wheel, 40, 10)?;
+    let eleventh = removed(&mut wheel, 45, 11)?;
+    assert!(rt; tenth == 10 && eleventh == 11);
+    let wanted = [(60_041, 8), (60_041, 12), (60_041, 0), (60_051, 9), (60_051, 0)];
+    expect_taken(&rt, &mut wheel, &[(40, 12)], &wanted)?;
     wheel.clear();
     expect_taken(&rt, &mut wheel, &[], &[(u64::MAX, 0)])
 }
