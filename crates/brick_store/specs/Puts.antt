@@ -34,8 +34,8 @@ pub record IsRenewed (old new : Lease) (ds es : List Leased) (item : WheelItem) 
   pub gone : WheelItem
   pub left : Leaves mid old.node gone es
 
--- What a value in place of that of a lease comes to, where so many bytes are kept: nothing where they would be too many,
--- or where memory runs out, and else it tells how many are kept then.
+-- What a value in place of that of a lease comes to, where so many bytes are kept: nothing where they would be too
+-- many, or where memory runs out, and else it tells how many are kept then.
 abbrev pub RenewEnds : Lease → Lease → List Leased → List Leased → ℕ → WheelItem → Moment → List ℕ → Result (Option ℕ) OutOfMemory → Type 0
 RenewEnds old new ds es bytes item expiry value (Ok None) =
     (MAX_BRICK_BYTES + length old.value < bytes + length value) × (new ≡ old) × (es ≡ ds)

@@ -115,8 +115,8 @@ fn lease_of(
     Ok(Lease { node, value })
 }
 
-/// Puts a copy of a value in place of the one of a lease, and says how many bytes are kept then; None exactly where these
-/// would be too many. The new node is on the wheel before the old one leaves it.
+/// Puts a copy of a value in place of the one of a lease, and says how many bytes are kept then; None exactly where
+/// these would be too many. The new node is on the wheel before the old one leaves it.
 fn renew(
     lease: &mut Lease,
     wheel: &mut LeaseWheel,

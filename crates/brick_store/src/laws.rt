@@ -105,10 +105,10 @@ pub fn held_values_are_under_their_pair()
 
 /// A history says what came to its brick: of a Put that its value was stored, where there was room, and else nothing;
 /// nothing of a Get; and of a Sweep its moment. At first nothing is held, and a crash leaves nothing held. A value that
-/// is stored leaves each other pair what it holds. The incarnation is one more for each crash, and for nothing else. The
-/// moment swept is 0 at first and behind a crash; a sweep leaves it at least its own moment and at least what it was,
-/// and at one of the two. It refuses a brick that says Stored and keeps nothing, one whose values outlive a crash, and
-/// one that tells the last moment swept for the greatest.
+/// is stored leaves each other pair what it holds. The incarnation is one more for each crash, and for nothing else.
+/// The moment swept is 0 at first and behind a crash; a sweep leaves it at least its own moment and at least what it
+/// was, and at one of the two. It refuses a brick that says Stored and keeps nothing, one whose values outlive a crash,
+/// and one that tells the last moment swept for the greatest.
 pub fn histories_say_what_came()
     ensures stored { (h : List BrickEvent) (nonce : Version) (s : Kept) → is_full (all_held h) s ≡ false
         → heard h (frame.Put nonce s.key s.version s.expiry s.value) ≡ Stored s ∷ h }

@@ -1,4 +1,5 @@
-//! Laws of wheels. Each is the contract of a function that does nothing: a caller that needs the law calls the function.
+//! Laws of wheels. Each is the contract of a function that does nothing: a caller that needs the law calls the
+//! function.
 
 ghost use Rattle.std.specs.Prelude.{◌≡◌, ◌↔◌, ◌+◌, ◌<◌, ◌≤◌, true, false};
 ghost use Rattle.crash_base.specs.declared.numbers.Moment.{Moment};

@@ -10,7 +10,7 @@
 //! ```
 //!
 //! Contracts see a wheel as its items, each with its expiry and the name of its node, in order of expiry, and of one
-//! expiry in the order in which they were added (`Leased` of `specs/Wheels`).
+//! expiry in the order in which they were added (`Leased` of `specs/Leased`).
 //!
 //! The items of one expiry stand in a list of raw nodes, and the lists in a map in order of expiry. An empty list
 //! leaves the map, so the first list of the map has what is due first.

@@ -239,8 +239,8 @@ fn serve_opened<
     serve_through(rt, alloc, gate, words, key, errors, keeper)
 }
 
-/// Serves the shop as the words say: on this port of 127.0.0.1, over the database in this file, which is made where there
-/// is none, under the key in this file, by so many workers. It runs until the process is ended, or as follows.
+/// Serves the shop as the words say: on this port of 127.0.0.1, over the database in this file, which is made where
+/// there is none, under the key in this file, by so many workers. It runs until the process is ended, or as follows.
 ///
 /// The status:
 ///
@@ -250,8 +250,8 @@ fn serve_opened<
 /// - 9: memory ran out.
 /// - 11: no container was started, since the number of the last boot is the greatest that there is.
 /// - 13: the file of the key has fewer than 16 bytes, or more than 1,024.
-/// - 14: the file of the key, the database or the port was not opened, or the key not read, or the system gave no random
-///   words.
+/// - 14: the file of the key, the database or the port was not opened, or the key not read, or the system gave no
+///   random words.
 ///
 /// On `errors`, which is given back, the operator is told what is served once all is open, then what `run_serve` of
 /// `container_server` tells. The line of the status is the last one, and the one before it names the file or the port,

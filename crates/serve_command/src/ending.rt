@@ -8,8 +8,8 @@ use crash_base::{Items, OutOfMemory};
 use outside::{Sink, write_all};
 use std::alloc::Global;
 
-/// Why a server was not started. A reason is the line that names the file or the port and says what is wrong, or nothing
-/// where there was no memory for it.
+/// Why a server was not started. A reason is the line that names the file or the port and says what is wrong, or
+/// nothing where there was no memory for it.
 #[derive(Drop)]
 pub enum StartFault {
     /// The file of the key has too few or too many bytes.
@@ -104,8 +104,8 @@ pub(crate) fn write_both<E: Sink>(errors: &mut E, first: &[u8], second: &[u8])
     }
 }
 
-/// Tells why a server was not started, by the line of the reason and that of the status, and answers the status. A fault
-/// changes nothing else.
+/// Tells why a server was not started, by the line of the reason and that of the status, and answers the status. A
+/// fault changes nothing else.
 pub fn report_fault<E: Sink>(errors: &mut E, fault: &StartFault) -> u8
     ensures status { result ≡ status_of fault.now }
     ensures told { AppendsOrFails (E.written errors.old) (E.written errors.new)

@@ -19,8 +19,8 @@ pub(crate) trait Explains {
         ensures { result ≡ last self.now };
 }
 
-/// A keeper whose rows are in a database in a file. It is on the heap, so that who moves it moves one pointer: a container
-/// has its keeper by value, and is moved at each hold of its lock.
+/// A keeper whose rows are in a database in a file. It is on the heap, so that who moves it moves one pointer: a
+/// container has its keeper by value, and is moved at each hold of its lock.
 #[derive(Drop)]
 pub(crate) struct FileKeeper {
     pub inner: Box<SqlKeeper<FileStore<File>>>,

@@ -19,8 +19,8 @@ fn told_by_keeper(alloc: Global, file: &[u8], why: RowsFault) -> Items<u8>
     }
 }
 
-/// The reason of an end with this status, by why the keeper of this file refused a call last; nothing where there is none
-/// to tell, or no memory for it.
+/// The reason of an end with this status, by why the keeper of this file refused a call last; nothing where there is
+/// none to tell, or no memory for it.
 pub(crate) fn reason_of_end(
     alloc: Global,
     file: &[u8],

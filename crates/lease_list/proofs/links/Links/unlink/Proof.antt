@@ -132,13 +132,15 @@ module _ (E : Row) {M : Type 1} {𝓤 : Ura M} (𝓛 : Logic 𝓤) (C : Calls �
       rewrite ! 0 (λ (rs : List Ptr). ‵ (path null_ptr rs)) cut refl $ rewrite ! 1 (λ (r : Ptr). ‵ (next_at r null_ptr)) tail_is refl $ rewrite ! 2 (λ (ns : List (Lease (X E))). ‵ (Stems 𝓛 E ns)) here refl $
       use1 𝓛 (‵ (path null_ptr (places xs)) ⊛ ‵ (path a (p ∷ places ys))) (path_cut 𝓛 null_ptr (places xs) (p ∷ places ys)) $ split ! $ move ! (1 ∷ 2 ∷ []) $
       use2 𝓛 (‵ (next_at a p) ⊛ ‵ (prev_at p a) ⊛ ‵ (next_at p q) ⊛ ‵ (prev_at q p) ⊛ ‵ (onward (places ys))) (node_out 𝓛 a p (places ys)) $ split3 ! $ move ! (2 ∷ []) $ split3 ! $
-      -- [next of p; prev of q; onward; next of a; prev of p; the path before; the stems; the words; the open borrow; obs; auth; the handle]
+      -- [next of p; prev of q; onward; next of a; prev of p; the path before; the stems; the words; the open borrow;
+      -- obs; auth; the handle]
       move ! (6 ∷ []) $ use1 𝓛 (‵ (Stem 𝓛 E n) ⊛ ‵ (Stems 𝓛 E (xs ++ ys))) (stems_cut 𝓛 E xs n ys) $ split ! $ fsplit ! $ move ! (1 ∷ []) $ fsplit ! $ move ! (2 ∷ []) $
       use1 𝓛 (some (λ (w : Val). given (Good (τ E) w) (‵ (fat full_share (τ E) b (0 + vo E) w) ⊛ ‵ (E.row.own_val x (w ∷ []))))) (value_out E 𝓛 x b (0 + vo E)) $ pick ! (λ w. learn ! (λ good. split ! $
       let pair : Val = pair_val w room in
       let whole_good = pair_Typed (τ E) (layout (Rm E)) w room good (room_good b 0 h fits) in
       move ! (9 ∷ []) $ pointer_out ! a b (0 + 0) $ move ! (6 ∷ []) $ pointer_out ! q b (0 + 8) $ move ! (1 ∷ 0 ∷ 9 ∷ 7 ∷ 2 ∷ 11 ∷ []) $
-      -- [prev of p; next of p; next of a; prev of q; the value's cell; the words; the value; the token; the way back; the stems; onward; the path before; the open borrow; obs; auth; the handle]
+      -- [prev of p; next of p; next of a; prev of q; the value's cell; the words; the value; the token; the way back;
+      -- the stems; onward; the path before; the open borrow; obs; auth; the handle]
       sets ! (is ! (of_opd ! (get_in ! (fld ! refl (stop !)) (sub ! 0 refl (whole !)))) (ap ptr_val ep)) refl (tt, tt) $ first ! $ blocks ! $
       by_nodes xs (λ nonex. let ea : a ≡ null_ptr = ap (λ zs. last_place null_ptr (places zs)) nonex in
       by_nodes ys (λ noney. let eq : q ≡ null_ptr = ap (λ zs. first_place (places zs)) noney in
