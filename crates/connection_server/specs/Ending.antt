@@ -103,8 +103,8 @@ module _ {L R : Type 0} (calls : L → LinkEvent → L → Type 0) (gives : Give
     ServedBy OutOfMemory = HasWantedMemory
 
   -- These items were served on a course, over which a call has come from where it began to where it stands now, in a
-  -- container of the site. What its serial numbers were drawn with is its seat of words, and its random words were given
-  -- by the source of the call.
+  -- container of the site. What its serial numbers were drawn with is its seat of words, and its random words were
+  -- given by the source of the call.
   pub record HasServedItems (items : List Item) (end : ServedEnd) : Type 0 where
     pub course : Course
     pub start : Start

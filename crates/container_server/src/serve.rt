@@ -331,8 +331,8 @@ fn serve_over<G: Gate + Sync, K: Keeper + Drop, E: Sink + Send, R: Threads + Wai
 /// stopped, all threads end, and it is started again over its keeper with the fault plans that no reboot cures.
 ///
 /// Work that no thread can be started for is done by the caller, behind the end of the work beside which it was to be
-/// done: that of a worker behind that of those after it, and what decides and sweeps behind the end of all workers, where
-/// nothing is left to do.
+/// done: that of a worker behind that of those after it, and what decides and sweeps behind the end of all workers,
+/// where nothing is left to do.
 ///
 /// The status, the last word of the gate, if it had one, and the keeper, whatever the status is:
 ///
@@ -342,9 +342,9 @@ fn serve_over<G: Gate + Sync, K: Keeper + Drop, E: Sink + Send, R: Threads + Wai
 /// - 9: memory ran out.
 /// - 11: no container was started, since the number of the last boot is the greatest that there is.
 ///
-/// The operator is told on `errors` of each start, each reboot and each stop, and at the end of the status, except 0: in
-/// whole lines, each as `service_log` has it, but for a fault there, which changes nothing else. A line for which there
-/// is no memory is left out, except that of the status.
+/// The operator is told on `errors` of each start, each reboot and each stop, and at the end of the status, except 0:
+/// in whole lines, each as `service_log` has it, but for a fault there, which changes nothing else. A line for which
+/// there is no memory is left out, except that of the status.
 ///
 /// It returns only if its workers do: that any connection is served, that anything is rebooted or swept, is not
 /// promised.

@@ -28,7 +28,7 @@ impl Ear {
     }
 }
 
-/// What stands in a text behind the last mark of one kind, up to the next one of another; nothing, where it is not there.
+/// What stands in a text behind the last mark of one kind, up to the next of another; nothing, where it is not there.
 pub fn last_between<'a>(text: &'a str, open: &str, close: &str) -> &'a str {
     match text.rsplit_once(open) {
         None => "",
@@ -55,8 +55,8 @@ fn post(alloc: Global, target: &str, cookie: &str, fields: &str) -> Result<Strin
     Ok(text)
 }
 
-/// What a browser asks that has heard this: a target, or a form, if it has fields. It sends the cookie that it was given
-/// last, and the token of the form that it was shown last.
+/// What a browser asks that has heard this: a target, or a form, if it has fields. It sends the cookie that it was
+/// given last, and the token of the form that it was shown last.
 pub fn request(
     alloc: Global,
     heard: &str,

@@ -10,9 +10,9 @@ use std::process::Abort;
 use std::sync::Wait;
 use std::thread::Threads;
 
-/// How many workers there are to be, whether the gate has memory for its plans, the keeper, the status, how many calls of
-/// the keeper were made, how many rows it has then, and what the operator is told. The gate has tools for four threads,
-/// two of which are workers.
+/// How many workers there are to be, whether the gate has memory for its plans, the keeper, the status, how many calls
+/// of the keeper were made, how many rows it has then, and what the operator is told. The gate has tools for four
+/// threads, two of which are workers.
 const ENDS: &str = "1 plans empty: 0 2 1 boot 1 started over 0 rows
 2 plans empty: 0 2 1 boot 1 started over 0 rows
 3 plans empty: 9 0 0 out of memory

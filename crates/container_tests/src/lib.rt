@@ -1,6 +1,6 @@
-//! Tests of a site that is served by threads, over gates in memory and real threads: what the log says, when a restart is
-//! planned, that bricks are swept, that a group is rebooted while a request is held, how a server ends, and what stays over
-//! a restart. Each ends by itself, whatever the schedule.
+//! Tests of a site that is served by threads, over gates in memory and real threads: what the log says, when a restart
+//! is planned, that bricks are swept, that a group is rebooted while a request is held, how a server ends, and what
+//! stays over a restart. Each ends by itself, whatever the schedule.
 #![tactic(auto)]
 
 pub mod clients;

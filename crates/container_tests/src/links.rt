@@ -24,7 +24,7 @@ pub const NOW: u64 = 7;
 #[derive(Drop)]
 pub struct HostClock {
     shown: AtomicU64,
-    /// How many milliseconds more it shows behind each of these looks. The last number is that of each further look, too.
+    /// How many milliseconds more it shows behind each of these looks. The last number is that of each further look.
     steps: &'static [u64],
     looks: AtomicU64,
 }

@@ -4,8 +4,9 @@ use container_core::FullAt;
 use container_server::is_restart_due;
 use std::process::Abort;
 
-/// Entries and bytes of a journal, how many requests are inside, and whether a restart is due. A journal may have 262,144
-/// entries and 268,435,456 bytes: 7/8 of them are 229,376 and 234,881,024, and 31/32 are 253,952 and 260,046,848.
+/// Entries and bytes of a journal, how many requests are inside, and whether a restart is due. A journal may have
+/// 262,144 entries and 268,435,456 bytes: 7/8 of them are 229,376 and 234,881,024, and 31/32 are 253,952 and
+/// 260,046,848.
 const ROWS: &str = "0 0 0 no
 229375 0 0 no
 229376 0 0 due

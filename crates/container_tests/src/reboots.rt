@@ -27,8 +27,8 @@ const CATEGORIES_THRICE: &str = "GET /categories HTTP/1.1\r\nHost: localhost\r\n
 GET /categories HTTP/1.1\r\nHost: localhost\r\n\r\n\
 GET /categories HTTP/1.1\r\nHost: localhost\r\n\r\n";
 
-/// A gate that gives two connections, and holds the worker of the first, once it has entered Web, until Web was rebooted
-/// and three responses were written to the second.
+/// A gate that gives two connections, and holds the worker of the first, once it has entered Web, until Web was
+/// rebooted and three responses were written to the second.
 #[derive(Drop)]
 pub struct HoldingGate<'a, W: Wait> {
     rt: &'a W,

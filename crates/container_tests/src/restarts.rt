@@ -13,9 +13,9 @@ use std::sync::Wait;
 use std::sync::atomic::Ordering;
 use std::thread::Threads;
 
-/// Ann registers. Then Categories fails: three times before its group is rebooted, three times before the application is,
-/// and three times before the process is. At last she looks whether she is known, and is signed in still. At each reboot
-/// but that of the process the clock is looked at twice.
+/// Ann registers. Then Categories fails: three times before its group is rebooted, three times before the application
+/// is, and three times before the process is. At last she looks whether she is known, and is signed in still. At each
+/// reboot but that of the process the clock is looked at twice.
 const ASKS: &[Ask] = &[
     ("/form/register", "", 0),
     ("/register", "name=ann&password=pw1", 0),
@@ -61,8 +61,8 @@ boot 2 started over 3 rows
 /// The clock stands.
 const STANDS: &[u64] = &[0];
 
-/// What nothing helps: Categories fails before and behind each reboot, and goes on so behind each look whether a person is
-/// to be called.
+/// What nothing helps: Categories fails before and behind each reboot, and goes on so behind each look whether a person
+/// is to be called.
 const HELPLESS: &[Ask] = &[
     ("/categories", "", 0),
     ("/categories", "", 0),
@@ -89,11 +89,11 @@ const HELPLESS: &[Ask] = &[
 ];
 
 /// By how much the clock is moved behind the four looks of the two reboots, and behind those whether a person is to be
-/// called: the second is 29,999 ms behind the first, the third a millisecond later, and the fourth at that moment still.
+/// called: the second is 29,999 ms behind the first, the third a millisecond later, and the fourth at that moment.
 const HELPLESS_STEPS: &[u64] = &[0, 0, 0, 0, 29_999, 1, 0];
 
-/// What the operator is told of it: a person is called at the first look and at the third. The entries are that each reboot
-/// began and that it ended.
+/// What the operator is told of it: a person is called at the first look and at the third. The entries are that each
+/// reboot began and that it ended.
 const HELPLESS_LOG: &str = "boot 1 started over 0 rows
 rebooted Web, down for 0 ms
 rebooted all, down for 0 ms
@@ -103,8 +103,8 @@ human needed
 human needed
 ";
 
-/// Lets a server run to whose gate one client comes that asks this, until Categories is cured so, over a clock that is moved
-/// so. Whether the operator is told this, and what the client hears.
+/// Lets a server run to whose gate one client comes that asks this, until Categories is cured so, over a clock that is
+/// moved so. Whether the operator is told this, and what the client hears.
 fn told_and_heard<R: Threads + Wait + Abort + Sync>(
     rt: &R,
     alloc: Global,
@@ -152,8 +152,8 @@ fn a_person_is_called_again_while_nothing_helps(rt: HostRuntime) {
     assert!(rt; found == want, "{found}");
 }
 
-/// What an entry of a page that tells of the bad row counts for: the 4,096 bytes of the row, the 113 of the action's text,
-/// and the 64 of the page.
+/// What an entry of a page that tells of the bad row counts for: the 4,096 bytes of the row, the 113 of the action's
+/// text, and the 64 of the page.
 const ENTRY_BYTES: u64 = 4273;
 
 /// A journal may have 268,435,456 bytes; 7/8 of them are 234,881,024.
@@ -170,8 +170,8 @@ fn entries_told(rt: &impl Abort, log: &str) -> u64 {
     entries.parse().ok().expect(rt, log)
 }
 
-/// Each request that is read is answered by its page, before the restart and behind it. It takes a second, and minutes with
-/// the checks of `rt try`.
+/// Each request that is read is answered by its page, before the restart and behind it. It takes a second, and minutes
+/// with the checks of `rt try`.
 #[test]
 fn a_restart_comes_before_the_journal_is_full(rt: HostRuntime) {
     let alloc = rt.alloc();

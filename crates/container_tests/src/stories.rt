@@ -23,8 +23,8 @@ const DECIDER: u32 = 3;
 /// asked for: its looks at the clock, and reboots once they are over.
 pub type Ask = (&'static str, &'static str, u64);
 
-/// A gate to which one client comes for what it asks, one after the other, and for no more. One worker is to serve it. The
-/// thread that decides moves the clock of the host.
+/// A gate to which one client comes for what it asks, one after the other, and for no more. One worker is to serve it.
+/// The thread that decides moves the clock of the host.
 #[derive(Drop)]
 pub struct StoryGate<'a, W: Wait> {
     rt: &'a W,

@@ -42,7 +42,7 @@ const PURCHASE: [Ask; 5] = [
     ("ben", "/feedback", "item=1&good=1&text=Fine", "Thanks"),
 ];
 
-/// Asks for what a client wants, and looks at the status and at the heading. The place of the entry that the page is of.
+/// Asks for what a client wants, and looks at the status and the heading. The place of the entry that the page is of.
 pub fn expect_page<W: Wait + Abort>(
     rt: &W,
     alloc: Global,

@@ -61,7 +61,7 @@ fn words_of_serve_say_what_is_served(rt: HostRuntime) {
     }
 }
 
-/// How long a key is, the size of the pieces in which it comes, the number of the read that fails, and what is answered.
+/// How long a key is, the size of the pieces it comes in, the number of the read that fails, and what is answered.
 const KEYS: &str = "0 1 0|length
 15 1 0|length
 16 1 0|a key
