@@ -1,4 +1,4 @@
--- The pairs of a map and the items of a wheel, when a lease is put, put back or taken out.
+-- The pairs of a map and the items of a wheel, when a lease is put or taken out.
 use Rattle.std.proofs.Common.{◌≡◌, ℕ, Bool, true, false, cond, ◌==◌, ◌&&◌, ◌||◌, nat_lt, List, [], ◌∷◌, ◌++◌, Some, None, refl, sym, ap, subst, ◌∙◌, ◌⊎◌, inl, inr, ⊎_elim, arith}
 use Rattle.std.specs.List.{AllByRecursion}
 use Rattle.std.proofs.lemmas.Bool.Decides.{nat_tests}
@@ -11,6 +11,7 @@ use Rattle.lease_wheel.specs.declared.wheel.WheelItem.{WheelItem}
 use Rattle.lease_wheel.specs.declared.wheel.WheelNode.{WheelNode}
 use Rattle.lease_wheel.specs.Leased.{Leased}
 use Rattle.lease_wheel.specs.Wheels.{named, with_leased, is_before, AreInOrder, Leaves, Stands}
+use Rattle.lease_wheel.proofs.Adding.{added}
 use Rattle.brick_store.specs.declared.kept_map.Pair.{Pair}
 use Rattle.brick_store.specs.declared.kept_map.Lease.{Lease}
 use Rattle.brick_store.specs.Pairs.{kept_at}
@@ -122,37 +123,7 @@ twice_at (x ∷ xs) c ys (u ∷ us) vs ordered is = twice_at xs c ys us vs order
 not_twice : (xs : List Leased) (c : Leased) (ys : List Leased) → AreInOrder (xs ++ c ∷ ys) → Has (xs ++ ys) c → ⊥
 not_twice xs c ys ordered has = twice_at xs c ys has.0 has.1 ordered has.2
 
--- where an item is added
-record Added (d : Leased) (ds : List Leased) : Type 0 where
-  pub before : List Leased
-  pub after : List Leased
-  pub old : ds ≡ before ++ after
-  pub new : with_leased d ds ≡ before ++ d ∷ after
-
-added : (d : Leased) (ds : List Leased) → Added d ds
-added d [] = record { before = []; after = []; old = refl; new = refl }
-added d (x ∷ ds) = go (nat_lt d.expiry.0 x.expiry.0) refl (added d ds)
-  where
-    go : (b : Bool) → nat_lt d.expiry.0 x.expiry.0 ≡ b → Added d ds → Added d (x ∷ ds)
-    go true less r = record { before = []; after = x ∷ ds; old = refl; new = ap (λ y. cond y (d ∷ x ∷ ds) (x ∷ with_leased d ds)) less }
-    go false off r = record {
-      before = x ∷ r.before;
-      after = r.after;
-      old = ap (λ zs. x ∷ zs) r.old;
-      new = ap (λ y. cond y (d ∷ x ∷ ds) (x ∷ with_leased d ds)) off ∙ ap (λ zs. x ∷ zs) r.new;
-    }
-
 -- ---- the calls
-
--- an item that is added and taken out again leaves the wheel as it was
-pub put_back : (node : WheelNode) (item other : WheelItem) (ds mid new : List Leased) → AreInOrder mid → mid ≡ with_leased (named node item) ds → Leaves mid node other new → new ≡ ds
-put_back node item other ds mid new ordered is left =
-    let a = added (named node item) ds in
-    let r = one_place a.before (named node item) a.after left.0 (named node other) left.1 (subst AreInOrder (is ∙ a.new) ordered) (sym (is ∙ a.new) ∙ left.2) (refl, refl) in
-    left.3 ∙ (λ i. sym r.0 i ++ sym r.2 i) ∙ sym a.old
-
-pub stands_added : (node : WheelNode) (item : WheelItem) (ds mid : List Leased) → mid ≡ with_leased (named node item) ds → Stands mid node
-stands_added node item ds mid is = let a = added (named node item) ds in (item, (a.before, a.after, is ∙ a.new))
 
 -- what stands on the wheel stands there still where an item is added
 pub stands_still : (node : WheelNode) (item : WheelItem) (c : Leased) (ds mid : List Leased) → mid ≡ with_leased c ds → Has ds (named node item) → Stands mid node

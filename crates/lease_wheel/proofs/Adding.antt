@@ -141,15 +141,25 @@ filled_push [] n = refl
 filled_push (m ∷ ns) n = refl
 
 -- where an item is added
-added_at : (item : Leased) (ds : List Leased) → (xs : List Leased) × (ys : List Leased) × (with_leased item ds ≡ xs ++ item ∷ ys)
-added_at item [] = ([], [], refl)
-added_at item (x ∷ ds) = go (nat_lt item.expiry.0 x.expiry.0) refl (added_at item ds)
+pub record Added (d : Leased) (ds : List Leased) : Type 0 where
+  pub before : List Leased
+  pub after : List Leased
+  pub old : ds ≡ before ++ after
+  pub new : with_leased d ds ≡ before ++ d ∷ after
+
+pub added : (d : Leased) (ds : List Leased) → Added d ds
+added d [] = record { before = []; after = []; old = refl; new = refl }
+added d (x ∷ ds) = go (nat_lt d.expiry.0 x.expiry.0) refl (added d ds)
   where
-    go : (b : Bool) → nat_lt item.expiry.0 x.expiry.0 ≡ b → (xs : List Leased) × (ys : List Leased) × (with_leased item ds ≡ xs ++ item ∷ ys)
-        → (xs : List Leased) × (ys : List Leased) × (with_leased item (x ∷ ds) ≡ xs ++ item ∷ ys)
-    go true less r = ([], x ∷ ds, ap (λ y. cond y (item ∷ x ∷ ds) (x ∷ with_leased item ds)) less)
-    go false off r = (x ∷ r.0, r.1, ap (λ y. cond y (item ∷ x ∷ ds) (x ∷ with_leased item ds)) off ∙ ap (λ zs. x ∷ zs) r.2)
+    go : (b : Bool) → nat_lt d.expiry.0 x.expiry.0 ≡ b → Added d ds → Added d (x ∷ ds)
+    go true less r = record { before = []; after = x ∷ ds; old = refl; new = ap (λ y. cond y (d ∷ x ∷ ds) (x ∷ with_leased d ds)) less }
+    go false off r = record {
+      before = x ∷ r.before;
+      after = r.after;
+      old = ap (λ zs. x ∷ zs) r.old;
+      new = ap (λ y. cond y (d ∷ x ∷ ds) (x ∷ with_leased d ds)) off ∙ ap (λ zs. x ∷ zs) r.new;
+    }
 
 -- the name of an item that is added stands
 pub stands_added : (node : WheelNode) (item : WheelItem) (ds mid : List Leased) → mid ≡ with_leased (named node item) ds → Stands mid node
-stands_added node item ds mid is = let r = added_at (named node item) ds in (item, (r.0, r.1, is ∙ r.2))
+stands_added node item ds mid is = let a = added (named node item) ds in (item, (a.before, a.after, is ∙ a.new))
