@@ -70,7 +70,13 @@ fn takes_what_is_due_in_order(rt: HostRuntime) -> Result<(), OutOfMemory> {
     let tenth = removed(&mut wheel, 40, 10)?;
     let eleventh = removed(&mut wheel, 45, 11)?;
     assert!(rt; tenth == 10 && eleventh == 11);
-    let wanted = [(60_041, 8), (60_041, 12), (60_041, 0), (60_051, 9), (60_051, 0)];
+    let wanted = [
+        (60_041, 8),
+        (60_041, 12),
+        (60_041, 0),
+        (60_051, 9),
+        (60_051, 0),
+    ];
     expect_taken(&rt, &mut wheel, &[(40, 12)], &wanted)?;
     wheel.clear();
     expect_taken(&rt, &mut wheel, &[], &[(u64::MAX, 0)])
