@@ -59,7 +59,7 @@ mod reboots;
 mod refusals;
 mod staleness;
 
-pub use boot::{Boot, Deployed, Start};
+pub use boot::{Boot, Deployed, Remains, Start};
 pub use call_ticket::{MAX_FRAMES, MAX_MARKS, MAX_STEPS, MAX_WRITES, Ticket, TicketParts};
 pub use commit_journal::{
     ActionEntry, CommitEntry, Conflict, DoneText, Entry, FullAt, Journal, JournalLimits,

@@ -140,7 +140,8 @@ fn reopen<K: Keeper + Drop>(
     words: &mut String,
     container: Container<K>,
 ) -> Container<K> {
-    match container.reopen(alloc) {
+    let (opened, _) = container.reopen(alloc);
+    match opened {
         Ok(container) => {
             add_boot(rt, alloc, words, &container);
             container

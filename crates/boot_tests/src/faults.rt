@@ -92,7 +92,8 @@ fn reopen<K: Keeper + Drop>(
     words: &mut String,
     container: Container<K>,
 ) -> Container<K> {
-    match container.reopen(alloc) {
+    let (opened, _) = container.reopen(alloc);
+    match opened {
         Ok(container) => {
             add_named(rt, words, "boot", u64::from(container.boot()));
             container

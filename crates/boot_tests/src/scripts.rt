@@ -163,7 +163,8 @@ fn do_step<K: Keeper + Drop>(
 ) -> Container<K> {
     let mut container = container;
     if step == "reopen" {
-        return answered(rt, alloc, container.reopen(alloc), expected);
+        let (opened, _) = container.reopen(alloc);
+        return answered(rt, alloc, opened, expected);
     }
     commit(rt, alloc, &mut container, step, expected);
     container

@@ -33,9 +33,9 @@ mod start;
 pub use boot_core::{
     ActionEntry, Binding, Boot, CallRefusal, CommitEntry, CommitRefusal, Conflict, DoneText, Entry,
     FullAt, Journal, JournalLimits, MAX_ENTRIES, MAX_FRAMES, MAX_JOURNAL_BYTES, MAX_MARKS,
-    MAX_STEPS, MAX_WRITES, Mark, MarkList, ReadMark, RebootRefusal, Refused, Rows, SessionChange,
-    Stale, Start, StartRefusal, Ticket, TicketParts, Touch, TouchList, boots_stay_sound,
-    calls_go_on_fitting, least_group_is_busy, reboots_revoke_calls,
+    MAX_STEPS, MAX_WRITES, Mark, MarkList, ReadMark, RebootRefusal, Refused, Remains, Rows,
+    SessionChange, Stale, Start, StartRefusal, Ticket, TicketParts, Touch, TouchList,
+    boots_stay_sound, calls_go_on_fitting, least_group_is_busy, reboots_revoke_calls,
 };
 pub use container::Container;
 pub use history::{Event, HistoryMark, MarkedEvent};

@@ -105,13 +105,13 @@ next_started plans before c ended next log later s grown sound told started =
     }
 
 -- a boot was run, and the container was started again behind it, or a server ended
-pub behind : {X : Type 0} (end_in : X → ServiceEnd) (keeper_in : X → KeeperSeen) (plans : List FaultPlan) (before : ServerSeen) (c ended : ContainerValue) (log later : Log) → HasStarted plans before c log → HasGrownBy c ended
-    → IsSoundContainer ended → HasToldBoot c log later → (found : Result ContainerValue X)
-    → IfOk found (λ next. IsStarted ended.boot.start.deployment (left_by_process ended.boot.start.plans) ended.boot.start.limits ended.told next)
+pub behind : {Y X : Type 0} (next_in : Y → ContainerValue) (end_in : X → ServiceEnd) (keeper_in : X → KeeperSeen) (plans : List FaultPlan) (before : ServerSeen) (c ended : ContainerValue) (log later : Log) → HasStarted plans before c log
+    → HasGrownBy c ended → IsSoundContainer ended → HasToldBoot c log later → (found : Result Y X)
+    → IfOk found (λ next. IsStarted ended.boot.start.deployment (left_by_process ended.boot.start.plans) ended.boot.start.limits ended.told (next_in next))
     → IfErr found (λ x. EndedOver (end_in x) (seen ended.told ended.faults) (keeper_in x))
-    → MatchResult found (λ next. HasStarted plans before next later) (λ x. RanFrom plans (end_in x) before (server_seen (keeper_in x) later))
-behind end_in keeper_in plans before c ended log later s grown sound told (Ok next) again over = next_started plans before c ended next log later s grown sound told again
-behind end_in keeper_in plans before c ended log later s grown sound told (Err x) again over = ends_behind plans before c ended log later (end_in x) (keeper_in x) s grown sound told over
+    → MatchResult found (λ next. HasStarted plans before (next_in next) later) (λ x. RanFrom plans (end_in x) before (server_seen (keeper_in x) later))
+behind next_in end_in keeper_in plans before c ended log later s grown sound told (Ok next) again over = next_started plans before c ended (next_in next) log later s grown sound told again
+behind next_in end_in keeper_in plans before c ended log later s grown sound told (Err x) again over = ends_behind plans before c ended log later (end_in x) (keeper_in x) s grown sound told over
 
 -- a container that was started is one of the site
 pub of_site : (plans : List FaultPlan) (before : ServerSeen) (c : ContainerValue) (log : Log) → HasStarted plans before c log → c.boot.start.deployment ≡ site_parts

@@ -19,7 +19,7 @@ use crate::signals::Signals;
 use crate::site::{Site, open_site};
 use crate::sweeping::sweep;
 use crate::tools::ToolBox;
-use container_core::Container;
+use container_core::{Container, Remains};
 use crash_base::WorkerNo;
 use outside::{Keeper, Sink};
 use report_queue::ReportPassList;
@@ -32,7 +32,8 @@ use std::thread::{Threads, join};
 /// so; the seats of the thread that decides, and its desk.
 type Ended<'a, G, K, E> = (Seats<K>, Option<<G as Gate>::Closed>, Seats<K>, Desk<'a, E>);
 
-/// Decides and sweeps, in a thread each where it can be started.
+/// Decides and sweeps, in a thread each where it can be started. What the boot before left is dropped before the first
+/// sweep.
 fn decide_and_sweep<'a, G: Gate + Sync, K: Keeper + Drop, E: Sink + Send, R: Threads + Wait + Sync>(
     rt: &R,
     alloc: Global,
@@ -42,6 +43,7 @@ fn decide_and_sweep<'a, G: Gate + Sync, K: Keeper + Drop, E: Sink + Send, R: Thr
     sweeper: &ToolBox<G>,
     decider: &ToolBox<G>,
     bricks: u16,
+    remains: Option<Remains>,
     seats: Seats<K>,
     desk: Desk<'a, E>,
 ) -> (Seats<K>, Desk<'a, E>)
@@ -59,7 +61,10 @@ fn decide_and_sweep<'a, G: Gate + Sync, K: Keeper + Drop, E: Sink + Send, R: Thr
         rt,
         move ||
             requires bricks { bricks ≤ 16 }
-        { sweep::<G, R>(rt, alloc, gate, signals, sweeper, bricks, home) },
+        {
+            drop(remains);
+            sweep::<G, R>(rt, alloc, gate, signals, sweeper, bricks, home)
+        },
         move || -> (Seats<K>, Desk<E>)
             requires seats { AreOf site.now seats }
             requires names { desk.deployment.now ≡ site_parts }
@@ -94,6 +99,7 @@ fn run_threads<'a, G: Gate + Sync, K: Keeper + Drop, E: Sink + Send, R: Threads 
     passes: ReportPassList,
     decider: Seats<K>,
     desk: Desk<'a, E>,
+    remains: Option<Remains>,
 ) -> Ended<'a, G, K, E>
     requires workers { (1 ≤ workers) × (workers ≤ 64) × (workers + 2 ≡ length tools.now) }
     requires bricks { bricks ≤ 16 }
@@ -128,7 +134,7 @@ fn run_threads<'a, G: Gate + Sync, K: Keeper + Drop, E: Sink + Send, R: Threads 
                 (log_of (E.written result.1.errors.now) (E.faults result.1.errors.now)) }
         {
             decide_and_sweep::<G, K, E, R>(
-                rt, alloc, gate, site, signals, sweeping, deciding, bricks, decider, desk,
+                rt, alloc, gate, site, signals, sweeping, deciding, bricks, remains, decider, desk,
             )
         },
         move || -> (Seats<K>, Option<G::Closed>)
@@ -158,7 +164,7 @@ fn run_threads<'a, G: Gate + Sync, K: Keeper + Drop, E: Sink + Send, R: Threads 
 /// container as it was, where there was no memory for its threads.
 pub(crate) type Served<G, K> = Result<(Container<K>, Option<<G as Gate>::Closed>), Container<K>>;
 
-/// Serves a site in this container, until each worker has ended.
+/// Serves a site in this container, until each worker has ended, and drops beside it what the boot before left.
 pub(crate) fn serve_boot<
     'a,
     G: Gate + Sync,
@@ -174,6 +180,7 @@ pub(crate) fn serve_boot<
     workers: u16,
     bricks: u16,
     container: Container<K>,
+    remains: Option<Remains>,
     desk: Desk<'a, E>,
 ) -> (Served<G, K>, Desk<'a, E>)
     requires workers { (1 ≤ workers) × (workers ≤ 64) × (workers + 2 ≡ length tools.now) }
@@ -197,7 +204,7 @@ pub(crate) fn serve_boot<
     let number = WorkerNo(workers as u32 + 2);
     let decider = site.split(&mut seats, number, 1, pass);
     let (mut seats, closed, decider, desk) = run_threads::<G, K, E, R>(
-        rt, alloc, gate, &site, tools, workers, bricks, seats, passes, decider, desk,
+        rt, alloc, gate, &site, tools, workers, bricks, seats, passes, decider, desk, remains,
     );
     site.join(&mut seats, decider);
     (Ok((site.close(seats), closed)), desk)

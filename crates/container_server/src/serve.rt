@@ -17,7 +17,7 @@ use crate::gate::Gate;
 use crate::tools::{ToolBox, Tools, take_tools};
 use auction_rows::site_deployment;
 use container_core::{
-    Container, JournalLimits, MAX_ENTRIES, MAX_JOURNAL_BYTES, StartFail, StartRefusal,
+    Container, JournalLimits, MAX_ENTRIES, MAX_JOURNAL_BYTES, Remains, StartFail, StartRefusal,
 };
 use crash_base::{FaultList, OutOfMemory, Place};
 use deployment::Deployment;
@@ -142,14 +142,17 @@ fn containers_are_sound<K: Keeper + Drop>(container: &Container<K>)
     let _ = container.as_boot();
 }
 
+/// A container that was started again, and what the boot before it left.
+type Again<K> = (Container<K>, Remains);
+
 /// Goes on behind a boot: starts the container again, unless no more connections come.
 fn go_on<C: Drop, K: Keeper + Drop>(
     alloc: Global,
     container: Container<K>,
     closed: Option<C>,
-) -> Result<Container<K>, ServeResult<C, K>>
+) -> Result<Again<K>, ServeResult<C, K>>
     ensures again { IfOk result (λ again. IsStarted container.boot.start.deployment
-        (left_by_process container.boot.start.plans) container.boot.start.limits container.told again) }
+        (left_by_process container.boot.start.plans) container.boot.start.limits container.told again.0) }
     ensures ended { IfErr result (λ ended. EndedOver ended.end (seen container.told container.faults)
         (seen (K.told ended.keeper) (K.faults ended.keeper))) }
     ensures closed { IfErr result (λ ended. TellsClosed ended.closed ended.end) }
@@ -160,14 +163,18 @@ fn go_on<C: Drop, K: Keeper + Drop>(
             closed: Some(closed),
             keeper: container.into_keeper(),
         }),
-        None => match container.reopen(alloc) {
-            Ok(again) => Ok(again),
-            Err(fail) => Err(unstarted(fail)),
-        },
+        None => {
+            let (opened, remains) = container.reopen(alloc);
+            match opened {
+                Ok(again) => Ok((again, remains)),
+                Err(fail) => Err(unstarted(fail)),
+            }
+        }
     }
 }
 
-/// Serves one boot, and starts the container again, if there is to be another one.
+/// Serves one boot, beside which is dropped what the boot before it left, and starts the container again, if there is
+/// to be another one.
 fn serve_once<'a, G: Gate + Sync, K: Keeper + Drop, E: Sink + Send, R: Threads + Wait + Sync>(
     rt: &R,
     alloc: Global,
@@ -177,8 +184,9 @@ fn serve_once<'a, G: Gate + Sync, K: Keeper + Drop, E: Sink + Send, R: Threads +
     workers: u16,
     bricks: u16,
     container: Container<K>,
+    remains: Option<Remains>,
     desk: Desk<'a, E>,
-) -> (Result<Container<K>, ServeResult<G::Closed, K>>, Desk<'a, E>)
+) -> (Result<Again<K>, ServeResult<G::Closed, K>>, Desk<'a, E>)
     requires workers { (1 ≤ workers) × (workers ≤ 64) × (workers + 2 ≡ length tools.now) }
     requires quorum { (1 ≤ config.now.wq) × (config.now.wq ≤ config.now.w) × (config.now.w ≤ bricks) × (bricks ≤ 16) }
     requires site { container.boot.start.deployment ≡ site_parts }
@@ -188,14 +196,14 @@ fn serve_once<'a, G: Gate + Sync, K: Keeper + Drop, E: Sink + Send, R: Threads +
     ensures on { let log = log_of (E.written result.1.errors.now) (E.faults result.1.errors.now) in
         (plans : List FaultPlan) (before : ServerSeen)
         → HasStarted plans before container (log_of (E.written desk.entry.errors.now) (E.faults desk.entry.errors.now))
-        → MatchResult result.0 (λ again. HasStarted plans before again log)
+        → MatchResult result.0 (λ again. HasStarted plans before again.0 log)
         (λ ended. RanFrom plans ended.end before (server_seen (seen (K.told ended.keeper) (K.faults ended.keeper)) log)) }
     ensures closed { IfErr result.0 (λ ended. TellsClosed ended.closed ended.end) }
 {
     let names = desk.deployment;
     log_start(alloc, desk.errors, names, &container);
     let (served, desk) = serve_boot::<G, K, E, R>(
-        rt, alloc, gate, config, tools, workers, bricks, container, desk,
+        rt, alloc, gate, config, tools, workers, bricks, container, remains, desk,
     );
     match served {
         Ok((container, closed)) => {
@@ -244,14 +252,16 @@ fn serve_boots<'a, G: Gate + Sync, K: Keeper + Drop, E: Sink + Send, R: Threads 
     ensures closed { IfSome out.new (λ ended. TellsClosed ended.closed ended.end) }
 {
     let mut container = container;
+    let mut remains = None;
     let mut desk = desk;
     for _ in rt.forever() {
         let (served, kept) = serve_once::<G, K, E, R>(
-            rt, alloc, gate, config, tools, workers, bricks, container, desk,
+            rt, alloc, gate, config, tools, workers, bricks, container, remains, desk,
         );
         match served {
-            Ok(again) => {
+            Ok((again, left)) => {
                 container = again;
+                remains = Some(left);
                 desk = kept;
             }
             Err(ended) => {
@@ -328,7 +338,9 @@ fn serve_over<G: Gate + Sync, K: Keeper + Drop, E: Sink + Send, R: Threads + Wai
 /// The workers take connections of the gate and serve them, as `serve_gated` of `connection_server` says. One thread
 /// decides on the requests that failed, and reboots what its decisions name. Another one sweeps the bricks. Where the
 /// process is to be rebooted, or a restart is due before the journal is full (`is_restart_due`), the container is
-/// stopped, all threads end, and it is started again over its keeper with the fault plans that no reboot cures.
+/// stopped, all threads end, and it is started again over its keeper with the fault plans that no reboot cures. The
+/// journal and the rows of the boot before are dropped by the thread that sweeps, before its first sweep: so no request
+/// waits for that.
 ///
 /// Work that no thread can be started for is done by the caller, behind the end of the work beside which it was to be
 /// done: that of a worker behind that of those after it, and what decides and sweeps behind the end of all workers,

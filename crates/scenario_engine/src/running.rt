@@ -313,7 +313,9 @@ impl<K: Keeper + Drop> Running<K> {
             router,
         } = self.into_parts();
         let sessions = seats.give_back(alloc, &mut container, sessions);
-        match container.reopen(alloc) {
+        let (opened, remains) = container.reopen(alloc);
+        drop(remains);
+        match opened {
             Ok(container) => Ok(Running::over(alloc, container, sessions, seats, router)),
             Err(fail) => {
                 drop(sessions);

@@ -4,6 +4,8 @@ use denote.Param.{param}
 use denote.Param.Send.{IsSend, sendable, shr_send}
 use denote.Ref.{ShrRef}
 use denote.Struct.Field.{u16-field}
+use Rattle.boot_core.proofs.boot.Remains.TheSendSync as remains
+use Rattle.boot_core.specs.contracts.boot.Remains as Remains
 use Rattle.connection_server.proofs.Crossing.{captured}
 use Rattle.container_server.proofs.Crossing.{passed_send, passed_sync, seats_send, site_sync}
 use Rattle.container_server.proofs.deciding.Desk.TheSendSync as desk
@@ -15,8 +17,10 @@ use Rattle.container_server.specs.contracts.signals.Signals as Signals
 use Rattle.container_server.specs.contracts.site.Site as Site
 use Rattle.container_server.specs.contracts.tools.Tools as Tools
 use Rattle.std.proofs.alloc.Global.TheSendSync as global
+use Rattle.std.proofs.option.Option.TheSendSync as option
 use Rattle.std.proofs.sync.Mutex.TheSendSync as mutex
 use Rattle.std.specs.contracts.alloc.Global as Global
+use Rattle.std.specs.contracts.option.Option as Option
 use Rattle.std.specs.contracts.sync.Mutex as Mutex
 use Rattle.container_server.proofs.boot.run_threads.Goals as goal
 
@@ -30,8 +34,8 @@ join-decided-requires-send-F g c κs within =
     ShrRef _ _ (param 3 g.row.R) ∷ Global.the_row ∷ ShrRef _ _ (param 0 g.row.G) ∷ ShrRef _ _ (Site.the_row (param 1 g.row.K) g.K.Keeper)
     ∷ ShrRef _ _ Signals.the_row ∷ ShrRef _ _ (Mutex.the_row (Tools.the_row (param 6 g.row.G-L) (param 7 g.row.G-C) (param 8 g.row.G-R)))
     ∷ ShrRef _ _ (Mutex.the_row (Tools.the_row (param 6 g.row.G-L) (param 7 g.row.G-C) (param 8 g.row.G-R)))
-    ∷ (u16-field).row ∷ Seats.the_row (param 1 g.row.K) g.K.Keeper ∷ Desk.the_row _ (param 2 g.row.E) ∷ [])
-    (shr_send _ _ _ c.type_bounds.sync-R, (global.the_send, (shr_send _ _ _ c.type_bounds.sync-G, (shr_send _ _ _ site, (shr_send _ _ _ signals.the_sync, (shr_send _ _ _ tool, (shr_send _ _ _ tool, (number, (seats, (desk.the_send _ _ c.type_bounds.send-E, tt))))))))))
+    ∷ (u16-field).row ∷ Option.the_row Remains.the_row ∷ Seats.the_row (param 1 g.row.K) g.K.Keeper ∷ Desk.the_row _ (param 2 g.row.E) ∷ [])
+    (shr_send _ _ _ c.type_bounds.sync-R, (global.the_send, (shr_send _ _ _ c.type_bounds.sync-G, (shr_send _ _ _ site, (shr_send _ _ _ signals.the_sync, (shr_send _ _ _ tool, (shr_send _ _ _ tool, (number, (option.the_send _ remains.the_send, (seats, (desk.the_send _ _ c.type_bounds.send-E, tt)))))))))))
 
 pub join-decided-requires-send-A : goal.join-decided-requires-send-A
 join-decided-requires-send-A g c κs within =

@@ -14,7 +14,7 @@ returns-in-Ok-clause-on g c plans before s =
     let next = log_of (g.E.Sink.written c.log_start.new.errors) (g.E.Sink.faults c.log_start.new.errors) in
     let last = log_of (g.E.Sink.written c.serve_boot-served.result.1.errors.now) (g.E.Sink.faults c.serve_boot-served.result.1.errors.now) in
     let told = told_boot c.args.container first next last c.log_start.ensures.told c.serve_boot-served.ensures.told in
-    behind (λ ended. ended.end) (λ ended. seen (g.K.Keeper.told ended.keeper) (g.K.Keeper.faults ended.keeper)) plans before c.args.container c.in-Ok.container first last s grown c.containers_are_sound.ensures.sound told c.go_on.result c.go_on.ensures.again c.go_on.ensures.ended
+    behind (λ again. again.0) (λ ended. ended.end) (λ ended. seen (g.K.Keeper.told ended.keeper) (g.K.Keeper.faults ended.keeper)) plans before c.args.container c.in-Ok.container first last s grown c.containers_are_sound.ensures.sound told c.go_on.result c.go_on.ensures.again c.go_on.ensures.ended
 
 pub returns-in-Err-clause-on : goal.returns-in-Err-clause-on
 returns-in-Err-clause-on g c plans before s =

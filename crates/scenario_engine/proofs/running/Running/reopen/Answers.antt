@@ -1,4 +1,7 @@
-use Rattle.std.proofs.Common.{◌≡◌, ◌∙◌, sym, subst, ap}
+use Rattle.std.proofs.Common.{◌≡◌, ◌∙◌, ◌≤◌, IfErr, IfOk, MatchResult, sym, subst, ap}
+use Rattle.boot_core.specs.declared.refusals.StartRefusal.TheVariants.{KeeperFailed}
+use Rattle.container_core.specs.Start.{IsRefusedStart, IsStarted}
+use Rattle.outside.specs.Faults.{Rose}
 use Rattle.scenario_engine.specs.KeeperCalls.{KeeperSeen, seen}
 use Rattle.scenario_engine.specs.Opening.{Opened}
 use Rattle.scenario_engine.specs.Running.{started, reopened_over}
@@ -21,8 +24,11 @@ returns-in-Ok-clause-opens g c =
     let boot : old.boot ≡ c.args.self.running.boot = ap (λ (k : ContainerValue). k.boot) same ∙ c.into_parts-container.ensures.boot in
     let keeper : seen old.told old.faults ≡ c.args.self.keeper = ap (λ (k : ContainerValue). seen k.told k.faults) same ∙ c.into_parts-container.ensures.keeper in
     let k = c.in-Ok.container in
-    let h = reopened_so old k c.args.self.running.boot c.args.self.keeper boot keeper c.in-Ok.ensures.started.opened c.in-Ok.ensures.count in
-    let over = c.over.ensures.started h.0 h.1 c.in-Ok.ensures.started.since in
+    let did = c.reopen-opened.ensures in
+    let is = subst (λ r. IfOk r (λ k. IsStarted old.boot.start.deployment (left_by_process old.boot.start.plans) old.boot.start.limits old.told k)) c.in-Ok.is did.started in
+    let count = subst (λ r. MatchResult r (λ k. old.faults ≤ k.faults) (λ fail. old.faults ≤ g.K.Keeper.faults fail.keeper)) c.in-Ok.is did.count in
+    let h = reopened_so old k c.args.self.running.boot c.args.self.keeper boot keeper is.opened count in
+    let over = c.over.ensures.started h.0 h.1 is.since in
     let P : KeeperSeen → Type 0 = λ n. Opens c.args.self.running.boot.start.deployment (left_by_process c.args.self.running.boot.start.plans) c.args.self.running.boot.start.limits (Opened h.0) c.args.self.keeper n in
     let r : RunningState = c.args.self.running in
     let sessions : c.give_back-sessions.result ≡ sessions_given_back r.seats.seats r.sessions =
@@ -50,5 +56,9 @@ returns-in-Err-clause-opens g c =
     let is : old ≡ c.into_parts-container.result.container = c.give_back-sessions.ensures.same in
     let same_boot : old.boot ≡ boot = ap (λ (k : ContainerValue). k.boot) is ∙ c.into_parts-container.ensures.boot in
     let keeper : seen old.told old.faults ≡ c.args.self.keeper = ap (λ (k : ContainerValue). seen k.told k.faults) is ∙ c.into_parts-container.ensures.keeper in
-    let fails = not_reopened_so old boot c.args.self.keeper new f.refusal same_boot keeper c.in-Err.ensures.refused c.in-Err.ensures.count c.in-Err.ensures.failed in
+    let did = c.reopen-opened.ensures in
+    let refused = subst (λ r. IfErr r (λ fail. IsRefusedStart fail.refusal old.told (g.K.Keeper.told fail.keeper))) c.in-Err.is did.refused in
+    let count = subst (λ r. MatchResult r (λ k. old.faults ≤ k.faults) (λ fail. old.faults ≤ g.K.Keeper.faults fail.keeper)) c.in-Err.is did.count in
+    let failed = subst (λ r. IfErr r (λ fail. fail.refusal ≡ KeeperFailed → Rose old.faults (g.K.Keeper.faults fail.keeper))) c.in-Err.is did.failed in
+    let fails = not_reopened_so old boot c.args.self.keeper new f.refusal same_boot keeper refused count failed in
     subst P (sym c.not_opened.ensures.failure) (subst Q (sym same) fails)
