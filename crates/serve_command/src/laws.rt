@@ -28,8 +28,9 @@ pub fn serve_is_spelled_by_five_words()
 /// were spent, and 9 where memory ran out. What it told was handed on, and at last what the sink between kept, with a
 /// reason before that (`ended`). Only at status 0 was more written behind: why no more connections come. The reason
 /// stands just before the line of an end, and before nothing else (`behind`, `others`). Each of these was written
-/// whole, or a part of it and then a fault was counted. It refuses a shop that ends without a server, or by another
-/// status than its end's, and a last line without its reason.
+/// whole, or a part of it and then a fault was counted. It refuses a shop that tells what it serves and ends without a
+/// server, one that ends by another status than its end's, and a reason that is dropped behind its making or put before
+/// another line. A shop that starts nothing has the lines of that; that there is a reason this does not say.
 pub fn served_shops_tell_why_they_end()
     ensures ended { (words : ServeValue) (status : ℕ) (keeper : KeeperSeen) (before after : Log)
         → HasServedShop words status keeper before after
